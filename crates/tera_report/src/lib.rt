@@ -1,0 +1,6 @@
+// What every refusal says, and the one safe way from a text to HTML.
+#![tactic(auto)]
+
+mod errors;
+
+pub use errors::{Error, ErrorKind, TeraResult};
