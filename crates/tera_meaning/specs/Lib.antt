@@ -1,0 +1,12 @@
+pub mod Integer
+pub mod Tree
+pub mod KeyMeaning
+pub mod Form
+pub mod Meaning
+pub mod Order
+pub mod Printed
+pub mod Stored
+pub mod State
+pub mod Step
+pub mod Run
+pub mod Alike

@@ -1,0 +1,15 @@
+-- What a context holds: a form at each of finitely many names. A name is its UTF-8 bytes.
+use Rattle.std.specs.Prelude.{ℕ, List, unwrap_or}
+use Rattle.std.specs.Ordering.{nat_cmp}
+use Rattle.std.specs.Cmp.Lexicographic.{slice_cmp}
+use Rattle.std.specs.FinMap.{FinMap, get}
+use Rattle.tera_meaning.specs.Form.{Form}
+use Rattle.tera_meaning.specs.Meaning.{Meaning, plain}
+use Rattle.tera_meaning.specs.Tree.{undefined}
+
+abbrev pub State : Type 0
+State = FinMap (slice_cmp nat_cmp) Form
+
+-- what a name means. One that is absent reads as undefined
+abbrev pub meaning_at : State → List ℕ → Meaning
+meaning_at state name = plain (unwrap_or (get state name) undefined)

@@ -1,0 +1,2 @@
+//! What values mean: definitions, and the laws of these definitions.
+#![tactic(auto)]
