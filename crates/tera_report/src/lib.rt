@@ -2,5 +2,6 @@
 #![tactic(auto)]
 
 mod errors;
+pub mod watch;
 
 pub use errors::{Error, ErrorKind, TeraResult};

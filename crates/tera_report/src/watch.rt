@@ -1,0 +1,90 @@
+// A writer that is watched, and remembers whether a write of it failed.
+ghost use Rattle.std.specs.Prelude.{◌≡◌, ◌||◌, OnOk, OnErr, false};
+ghost use Rattle.std.specs.Io.{WritesAtMost};
+ghost use Rattle.std.specs.Io.KnownBytes.{Keeps, Appends, WriteAppends};
+ghost use Rattle.tera_report.specs.Watch.{has_failed, HasFailed, is_fault, writer_loan, watched_writer, held, SameWriter};
+
+use std::io;
+use std::io::{ErrorKind, Write};
+
+/// Passes writes on to a writer, and remembers whether one of them answered an error or took no
+/// byte of some. What it holds is what that writer holds. Takes no memory.
+#[derive(Drop)]
+pub struct Watched<'a, W> {
+    writer: &'a mut W,
+    failed: bool,
+}
+
+impl<'a, W: Write> Watched<'a, W> {
+    /// Watches that writer from now on.
+    pub fn new(writer: &'a mut W) -> Watched<'a, W>
+        ensures lent { writer_loan result ≡ writer.entry.ghost_name }
+        ensures writer { watched_writer result ≡ writer.old }
+        ensures silent { has_failed result ≡ false }
+    {
+        Watched {
+            writer,
+            failed: false,
+        }
+    }
+
+    /// Whether a write answered an error or took no byte of some since the writer is watched.
+    pub fn has_failed(&self) -> bool
+        ensures { result ≡ has_failed self.now }
+    {
+        self.failed
+    }
+}
+
+impl<W: Write> Write for Watched<'_, W> {
+    ghost contents = { held W.contents };
+
+    // One write of the writer, and its answer.
+    fn write(&mut self, buf: &[u8]) -> io::Result<usize>
+        ensures bound { WritesAtMost result buf.now }
+        ensures bytes { WriteAppends (held W.contents self.old) (held W.contents self.new) result buf.now }
+        ensures same { SameWriter self.old self.new }
+        ensures told { has_failed self.new ≡ (has_failed self.old || is_fault result buf.now) }
+    {
+        let written = self.writer.write(buf);
+        let failed = match &written {
+            Ok(taken) => *taken == 0 && !buf.is_empty(),
+            Err(_) => true,
+        };
+        self.failed = self.failed || failed;
+        written
+    }
+
+    fn flush(&mut self) -> io::Result<()>
+        ensures bytes { Keeps (held W.contents self.old) (held W.contents self.new) }
+        ensures same { SameWriter self.old self.new }
+        ensures told { has_failed self.new ≡ has_failed self.old }
+    {
+        self.writer.flush()
+    }
+
+    // All of the bytes, by as many writes as it takes. A write that was interrupted is tried again.
+    fn write_all(&mut self, buf: &[u8]) -> io::Result<()>
+        ensures bytes { OnOk result (Appends (held W.contents self.old) (held W.contents self.new) buf.now) }
+        ensures same { SameWriter self.old self.new }
+        ensures told { OnErr result (HasFailed self.new) }
+        ensures kept { HasFailed self.old → HasFailed self.new }
+    {
+        let mut rest = buf;
+        for turn in 0..u64::MAX {
+            if rest.is_empty() {
+                return Ok(());
+            }
+            match self.write(rest) {
+                Ok(0) => return Err(io::Error::from(ErrorKind::WriteZero)),
+                Ok(taken) => rest = &rest[taken..],
+                Err(e) => {
+                    if e.kind() != ErrorKind::Interrupted {
+                        return Err(e);
+                    }
+                }
+            }
+        }
+        Err(io::Error::from(ErrorKind::TimedOut))
+    }
+}
