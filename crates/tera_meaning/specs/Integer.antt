@@ -1,5 +1,5 @@
 -- Whole numbers, and the four kinds in which a value holds one.
-use Rattle.std.specs.Prelude.{ℕ, ◌^◌, ◌<◌, ℤ, pos, negsuc, ◌<ℤ◌, ◌≤ℤ◌}
+use Rattle.std.specs.Prelude.{◌^◌, ◌<◌, ℤ, pos, negsuc}
 
 -- The kinds of integers
 pub data IntegerKind : Type 0 where

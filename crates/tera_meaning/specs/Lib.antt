@@ -10,3 +10,6 @@ pub mod State
 pub mod Step
 pub mod Run
 pub mod Alike
+pub mod Chained
+pub mod KeyLaws
+pub mod OrderLaws
