@@ -1,5 +1,6 @@
 -- States and calls of equal meaning.
 use Rattle.std.specs.Prelude.{◌≡◌, ℕ, List}
+use Rattle.std.specs.List.{AllZip}
 use Rattle.std.specs.Option.{option_map}
 use Rattle.std.specs.FinMap.{get}
 use Rattle.tera_meaning.specs.Meaning.{plain}
@@ -17,3 +18,7 @@ AskTheSame (equal k l) (equal m n) = (k ≡ m) × (l ≡ n)
 AskTheSame (order k l) (order m n) = (k ≡ m) × (l ≡ n)
 AskTheSame (print m) (print n) = m ≡ n
 AskTheSame _ _ = ⊥
+
+-- the same calls, one for one
+abbrev pub AllAskTheSame : List Request → List Request → Type 0
+AllAskTheSame asked also = AllZip AskTheSame asked also

@@ -13,3 +13,6 @@ pub mod Alike
 pub mod Chained
 pub mod KeyLaws
 pub mod OrderLaws
+pub mod StateLaws
+pub mod AlikeLaws
+pub mod RunLaws

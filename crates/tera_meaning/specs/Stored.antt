@@ -8,6 +8,8 @@ use Rattle.tera_meaning.specs.Integer.{IntegerKind, u64, i64, u128, i128, Intege
 use Rattle.tera_meaning.specs.KeyMeaning.{KeyOf, truth_key, number_key, text_key, KeyText, owned, borrowed}
 use Rattle.tera_meaning.specs.Tree.{Tree, Items, Members, undefined, none, truth, number, text, bytes, array, object, no_items, item, no_members, member}
 use Rattle.tera_meaning.specs.Form.{Form, MarkedText}
+use Rattle.tera_meaning.specs.State.{State}
+use Rattle.std.specs.FinMap.{code}
 
 -- the places of cases
 abbrev next : Gv → Gv
@@ -159,3 +161,10 @@ module _ {N T K : Type 0} (n : Coded N) (t : Coded T) (k : Coded K) where
 
 abbrev pub coded_form : Coded Form
 coded_form = coded_tree coded_integer coded_marked_text (coded_key coded_integer coded_key_text)
+
+-- a text by its bytes
+abbrev pub coded_text : Coded (List ℕ)
+coded_text = coded_list coded_ℕ
+
+abbrev pub coded_state : Coded State
+coded_state = code coded_text coded_form

@@ -1,5 +1,8 @@
 //! What values mean: definitions, and the laws of these definitions.
 #![tactic(auto)]
 
+pub mod alike;
 pub mod keys;
 pub mod order;
+pub mod runs;
+pub mod state;

@@ -1,0 +1,26 @@
+//! The laws of what a context holds. Each function here does nothing: its clauses are the law.
+ghost use Rattle.std.specs.Prelude.{◌≡◌, ◌≢◌, ℕ, List};
+ghost use Rattle.std.specs.FinMap.{empty, get, insert};
+ghost use Rattle.tera_meaning.specs.Form.{Form};
+ghost use Rattle.tera_meaning.specs.Meaning.{plain};
+ghost use Rattle.tera_meaning.specs.State.{State, meaning_at};
+ghost use Rattle.tera_meaning.specs.Tree.{undefined};
+
+/// After a value is set the name holds it, and each other name what it held. Takes no memory.
+pub fn setting_keeps_other_names()
+    ensures set { (state : State) (name : List ℕ) (value : Form) → get (insert state name value) name ≡ Some value }
+    ensures others { (state : State) (name : List ℕ) (value : Form) (other : List ℕ) → other ≢ name → get (insert state name value) other ≡ get state other }
+{}
+
+/// After a value is set the name means what the value means, and each other name what it meant. Where nothing is held
+/// each name reads as undefined. Takes no memory.
+pub fn setting_gives_the_meaning()
+    ensures set { (state : State) (name : List ℕ) (value : Form) → meaning_at (insert state name value) name ≡ plain value }
+    ensures others { (state : State) (name : List ℕ) (value : Form) (other : List ℕ) → other ≢ name → meaning_at (insert state name value) other ≡ meaning_at state other }
+    ensures empty { (name : List ℕ) → meaning_at empty name ≡ undefined }
+{}
+
+/// Two states that hold the same at each name are one state. Takes no memory.
+pub fn states_that_answer_alike_are_equal()
+    ensures { (left : State) (right : State) → ((name : List ℕ) → get left name ≡ get right name) → left ≡ right }
+{}
