@@ -1,1 +1,2 @@
 pub mod WatchLemmas
+pub mod ErrorLemmas

@@ -1,9 +1,10 @@
--- What an `Error` holds, and what its kind writes.
-use Rattle.std.specs.Prelude.{◌≡◌, ℕ, List, codes, Option, None}
+-- What an `Error` holds, and which refusal it is.
+use Rattle.std.specs.Prelude.{◌≡◌, map, Option, None, string_bytes, ◌⊎◌}
 use Rattle.anyhow.specs.declared.error.Error.{Error as Cause}
 use Rattle.tera_report.specs.declared.errors.ErrorKind.{ErrorKind}
-use Rattle.tera_report.specs.declared.errors.ErrorKind.TheVariants.{OutOfMemory}
+use Rattle.tera_report.specs.declared.errors.ErrorKind.TheVariants.{Msg, CircularExtend, CircularInclude, MissingParent, TemplateNotFound, ComponentNotFound, InvalidArgument, MissingArgument, OutOfRangeArgument, Io, Utf8Conversion, OutOfMemory}
 use Rattle.tera_report.specs.declared.errors.Error.{Error}
+use Rattle.tera_report.specs.Refusal
 
 -- the kind of an error
 abbrev pub kind_of : Error → ErrorKind
@@ -25,6 +26,26 @@ out_of_memory = plain_error OutOfMemory
 abbrev pub IsOutOfMemory : Error → Type 0
 IsOutOfMemory e = e ≡ out_of_memory
 
--- what `{}` writes for a kind
-abbrev pub kind_text : ErrorKind → List ℕ
-kind_text OutOfMemory = codes "Out of memory"
+-- the refusal that a kind states
+abbrev pub refusal_of : ErrorKind → Refusal.Refusal
+refusal_of (Msg text) = Refusal.message (string_bytes text)
+refusal_of (CircularExtend tpl chain) = Refusal.circular_extend (string_bytes tpl) (map string_bytes chain.items)
+refusal_of (CircularInclude tpl chain) = Refusal.circular_include (string_bytes tpl) (map string_bytes chain.items)
+refusal_of (MissingParent current parent) = Refusal.missing_parent (string_bytes current) (string_bytes parent)
+refusal_of (TemplateNotFound name) = Refusal.template_not_found (string_bytes name)
+refusal_of (ComponentNotFound name) = Refusal.component_not_found (string_bytes name)
+refusal_of (InvalidArgument expected actual) = Refusal.invalid_argument (string_bytes expected) (string_bytes actual)
+refusal_of (MissingArgument name) = Refusal.missing_argument (string_bytes name)
+refusal_of (OutOfRangeArgument value target) = Refusal.out_of_range (string_bytes value) (string_bytes target)
+refusal_of (Io kind) = Refusal.writing_failed kind
+refusal_of Utf8Conversion = Refusal.not_utf8
+refusal_of OutOfMemory = Refusal.memory_refused
+
+-- the error states this refusal, and this error caused it
+pub record States (refusal : Refusal.Refusal) (cause : Option Cause) (e : Error) : Type 0 where
+  pub kind : refusal_of (kind_of e) ≡ refusal
+  pub source : source_of e ≡ cause
+
+-- the error of this refusal without a cause; or want of memory, where its texts found none
+abbrev pub Raises : Refusal.Refusal → Error → Type 0
+Raises refusal e = States refusal None e ⊎ IsOutOfMemory e

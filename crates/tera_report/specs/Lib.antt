@@ -1,2 +1,4 @@
 pub mod Errors
+pub mod Refusal
+pub mod Span
 pub mod Watch

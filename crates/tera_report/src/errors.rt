@@ -1,18 +1,61 @@
 // The error type of every call, its kinds and their texts.
-ghost use Rattle.std.specs.Prelude.{◌≡◌, Some, codes};
-ghost use Rattle.tera_report.specs.Errors.{kind_of, plain_error, out_of_memory, IsOutOfMemory, kind_text};
+ghost use Rattle.std.specs.Prelude.{◌≡◌, IfOk, IfErr, option_copied};
+ghost use Rattle.tera_report.specs.Errors.{kind_of, source_of, plain_error, IsOutOfMemory, refusal_of};
+ghost use Rattle.tera_report.specs.Refusal.{text_of};
 
 use std::alloc::{AllocError, AllocFailed};
-use std::fmt;
+use std::{fmt, io};
+
+mod constructors;
+mod copies;
 
 /// The answer of a call that can refuse.
 pub type TeraResult<T> = Result<T, Error>;
 
-/// Why a call refused.
-#[derive(Debug, Drop)]
+/// Why a call refused. Mirrors `tera::ErrorKind`, with `OutOfMemory` beside its kinds.
+#[derive(Debug, PartialEq, Eq, Drop)]
 #[non_exhaustive]
 pub enum ErrorKind {
-    /// `Out of memory`: a growth was refused. Tera stops the program in its place.
+    /// A message of its own, which is the whole text.
+    Msg(String),
+    /// A template extends itself, over the templates of the chain.
+    CircularExtend {
+        tpl: String,
+        inheritance_chain: Vec<String>,
+    },
+    /// A template includes itself, over the templates of the chain.
+    CircularInclude {
+        tpl: String,
+        include_chain: Vec<String>,
+    },
+    /// A template extends one that isn't there.
+    MissingParent {
+        current: String,
+        parent: String,
+    },
+    /// There is no template of that name.
+    TemplateNotFound(String),
+    /// There is no component of that name.
+    ComponentNotFound(String),
+    /// A value is of another type than the one that is wanted.
+    InvalidArgument {
+        expected_type: String,
+        actual_type: String,
+    },
+    /// A call lacks the argument of that name.
+    MissingArgument {
+        arg_name: String,
+    },
+    /// A number doesn't fit the type that is wanted.
+    OutOfRangeArgument {
+        value: String,
+        target_type: String,
+    },
+    /// Writing what was rendered failed.
+    Io(io::ErrorKind),
+    /// What was rendered is no UTF-8.
+    Utf8Conversion,
+    /// Memory was refused. Tera ends the program in its place.
     OutOfMemory,
 }
 
@@ -24,26 +67,71 @@ pub struct Error {
 }
 
 impl Error {
-    /// An error of that kind without a cause. Takes no memory.
+    /// An error of that kind without a cause. Takes no memory. Mirrors `Error::new`.
     pub fn new(kind: ErrorKind) -> Error
         ensures { result ≡ plain_error kind }
     {
         Error { kind, source: None }
     }
 
-    /// The kind, lent.
+    /// The kind, lent. Takes no memory. Mirrors `Error::kind`.
     pub fn kind(&self) -> &ErrorKind
         ensures { result.now ≡ kind_of self.now }
     {
         &self.kind
     }
+
+    /// The error that caused it, lent. Takes no memory. Stands for `source` of Rust's `Error`.
+    pub fn source(&self) -> Option<&anyhow::Error>
+        ensures { option_copied result ≡ source_of self.now }
+    {
+        self.source.as_ref()
+    }
 }
 
 impl fmt::Display for ErrorKind {
-    ghost output = { λ kind. Some (kind_text kind) };
+    ghost output = { λ kind. text_of (refusal_of kind) };
 
     fn fmt<W: fmt::Write>(&self, f: &mut fmt::Formatter<W>) -> fmt::Result {
         match self {
+            ErrorKind::Msg(message) => write!(f, "{message}"),
+            ErrorKind::CircularExtend {
+                tpl,
+                inheritance_chain,
+            } => write!(
+                f,
+                "Circular extend detected for template '{tpl}'. Inheritance chain: `{inheritance_chain:?}`"
+            ),
+            ErrorKind::CircularInclude { tpl, include_chain } => write!(
+                f,
+                "Circular include detected for template '{tpl}'. Include chain: `{include_chain:?}`"
+            ),
+            ErrorKind::MissingParent { current, parent } => write!(
+                f,
+                "Template '{current}' is inheriting from '{parent}', which doesn't exist or isn't loaded."
+            ),
+            ErrorKind::TemplateNotFound(name) => write!(f, "Template '{name}' not found"),
+            ErrorKind::ComponentNotFound(name) => write!(f, "Component '{name}' not found"),
+            ErrorKind::InvalidArgument {
+                expected_type,
+                actual_type,
+            } => write!(
+                f,
+                "Invalid type for the value, expected `{expected_type}` but got `{actual_type}`"
+            ),
+            ErrorKind::MissingArgument { arg_name } => {
+                write!(f, "Missing keyword argument `{arg_name}`")
+            }
+            ErrorKind::OutOfRangeArgument { value, target_type } => {
+                write!(f, "Value `{value}` is out of range for `{target_type}`")
+            }
+            ErrorKind::Io(kind) => write!(
+                f,
+                "Io error while writing rendered value to output: {kind:?}"
+            ),
+            ErrorKind::Utf8Conversion => {
+                write!(f, "Invalid UTF-8 characters found while rendering.")
+            }
             ErrorKind::OutOfMemory => write!(f, "Out of memory"),
         }
     }
@@ -51,7 +139,7 @@ impl fmt::Display for ErrorKind {
 
 // The text of the kind. The cause is read by `source`.
 impl fmt::Display for Error {
-    ghost output = { λ e. Some (kind_text (kind_of e)) };
+    ghost output = { λ e. text_of (refusal_of (kind_of e)) };
 
     fn fmt<W: fmt::Write>(&self, f: &mut fmt::Formatter<W>) -> fmt::Result {
         write!(f, "{}", self.kind)

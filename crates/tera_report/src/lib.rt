@@ -2,6 +2,8 @@
 #![tactic(auto)]
 
 mod errors;
+mod span;
 pub mod watch;
 
 pub use errors::{Error, ErrorKind, TeraResult};
+pub use span::Span;

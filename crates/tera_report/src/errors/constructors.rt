@@ -1,0 +1,187 @@
+// A constructor for each kind that holds texts, and what other errors become.
+ghost use Rattle.std.specs.Prelude.{◌≡◌, ◌⊎◌, Some, IfOk, IsSome, map, string_bytes};
+ghost use Rattle.std.specs.IoError.{error_kind as io_kind};
+ghost use Rattle.tera_report.specs.Errors.{kind_of, source_of, refusal_of, Raises, States, IsOutOfMemory};
+ghost use Rattle.tera_report.specs.Refusal.{message, circular_extend, circular_include, missing_parent, template_not_found, component_not_found, invalid_argument, missing_argument, out_of_range, writing_failed, not_utf8};
+
+use super::{Error, ErrorKind};
+use std::alloc::{AllocError, Global};
+use std::io;
+use std::string::FromUtf8Error;
+
+impl Error {
+    /// Kind `Msg` with that text. `Out of memory` where the text finds none. Mirrors
+    /// `Error::message`.
+    pub fn message(alloc: Global, text: &str) -> Error
+        ensures { Raises (message text.now) result }
+    {
+        match String::from_str(alloc, text) {
+            Ok(text) => Error::new(ErrorKind::Msg(text)),
+            Err(refused) => Error::from(refused),
+        }
+    }
+
+    /// Kind `Msg` with that text and that cause. `Out of memory`, without the cause, where the text
+    /// finds none. Mirrors `Error::chain`.
+    pub fn chain(alloc: Global, text: &str, source: anyhow::Error) -> Error
+        ensures { States (message text.now) (Some source) result ⊎ IsOutOfMemory result }
+    {
+        match String::from_str(alloc, text) {
+            Ok(text) => Error {
+                kind: ErrorKind::Msg(text),
+                source: Some(source),
+            },
+            Err(refused) => Error::from(refused),
+        }
+    }
+
+    /// Kind `CircularExtend`. `Out of memory` where the name finds none. Mirrors
+    /// `Error::circular_extend`.
+    pub fn circular_extend(alloc: Global, tpl: &str, inheritance_chain: Vec<String>) -> Error
+        ensures { Raises (circular_extend tpl.now (map string_bytes inheritance_chain.items)) result }
+    {
+        match String::from_str(alloc, tpl) {
+            Ok(tpl) => Error::new(ErrorKind::CircularExtend {
+                tpl,
+                inheritance_chain,
+            }),
+            Err(refused) => Error::from(refused),
+        }
+    }
+
+    /// Kind `CircularInclude`. `Out of memory` where the name finds none. Mirrors
+    /// `Error::circular_include`.
+    pub fn circular_include(alloc: Global, tpl: &str, include_chain: Vec<String>) -> Error
+        ensures { Raises (circular_include tpl.now (map string_bytes include_chain.items)) result }
+    {
+        match String::from_str(alloc, tpl) {
+            Ok(tpl) => Error::new(ErrorKind::CircularInclude { tpl, include_chain }),
+            Err(refused) => Error::from(refused),
+        }
+    }
+
+    /// Kind `MissingParent`. `Out of memory` where the names find none. Mirrors
+    /// `Error::missing_parent`.
+    pub fn missing_parent(alloc: Global, current: &str, parent: &str) -> Error
+        ensures { Raises (missing_parent current.now parent.now) result }
+    {
+        match two_texts(alloc, current, parent) {
+            Ok((current, parent)) => Error::new(ErrorKind::MissingParent { current, parent }),
+            Err(refused) => Error::from(refused),
+        }
+    }
+
+    /// Kind `TemplateNotFound`. `Out of memory` where the name finds none. Mirrors
+    /// `Error::template_not_found`.
+    pub fn template_not_found(alloc: Global, name: &str) -> Error
+        ensures { Raises (template_not_found name.now) result }
+    {
+        match String::from_str(alloc, name) {
+            Ok(name) => Error::new(ErrorKind::TemplateNotFound(name)),
+            Err(refused) => Error::from(refused),
+        }
+    }
+
+    /// Kind `ComponentNotFound`. `Out of memory` where the name finds none. Mirrors
+    /// `Error::component_not_found`.
+    pub fn component_not_found(alloc: Global, name: &str) -> Error
+        ensures { Raises (component_not_found name.now) result }
+    {
+        match String::from_str(alloc, name) {
+            Ok(name) => Error::new(ErrorKind::ComponentNotFound(name)),
+            Err(refused) => Error::from(refused),
+        }
+    }
+
+    /// Kind `InvalidArgument`. `Out of memory` where the names find none. Mirrors
+    /// `Error::invalid_arg_type`.
+    pub fn invalid_arg_type(alloc: Global, expected: &str, actual: &str) -> Error
+        ensures { Raises (invalid_argument expected.now actual.now) result }
+    {
+        match two_texts(alloc, expected, actual) {
+            Ok((expected_type, actual_type)) => Error::new(ErrorKind::InvalidArgument {
+                expected_type,
+                actual_type,
+            }),
+            Err(refused) => Error::from(refused),
+        }
+    }
+
+    /// Kind `OutOfRangeArgument`. `Out of memory` where the texts find none. Mirrors
+    /// `Error::out_of_range_arg`.
+    pub fn out_of_range_arg(alloc: Global, value: &str, target: &str) -> Error
+        ensures { Raises (out_of_range value.now target.now) result }
+    {
+        match two_texts(alloc, value, target) {
+            Ok((value, target_type)) => {
+                Error::new(ErrorKind::OutOfRangeArgument { value, target_type })
+            }
+            Err(refused) => Error::from(refused),
+        }
+    }
+
+    /// Kind `MissingArgument`. `Out of memory` where the name finds none. Mirrors
+    /// `Error::missing_arg`.
+    pub fn missing_arg(alloc: Global, name: &str) -> Error
+        ensures { Raises (missing_argument name.now) result }
+    {
+        match String::from_str(alloc, name) {
+            Ok(arg_name) => Error::new(ErrorKind::MissingArgument { arg_name }),
+            Err(refused) => Error::from(refused),
+        }
+    }
+
+    /// Kind `Io` of the error's own kind, with that error as its cause. Takes no memory. Mirrors
+    /// `Error::io_error`.
+    pub fn io_error(error: io::Error) -> Error
+        ensures kind { refusal_of (kind_of result) ≡ writing_failed (io_kind error) }
+        ensures cause { IsSome (source_of result) }
+    {
+        Error {
+            kind: ErrorKind::Io(error.kind()),
+            source: Some(anyhow::Error::from(error)),
+        }
+    }
+
+    /// Kind `Utf8Conversion`, with that error as its cause. Takes no memory. Mirrors
+    /// `Error::invalid_utf8`.
+    pub fn invalid_utf8(error: FromUtf8Error) -> Error
+        ensures kind { refusal_of (kind_of result) ≡ not_utf8 }
+        ensures cause { IsSome (source_of result) }
+    {
+        Error {
+            kind: ErrorKind::Utf8Conversion,
+            source: Some(anyhow::Error::from(error)),
+        }
+    }
+}
+
+// What `io_error` answers.
+impl From<io::Error> for Error {
+    ghost from_gives = { λ error e.
+        (refusal_of (kind_of e) ≡ writing_failed (io_kind error)) × IsSome (source_of e) };
+
+    fn from(error: io::Error) -> Error {
+        Error::io_error(error)
+    }
+}
+
+// What `invalid_utf8` answers.
+impl From<FromUtf8Error> for Error {
+    ghost from_gives = { λ _ e. (refusal_of (kind_of e) ≡ not_utf8) × IsSome (source_of e) };
+
+    fn from(error: FromUtf8Error) -> Error {
+        Error::invalid_utf8(error)
+    }
+}
+
+// Two texts of their own.
+fn two_texts(alloc: Global, first: &str, second: &str) -> Result<(String, String), AllocError>
+    ensures { IfOk result (λ both.
+        (string_bytes both.0 ≡ first.now) × (string_bytes both.1 ≡ second.now)) }
+{
+    Ok((
+        String::from_str(alloc, first)?,
+        String::from_str(alloc, second)?,
+    ))
+}

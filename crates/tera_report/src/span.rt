@@ -1,0 +1,58 @@
+// Where a node stands in the source of its template.
+ghost use Rattle.std.specs.Prelude.{◌≡◌, Some};
+ghost use Rattle.tera_report.specs.Span.{span_text, span_debug_text, expanded};
+
+use std::fmt;
+use std::ops::Range;
+
+/// The position of a node in the source of its template. Mirrors `tera::Span`.
+#[derive(Clone, PartialEq, Eq, Default, Drop)]
+pub struct Span {
+    /// The line that it starts on, counted from 1.
+    pub start_line: usize,
+    /// The column that it starts on, counted from 0.
+    pub start_col: usize,
+    /// The line that it ends on, counted from 1.
+    pub end_line: usize,
+    /// The column that it ends on, counted from 0.
+    pub end_col: usize,
+    /// Its bytes in the source.
+    pub range: Range<usize>,
+}
+
+impl Span {
+    /// Ends it where the other ends. Takes no memory. Mirrors `Span::expand`.
+    pub fn expand(&mut self, other: &Span)
+        ensures { self.new ≡ expanded self.old other.now }
+    {
+        self.end_line = other.end_line;
+        self.end_col = other.end_col;
+        self.range.end = other.range.end;
+    }
+}
+
+// ` @ 1:0-1:5`, with no width or fill.
+impl fmt::Display for Span {
+    ghost output = { λ span. Some (span_text span) };
+
+    fn fmt<W: fmt::Write>(&self, f: &mut fmt::Formatter<W>) -> fmt::Result {
+        let Span {
+            start_line,
+            start_col,
+            end_line,
+            end_col,
+            ..
+        } = self;
+        write!(f, " @ {start_line}:{start_col}-{end_line}:{end_col}")
+    }
+}
+
+// ` @ 1:0-1:5 (3..8)`.
+impl fmt::Debug for Span {
+    ghost debug_output = { λ span. Some (span_debug_text span) };
+
+    fn fmt<W: fmt::Write>(&self, f: &mut fmt::Formatter<W>) -> fmt::Result {
+        let Range { start, end } = &self.range;
+        write!(f, "{self} ({start}..{end})")
+    }
+}
