@@ -1,6 +1,6 @@
 -- Answers depend on meanings alone.
-use Rattle.std.specs.Prelude.{◌≡◌, ℕ, Bool, true, false, cond, List, [], ◌∷◌, Option, Some, None, refl}
-use Rattle.std.proofs.Common.{sym, ◌∙◌, ap}
+use Rattle.std.specs.Prelude.{◌≡◌, ◌≢◌, ℕ, suc, length, Bool, true, false, cond, List, [], ◌∷◌, Option, Some, None, refl}
+use Rattle.std.proofs.Common.{sym, ◌∙◌, ap, arith}
 use Rattle.std.specs.Option.{option_map, unwrap_or}
 use Rattle.std.specs.Ordering.{nat_cmp, eq_by_cmp}
 use Rattle.std.specs.Cmp.Lexicographic.{slice_cmp, nat_list_cmp_total}
@@ -10,8 +10,10 @@ use Rattle.tera_meaning.specs.Meaning.{plain}
 use Rattle.tera_meaning.specs.Order.{compare, same}
 use Rattle.tera_meaning.specs.Printed.{printed}
 use Rattle.tera_meaning.specs.State.{State, meaning_at}
-use Rattle.tera_meaning.specs.Step.{Request, set, equal, order, print, holds, ordered, shown, answer_of, state_after}
+use Rattle.tera_meaning.specs.Step.{Request, Outcome, done, set, equal, order, print, holds, ordered, shown, answer_of, state_after}
 use Rattle.tera_meaning.specs.Run.{answers_of, state_after_all}
+use Rattle.tera_meaning.specs.OrderLaws.{same_is, same_equivalence}
+use Rattle.tera_meaning.specs.StateLaws.{meaning_set, meaning_other}
 use Rattle.tera_meaning.specs.Alike.{MeanTheSame, AskTheSame, AllAskTheSame}
 use Rattle.tera_meaning.specs.Tree.{undefined}
 
@@ -60,3 +62,29 @@ pub states_alike : (f g : State) (qs rs : List Request) → MeanTheSame f g → 
 states_alike f g [] [] h a = h
 states_alike f g (q ∷ qs) (r ∷ rs) h a = states_alike (state_after f q) (state_after g r) qs rs (state_alike f g q r h a.0) a.1
 states_alike f g qs rs h a = absurd a
+
+-- Two requests by which a name's meaning is compared with a value's: the value is set under another name
+abbrev pub probe : List ℕ → Form → List Request
+probe name value = set (0 ∷ name) value ∷ equal name (0 ∷ name) ∷ []
+
+not_longer : (name : List ℕ) → name ≢ 0 ∷ name
+not_longer name e = let one : length name ≡ suc (length name) = ap length e in omega arith
+
+pub probed : (state : State) (name : List ℕ) (value : Form) → answers_of state (probe name value) ≡ done ∷ holds (same (meaning_at state name) (plain value)) ∷ []
+probed state name value = λ i. done ∷ holds (same (meaning_other state (0 ∷ name) value name (not_longer name) i) (meaning_set state (0 ∷ name) value i)) ∷ []
+
+probe_answer : List Outcome → Bool
+probe_answer (first ∷ holds b ∷ more) = b
+probe_answer _ = false
+
+answers_hold : (a b : Bool) → done ∷ holds a ∷ [] ≡ done ∷ holds b ∷ [] → a ≡ b
+unfolding probe_answer
+answers_hold a b e = ap probe_answer e
+
+-- states that answer every list of requests alike mean the same at every name
+pub told_apart : (f g : State) → ((requests : List Request) → answers_of f requests ≡ answers_of g requests) → (name : List ℕ) → meaning_at f name ≡ meaning_at g name
+told_apart f g alike name =
+    let value : Form = unwrap_or (get f name) undefined in
+    let held : same (meaning_at f name) (plain value) ≡ same (meaning_at g name) (plain value) =
+    answers_hold (same (meaning_at f name) (plain value)) (same (meaning_at g name) (plain value)) (sym (probed f name value) ∙ alike (probe name value) ∙ probed g name value) in
+    sym ((same_is (meaning_at g name) (meaning_at f name)).0 (sym held ∙ same_equivalence.refl (meaning_at f name)))

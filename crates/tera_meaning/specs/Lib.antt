@@ -16,3 +16,4 @@ pub mod OrderLaws
 pub mod StateLaws
 pub mod AlikeLaws
 pub mod RunLaws
+pub mod Rows

@@ -4,5 +4,6 @@
 pub mod alike;
 pub mod keys;
 pub mod order;
+pub mod rows;
 pub mod runs;
 pub mod state;

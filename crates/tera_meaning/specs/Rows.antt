@@ -1,0 +1,27 @@
+-- Small meanings, on which the definitions are tried.
+use Rattle.std.specs.Prelude.{ℕ, Bool, true, ◌&&◌, pos, List, [], ◌∷◌}
+use Rattle.std.specs.List.{list_all}
+use Rattle.std.specs.Ordering.{is_lt}
+use Rattle.tera_meaning.specs.KeyMeaning.{KeyMeaning, KeyForm}
+use Rattle.tera_meaning.specs.Form.{Form}
+use Rattle.tera_meaning.specs.Meaning.{Meaning}
+use Rattle.tera_meaning.specs.Order.{compare}
+use Rattle.tera_meaning.specs.Tree.{none, number, array, object, items, members}
+
+abbrev pub count : ℕ → Meaning
+count n = number (pos n)
+
+abbrev pub list_of : List Meaning → Meaning
+list_of xs = array (items xs)
+
+abbrev pub map_of : List (KeyMeaning × Meaning) → Meaning
+map_of ps = object (members ps)
+
+-- a map that holds none at one key
+abbrev pub map_of_form : KeyForm → Form
+map_of_form k = object (members ((k, none) ∷ []))
+
+-- whether each is less than every later one
+abbrev pub rises : List Meaning → Bool
+rises [] = true
+rises (x ∷ xs) = list_all (λ y. is_lt (compare x y)) xs && rises xs
