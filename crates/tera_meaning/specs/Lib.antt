@@ -17,3 +17,4 @@ pub mod StateLaws
 pub mod AlikeLaws
 pub mod RunLaws
 pub mod Rows
+pub mod TreeLaws

@@ -1,17 +1,18 @@
 -- The order of meanings is total, and ties equal meanings alone.
-use Rattle.std.specs.Prelude.{◌≡◌, ℕ, ◌<◌, ◌≤◌, ◌↔◌, IsTrue, List, ℤ, refl}
+use Rattle.std.specs.Prelude.{◌≡◌, ℕ, ◌<◌, ◌≤◌, ◌↔◌, IsTrue, List, [], ◌∷◌, ℤ, refl}
 use Rattle.std.proofs.Common.{sym, ◌∙◌, ap, arith}
 use Rattle.std.specs.Ordering.{ordering_then, ordering_reverse, is_eq, as_partial_cmp}
+use Rattle.std.specs.declared.cmp.Ordering.{Ordering}
 use Rattle.std.specs.declared.cmp.Ordering.TheVariants.{Less, Equal}
 use Rattle.std.specs.Cmp.{IsPartialEquivalence, IsEquivalence, IsTotalOrder, IsPartialOrder, partial_order_from_total, int_cmp_total, bool_cmp_total, tied_itself, eq_by_cmp_equiv, partial_equiv_from_equiv, Equal-is}
-use Rattle.std.specs.Cmp.Lexicographic.{nat_list_cmp_total}
+use Rattle.std.specs.Cmp.Lexicographic.{slice_cmp, nat_list_cmp_total}
 use Rattle.std.specs.FinMap.{nat_cmp-IsAntisymmetric, int_cmp-IsAntisymmetric, slice_cmp-IsAntisymmetric}
 use Rattle.tera_meaning.specs.KeyMeaning.{KeyMeaning, key_order}
 use Rattle.tera_meaning.specs.KeyLaws.{truth_exact, key_exact, key_total}
-use Rattle.tera_meaning.specs.Chained.{first_equal, second_equal, reverse_then, chain_then, equal_less, greater_less, nat_less, less_nat, at_most, below}
+use Rattle.tera_meaning.specs.Chained.{first_equal, second_equal, reverse_then, chain_then, then_nested, equal_less, greater_less, nat_less, less_nat, at_most, below}
 use Rattle.tera_meaning.specs.Meaning.{Meaning}
 use Rattle.tera_meaning.specs.Order.{rank, compare, compare_items, compare_members, same}
-use Rattle.tera_meaning.specs.Tree.{Items, Members, undefined, none, truth, number, text, bytes, array, object, no_items, item, no_members, member}
+use Rattle.tera_meaning.specs.Tree.{Items, Members, undefined, none, truth, number, text, bytes, array, object, no_items, item, no_members, member, items, members}
 
 mutual
   pub compare_exact : (x y : Meaning) → compare x y ≡ Equal → x ≡ y
@@ -158,3 +159,22 @@ same_is x y = (λ e. compare_exact x y ((Equal-is (compare x y)).0 e), λ e. ap 
 
 pub compare_tie : (x y : Meaning) → (compare x y ≡ Equal) ↔ (x ≡ y)
 compare_tie x y = (compare_exact x y, λ e. ap (λ w. compare x w) (sym e) ∙ compare_same x)
+
+-- a pair of a map by its key and then by its value
+abbrev pub pair_order : KeyMeaning × Meaning → KeyMeaning × Meaning → Ordering
+pair_order p q = ordering_then (key_order p.0 q.0) (compare p.1 q.1)
+
+-- arrays and maps compare as the lists of their items and pairs: the first that differ decide, and else the lengths
+pub items_by_first_difference : (xs ys : List Meaning) → compare (array (items xs)) (array (items ys)) ≡ slice_cmp compare xs ys
+items_by_first_difference [] [] = refl
+items_by_first_difference [] (y ∷ ys) = refl
+items_by_first_difference (x ∷ xs) [] = refl
+items_by_first_difference (x ∷ xs) (y ∷ ys) = ap (ordering_then (compare x y)) (items_by_first_difference xs ys)
+
+pub members_by_first_difference : (ps qs : List (KeyMeaning × Meaning)) → compare (object (members ps)) (object (members qs)) ≡ slice_cmp pair_order ps qs
+members_by_first_difference [] [] = refl
+members_by_first_difference [] (q ∷ qs) = refl
+members_by_first_difference (p ∷ ps) [] = refl
+members_by_first_difference (p ∷ ps) (q ∷ qs) =
+    ap (λ o. ordering_then (key_order p.0 q.0) (ordering_then (compare p.1 q.1) o)) (members_by_first_difference ps qs)
+    ∙ then_nested (key_order p.0 q.0) (compare p.1 q.1) (slice_cmp pair_order ps qs)

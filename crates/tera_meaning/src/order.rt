@@ -1,9 +1,13 @@
 //! The laws of the order of meanings. Each function here does nothing: its clauses are the law.
-ghost use Rattle.std.specs.Prelude.{◌≡◌, ◌↔◌, IsTrue};
+ghost use Rattle.std.specs.Prelude.{◌≡◌, ◌↔◌, IsTrue, List};
 ghost use Rattle.std.specs.Ordering.{as_partial_cmp};
 ghost use Rattle.std.specs.Cmp.{IsTotalOrder, IsPartialOrder, IsEquivalence};
+ghost use Rattle.std.specs.Cmp.Lexicographic.{slice_cmp};
+ghost use Rattle.tera_meaning.specs.KeyMeaning.{KeyMeaning};
 ghost use Rattle.tera_meaning.specs.Meaning.{Meaning};
 ghost use Rattle.tera_meaning.specs.Order.{compare, same};
+ghost use Rattle.tera_meaning.specs.OrderLaws.{pair_order};
+ghost use Rattle.tera_meaning.specs.Tree.{array, object, items, members};
 
 use std::cmp::Ordering;
 
@@ -23,4 +27,11 @@ pub fn meanings_tie_themselves()
 pub fn equality_is_identity()
     ensures identity { (x y : Meaning) → IsTrue (same x y) ↔ (x ≡ y) }
     ensures equivalence { IsEquivalence same }
+{}
+
+/// Arrays and maps compare as the lists of their items and pairs do: the first place where they differ decides, and a
+/// proper beginning is less; a pair is compared by its key and then by its value. Takes no memory.
+pub fn first_difference_decides()
+    ensures arrays { (xs ys : List Meaning) → compare (array (items xs)) (array (items ys)) ≡ slice_cmp compare xs ys }
+    ensures maps { (ps qs : List (KeyMeaning × Meaning)) → compare (object (members ps)) (object (members qs)) ≡ slice_cmp pair_order ps qs }
 {}

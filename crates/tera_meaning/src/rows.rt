@@ -29,7 +29,8 @@ pub fn maps_compare_along_their_pairs()
     ensures nested { compare (list_of (map_of ((text_key (codes "a"), count 1) ∷ []) ∷ [])) (list_of (map_of ((text_key (codes "a"), count 2) ∷ []) ∷ [])) ≡ Ordering.Less }
 {}
 
-/// Undefined, none and a text by itself print no mark of their own; integers print in decimal. Takes no memory.
+/// Undefined and none print nothing, integers print in decimal, a text by itself as it is, and bytes with U+FFFD for each
+/// invalid sequence. Takes no memory.
 pub fn single_values_print()
     ensures undefined { printed undefined ≡ [] }
     ensures none { printed none ≡ [] }
