@@ -1,0 +1,35 @@
+-- What the map of names has is what its state has.
+use Rattle.std.specs.Prelude.{◌≡◌, ℕ, Bool, cond, List, [], ◌∷◌, Option, Some, String, refl}
+use Rattle.std.proofs.Common.{sym, ◌∙◌, ap}
+use Rattle.std.specs.BTreeMap.{BTreeMap, UpdatesBy, is_at, get_by_text}
+use Rattle.std.specs.Cmp.{eq_by_cmp_equiv}
+use Rattle.std.specs.Cmp.Lexicographic.{slice_cmp, nat_list_cmp_total}
+use Rattle.std.specs.FinMap.{get, find, insert, get-from_entries, get-insert}
+use Rattle.std.specs.Map.{lookup, update}
+use Rattle.std.specs.Ordering.{nat_cmp, eq_by_cmp}
+use Rattle.std.specs.Str.{bytes_eq}
+use Rattle.std.specs.String.{string_bytes, string_cmp}
+use Rattle.std.proofs.lemmas.Map.Text.{is_eq-slice_cmp, btree_map_updates_text}
+use Rattle.tera_meaning.specs.Form.{Form}
+use Rattle.tera_meaning.specs.StateLaws.{same_state}
+use Rattle.tera_context.specs.Context.{named, state_of}
+
+find_named : {A : Type 0} (pairs : List (String A × Form)) (bs : List ℕ) → find (slice_cmp nat_cmp) bs (named pairs) ≡ lookup (is_at (λ k. slice_cmp nat_cmp bs (string_bytes k))) pairs
+find_named [] bs = refl
+find_named (p ∷ pairs) bs = ap (cond (eq_by_cmp (slice_cmp nat_cmp) bs (string_bytes p.0)) (Some p.1)) (find_named pairs bs)
+
+-- a look-up by bytes
+pub get_named : {A : Type 0} (values : BTreeMap (String A) Form) (bs : List ℕ) → get (state_of values.entries) bs ≡ get_by_text values bs
+get_named values bs = get-from_entries nat_list_cmp_total (named values.entries) bs ∙ find_named values.entries bs
+
+tied : (bs cs : List ℕ) → eq_by_cmp (slice_cmp nat_cmp) cs bs ≡ bytes_eq bs cs
+tied bs cs = (eq_by_cmp_equiv nat_list_cmp_total).symm cs bs ∙ is_eq-slice_cmp bs cs
+
+-- a change at one name
+pub named_insert : {A : Type 0} (old new : BTreeMap (String A) Form) (bs : List ℕ) (value : Form) → UpdatesBy string_cmp (λ k. slice_cmp nat_cmp bs (string_bytes k)) old new (Some value) → state_of new.entries ≡ insert (state_of old.entries) bs value
+named_insert old new bs value updates = same_state (state_of new.entries) (insert (state_of old.entries) bs value) (λ cs.
+    get_named new cs
+    ∙ btree_map_updates_text bs old new (Some value) updates cs
+    ∙ ap (cond (bytes_eq bs cs) (Some value)) (sym (get_named old cs))
+    ∙ ap (λ b. cond b (Some value) (get (state_of old.entries) cs)) (sym (tied bs cs))
+    ∙ sym (get-insert nat_list_cmp_total (state_of old.entries) bs value cs))
