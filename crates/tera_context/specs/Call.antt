@@ -1,8 +1,9 @@
 -- From the code's steps and answers to those of the model.
-use Rattle.std.specs.Prelude.{ℕ, List, Option, Result, Ok, Err}
+use Rattle.std.specs.Prelude.{Result, Ok, Err, IfErr}
 use Rattle.std.specs.Option.{option_map}
 use Rattle.std.specs.String.{string_bytes}
 use Rattle.tera_meaning.specs.Step.{Request, set, equal, order, print, Command, Outcome, done, holds, ordered, shown, out_of_memory}
+use Rattle.tera_report.specs.Errors.{IsOutOfMemory}
 use Rattle.tera_report.specs.declared.errors.Error.{Error}
 use Rattle.tera_context.specs.declared.call.Call.{Call}
 use Rattle.tera_context.specs.declared.call.Call.TheVariants.{Set, Equal, Compare, Print}
@@ -29,3 +30,7 @@ answered_with (Text t) = shown (string_bytes t)
 abbrev pub outcome_of : Result Answer Error → Outcome
 outcome_of (Ok answer) = answered_with answer
 outcome_of (Err e) = out_of_memory
+
+-- a refusal, if it is one, is want of memory
+abbrev pub RefusesForMemory : Result Answer Error → Type 0
+RefusesForMemory answer = IfErr answer IsOutOfMemory

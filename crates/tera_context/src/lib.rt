@@ -7,4 +7,4 @@ mod steps;
 
 pub use call::{Answer, Call, Step};
 pub use context::Context;
-pub use steps::step;
+pub use steps::{run, step};
