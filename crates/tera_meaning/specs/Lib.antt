@@ -18,3 +18,4 @@ pub mod AlikeLaws
 pub mod RunLaws
 pub mod Rows
 pub mod TreeLaws
+pub mod StepLaws

@@ -67,7 +67,7 @@ mutual
       (λ i. ordering_then (key_total.antisymm k l i) (both i)) ∙ reverse_then (key_order l k) (ordering_then (compare y x) (compare_members qs ps))
 
 -- a lesser rank decides, and what is less has no greater rank
-lower : (x y : Meaning) → rank x < rank y → compare x y ≡ Less
+pub lower : (x y : Meaning) → rank x < rank y → compare x y ≡ Less
 lower (truth a) (truth b) h = absurd (omega arith)
 lower (number y) (number z) h = absurd (omega arith)
 lower (text s) (text t) h = absurd (omega arith)

@@ -7,3 +7,4 @@ pub mod order;
 pub mod rows;
 pub mod runs;
 pub mod state;
+pub mod steps;

@@ -1,13 +1,13 @@
 //! The laws of the order of meanings. Each function here does nothing: its clauses are the law.
-ghost use Rattle.std.specs.Prelude.{◌≡◌, ◌↔◌, IsTrue, List};
-ghost use Rattle.std.specs.Ordering.{as_partial_cmp};
+ghost use Rattle.std.specs.Prelude.{◌≡◌, ℕ, ◌<◌, ◌↔◌, Bool, ℤ, IsTrue, List};
+ghost use Rattle.std.specs.Ordering.{as_partial_cmp, bool_cmp, int_cmp, nat_cmp};
 ghost use Rattle.std.specs.Cmp.{IsTotalOrder, IsPartialOrder, IsEquivalence};
 ghost use Rattle.std.specs.Cmp.Lexicographic.{slice_cmp};
 ghost use Rattle.tera_meaning.specs.KeyMeaning.{KeyMeaning};
 ghost use Rattle.tera_meaning.specs.Meaning.{Meaning};
-ghost use Rattle.tera_meaning.specs.Order.{compare, same};
+ghost use Rattle.tera_meaning.specs.Order.{rank, compare, same};
 ghost use Rattle.tera_meaning.specs.OrderLaws.{pair_order};
-ghost use Rattle.tera_meaning.specs.Tree.{array, object, items, members};
+ghost use Rattle.tera_meaning.specs.Tree.{truth, number, text, bytes, array, object, items, members};
 
 use std::cmp::Ordering;
 
@@ -34,4 +34,14 @@ pub fn equality_is_identity()
 pub fn first_difference_decides()
     ensures arrays { (xs ys : List Meaning) → compare (array (items xs)) (array (items ys)) ≡ slice_cmp compare xs ys }
     ensures maps { (ps qs : List (KeyMeaning × Meaning)) → compare (object (members ps)) (object (members qs)) ≡ slice_cmp pair_order ps qs }
+{}
+
+/// Meanings of two kinds compare by their kinds, and those of one kind by value: numbers whatever kind of integer held
+/// them, and texts and bytes by the first byte where they differ. Takes no memory.
+pub fn kinds_decide_before_values()
+    ensures kinds { (x y : Meaning) → rank x < rank y → compare x y ≡ Ordering.Less }
+    ensures truths { (a b : Bool) → compare (truth a) (truth b) ≡ bool_cmp a b }
+    ensures numbers { (y z : ℤ) → compare (number y) (number z) ≡ int_cmp y z }
+    ensures texts { (s t : List ℕ) → compare (text s) (text t) ≡ slice_cmp nat_cmp s t }
+    ensures bytes { (s t : List ℕ) → compare (bytes s) (bytes t) ≡ slice_cmp nat_cmp s t }
 {}
