@@ -39,3 +39,7 @@ NoneWantsMemory outcomes = AllByRecursion (λ outcome. outcome ≢ out_of_memory
 
 abbrev pub requests_of : List Command → List Request
 requests_of commands = map (λ command. command.request) commands
+
+-- a run in which no step wants memory
+abbrev pub IsAmpleRun : State → List Command → List Outcome → State → Type 0
+IsAmpleRun old commands outcomes new = IsRun old commands outcomes new × NoneWantsMemory outcomes

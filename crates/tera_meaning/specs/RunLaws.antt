@@ -1,9 +1,12 @@
 -- Runs in which some steps want memory.
 use Rattle.std.specs.Prelude.{◌≡◌, ◌≢◌, List, [], ◌∷◌, refl}
 use Rattle.std.proofs.Common.{sym, ◌∙◌, ap, subst, inl, inr}
+use Rattle.std.specs.Option.{option_map}
+use Rattle.std.specs.FinMap.{get}
+use Rattle.tera_meaning.specs.Meaning.{plain}
 use Rattle.tera_meaning.specs.State.{State}
 use Rattle.tera_meaning.specs.Step.{Request, Command, Outcome, set, equal, order, print, done, holds, ordered, shown, out_of_memory, IsStep, answer_of, state_after}
-use Rattle.tera_meaning.specs.Run.{IsRun, answers_of, state_after_all, answered, answers, requests_of, NoneWantsMemory}
+use Rattle.tera_meaning.specs.Run.{IsRun, answers_of, state_after_all, answered, answers, requests_of, NoneWantsMemory, IsAmpleRun}
 use Rattle.tera_meaning.specs.Alike.{MeanTheSame, AllAskTheSame}
 use Rattle.tera_meaning.specs.AlikeLaws.{answers_alike, states_alike}
 
@@ -42,30 +45,37 @@ none_left (ordered o ∷ outcomes) = (λ e. cc, none_left outcomes)
 none_left (shown text ∷ outcomes) = (λ e. cc, none_left outcomes)
 none_left (out_of_memory ∷ outcomes) = none_left outcomes
 
+pub ample_left : (old : State) (commands : List Command) (outcomes : List Outcome) (new : State) → IsRun old commands outcomes new → IsAmpleRun old (answered commands outcomes) (answers outcomes) new
+ample_left old commands outcomes new run = (left_out old commands outcomes new run, none_left outcomes)
+
 -- a run in which no step wants memory gives the answers and the state of its requests
-pub given_answers : (old : State) (commands : List Command) (outcomes : List Outcome) (new : State) → IsRun old commands outcomes new → NoneWantsMemory outcomes → outcomes ≡ answers_of old (requests_of commands)
-given_answers old [] [] new run none = refl
-given_answers old (command ∷ commands) (outcome ∷ outcomes) new (mid, step, run) none =
+pub ample_answers : (old : State) (commands : List Command) (outcomes : List Outcome) (new : State) → IsAmpleRun old commands outcomes new → outcomes ≡ answers_of old (requests_of commands)
+ample_answers old [] [] new ample = refl
+ample_answers old (command ∷ commands) (outcome ∷ outcomes) new ((mid, step, run), none) =
     let given = given_step old command outcome mid step none.0 in
-    (λ i. given.0 i ∷ given_answers mid commands outcomes new run none.1 i) ∙ ap (λ state. answer_of old command.request ∷ answers_of state (requests_of commands)) given.1
-given_answers old [] (outcome ∷ outcomes) new run none = absurd run
-given_answers old (command ∷ commands) [] new run none = absurd run
+    (λ i. given.0 i ∷ ample_answers mid commands outcomes new (run, none.1) i)
+    ∙ ap (λ state. answer_of old command.request ∷ answers_of state (requests_of commands)) given.1
+ample_answers old [] (outcome ∷ outcomes) new ample = absurd ample.0
+ample_answers old (command ∷ commands) [] new ample = absurd ample.0
 
-pub given_state : (old : State) (commands : List Command) (outcomes : List Outcome) (new : State) → IsRun old commands outcomes new → NoneWantsMemory outcomes → new ≡ state_after_all old (requests_of commands)
-given_state old [] [] new run none = run
-given_state old (command ∷ commands) (outcome ∷ outcomes) new (mid, step, run) none =
+pub ample_state : (old : State) (commands : List Command) (outcomes : List Outcome) (new : State) → IsAmpleRun old commands outcomes new → new ≡ state_after_all old (requests_of commands)
+ample_state old [] [] new ample = ample.0
+ample_state old (command ∷ commands) (outcome ∷ outcomes) new ((mid, step, run), none) =
     let given = given_step old command outcome mid step none.0 in
-    given_state mid commands outcomes new run none.1 ∙ ap (λ state. state_after_all state (requests_of commands)) given.1
-given_state old [] (outcome ∷ outcomes) new run none = absurd run
-given_state old (command ∷ commands) [] new run none = absurd run
+    ample_state mid commands outcomes new (run, none.1) ∙ ap (λ state. state_after_all state (requests_of commands)) given.1
+ample_state old [] (outcome ∷ outcomes) new ample = absurd ample.0
+ample_state old (command ∷ commands) [] new ample = absurd ample.0
 
-module _ (f g : State) (commands also : List Command) (outcomes others : List Outcome) (f' g' : State) where
-  -- two runs of the same requests from states of equal meaning, in which no step wants memory
-  pub run_answers_alike : MeanTheSame f g → AllAskTheSame (requests_of commands) (requests_of also) → IsRun f commands outcomes f' → NoneWantsMemory outcomes → IsRun g also others g' → NoneWantsMemory others → outcomes ≡ others
-  run_answers_alike h a run none run' none' =
-      given_answers f commands outcomes f' run none ∙ answers_alike f g (requests_of commands) (requests_of also) h a ∙ sym (given_answers g also others g' run' none')
+-- two runs of the same requests from states of equal meaning, in which no step wants memory
+module _ (f g : State) (commands also : List Command) (outcomes others : List Outcome) (f' g' : State) (means : MeanTheSame f g) (asks : AllAskTheSame (requests_of commands) (requests_of also)) (run : IsAmpleRun f commands outcomes f') (other : IsAmpleRun g also others g') where
+  pub run_answers_alike : outcomes ≡ others
+  run_answers_alike =
+      ample_answers f commands outcomes f' run
+      ∙ answers_alike f g (requests_of commands) (requests_of also) means asks
+      ∙ sym (ample_answers g also others g' other)
 
-  pub run_states_alike : MeanTheSame f g → AllAskTheSame (requests_of commands) (requests_of also) → IsRun f commands outcomes f' → NoneWantsMemory outcomes → IsRun g also others g' → NoneWantsMemory others → MeanTheSame f' g'
-  run_states_alike h a run none run' none' =
-      let ends : MeanTheSame (state_after_all f (requests_of commands)) (state_after_all g (requests_of also)) = states_alike f g (requests_of commands) (requests_of also) h a in
-      subst (λ state. MeanTheSame state g') (sym (given_state f commands outcomes f' run none)) (subst (λ state. MeanTheSame (state_after_all f (requests_of commands)) state) (sym (given_state g also others g' run' none')) ends)
+  pub run_states_alike : MeanTheSame f' g'
+  run_states_alike name =
+      ap (λ state. option_map plain (get state name)) (ample_state f commands outcomes f' run)
+      ∙ states_alike f g (requests_of commands) (requests_of also) means asks name
+      ∙ sym (ap (λ state. option_map plain (get state name)) (ample_state g also others g' other))

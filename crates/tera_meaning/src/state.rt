@@ -22,5 +22,5 @@ pub fn setting_gives_the_meaning()
 
 /// Two states that hold the same at each name are one state. Takes no memory.
 pub fn states_that_answer_alike_are_equal()
-    ensures { (left : State) (right : State) → ((name : List ℕ) → get left name ≡ get right name) → left ≡ right }
+    ensures { (left right : State) → ((name : List ℕ) → get left name ≡ get right name) → left ≡ right }
 {}

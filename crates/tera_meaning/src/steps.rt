@@ -20,14 +20,14 @@ pub fn what_is_set_is_read()
 
 /// Where nothing is held all names are equal, and print nothing. Takes no memory.
 pub fn absent_names_read_as_undefined()
-    ensures equal { (left : List ℕ) (right : List ℕ) → answer_of empty (equal left right) ≡ holds true }
-    ensures order { (left : List ℕ) (right : List ℕ) → answer_of empty (order left right) ≡ ordered (Some Ordering.Equal) }
+    ensures equal { (left right : List ℕ) → answer_of empty (equal left right) ≡ holds true }
+    ensures order { (left right : List ℕ) → answer_of empty (order left right) ≡ ordered (Some Ordering.Equal) }
     ensures print { (name : List ℕ) → answer_of empty (print name) ≡ shown [] }
 {}
 
 /// Comparisons never want memory, whatever name their answer is to be kept under: each has one outcome, and leaves the
 /// state as it was. Takes no memory.
 pub fn comparisons_never_want_memory()
-    ensures equal { (old : State) (new : State) (left : List ℕ) (right : List ℕ) (into : Option (List ℕ)) (outcome : Outcome) → IsStep old (record { request = equal left right; into = into }) outcome new → (outcome ≡ holds (same (meaning_at old left) (meaning_at old right))) × (new ≡ old) }
-    ensures order { (old : State) (new : State) (left : List ℕ) (right : List ℕ) (into : Option (List ℕ)) (outcome : Outcome) → IsStep old (record { request = order left right; into = into }) outcome new → (outcome ≡ ordered (Some (compare (meaning_at old left) (meaning_at old right)))) × (new ≡ old) }
+    ensures equal { (old new : State) (left right : List ℕ) (into : Option (List ℕ)) (outcome : Outcome) → IsStep old (record { request = equal left right; into = into }) outcome new → (outcome ≡ holds (same (meaning_at old left) (meaning_at old right))) × (new ≡ old) }
+    ensures order { (old new : State) (left right : List ℕ) (into : Option (List ℕ)) (outcome : Outcome) → IsStep old (record { request = order left right; into = into }) outcome new → (outcome ≡ ordered (Some (compare (meaning_at old left) (meaning_at old right)))) × (new ≡ old) }
 {}

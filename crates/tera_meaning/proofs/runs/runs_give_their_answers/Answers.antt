@@ -1,8 +1,8 @@
-use Rattle.tera_meaning.specs.RunLaws.{given_answers, given_state}
+use Rattle.tera_meaning.specs.RunLaws.{ample_answers, ample_state}
 use Rattle.tera_meaning.proofs.runs.runs_give_their_answers.Goals as goal
 
 pub returns-clause-answers : goal.returns-clause-answers
-returns-clause-answers c = given_answers
+returns-clause-answers c = ample_answers
 
 pub returns-clause-state : goal.returns-clause-state
-returns-clause-state c = given_state
+returns-clause-state c = ample_state
