@@ -1,2 +1,3 @@
-pub mod WatchLemmas
 pub mod ErrorLemmas
+pub mod EscapeLemmas
+pub mod WatchLemmas

@@ -1,4 +1,5 @@
 pub mod Errors
+pub mod Escaping
 pub mod Refusal
 pub mod Span
 pub mod Watch

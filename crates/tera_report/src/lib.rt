@@ -2,8 +2,10 @@
 #![tactic(auto)]
 
 mod errors;
+mod escape;
 mod span;
 pub mod watch;
 
 pub use errors::{Error, ErrorKind, TeraResult};
+pub use escape::{escape_html, escape_text, escape_watched, one_decoding, one_spelling};
 pub use span::Span;
