@@ -2,4 +2,5 @@ pub mod Errors
 pub mod Escaping
 pub mod Refusal
 pub mod Span
+pub mod Spanned
 pub mod Watch

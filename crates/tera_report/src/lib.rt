@@ -4,8 +4,10 @@
 mod errors;
 mod escape;
 mod span;
+mod spanned;
 pub mod watch;
 
 pub use errors::{Error, ErrorKind, TeraResult};
 pub use escape::{escape_html, escape_text, escape_watched, one_decoding, one_spelling};
 pub use span::Span;
+pub use spanned::Spanned;
