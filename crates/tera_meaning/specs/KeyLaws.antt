@@ -28,7 +28,7 @@ key_reversed (text_key s) (text_key t) = nat_list_cmp_total.antisymm s t
 key_reversed k l = refl
 
 -- a lesser rank decides, and what is less has no greater rank
-key_lower : (k l : KeyMeaning) → key_rank k < key_rank l → key_order k l ≡ Less
+pub key_lower : (k l : KeyMeaning) → key_rank k < key_rank l → key_order k l ≡ Less
 key_lower (truth_key a) (truth_key b) h = absurd (omega arith)
 key_lower (number_key y) (number_key z) h = absurd (omega arith)
 key_lower (text_key s) (text_key t) h = absurd (omega arith)

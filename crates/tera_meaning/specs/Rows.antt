@@ -2,11 +2,10 @@
 use Rattle.std.specs.Prelude.{ℕ, Bool, true, ◌&&◌, pos, List, [], ◌∷◌}
 use Rattle.std.specs.List.{list_all}
 use Rattle.std.specs.Ordering.{is_lt}
-use Rattle.tera_meaning.specs.KeyMeaning.{KeyMeaning, KeyForm}
-use Rattle.tera_meaning.specs.Form.{Form}
+use Rattle.tera_meaning.specs.KeyMeaning.{KeyMeaning}
 use Rattle.tera_meaning.specs.Meaning.{Meaning}
 use Rattle.tera_meaning.specs.Order.{compare}
-use Rattle.tera_meaning.specs.Tree.{none, number, array, object, items, members}
+use Rattle.tera_meaning.specs.Tree.{Tree, none, number, array, object, items, members}
 
 abbrev pub count : ℕ → Meaning
 count n = number (pos n)
@@ -17,9 +16,9 @@ list_of xs = array (items xs)
 abbrev pub map_of : List (KeyMeaning × Meaning) → Meaning
 map_of ps = object (members ps)
 
--- a map that holds none at one key
-abbrev pub map_of_form : KeyForm → Form
-map_of_form k = object (members ((k, none) ∷ []))
+-- a map that holds none at one key, as a meaning or as a form
+abbrev pub map_at : {N T K : Type 0} → K → Tree N T K
+map_at k = object (members ((k, none) ∷ []))
 
 -- whether each is less than every later one
 abbrev pub rises : List Meaning → Bool

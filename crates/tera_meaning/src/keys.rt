@@ -1,8 +1,9 @@
 //! The laws of the order of keys. Each function here does nothing: its clauses are the law.
-ghost use Rattle.std.specs.Prelude.{◌≡◌, ◌↔◌, IsTrue};
-ghost use Rattle.std.specs.Ordering.{eq_by_cmp};
+ghost use Rattle.std.specs.Prelude.{◌≡◌, ℕ, ◌<◌, ◌↔◌, Bool, ℤ, IsTrue, List};
+ghost use Rattle.std.specs.Ordering.{eq_by_cmp, bool_cmp, int_cmp, nat_cmp};
 ghost use Rattle.std.specs.Cmp.{IsTotalOrder, IsEquivalence};
-ghost use Rattle.tera_meaning.specs.KeyMeaning.{KeyMeaning, key_order};
+ghost use Rattle.std.specs.Cmp.Lexicographic.{slice_cmp};
+ghost use Rattle.tera_meaning.specs.KeyMeaning.{KeyMeaning, truth_key, number_key, text_key, key_rank, key_order};
 
 use std::cmp::Ordering;
 
@@ -18,4 +19,13 @@ pub fn keys_tie_themselves()
     ensures order { (k l : KeyMeaning) → (key_order k l ≡ Ordering.Equal) ↔ (k ≡ l) }
     ensures equality { (k l : KeyMeaning) → IsTrue (eq_by_cmp key_order k l) ↔ (k ≡ l) }
     ensures equivalence { IsEquivalence (eq_by_cmp key_order) }
+{}
+
+/// Keys of two kinds compare by their kinds, and those of one kind by value: numbers whatever kind of integer held them,
+/// and texts by the first byte where they differ. Takes no memory.
+pub fn key_kinds_decide_before_values()
+    ensures kinds { (k l : KeyMeaning) → key_rank k < key_rank l → key_order k l ≡ Ordering.Less }
+    ensures truths { (a b : Bool) → key_order (truth_key a) (truth_key b) ≡ bool_cmp a b }
+    ensures numbers { (y z : ℤ) → key_order (number_key y) (number_key z) ≡ int_cmp y z }
+    ensures texts { (s t : List ℕ) → key_order (text_key s) (text_key t) ≡ slice_cmp nat_cmp s t }
 {}

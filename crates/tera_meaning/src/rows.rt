@@ -5,7 +5,7 @@ ghost use Rattle.tera_meaning.specs.KeyMeaning.{truth_key, number_key, text_key,
 ghost use Rattle.tera_meaning.specs.Meaning.{plain};
 ghost use Rattle.tera_meaning.specs.Order.{compare, same};
 ghost use Rattle.tera_meaning.specs.Printed.{printed};
-ghost use Rattle.tera_meaning.specs.Rows.{count, list_of, map_of, map_of_form, rises};
+ghost use Rattle.tera_meaning.specs.Rows.{count, list_of, map_of, map_at, rises};
 ghost use Rattle.tera_meaning.specs.Tree.{undefined, none, truth, number, text, bytes};
 
 use std::cmp::Ordering;
@@ -16,7 +16,7 @@ pub fn kinds_rise()
     ensures numbers { IsTrue (rises (truth false ∷ truth true ∷ number (negsuc (2 ^ 127 - 1)) ∷ number (negsuc 0) ∷ count 0 ∷ count (2 ^ 128 - 1) ∷ [])) }
     ensures texts { IsTrue (rises (text [] ∷ text (codes "a") ∷ text (codes "aa") ∷ text (codes "b") ∷ text (195 ∷ 169 ∷ []) ∷ [])) }
     ensures lists { IsTrue (rises (list_of [] ∷ list_of (count 1 ∷ []) ∷ list_of (count 1 ∷ list_of [] ∷ []) ∷ list_of (count 2 ∷ []) ∷ [])) }
-    ensures keys { IsTrue (rises (map_of ((truth_key true, none) ∷ []) ∷ map_of ((number_key (pos 1), none) ∷ []) ∷ map_of ((text_key (codes "1"), none) ∷ []) ∷ [])) }
+    ensures keys { IsTrue (rises (map_at (truth_key false) ∷ map_at (truth_key true) ∷ map_at (number_key (negsuc 0)) ∷ map_at (number_key (pos 1)) ∷ map_at (text_key []) ∷ map_at (text_key (codes "1")) ∷ map_at (text_key (codes "a")) ∷ [])) }
 {}
 
 /// Maps compare along their pairs, by key and then by value; one that is a beginning of the other is less. Takes no
@@ -59,7 +59,7 @@ pub fn nested_values_print()
 pub fn kinds_and_flags_are_forgotten()
     ensures number { plain (number (record { kind = u64; value = pos 1 })) ≡ plain (number (record { kind = i128; value = pos 1 })) }
     ensures text { plain (text (record { spelled = codes "a"; safe = true })) ≡ plain (text (record { spelled = codes "a"; safe = false })) }
-    ensures key { plain (map_of_form (text_key (owned (codes "a")))) ≡ plain (map_of_form (text_key (borrowed (codes "a")))) }
-    ensures key_number { plain (map_of_form (number_key (record { kind = u64; value = pos 1 }))) ≡ plain (map_of_form (number_key (record { kind = i128; value = pos 1 }))) }
+    ensures key { plain (map_at (text_key (owned (codes "a")))) ≡ plain (map_at (text_key (borrowed (codes "a")))) }
+    ensures key_number { plain (map_at (number_key (record { kind = u64; value = pos 1 }))) ≡ plain (map_at (number_key (record { kind = i128; value = pos 1 }))) }
     ensures told_apart { same (plain (number (record { kind = u64; value = pos 1 }))) (plain (text (record { spelled = codes "1"; safe = true }))) ≡ false }
 {}
