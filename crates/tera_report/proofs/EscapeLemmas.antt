@@ -158,8 +158,8 @@ pub escaped_cut : (xs : List ℕ) (i : ℕ) → i < length xs → IsPlain xs 0 i
     → escaped xs ≡ take i xs ++ (spelling (token_of (get_or xs i 0)) ++ escaped (drop (i + 1) xs))
 escaped_cut xs i within plain =
     let front = escaped_plain (take i xs) (λ k h.
-        let before : k < i = omega (arith, length-take i xs) in
-        subst (λ b. is_special b ≡ false) (sym (get_or-take i xs k 0 before)) (plain k (omega arith) before)) in
+    let before : k < i = omega (arith, length-take i xs) in
+    subst (λ b. is_special b ≡ false) (sym (get_or-take i xs k 0 before)) (plain k (omega arith) before)) in
     let later : drop i xs ≡ get_or xs i 0 ∷ drop (i + 1) xs = rw add-one (drop-cons xs i 0 within) in
     let parts : xs ≡ take i xs ++ (get_or xs i 0 ∷ drop (i + 1) xs) = sym (take-append-drop i xs) ∙ ap (λ l. take i xs ++ l) later in
     ap escaped parts ∙ flat_map-append (λ byte. spelling (token_of byte)) (take i xs) (get_or xs i 0 ∷ drop (i + 1) xs) ∙ ap (λ run. run ++ (spelling (token_of (get_or xs i 0)) ++ escaped (drop (i + 1) xs))) front

@@ -158,6 +158,6 @@ impl<T: Drop> From<AllocFailed<T>> for Error {
     ghost from_gives = { λ _ e. IsOutOfMemory e };
 
     fn from(_refused: AllocFailed<T>) -> Error {
-        Error::new(ErrorKind::OutOfMemory)
+        Error::from(AllocError)
     }
 }

@@ -59,14 +59,12 @@ pub fn escape_text(alloc: Global, text: &str) -> TeraResult<String>
 pub fn one_spelling()
     ensures spelled { (text : List ℕ) → Spells (escaped text) text }
     ensures unique { (v w text : List ℕ) → Spells v text → Spells w text → v ≡ w }
-{
-}
+{}
 
 /// Bytes that spell stand for one text only.
 pub fn one_decoding()
     ensures { (bytes s t : List ℕ) → Spells bytes s → Spells bytes t → s ≡ t }
-{
-}
+{}
 
 // The text before the first special byte, the entity of that byte, and the text after it.
 fn split_special(text: &str) -> Option<(&str, &'static str, &str)>

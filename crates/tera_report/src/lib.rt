@@ -5,6 +5,8 @@ mod errors;
 mod escape;
 mod span;
 mod spanned;
+#[cfg(test)]
+mod tests;
 pub mod watch;
 
 pub use errors::{Error, ErrorKind, TeraResult};

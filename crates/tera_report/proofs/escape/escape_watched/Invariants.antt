@@ -11,7 +11,7 @@ abbrev pub invariant-loop-run : goal.invariant-loop-run
 invariant-loop-run g l =
     shadow (Utf8 l.rest)
     × ((done : List ℕ) × (escaped l.fn.text ≡ done ++ escaped l.rest)
-        × Appends (held g.W.Write.contents l.fn.writer) (held g.W.Write.contents l.writer) done)
+    × Appends (held g.W.Write.contents l.fn.writer) (held g.W.Write.contents l.writer) done)
     × SameWriter l.fn.writer l.writer
     × (HasFailed l.fn.writer → HasFailed l.writer)
 
