@@ -1,0 +1,15 @@
+pub mod Fronts
+pub mod Names
+pub mod Digits
+pub mod Integers
+pub mod Tokens
+pub mod Utf8Texts
+pub mod Texts
+pub mod WorkedTexts
+pub mod HexNumbers
+pub mod Decoding
+pub mod Escapes
+pub mod TextStops
+pub mod Literals
+pub mod Calls
+pub mod Lines

@@ -1,0 +1,98 @@
+-- Gaps, names and operands: what the readers give is spelled so, and what is spelled so is read.
+use Rattle.std.proofs.Common.{◌≡◌, ◌<◌, ℕ, Bool, true, false, cond, List, [], ◌∷◌, ◌++◌, length, Option, Some, None, refl, ap, sym, ◌∙◌, arith, append_assoc}
+use Rattle.std.specs.List.{list_all}
+use Rattle.std.proofs.lemmas.Option.{option_and_then_some, some_pair_parts}
+use Rattle.std.proofs.lemmas.Bool.Decides.{nat_tests}
+use Rattle.tera_script.specs.Line.{is_blank, AreBlanks, IsGap, is_name_start, is_name_byte, IsName, SpellsOperand}
+use Rattle.tera_script.specs.Readers.{Stops, front, past, gap_at, name_at, operand_at}
+use Rattle.tera_script.proofs.Fronts.{front-past, front_all, past_stops, front_is, past_is, both_pass}
+
+-- a gap stands before the rest
+pub record HasGap (bytes rest : List ℕ) : Type 0 where
+  pub gap : List ℕ
+  pub blanks : IsGap gap
+  pub spelled : bytes ≡ gap ++ rest
+  pub stops : Stops is_blank rest
+
+some_of_cond : (b : Bool) (x y : List ℕ) → cond b (Some x) None ≡ Some y → (b ≡ true) × (x ≡ y)
+some_of_cond true x y e = (refl, cc)
+some_of_cond false x y e = cc
+
+pub gap_found : (bytes rest : List ℕ) → gap_at bytes ≡ Some rest → HasGap bytes rest
+unfolding gap_at
+gap_found [] rest e = cc
+gap_found (b ∷ bytes) rest e =
+    let h = some_of_cond (is_blank b) (past is_blank bytes) rest e in
+    record {
+      gap = b ∷ front is_blank bytes;
+      blanks = (omega arith, rw (h.0) (front_all is_blank bytes));
+      spelled = rw (← h.1) (ap (λ xs. b ∷ xs) (sym (front-past is_blank bytes)));
+      stops = rw (← h.1) (past_stops is_blank bytes);
+    }
+
+blank_not_empty : (b : ℕ) (xs : List ℕ) → list_all is_blank (b ∷ xs) ≡ true → (is_blank b ≡ true) × (list_all is_blank xs ≡ true)
+blank_not_empty b xs h = both_pass is_blank (is_blank b) (list_all is_blank xs) h
+
+pub gap_only : (gap rest : List ℕ) → IsGap gap → Stops is_blank rest → gap_at (gap ++ rest) ≡ Some rest
+unfolding gap_at
+gap_only [] rest g s = absurd (omega (arith, g.0))
+gap_only (b ∷ gap) rest g s =
+    let h = blank_not_empty b gap g.1 in
+    rw (h.0) (ap Some (past_is is_blank gap rest h.1 s))
+
+-- a name stands before the rest
+pub record HasName (bytes name rest : List ℕ) : Type 0 where
+  pub named : IsName name
+  pub spelled : bytes ≡ name ++ rest
+  pub stops : Stops is_name_byte rest
+
+some_pair_of_cond : {A B : Type 0} (b : Bool) (x y : A) (u v : B) → cond {A = Option (A × B)} b (Some (x, u)) None ≡ Some (y, v) → (b ≡ true) × (x ≡ y) × (u ≡ v)
+some_pair_of_cond true x y u v e = (refl, (some_pair_parts x y u v e).0, (some_pair_parts x y u v e).1)
+some_pair_of_cond false x y u v e = cc
+
+pub name_found : (bytes name rest : List ℕ) → name_at bytes ≡ Some (name, rest) → HasName bytes name rest
+unfolding name_at
+name_found [] name rest e = cc
+name_found (b ∷ bytes) name rest e =
+    let h = some_pair_of_cond (is_name_start b) (b ∷ front is_name_byte bytes) name (past is_name_byte bytes) rest e in
+    record {
+      named = rw (← h.1) (h.0, front_all is_name_byte bytes);
+      spelled = rw (← h.1, ← h.2) (ap (λ xs. b ∷ xs) (sym (front-past is_name_byte bytes)));
+      stops = rw (← h.2) (past_stops is_name_byte bytes);
+    }
+
+pub name_only : (name rest : List ℕ) → IsName name → Stops is_name_byte rest → name_at (name ++ rest) ≡ Some (name, rest)
+unfolding name_at
+name_only [] rest n s = absurd n
+name_only (b ∷ name) rest n s = rw (n.0) (ap Some (λ i. (b ∷ front_is is_name_byte name rest n.1 s i, past_is is_name_byte name rest n.1 s i)))
+
+-- an operand stands before the rest
+pub record HasOperand (bytes name rest : List ℕ) : Type 0 where
+  pub operand : List ℕ
+  pub spells : SpellsOperand operand name
+  pub spelled : bytes ≡ operand ++ rest
+  pub stops : Stops is_name_byte rest
+
+pub operand_found : (bytes name rest : List ℕ) → operand_at bytes ≡ Some (name, rest) → HasOperand bytes name rest
+unfolding operand_at
+operand_found bytes name rest e = option_and_then_some name_at (gap_at bytes) (name, rest) e (λ between g n.
+    let gap = gap_found bytes between g in
+    let name' = name_found between name rest n in
+    record {
+      operand = gap.gap ++ name;
+      spells = (gap.gap, gap.blanks, name'.named, refl);
+      spelled = gap.spelled ∙ ap (λ xs. gap.gap ++ xs) name'.spelled ∙ sym (append_assoc gap.gap name rest);
+      stops = name'.stops;
+    })
+
+-- no byte that begins a name is blank
+pub name_is_not_blank : (name rest : List ℕ) → IsName name → Stops is_blank (name ++ rest)
+name_is_not_blank [] rest n = absurd n
+name_is_not_blank (b ∷ name) rest n = grind (arith, nat_tests, n.0)
+
+pub operand_only : (operand name rest : List ℕ) → SpellsOperand operand name → Stops is_name_byte rest → operand_at (operand ++ rest) ≡ Some (name, rest)
+unfolding operand_at
+operand_only operand name rest h s =
+    let gap = h.0 in
+    let at_gap : gap_at (operand ++ rest) ≡ Some (name ++ rest) = rw (h.3, append_assoc gap name rest) (gap_only gap (name ++ rest) h.1 (name_is_not_blank name rest h.2)) in
+    rw at_gap (name_only name rest h.2 s)

@@ -1,0 +1,7 @@
+pub mod Text
+pub mod TextParts
+pub mod Number
+pub mod Literal
+pub mod Line
+pub mod Readers
+pub mod Said

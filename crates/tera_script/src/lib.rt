@@ -1,0 +1,17 @@
+//! The grammar of scripts: from the bytes of one line to what it says.
+#![tactic(auto)]
+
+mod call;
+mod escape;
+mod laws;
+mod line;
+mod literal;
+mod number;
+mod text;
+mod text_laws;
+mod word;
+
+pub use laws::{one_command, skipped_says_nothing};
+pub use line::{Reading, read_line};
+pub use text::{TakenText, take_text};
+pub use text_laws::{one_closing_quote, one_text, text_is_utf8, worked_texts};

@@ -1,0 +1,86 @@
+//! Literals: how a script spells a value.
+ghost use Rattle.std.specs.Prelude.{◌≡◌, ℕ, List, IfOk};
+ghost use Rattle.std.specs.Option.{option_map};
+ghost use Rattle.tera_script.specs.Readers.{past, is_word_byte, value_in, plain_at, IsQuotedAt, IsLiteralAt, value_rest};
+
+use crate::number::number_in;
+use crate::text::take_text;
+use std::alloc::{AllocError, Global};
+use tera_values::Value;
+
+/// The literal at the front of the bytes, and the bytes behind it. `None` where there is none that ends as a word
+/// does. Takes memory for a text, and fails for want of it alone.
+pub(crate) fn take_literal(alloc: Global, bytes: &[u8]) -> Result<Option<(Value, &[u8])>, AllocError>
+    ensures { IfOk result (λ answer. IsLiteralAt bytes.now (option_map value_rest answer)) }
+{
+    if let Some(text) = bytes.strip_prefix(b"\"".as_slice()) {
+        take_quoted(alloc, text, false)
+    } else if let Some(text) = bytes.strip_prefix(b"s\"".as_slice()) {
+        take_quoted(alloc, text, true)
+    } else {
+        Ok(take_plain(bytes))
+    }
+}
+
+// The text behind an opening quote, with this flag, and the bytes behind its closing quote.
+fn take_quoted(alloc: Global, bytes: &[u8], safe: bool) -> Result<Option<(Value, &[u8])>, AllocError>
+    ensures { IfOk result (λ answer. IsQuotedAt safe bytes.now (option_map value_rest answer)) }
+{
+    let Some(taken) = take_text(alloc, bytes)? else {
+        return Ok(None);
+    };
+    let (_, rest) = bytes.split_at(taken.used);
+    let value = Value::from(taken.text);
+    if safe {
+        Ok(Some((value.mark_safe(), rest)))
+    } else {
+        Ok(Some((value, rest)))
+    }
+}
+
+// The literal without quotes at the front, and the bytes behind it.
+#[tactic(auto, unfolding(crate::specs::Readers::plain_at))]
+fn take_plain(bytes: &[u8]) -> Option<(Value, &[u8])>
+    ensures { option_map value_rest result ≡ plain_at bytes.now }
+{
+    let rest = past_word(bytes);
+    let value = value_in(&bytes[..bytes.len() - rest.len()])?;
+    Some((value, rest))
+}
+
+fn is_word_byte(byte: u8) -> bool
+    ensures { result ≡ is_word_byte byte }
+{
+    byte.is_ascii_alphanumeric() || byte == b'_' || byte == b'-'
+}
+
+// The bytes behind those at the front that can stand in a literal without quotes.
+fn past_word(bytes: &[u8]) -> &[u8]
+    ensures { result.now ≡ past is_word_byte bytes.now }
+{
+    let mut rest = bytes;
+    while let [byte, others @ ..] = rest
+        && is_word_byte(*byte)
+    {
+        rest = others;
+    }
+    rest
+}
+
+// The value that a word spells.
+#[tactic(auto, unfolding(crate::specs::Readers::value_in))]
+fn value_in(word: &[u8]) -> Option<Value>
+    ensures { result ≡ value_in word.now }
+{
+    if word == b"undefined".as_slice() {
+        Some(Value::undefined())
+    } else if word == b"none".as_slice() {
+        Some(Value::none())
+    } else if word == b"true".as_slice() {
+        Some(Value::from(true))
+    } else if word == b"false".as_slice() {
+        Some(Value::from(false))
+    } else {
+        number_in(word)
+    }
+}

@@ -1,0 +1,154 @@
+//! Numbers: an optional minus, digits and an optional suffix that names a kind.
+ghost use Rattle.std.specs.Prelude.{◌≡◌, ℕ, List, Option, Some, None, SomeIff, MatchOption, IsTrue, cond, ◌+◌, ◌*◌, ◌^◌, ◌<◌};
+ghost use Rattle.std.specs.Char.{digit_value, is_ascii_digit};
+ghost use Rattle.std.specs.Option.{option_map};
+ghost use Rattle.tera_meaning.specs.Integer.{i128 as kind_i128};
+ghost use Rattle.tera_script.specs.Number.{signed};
+ghost use Rattle.tera_script.specs.Readers.{Stops, BeginsWithDigit, digits_at, suffix_in, integer_of, is_of_kind, unsigned_in, number_in, number_rest, number_value, kind_of};
+
+use tera_values::Value;
+
+// The kind that a suffix names.
+#[derive(Clone, Copy)]
+pub(crate) enum Suffix {
+    U64,
+    I64,
+    U128,
+    I128,
+}
+
+/// The number that a word spells, in its kind. `None` where it spells none. Takes no memory.
+#[tactic(auto, unfolding(crate::specs::Readers::number_in))]
+pub(crate) fn number_in(word: &[u8]) -> Option<Value>
+    ensures { result ≡ number_value (number_in word.now) }
+{
+    match word {
+        [] => None,
+        [b'-', digits @ ..] => unsigned_in(true, digits),
+        _ => unsigned_in(false, word),
+    }
+}
+
+// The number that a sign and the bytes behind it spell.
+#[tactic(auto, unfolding(crate::specs::Readers::unsigned_in))]
+fn unsigned_in(minus: bool, bytes: &[u8]) -> Option<Value>
+    ensures { result ≡ number_value (unsigned_in minus bytes.now) }
+{
+    let (magnitude, rest) = take_digits(bytes)?;
+    let suffix = suffix_in(rest)?;
+    integer_of(minus, magnitude, suffix)
+}
+
+// The number of the digits at the front, one or more, and the bytes behind them.
+#[tactic(auto, unfolding(crate::specs::Readers::digits_at))]
+fn take_digits(bytes: &[u8]) -> Option<(u128, &[u8])>
+    ensures { option_map number_rest result ≡ digits_at bytes.now }
+{
+    let mut magnitude: u128 = 0;
+    let mut rest = bytes;
+    while let Some((digit, others)) = first_digit(rest) {
+        magnitude = with_digit(magnitude, digit)?;
+        rest = others;
+    }
+    if rest.len() == bytes.len() {
+        return None;
+    }
+    Some((magnitude, rest))
+}
+
+// The digit at the front, and the bytes behind it. `None` where no digit stands there.
+fn first_digit(bytes: &[u8]) -> Option<(u8, &[u8])>
+    ensures { MatchOption result (Stops is_ascii_digit bytes.now) (λ found. BeginsWithDigit bytes.now found.0 found.1.now) }
+{
+    match bytes {
+        [byte, rest @ ..] if byte.is_ascii_digit() => Some((*byte, rest)),
+        _ => None,
+    }
+}
+
+// The number with one more digit, if 128 bits hold it.
+fn with_digit(magnitude: u128, digit: u8) -> Option<u128>
+    requires { IsTrue (is_ascii_digit digit) }
+    ensures { SomeIff result (magnitude * 10 + digit_value digit < 2 ^ 128) (magnitude * 10 + digit_value digit) }
+{
+    let ones = u128::from(digit - b'0');
+    magnitude.checked_mul(10)?.checked_add(ones)
+}
+
+// The kind that a word names, or none where there is no word. `None` for any other word.
+#[tactic(auto, unfolding(crate::specs::Readers::suffix_in))]
+fn suffix_in(word: &[u8]) -> Option<Option<Suffix>>
+    ensures { option_map (option_map kind_of) result ≡ suffix_in word.now }
+{
+    if word.is_empty() {
+        Some(None)
+    } else if word == b"u64".as_slice() {
+        Some(Some(Suffix::U64))
+    } else if word == b"i64".as_slice() {
+        Some(Some(Suffix::I64))
+    } else if word == b"u128".as_slice() {
+        Some(Some(Suffix::U128))
+    } else if word == b"i128".as_slice() {
+        Some(Some(Suffix::I128))
+    } else {
+        None
+    }
+}
+
+// The number with this sign in the kind of its suffix, or in the first kind that holds it.
+#[tactic(auto, unfolding(crate::specs::Readers::integer_of))]
+fn integer_of(minus: bool, magnitude: u128, suffix: Option<Suffix>) -> Option<Value>
+    ensures { result ≡ number_value (integer_of minus magnitude (option_map kind_of suffix)) }
+{
+    match suffix {
+        None => in_first_kind(minus, magnitude),
+        Some(Suffix::U64) => {
+            if minus {
+                return None;
+            }
+            Some(Value::from(u64::try_from(magnitude).ok()?))
+        }
+        Some(Suffix::I64) => {
+            let number = signed(minus, magnitude)?;
+            Some(Value::from(i64::try_from(number).ok()?))
+        }
+        Some(Suffix::U128) => {
+            if minus {
+                return None;
+            }
+            Some(Value::from(magnitude))
+        }
+        Some(Suffix::I128) => Some(Value::from(signed(minus, magnitude)?)),
+    }
+}
+
+// The first of i64, u64, i128 and u128 that holds the number.
+#[tactic(auto, unfolding(crate::specs::Readers::integer_of))]
+fn in_first_kind(minus: bool, magnitude: u128) -> Option<Value>
+    ensures { result ≡ number_value (integer_of minus magnitude None) }
+{
+    let Some(number) = signed(minus, magnitude) else {
+        if minus {
+            return None;
+        }
+        return Some(Value::from(magnitude));
+    };
+    if let Ok(small) = i64::try_from(number) {
+        return Some(Value::from(small));
+    }
+    if let Ok(small) = u64::try_from(number) {
+        return Some(Value::from(small));
+    }
+    Some(Value::from(number))
+}
+
+// The number with this sign, if 128 bits hold it.
+fn signed(minus: bool, magnitude: u128) -> Option<i128>
+    ensures { result ≡ (cond (is_of_kind kind_i128 (signed minus magnitude)) (Some (signed minus magnitude)) None) }
+{
+    if minus {
+        0i128.checked_sub_unsigned(magnitude)
+    } else {
+        0i128.checked_add_unsigned(magnitude)
+    }
+}

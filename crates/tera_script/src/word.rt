@@ -1,0 +1,89 @@
+//! Blanks, names and operands: the parts of a line that stand one behind another.
+ghost use Rattle.std.specs.Prelude.{◌≡◌, ℕ, List};
+ghost use Rattle.std.specs.List.{list_all};
+ghost use Rattle.std.specs.Option.{option_map};
+ghost use Rattle.tera_script.specs.Line.{is_blank, is_name_start, is_name_byte};
+ghost use Rattle.tera_script.specs.Readers.{past, gap_at, name_at, operand_at, named_rest};
+
+fn is_blank(byte: u8) -> bool
+    ensures { result ≡ is_blank byte }
+{
+    byte == b' ' || byte == b'\t'
+}
+
+fn is_name_start(byte: u8) -> bool
+    ensures { result ≡ is_name_start byte }
+{
+    byte.is_ascii_alphabetic() || byte == b'_'
+}
+
+fn is_name_byte(byte: u8) -> bool
+    ensures { result ≡ is_name_byte byte }
+{
+    byte.is_ascii_alphanumeric() || byte == b'_'
+}
+
+// The bytes behind the blanks at the front.
+pub(crate) fn past_blanks(bytes: &[u8]) -> &[u8]
+    ensures { result.now ≡ past is_blank bytes.now }
+{
+    let mut rest = bytes;
+    while let [byte, others @ ..] = rest
+        && is_blank(*byte)
+    {
+        rest = others;
+    }
+    rest
+}
+
+// The bytes behind those at the front that can stand in a name.
+fn past_name(bytes: &[u8]) -> &[u8]
+    ensures { result.now ≡ past is_name_byte bytes.now }
+{
+    let mut rest = bytes;
+    while let [byte, others @ ..] = rest
+        && is_name_byte(*byte)
+    {
+        rest = others;
+    }
+    rest
+}
+
+// The bytes behind a gap, which is one blank or more.
+#[tactic(auto, unfolding(crate::specs::Readers::gap_at))]
+pub(crate) fn past_gap(bytes: &[u8]) -> Option<&[u8]>
+    ensures { option_map (λ rest. rest.now) result ≡ gap_at bytes.now }
+{
+    match bytes {
+        [byte, rest @ ..] if is_blank(*byte) => Some(past_blanks(rest)),
+        _ => None,
+    }
+}
+
+// The name at the front, and the bytes behind it.
+#[tactic(auto, unfolding(crate::specs::Readers::name_at))]
+pub(crate) fn take_name(bytes: &[u8]) -> Option<(&[u8], &[u8])>
+    ensures { option_map named_rest result ≡ name_at bytes.now }
+{
+    let (first, others) = bytes.split_first()?;
+    if !is_name_start(*first) {
+        return None;
+    }
+    let rest = past_name(others);
+    Some(bytes.split_at(bytes.len() - rest.len()))
+}
+
+// The name behind a gap, and the bytes behind that name.
+#[tactic(auto, unfolding(crate::specs::Readers::operand_at))]
+pub(crate) fn take_operand(bytes: &[u8]) -> Option<(&[u8], &[u8])>
+    ensures { option_map named_rest result ≡ operand_at bytes.now }
+{
+    take_name(past_gap(bytes)?)
+}
+
+// Whether each byte is a blank.
+pub(crate) fn are_blanks(bytes: &[u8]) -> bool
+    ensures { result ≡ list_all is_blank bytes.now }
+{
+    bytes.iter().all(|byte| is_blank(*byte))
+}
