@@ -1,5 +1,9 @@
 -- Lemmas on the debug form of a list of texts.
-use Rattle.std.proofs.Common.{◌≡◌, ℕ, List, [], ◌∷◌, map, Option, Some, refl, ap}
+use lib.Pointwise.{pointwise, bytes_decides}
+use Rattle.std.specs.String.{string_eq}
+use Rattle.std.proofs.Common.{String, Global, string_bytes, Bool, true, false, ◌&&◌, ◌==◌, ◌≡◌, ℕ, List, [], ◌∷◌, map, Option, Some, refl, ap}
+use Rattle.std.proofs.lemmas.Bool.{eq-eqb}
+use Rattle.tera_report.specs.Refusal.{Refusal, message, circular_extend, circular_include, missing_parent, template_not_found, component_not_found, invalid_argument, missing_argument, out_of_range, writing_failed, not_utf8, memory_refused}
 use Rattle.std.specs.Fmt.{◌++?◌, debug_items, debug_list, comma_space}
 
 debug_items-map : {A B : Type 0} (text : B → Option (List ℕ)) (f : A → B) (lead : List ℕ) (xs : List A) → debug_items text lead (map f xs) ≡ debug_items (λ x. text (f x)) lead xs
@@ -8,3 +12,58 @@ debug_items-map text f lead (x ∷ xs) = ap (λ rest. Some lead ++? text (f x) +
 
 pub debug_list-map : {A B : Type 0} (text : B → Option (List ℕ)) (f : A → B) (xs : List A) → debug_list text (map f xs) ≡ debug_list (λ x. text (f x)) xs
 debug_list-map text f xs = ap (λ items. Some (91 ∷ []) ++? items ++? Some (93 ∷ [])) (debug_items-map text f [] xs)
+
+-- `==` of two texts, and of two lists of texts, is that of their bytes
+pub same_text : (s t : String Global) → string_eq s t ≡ true → string_bytes s ≡ string_bytes t
+same_text s t h = (bytes_decides (string_bytes s) (string_bytes t)).0 h
+
+pub text_same : (s t : String Global) → string_bytes s ≡ string_bytes t → string_eq s t ≡ true
+text_same s t e = (bytes_decides (string_bytes s) (string_bytes t)).1 e
+
+pub first_true : (p q : Bool) → (p && q) ≡ true → p ≡ true
+first_true true q h = refl
+first_true false q h = h
+
+pub second_true : (p q : Bool) → (p && q) ≡ true → q ≡ true
+second_true true q h = h
+second_true false q h = absurd (cc)
+
+pub both_true : (p q : Bool) → p ≡ true → q ≡ true → (p && q) ≡ true
+both_true true q e h = h
+both_true false q e h = e
+
+pub same_texts : (xs ys : List (String Global)) → pointwise string_eq xs ys ≡ true → map string_bytes xs ≡ map string_bytes ys
+same_texts [] [] h = refl
+same_texts [] (y ∷ ys) h = absurd (cc)
+same_texts (x ∷ xs) [] h = absurd (cc)
+same_texts (x ∷ xs) (y ∷ ys) h =
+    let first = same_text x y (first_true _ _ h) in
+    let others = same_texts xs ys (second_true _ _ h) in
+    cc
+
+pub texts_same : (xs ys : List (String Global)) → map string_bytes xs ≡ map string_bytes ys → pointwise string_eq xs ys ≡ true
+texts_same [] [] e = refl
+texts_same [] (y ∷ ys) e = absurd (cc)
+texts_same (x ∷ xs) [] e = absurd (cc)
+texts_same (x ∷ xs) (y ∷ ys) e = both_true _ _ (text_same x y (cc)) (texts_same xs ys (cc))
+
+-- tells the refusals of different kinds apart
+abbrev pub number_of : Refusal → ℕ
+number_of (message a) = 0
+number_of (circular_extend a b) = 1
+number_of (circular_include a b) = 2
+number_of (missing_parent a b) = 3
+number_of (template_not_found a) = 4
+number_of (component_not_found a) = 5
+number_of (invalid_argument a b) = 6
+number_of (missing_argument a) = 7
+number_of (out_of_range a b) = 8
+number_of (writing_failed a) = 9
+number_of not_utf8 = 10
+number_of memory_refused = 11
+
+pub other_number : {P : Type 0} (m n : ℕ) → (m == n) ≡ false → m ≡ n → P
+other_number m n h e = let same : (m == n) ≡ true = eq-eqb m n e in absurd (cc)
+
+pub no_truth : {P : Type 0} → false ≡ true → P
+no_truth h = absurd (cc)

@@ -1,7 +1,8 @@
 // The error type of every call, its kinds and their texts.
-ghost use Rattle.std.specs.Prelude.{◌≡◌, IfOk, IfErr, option_copied};
+ghost use Rattle.std.specs.Prelude.{◌≡◌, ◌↔◌, IsTrue, option_copied};
 ghost use Rattle.tera_report.specs.Errors.{kind_of, source_of, plain_error, IsOutOfMemory, refusal_of};
 ghost use Rattle.tera_report.specs.Refusal.{text_of};
+ghost use Rattle.tera_report.specs.declared.errors.ErrorKind.{ErrorKind};
 
 use std::alloc::{AllocError, AllocFailed};
 use std::{fmt, io};
@@ -87,6 +88,13 @@ impl Error {
     {
         self.source.as_ref()
     }
+}
+
+/// Two kinds are `==` exactly where they state the same refusal.
+pub fn kinds_equal_by_refusal()
+    ensures { (a b : ErrorKind) →
+        IsTrue (⟦<ErrorKind as PartialEq>⟧.eq a b) ↔ (refusal_of a ≡ refusal_of b) }
+{
 }
 
 impl fmt::Display for ErrorKind {

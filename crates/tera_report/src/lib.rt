@@ -9,7 +9,7 @@ mod spanned;
 mod tests;
 pub mod watch;
 
-pub use errors::{Error, ErrorKind, TeraResult};
+pub use errors::{Error, ErrorKind, TeraResult, kinds_equal_by_refusal};
 pub use escape::{escape_html, escape_text, escape_watched, one_decoding, one_spelling};
 pub use span::Span;
 pub use spanned::Spanned;
