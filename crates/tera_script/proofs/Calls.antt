@@ -1,18 +1,15 @@
 -- Calls: what the readers of operands give, and that a call has one word and one rest.
-use Rattle.std.proofs.Common.{◌≡◌, ◌<◌, ℕ, Bool, true, false, cond, ◌&&◌, List, [], ◌∷◌, ◌++◌, length, Option, Some, None, refl, ap, sym, ◌∙◌, ◌⊎◌, inl, inr, arith, append_assoc, subst}
-use Rattle.std.specs.Prelude.{codes}
+use Rattle.std.proofs.Common.{◌≡◌, ℕ, Bool, true, false, cond, List, [], ◌∷◌, ◌++◌, Option, Some, None, refl, ap, sym, ◌∙◌, arith, append_assoc, subst}
 use Rattle.std.specs.List.{list_all}
 use Rattle.std.specs.Option.{option_and_then}
-use Rattle.std.specs.Str.{IsUtf8}
 use Rattle.std.proofs.lemmas.Bool.Decides.{nat_tests}
-use Rattle.std.proofs.lemmas.Option.{option_and_then_some, some_pair_parts}
+use Rattle.std.proofs.lemmas.Option.{option_and_then_some}
 use Rattle.tera_meaning.specs.Form.{Form}
-use Rattle.tera_meaning.specs.Step.{Request, set, equal, order, print}
-use Rattle.tera_script.specs.Literal.{SpellsLiteral}
-use Rattle.tera_script.specs.Line.{is_blank, AreBlanks, IsGap, is_name_byte, IsName, SpellsOperand, SpellsValue, word_of, SpellsTwo, SpellsOperands, SpellsCall}
-use Rattle.tera_script.specs.Readers.{Stops, front, past, gap_at, name_at, operand_at, two_in, one_in, is_word_byte, BeginsWithLiteral, EndsInOperands}
+use Rattle.tera_meaning.specs.Step.{set, print}
+use Rattle.tera_script.specs.Line.{is_blank, AreBlanks, IsGap, is_name_byte, SpellsOperand, SpellsValue, SpellsTwo}
+use Rattle.tera_script.specs.Readers.{Stops, gap_at, operand_at, two_in, one_in, is_word_byte, BeginsWithLiteral, EndsInOperands}
 use Rattle.tera_script.proofs.Fronts.{both_pass}
-use Rattle.tera_script.proofs.Names.{gap_only, gap_found, name_only, name_found, operand_found, operand_only}
+use Rattle.tera_script.proofs.Names.{gap_only, gap_found, operand_found, operand_only}
 use Rattle.tera_script.proofs.Literals.{literal_stops_blanks}
 
 -- where a blank stands, no name and no word goes on
@@ -68,20 +65,20 @@ pub two_found : (bytes left right : List ℕ) → two_in bytes ≡ Some (left, r
 unfolding two_in
 two_found bytes left right e = option_and_then_some (λ (l : List ℕ × List ℕ). option_and_then (λ (r : List ℕ × List ℕ). cond {A = Option (List ℕ × List ℕ)} (list_all is_blank r.1) (Some (l.0, r.0)) None) (operand_at l.1)) (operand_at bytes) (left, right) e (λ l at_l e'.
     option_and_then_some (λ (r : List ℕ × List ℕ). cond {A = Option (List ℕ × List ℕ)} (list_all is_blank r.1) (Some (l.0, r.0)) None) (operand_at l.1) (left, right) e' (λ r at_r e''.
-      let pair : List ℕ × List ℕ = (l.0, r.0) in
-      let given : List ℕ × List ℕ = (left, right) in
-      let h = some_if (list_all is_blank r.1) pair given e'' in
-      let first = operand_found bytes l.0 l.1 at_l in
-      let second = operand_found l.1 r.0 r.1 at_r in
-      let same_left : l.0 ≡ left = ap (λ (p : List ℕ × List ℕ). p.0) h.1 in
-      let same_right : r.0 ≡ right = ap (λ (p : List ℕ × List ℕ). p.1) h.1 in
-      record {
-        operands = first.operand ++ second.operand;
-        after = r.1;
-        spells = (first.operand, second.operand, subst (SpellsOperand first.operand) same_left first.spells, subst (SpellsOperand second.operand) same_right second.spells, refl);
-        blanks = h.0;
-        spelled = first.spelled ∙ ap (λ xs. first.operand ++ xs) second.spelled ∙ sym (append_assoc first.operand second.operand r.1);
-      }))
+    let pair : List ℕ × List ℕ = (l.0, r.0) in
+    let given : List ℕ × List ℕ = (left, right) in
+    let h = some_if (list_all is_blank r.1) pair given e'' in
+    let first = operand_found bytes l.0 l.1 at_l in
+    let second = operand_found l.1 r.0 r.1 at_r in
+    let same_left : l.0 ≡ left = ap (λ (p : List ℕ × List ℕ). p.0) h.1 in
+    let same_right : r.0 ≡ right = ap (λ (p : List ℕ × List ℕ). p.1) h.1 in
+    record {
+      operands = first.operand ++ second.operand;
+      after = r.1;
+      spells = (first.operand, second.operand, subst (SpellsOperand first.operand) same_left first.spells, subst (SpellsOperand second.operand) same_right second.spells, refl);
+      blanks = h.0;
+      spelled = first.spelled ∙ ap (λ xs. first.operand ++ xs) second.spelled ∙ sym (append_assoc first.operand second.operand r.1);
+    }))
 
 pub two_only : (bytes left right : List ℕ) → HasTwo bytes left right → two_in bytes ≡ Some (left, right)
 unfolding two_in

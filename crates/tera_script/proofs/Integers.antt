@@ -1,7 +1,6 @@
 -- Numbers: what the reader gives is spelled so, and what is spelled so is read.
-use Rattle.std.proofs.Common.{◌≡◌, ◌<◌, ◌+◌, ◌^◌, ℕ, zero, suc, ℤ, pos, negsuc, Bool, true, false, cond, ◌&&◌, eqb, ltb, List, [], ◌∷◌, ◌++◌, length, Option, Some, None, refl, ap, sym, ◌∙◌, ◌⊎◌, inl, inr, arith, append_assoc}
+use Rattle.std.proofs.Common.{◌≡◌, ◌<◌, ◌^◌, ℕ, zero, suc, ℤ, pos, negsuc, Bool, true, false, cond, ◌&&◌, eqb, ltb, List, [], ◌∷◌, ◌++◌, length, Option, Some, None, refl, ap, sym, ◌∙◌, ◌⊎◌, inl, inr, arith, append_assoc}
 use Rattle.std.specs.Char.{is_ascii_digit, digit_value}
-use Rattle.std.specs.Int.{IsInRange}
 use Rattle.std.specs.List.{list_all}
 use Rattle.std.specs.Str.{bytes_eq}
 use Rattle.std.specs.Str.Parse.{AllDigits, IsNumeral, digits_value}
@@ -106,9 +105,9 @@ chosen false x y z e = inr (refl, e)
 
 named_found : (word : List ℕ) (kind : IntegerKind) (otherwise : Option (Option IntegerKind)) (suffix : Option IntegerKind) → if_named word kind otherwise ≡ Some suffix → (word ≡ suffix_of suffix) ⊎ (otherwise ≡ Some suffix)
 named_found word kind otherwise suffix e = elim (chosen (bytes_eq word (kind_word kind)) (Some (Some kind)) otherwise (Some suffix) e) [
-    inl h ↦ inl ((bytes_eq-Decides word (kind_word kind)).0 h.0 ∙ ap suffix_of (option_same (Some kind) suffix h.1))
+  | inl h ↦ inl ((bytes_eq-Decides word (kind_word kind)).0 h.0 ∙ ap suffix_of (option_same (Some kind) suffix h.1))
   | inr h ↦ inr h.1
-  ]
+]
 
 suffix_found : (word : List ℕ) (suffix : Option IntegerKind) → suffix_in word ≡ Some suffix → word ≡ suffix_of suffix
 unfolding suffix_in
@@ -116,14 +115,14 @@ suffix_found [] suffix e = ap suffix_of (option_same None suffix e)
 suffix_found (b ∷ word) suffix e =
     let w = b ∷ word in
     elim (named_found w u64 (if_named w i64 (if_named w u128 (if_named w i128 None))) suffix e) [
-      inl h ↦ h
-    | inr e ↦ elim (named_found w i64 (if_named w u128 (if_named w i128 None)) suffix e) [
-        inl h ↦ h
-      | inr e ↦ elim (named_found w u128 (if_named w i128 None) suffix e) [
-          inl h ↦ h
-        | inr e ↦ elim (named_found w i128 None suffix e) [
-            inl h ↦ h
-          | inr e ↦ cc
+      | inl h ↦ h
+      | inr e ↦ elim (named_found w i64 (if_named w u128 (if_named w i128 None)) suffix e) [
+        | inl h ↦ h
+        | inr e ↦ elim (named_found w u128 (if_named w i128 None) suffix e) [
+          | inl h ↦ h
+          | inr e ↦ elim (named_found w i128 None suffix e) [
+            | inl h ↦ h
+            | inr e ↦ cc
           ]
         ]
       ]
@@ -132,9 +131,9 @@ suffix_found (b ∷ word) suffix e =
 -- a kind that holds the number, or one that does not and what is given instead
 kind_found : (kind : IntegerKind) (z : ℤ) (otherwise : Option Integer) (n : Integer) → in_kind kind z otherwise ≡ Some n → ((n.kind ≡ kind) × (n.value ≡ z) × IsOfKind kind z) ⊎ ((¬ IsOfKind kind z) × (otherwise ≡ Some n))
 kind_found kind z otherwise n e = elim (chosen (is_of_kind kind z) (Some (record { kind = kind; value = z })) otherwise (Some n) e) [
-    inl h ↦ let same = option_same (record { kind = kind; value = z }) n h.1 in inl (ap (λ (i : Integer). i.kind) (sym same), ap (λ (i : Integer). i.value) (sym same), of_kind_found kind z h.0)
+  | inl h ↦ let same = option_same (record { kind = kind; value = z }) n h.1 in inl (ap (λ (i : Integer). i.kind) (sym same), ap (λ (i : Integer). i.value) (sym same), of_kind_found kind z h.0)
   | inr h ↦ inr (of_kind_refuted kind z h.0, h.1)
-  ]
+]
 
 kind_only : (kind : IntegerKind) (z : ℤ) (otherwise : Option Integer) → IsOfKind kind z → in_kind kind z otherwise ≡ Some (record { kind = kind; value = z })
 kind_only kind z otherwise h = rw (of_kind_only kind z h)
@@ -144,18 +143,18 @@ kind_skips kind z otherwise h = rw (not_of_kind kind z h)
 
 first_found : (z : ℤ) (n : Integer) → in_kind i64 z (in_kind u64 z (in_kind i128 z (in_kind u128 z None))) ≡ Some n → (n.value ≡ z) × IsFirstKind n.kind z
 first_found z n e = elim (kind_found i64 z (in_kind u64 z (in_kind i128 z (in_kind u128 z None))) n e) [
-    inl h ↦ (h.1, rw (h.0) (h.2))
+  | inl h ↦ (h.1, rw (h.0) (h.2))
   | inr g ↦ elim (kind_found u64 z (in_kind i128 z (in_kind u128 z None)) n g.1) [
-      inl h ↦ (h.1, rw (h.0) (g.0, h.2))
+    | inl h ↦ (h.1, rw (h.0) (g.0, h.2))
     | inr f ↦ elim (kind_found i128 z (in_kind u128 z None) n f.1) [
-        inl h ↦ (h.1, rw (h.0) (g.0, f.0, h.2))
+      | inl h ↦ (h.1, rw (h.0) (g.0, f.0, h.2))
       | inr d ↦ elim (kind_found u128 z None n d.1) [
-          inl h ↦ (h.1, rw (h.0) (g.0, f.0, d.0, h.2))
+        | inl h ↦ (h.1, rw (h.0) (g.0, f.0, d.0, h.2))
         | inr h ↦ cc
-        ]
       ]
     ]
   ]
+]
 
 first_only : (kind : IntegerKind) (z : ℤ) → IsFirstKind kind z → in_kind i64 z (in_kind u64 z (in_kind i128 z (in_kind u128 z None))) ≡ Some (record { kind = kind; value = z })
 first_only i64 z h = kind_only i64 z _ h
@@ -168,12 +167,12 @@ pub integer_found : (minus : Bool) (m : ℕ) (suffix : Option IntegerKind) (n : 
 unfolding integer_of
 integer_found minus m None n e = let h = first_found (signed minus m) n e in (h.0, rw (h.0) (h.1))
 integer_found minus m (Some kind) n e = elim (chosen (is_sign_for minus kind) (in_kind kind (signed minus m) None) None (Some n) e) [
-    inl s ↦ elim (kind_found kind (signed minus m) None n s.1) [
-        inl h ↦ (h.1, (sign_found minus kind s.0, h.0, rw (h.1) (h.2)))
-      | inr h ↦ cc
-      ]
-  | inr s ↦ cc
+  | inl s ↦ elim (kind_found kind (signed minus m) None n s.1) [
+    | inl h ↦ (h.1, (sign_found minus kind s.0, h.0, rw (h.1) (h.2)))
+    | inr h ↦ cc
   ]
+  | inr s ↦ cc
+]
 
 pub integer_only : (minus : Bool) (m : ℕ) (suffix : Option IntegerKind) (n : Integer) → n.value ≡ signed minus m → IsKindFor minus suffix n → integer_of minus m suffix ≡ Some n
 unfolding integer_of
@@ -223,18 +222,18 @@ digits_at_found bytes m rest e =
     let ds = front is_ascii_digit bytes in
     let xs = past is_ascii_digit bytes in
     elim (chosen {A = Option (ℕ × List ℕ)} (ltb 0 (length ds) && ltb (digits_value 10 ds) (2 ^ 128)) (Some (digits_value 10 ds, xs)) None (Some (m, rest)) e) [
-      inl h ↦
-        let t = both_true (ltb 0 (length ds)) (ltb (digits_value 10 ds) (2 ^ 128)) h.0 in
-        let some : 0 < length ds = grind (arith, nat_tests, t.0) in
-        let same = some_pair_parts (digits_value 10 ds) m xs rest h.1 in
-        record {
-          digits = ds;
-          numeral = (some, digits_found ds (front_all is_ascii_digit bytes));
-          value = sym same.0;
-          spelled = rw (← same.1) (sym (front-past is_ascii_digit bytes));
-          stops = rw (← same.1) (past_stops is_ascii_digit bytes);
-        }
-    | inr h ↦ cc
+      | inl h ↦
+          let t = both_true (ltb 0 (length ds)) (ltb (digits_value 10 ds) (2 ^ 128)) h.0 in
+          let some : 0 < length ds = grind (arith, nat_tests, t.0) in
+          let same = some_pair_parts (digits_value 10 ds) m xs rest h.1 in
+          record {
+            digits = ds;
+            numeral = (some, digits_found ds (front_all is_ascii_digit bytes));
+            value = sym same.0;
+            spelled = rw (← same.1) (sym (front-past is_ascii_digit bytes));
+            stops = rw (← same.1) (past_stops is_ascii_digit bytes);
+          }
+      | inr h ↦ cc
     ]
 
 pub digits_at_only : (digits rest : List ℕ) → IsNumeral 10 digits → digits_value 10 digits < 2 ^ 128 → Stops is_ascii_digit rest → digits_at (digits ++ rest) ≡ Some (digits_value 10 digits, rest)
@@ -250,26 +249,26 @@ pub unsigned_found : (minus : Bool) (bytes : List ℕ) (n : Integer) → unsigne
 unfolding unsigned_in
 unsigned_found minus bytes n e = option_and_then_some (λ (ds : ℕ × List ℕ). option_and_then (λ suffix. integer_of minus ds.0 suffix) (suffix_in ds.1)) (digits_at bytes) n e (λ ds d e'.
     option_and_then_some (λ suffix. integer_of minus ds.0 suffix) (suffix_in ds.1) n e' (λ suffix s i.
-      let digits = digits_at_found bytes ds.0 ds.1 d in
-      let word = suffix_found ds.1 suffix s in
-      let integer = integer_found minus ds.0 suffix n i in
-      record {
-        minus = minus;
-        digits = digits.digits;
-        suffix = suffix;
-        numeral = digits.numeral;
-        spelled = ap (λ xs. sign_of minus ++ xs) (digits.spelled ∙ ap (λ xs. digits.digits ++ xs) word) ∙ sym (append_assoc (sign_of minus) digits.digits (suffix_of suffix));
-        value = integer.0 ∙ ap (signed minus) digits.value;
-        kind = integer.1;
-      }))
+    let digits = digits_at_found bytes ds.0 ds.1 d in
+    let word = suffix_found ds.1 suffix s in
+    let integer = integer_found minus ds.0 suffix n i in
+    record {
+      minus = minus;
+      digits = digits.digits;
+      suffix = suffix;
+      numeral = digits.numeral;
+      spelled = ap (λ xs. sign_of minus ++ xs) (digits.spelled ∙ ap (λ xs. digits.digits ++ xs) word) ∙ sym (append_assoc (sign_of minus) digits.digits (suffix_of suffix));
+      value = integer.0 ∙ ap (signed minus) digits.value;
+      kind = integer.1;
+    }))
 
 pub number_found : (word : List ℕ) (n : Integer) → number_in word ≡ Some n → SpellsNumber word n
 unfolding number_in
 number_found [] n e = cc
 number_found (b ∷ bytes) n e = elim (chosen (eqb b 45) (unsigned_in true bytes) (unsigned_in false (b ∷ bytes)) (Some n) e) [
-    inl h ↦ let is_minus : b ≡ 45 = grind (arith, nat_tests, h.0) in rw is_minus (unsigned_found true bytes n h.1)
+  | inl h ↦ let is_minus : b ≡ 45 = grind (arith, nat_tests, h.0) in rw is_minus (unsigned_found true bytes n h.1)
   | inr h ↦ unsigned_found false (b ∷ bytes) n h.1
-  ]
+]
 
 unsigned_only : (minus : Bool) (digits : List ℕ) (suffix : Option IntegerKind) (n : Integer) → IsNumeral 10 digits → n.value ≡ signed minus (digits_value 10 digits) → IsKindFor minus suffix n → unsigned_in minus (digits ++ suffix_of suffix) ≡ Some n
 unfolding unsigned_in

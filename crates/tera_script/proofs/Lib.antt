@@ -13,3 +13,4 @@ pub mod TextStops
 pub mod Literals
 pub mod Calls
 pub mod Lines
+pub mod WorkedLines

@@ -1,5 +1,5 @@
 -- Whole calls and whole lines.
-use Rattle.std.proofs.Common.{◌≡◌, ◌≢◌, ◌<◌, ℕ, Bool, true, false, cond, ◌&&◌, eqb, List, [], ◌∷◌, ◌++◌, length, Option, Some, None, refl, ap, sym, ◌∙◌, ◌⊎◌, inl, inr, arith, append_assoc, append-nil, subst, lit<}
+use Rattle.std.proofs.Common.{◌≡◌, ◌≢◌, ◌<◌, ℕ, Bool, true, false, eqb, List, [], ◌∷◌, ◌++◌, Option, Some, None, refl, ap, sym, ◌∙◌, inl, inr, arith, append_assoc, append-nil, subst, lit<}
 use Rattle.std.specs.Prelude.{codes}
 use Rattle.std.specs.List.{list_all}
 use Rattle.std.specs.Cmp.Lexicographic.{pointwise}
@@ -11,11 +11,11 @@ use Rattle.std.proofs.lemmas.Bool.Decides.{nat_tests, Decides-eqb}
 use Rattle.std.proofs.lemmas.Option.{some_pair_parts}
 use Rattle.tera_meaning.specs.Form.{Form}
 use Rattle.tera_meaning.specs.Step.{Request, Command, set, equal, order, print}
-use Rattle.tera_script.specs.Line.{is_blank, AreBlanks, IsGap, is_name_start, is_name_byte, IsName, SpellsOperand, word_of, SpellsTwo, SpellsOperands, SpellsCall, Says, IsSkipped, IsBad}
-use Rattle.tera_script.specs.Readers.{Stops, front, past, gap_at, name_at, operand_at, two_in, one_in, is_word_byte, BeginsWithLiteral, IsOnlyRest, IsLiteralAt, EndsInOperands, AreOperandsOf, EndsInCall, IsCallAt, is_end_or_comment}
-use Rattle.tera_script.proofs.Fronts.{both_pass, front-past, front_all, past_stops, past_is, past_at_stop}
+use Rattle.tera_script.specs.Line.{is_blank, AreBlanks, is_name_start, is_name_byte, IsName, SpellsOperand, word_of, SpellsTwo, SpellsOperands, Says, IsSkipped, IsBad}
+use Rattle.tera_script.specs.Readers.{Stops, front, past, gap_at, name_at, operand_at, two_in, one_in, BeginsWithLiteral, IsOnlyRest, IsLiteralAt, EndsInOperands, AreOperandsOf, EndsInCall, IsCallAt, is_end_or_comment}
+use Rattle.tera_script.proofs.Fronts.{both_pass, front-past, front_all, past_is}
 use Rattle.tera_script.proofs.Names.{gap_found, name_found, name_only, operand_found}
-use Rattle.tera_script.proofs.Literals.{one_literal, literal_stops_blanks}
+use Rattle.tera_script.proofs.Literals.{one_literal}
 use Rattle.tera_script.proofs.Calls.{HasTwo, two_only, two_found, one_only, one_found, SetParts, set_parts, set_found, operand_ends_name, blanks_end_word}
 use Rattle.tera_script.proofs.Utf8Texts.{after_byte}
 
@@ -202,11 +202,11 @@ module _ (bytes word rest : List ℕ) (n : name_at bytes ≡ Some (word, rest)) 
   pub call_none_word : word ≢ codes "set" → word ≢ codes "eq" → word ≢ codes "cmp" → word ≢ codes "print" → IsCallAt bytes None
   call_none_word a b c d = λ utf8 request e. other request (sym (parts_same request (call_parts bytes request e)).0)
     where
-    other : (request : Request) → word_of request ≡ word → ⊥
-    other (set n v) h = a (sym h)
-    other (equal l r) h = b (sym h)
-    other (order l r) h = c (sym h)
-    other (print n) h = d (sym h)
+      other : (request : Request) → word_of request ≡ word → ⊥
+      other (set n v) h = a (sym h)
+      other (equal l r) h = b (sym h)
+      other (order l r) h = c (sym h)
+      other (print n) h = d (sym h)
 
 -- one request
 two_same : (bytes l r m s : List ℕ) → HasTwo bytes l r → HasTwo bytes m s → (l ≡ m) × (r ≡ s)

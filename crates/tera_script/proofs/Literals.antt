@@ -1,21 +1,20 @@
 -- Literals: each is a word or stands in quotes, and no bytes begin with two of them.
-use Rattle.std.proofs.Common.{◌≡◌, ◌≢◌, ◌<◌, ℕ, Bool, true, false, cond, ◌&&◌, ◌||◌, eqb, List, [], ◌∷◌, ◌++◌, length, drop, Option, Some, None, refl, ap, sym, ◌∙◌, ◌⊎◌, inl, inr, arith, append_assoc, length-append, subst, lit<, ◌+◌, ◌≤◌, Result, Ok, Err, IfOk, take, ◌-◌}
+use Rattle.std.proofs.Common.{◌≡◌, ◌≢◌, ◌<◌, ℕ, Bool, true, false, cond, List, [], ◌∷◌, ◌++◌, length, drop, Option, Some, None, refl, ap, sym, ◌∙◌, ◌⊎◌, inl, inr, arith, append_assoc, length-append, subst, lit<, ◌+◌, ◌≤◌, Result, Ok, Err, IfOk, take, ◌-◌}
 use Rattle.std.specs.Prelude.{codes}
-use Rattle.std.specs.Char.{is_ascii_digit, digit_value}
+use Rattle.std.specs.Char.{is_ascii_digit}
 use Rattle.std.specs.List.{list_all}
 use Rattle.std.specs.Option.{option_map}
 use Rattle.std.specs.Str.{bytes_eq, IsUtf8}
-use Rattle.std.specs.Str.Parse.{AllDigits, digits_value}
 use Rattle.std.proofs.lemmas.Bool.Decides.{nat_tests}
 use Rattle.std.proofs.lemmas.Slice.Eq.{bytes_eq-Decides}
 use Rattle.tera_meaning.specs.Integer.{IntegerKind, u64, i64, u128, i128, Integer}
 use Rattle.tera_meaning.specs.Form.{Form, MarkedText}
 use Rattle.tera_meaning.specs.Tree.{undefined, none, truth, number, text, bytes, array, object}
 use Rattle.tera_script.specs.Number.{sign_of, suffix_of, SpellsNumber}
-use Rattle.tera_script.specs.Text.{SpellsText, BeginsWithText}
+use Rattle.tera_script.specs.Text.{BeginsWithText}
 use Rattle.tera_script.specs.Literal.{mark_of, SpellsMarkedText, SpellsLiteral}
-use Rattle.tera_script.specs.Line.{is_blank, is_name_byte}
-use Rattle.tera_script.specs.Readers.{Stops, front, past, digits_at, unsigned_in, number_in, number_value, is_word_byte, if_word, value_in, plain_at, BeginsWithLiteral, IsLiteralAt, IsQuotedAt}
+use Rattle.tera_script.specs.Line.{is_blank}
+use Rattle.tera_script.specs.Readers.{Stops, front, past, digits_at, unsigned_in, number_in, number_value, is_word_byte, if_word, value_in, plain_at, IsLiteralAt, IsQuotedAt}
 use Rattle.tera_script.proofs.Fronts.{front_is, past_is, front-past, past_stops, take_to_past, both_pass}
 use Rattle.tera_script.proofs.Integers.{number_found, number_only, digits_only}
 use Rattle.tera_script.proofs.Texts.{one_reading, text_is_utf8}
@@ -34,9 +33,9 @@ option_same x y e = cc
 -- words
 word_found : (word t : List ℕ) (value : Form) (otherwise : Option Form) (v : Form) → if_word word t value otherwise ≡ Some v → ((word ≡ t) × (value ≡ v)) ⊎ (otherwise ≡ Some v)
 word_found word t value otherwise v e = elim (chosen (bytes_eq word t) (Some value) otherwise (Some v) e) [
-    inl h ↦ inl ((bytes_eq-Decides word t).0 h.0, option_same value v h.1)
+  | inl h ↦ inl ((bytes_eq-Decides word t).0 h.0, option_same value v h.1)
   | inr h ↦ inr h.1
-  ]
+]
 
 number_value_found : (word : List ℕ) (n : Option Integer) (v : Form) → ((i : Integer) → n ≡ Some i → SpellsNumber word i) → number_value n ≡ Some v → SpellsLiteral word v
 number_value_found word None v h e = cc
@@ -45,26 +44,26 @@ number_value_found word (Some i) v h e = rw (← option_same (number i) v e) (h 
 pub value_found : (word : List ℕ) (v : Form) → value_in word ≡ Some v → SpellsLiteral word v
 unfolding value_in
 value_found word v e = elim (word_found word (codes "undefined") undefined (if_word word (codes "none") none (if_word word (codes "true") (truth true) (if_word word (codes "false") (truth false) (number_value (number_in word))))) v e) [
-    inl h ↦ rw (← h.1) (h.0)
+  | inl h ↦ rw (← h.1) (h.0)
   | inr e ↦ elim (word_found word (codes "none") none (if_word word (codes "true") (truth true) (if_word word (codes "false") (truth false) (number_value (number_in word)))) v e) [
-      inl h ↦ rw (← h.1) (h.0)
+    | inl h ↦ rw (← h.1) (h.0)
     | inr e ↦ elim (word_found word (codes "true") (truth true) (if_word word (codes "false") (truth false) (number_value (number_in word))) v e) [
-        inl h ↦ rw (← h.1) (h.0)
+      | inl h ↦ rw (← h.1) (h.0)
       | inr e ↦ elim (word_found word (codes "false") (truth false) (number_value (number_in word)) v e) [
-          inl h ↦ rw (← h.1) (h.0)
+        | inl h ↦ rw (← h.1) (h.0)
         | inr e ↦ number_value_found word (number_in word) v (λ i. number_found word i) e
-        ]
       ]
     ]
   ]
+]
 
 -- a number is none of the other words
 not_word : (word t : List ℕ) (n : Integer) → number_in word ≡ Some n → number_in t ≡ None → bytes_eq word t ≡ false
 not_word word t n e no_number = differs (bytes_eq word t) (λ h. let same = (bytes_eq-Decides word t).0 h in let other = ap number_in same in cc)
   where
-  differs : (b : Bool) → ¬ (b ≡ true) → b ≡ false
-  differs true h = absurd (h refl)
-  differs false h = refl
+    differs : (b : Bool) → ¬ (b ≡ true) → b ≡ false
+    differs true h = absurd (h refl)
+    differs false h = refl
 
 no_number_undefined : number_in (codes "undefined") ≡ None
 unfolding number_in unsigned_in digits_at
@@ -201,30 +200,31 @@ one_quoted a b x y v w p q e =
 -- no bytes begin with two literals
 pub one_literal : (a b x y : List ℕ) (v w : Form) → SpellsLiteral a v → SpellsLiteral b w → a ++ x ≡ b ++ y → Stops is_word_byte x → Stops is_word_byte y → (v ≡ w) × (x ≡ y)
 one_literal a b x y v w p q e s t = elim (word_or_quoted a v p) [
-    inl m ↦ elim (word_or_quoted b w q) [
-        inl n ↦ (option_same v w (sym (word_front a x v m s) ∙ ap (λ xs. value_in (front is_word_byte xs)) e ∙ word_front b y w n t), sym (past_is is_word_byte a x m.bytes s) ∙ ap (past is_word_byte) e ∙ past_is is_word_byte b y n.bytes t)
-      | inr n ↦ let one = word_front a x v m s in let other = quoted_front b y w n in let same = ap (λ xs. value_in (front is_word_byte xs)) e in cc
-      ]
-  | inr m ↦ elim (word_or_quoted b w q) [
-        inl n ↦ let one = quoted_front a x v m in let other = word_front b y w n t in let same = ap (λ xs. value_in (front is_word_byte xs)) e in cc
-      | inr n ↦ one_quoted a b x y v w m n e
-      ]
+  | inl m ↦ elim (word_or_quoted b w q) [
+    | inl n ↦ (option_same v w (sym (word_front a x v m s) ∙ ap (λ xs. value_in (front is_word_byte xs)) e ∙ word_front b y w n t), sym (past_is is_word_byte a x m.bytes s) ∙ ap (past is_word_byte) e ∙ past_is is_word_byte b y n.bytes t)
+    | inr n ↦ let one = word_front a x v m s in let other = quoted_front b y w n in let same = ap (λ xs. value_in (front is_word_byte xs)) e in cc
   ]
+  | inr m ↦ elim (word_or_quoted b w q) [
+    | inl n ↦ let one = quoted_front a x v m in let other = word_front b y w n t in let same = ap (λ xs. value_in (front is_word_byte xs)) e in cc
+    | inr n ↦ one_quoted a b x y v w m n e
+  ]
+]
 
 -- the reader of words
 pub plain_found : (xs : List ℕ) (answer : Option (Form × List ℕ)) → ((literal rest : List ℕ) (value : Form) → IsQuoted literal value → xs ≢ literal ++ rest) → answer ≡ plain_at xs → IsLiteralAt xs answer
 unfolding plain_at
 plain_found xs answer unquoted e = rw e (go (value_in (front is_word_byte xs)) refl)
   where
-  go : (v : Option Form) → value_in (front is_word_byte xs) ≡ v → IsLiteralAt xs (option_map (λ v. (v, past is_word_byte xs)) v)
-  go (Some v) h =
-      let spells = value_found (front is_word_byte xs) v h in
-      let spelled = sym (front-past is_word_byte xs) in
-      (record { literal = front is_word_byte xs; spells = spells; spelled = spelled },
-      λ w other b stops. (one_literal b.literal (front is_word_byte xs) other (past is_word_byte xs) w v b.spells spells (sym b.spelled ∙ spelled) stops (past_stops is_word_byte xs)).1)
-  go None h = λ utf8 w rest b stops. elim (word_or_quoted b.literal w b.spells) [
-      inl m ↦ let one = word_front b.literal rest w m stops in let same = ap (λ ys. value_in (front is_word_byte ys)) b.spelled in cc
-    | inr m ↦ absurd (unquoted b.literal rest w m b.spelled)
+    go : (v : Option Form) → value_in (front is_word_byte xs) ≡ v → IsLiteralAt xs (option_map (λ v. (v, past is_word_byte xs)) v)
+    go (Some v) h =
+        let spells = value_found (front is_word_byte xs) v h in
+        let spelled = sym (front-past is_word_byte xs) in (
+          record { literal = front is_word_byte xs; spells = spells; spelled = spelled },
+          λ w other b stops. (one_literal b.literal (front is_word_byte xs) other (past is_word_byte xs) w v b.spells spells (sym b.spelled ∙ spelled) stops (past_stops is_word_byte xs)).1,
+        )
+    go None h = λ utf8 w rest b stops. elim (word_or_quoted b.literal w b.spells) [
+      | inl m ↦ let one = word_front b.literal rest w m stops in let same = ap (λ ys. value_in (front is_word_byte ys)) b.spelled in cc
+      | inr m ↦ absurd (unquoted b.literal rest w m b.spelled)
     ]
 
 -- the reader of texts, behind the mark and the quote
@@ -237,20 +237,21 @@ quoted_found safe xs behind (Some found) e h =
     let literal = mark_of safe ++ (34 ∷ h.0) ++ (34 ∷ []) in
     let spells : SpellsLiteral literal found.0 = rw (h.3) (h.0, h.2, refl) in
     let spelled : xs ≡ literal ++ found.1 = e ∙ ap (λ ys. mark_of safe ++ (34 ∷ ys)) h.4 ∙ sym (quoted_bytes safe h.0 found.1) in
-    let quoted : IsQuoted literal found.0 = record { held = record { spelled = h.1; safe = safe }; value_is = h.3; spells = (h.0, h.2, refl) } in
-    (record { literal = literal; spells = spells; spelled = spelled },
-    λ w other b stops. elim (word_or_quoted b.literal w b.spells) [
-      inl m ↦ let one = word_front b.literal other w m stops in let not_one = quoted_front literal found.1 found.0 quoted in let same = ap (λ ys. value_in (front is_word_byte ys)) (sym b.spelled ∙ spelled) in cc
-    | inr m ↦ (one_quoted b.literal literal other found.1 w found.0 m quoted (sym b.spelled ∙ spelled)).1
-    ])
+    let quoted : IsQuoted literal found.0 = record { held = record { spelled = h.1; safe = safe }; value_is = h.3; spells = (h.0, h.2, refl) } in (
+      record { literal = literal; spells = spells; spelled = spelled },
+      λ w other b stops. elim (word_or_quoted b.literal w b.spells) [
+        | inl m ↦ let one = word_front b.literal other w m stops in let not_one = quoted_front literal found.1 found.0 quoted in let same = ap (λ ys. value_in (front is_word_byte ys)) (sym b.spelled ∙ spelled) in cc
+        | inr m ↦ (one_quoted b.literal literal other found.1 w found.0 m quoted (sym b.spelled ∙ spelled)).1
+      ],
+    )
 quoted_found safe xs behind None e h = λ utf8 w rest b stops. elim (word_or_quoted b.literal w b.spells) [
-    inl m ↦ let one = word_front b.literal rest w m stops in let other = marked_front safe behind in let same = ap (λ ys. value_in (front is_word_byte ys)) (sym e ∙ b.spelled) in cc
+  | inl m ↦ let one = word_front b.literal rest w m stops in let other = marked_front safe behind in let same = ap (λ ys. value_in (front is_word_byte ys)) (sym e ∙ b.spelled) in cc
   | inr m ↦
       let bytes = ap (λ l. l ++ rest) m.spells.2 ∙ quoted_bytes m.held.safe m.spells.0 rest in
       let marks = same_marks safe m.held.safe behind (m.spells.0 ++ 34 ∷ rest) (sym e ∙ b.spelled ∙ bytes) in
       let u : IsUtf8 (mark_of m.held.safe ++ (34 ∷ (m.spells.0 ++ 34 ∷ rest))) = subst IsUtf8 (b.spelled ∙ bytes) utf8 in
       absurd (h m.held.spelled m.spells.0 rest (marked_utf8 m.held.safe m.spells.0 rest u) m.spells.1 marks.1)
-  ]
+]
 
 word_is_not_blank : (b : ℕ) → is_word_byte b ≡ true → is_blank b ≡ false
 word_is_not_blank b h = grind (arith, nat_tests)
@@ -270,9 +271,9 @@ mark_stops_blanks false xs = refl
 -- no literal begins with a blank
 pub literal_stops_blanks : (literal rest : List ℕ) (value : Form) → SpellsLiteral literal value → Stops is_blank (literal ++ rest)
 literal_stops_blanks literal rest value h = elim (word_or_quoted literal value h) [
-    inl w ↦ word_stops_blanks literal rest value w
+  | inl w ↦ word_stops_blanks literal rest value w
   | inr q ↦ subst (Stops is_blank) (sym (ap (λ l. l ++ rest) q.spells.2 ∙ quoted_bytes q.held.safe q.spells.0 rest)) (mark_stops_blanks q.held.safe (q.spells.0 ++ 34 ∷ rest))
-  ]
+]
 
 -- from what the reader of texts says
 pub quoted_none : (safe : Bool) (xs : List ℕ) → ((t : List ℕ) (used : ℕ) → IsUtf8 t → BeginsWithText xs t used → ⊥) → IsQuotedAt safe xs None
@@ -296,9 +297,9 @@ on_answer P Q (Err e) f h = h
 pub unquoted : (xs literal rest : List ℕ) (value : Form) → ((ys : List ℕ) → xs ≢ (34 ∷ []) ++ ys) → ((ys : List ℕ) → xs ≢ (115 ∷ 34 ∷ []) ++ ys) → IsQuoted literal value → xs ≢ literal ++ rest
 unquoted xs literal rest value normal safe q e = marked_by q.held.safe (e ∙ ap (λ l. l ++ rest) q.spells.2 ∙ quoted_bytes q.held.safe q.spells.0 rest)
   where
-  marked_by : (b : Bool) → xs ≡ mark_of b ++ (34 ∷ (q.spells.0 ++ 34 ∷ rest)) → ⊥
-  marked_by true e = safe (q.spells.0 ++ 34 ∷ rest) e
-  marked_by false e = normal (q.spells.0 ++ 34 ∷ rest) e
+    marked_by : (b : Bool) → xs ≡ mark_of b ++ (34 ∷ (q.spells.0 ++ 34 ∷ rest)) → ⊥
+    marked_by true e = safe (q.spells.0 ++ 34 ∷ rest) e
+    marked_by false e = normal (q.spells.0 ++ 34 ∷ rest) e
 
 cut_word : (xs rest : List ℕ) → rest ≡ past is_word_byte xs → take (length xs - length rest) xs ≡ front is_word_byte xs
 cut_word xs rest r = rw r (take_to_past is_word_byte [] xs xs refl)

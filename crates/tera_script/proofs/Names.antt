@@ -1,9 +1,9 @@
 -- Gaps, names and operands: what the readers give is spelled so, and what is spelled so is read.
-use Rattle.std.proofs.Common.{◌≡◌, ◌<◌, ℕ, Bool, true, false, cond, List, [], ◌∷◌, ◌++◌, length, Option, Some, None, refl, ap, sym, ◌∙◌, arith, append_assoc}
+use Rattle.std.proofs.Common.{◌≡◌, ℕ, Bool, true, false, cond, List, [], ◌∷◌, ◌++◌, Option, Some, None, refl, ap, sym, ◌∙◌, arith, append_assoc}
 use Rattle.std.specs.List.{list_all}
 use Rattle.std.proofs.lemmas.Option.{option_and_then_some, some_pair_parts}
 use Rattle.std.proofs.lemmas.Bool.Decides.{nat_tests}
-use Rattle.tera_script.specs.Line.{is_blank, AreBlanks, IsGap, is_name_start, is_name_byte, IsName, SpellsOperand}
+use Rattle.tera_script.specs.Line.{is_blank, IsGap, is_name_start, is_name_byte, IsName, SpellsOperand}
 use Rattle.tera_script.specs.Readers.{Stops, front, past, gap_at, name_at, operand_at}
 use Rattle.tera_script.proofs.Fronts.{front-past, front_all, past_stops, front_is, past_is, both_pass}
 

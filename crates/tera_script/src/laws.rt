@@ -6,11 +6,9 @@ ghost use Rattle.tera_script.specs.Line.{Says, IsSkipped};
 /// No line says two commands.
 pub fn one_command()
     ensures { (line : List ℕ) (first second : Command) → Says line first → Says line second → first ≡ second }
-{
-}
+{}
 
 /// No line that is skipped says a command.
 pub fn skipped_says_nothing()
     ensures { (line : List ℕ) (command : Command) → IsSkipped line → ¬ Says line command }
-{
-}
+{}

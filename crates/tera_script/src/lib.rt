@@ -10,8 +10,10 @@ mod number;
 mod text;
 mod text_laws;
 mod word;
+mod worked;
 
 pub use laws::{one_command, skipped_says_nothing};
 pub use line::{Reading, read_line};
 pub use text::{TakenText, take_text};
 pub use text_laws::{one_closing_quote, one_text, text_is_utf8, worked_texts};
+pub use worked::{worked_calls, worked_faults, worked_skips};

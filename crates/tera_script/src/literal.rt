@@ -10,7 +10,10 @@ use tera_values::Value;
 
 /// The literal at the front of the bytes, and the bytes behind it. `None` where there is none that ends as a word
 /// does. Takes memory for a text, and fails for want of it alone.
-pub(crate) fn take_literal(alloc: Global, bytes: &[u8]) -> Result<Option<(Value, &[u8])>, AllocError>
+pub(crate) fn take_literal(
+    alloc: Global,
+    bytes: &[u8],
+) -> Result<Option<(Value, &[u8])>, AllocError>
     ensures { IfOk result (λ answer. IsLiteralAt bytes.now (option_map value_rest answer)) }
 {
     if let Some(text) = bytes.strip_prefix(b"\"".as_slice()) {
@@ -23,7 +26,11 @@ pub(crate) fn take_literal(alloc: Global, bytes: &[u8]) -> Result<Option<(Value,
 }
 
 // The text behind an opening quote, with this flag, and the bytes behind its closing quote.
-fn take_quoted(alloc: Global, bytes: &[u8], safe: bool) -> Result<Option<(Value, &[u8])>, AllocError>
+fn take_quoted(
+    alloc: Global,
+    bytes: &[u8],
+    safe: bool,
+) -> Result<Option<(Value, &[u8])>, AllocError>
     ensures { IfOk result (λ answer. IsQuotedAt safe bytes.now (option_map value_rest answer)) }
 {
     let Some(taken) = take_text(alloc, bytes)? else {

@@ -1,4 +1,4 @@
-use Rattle.std.proofs.Common.{ap, sym, ◌∙◌, subst, codes}
+use Rattle.std.proofs.Common.{sym, ◌∙◌, subst}
 use Rattle.std.specs.Option.{option_map}
 use Rattle.tera_context.specs.Call.{request_of}
 use Rattle.tera_script.specs.Readers.{AreOperandsOf}

@@ -1,7 +1,7 @@
 use Rattle.std.proofs.Common.{ap, sym, ◌∙◌, subst}
 use Rattle.std.specs.Option.{option_map}
 use Rattle.tera_context.specs.Call.{request_of}
-use Rattle.tera_script.specs.Readers.{is_end_or_comment, EndsInCall, IsCallAt}
+use Rattle.tera_script.specs.Readers.{is_end_or_comment, IsCallAt}
 use Rattle.tera_script.proofs.Lines.{is_skipped, bad_utf8, bad_call, line_says}
 use Rattle.tera_script.proofs.line.read_line.Goals as goal
 

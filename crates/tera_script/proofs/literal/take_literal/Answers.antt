@@ -1,9 +1,8 @@
-use Rattle.std.proofs.Common.{◌≡◌, ◌≢◌, ◌++◌, [], ◌∷◌, ℕ, List, Option, true, false, ap, sym, ◌∙◌, Bool}
+use Rattle.std.proofs.Common.{◌++◌, true, false, ap, sym, ◌∙◌}
 use Rattle.std.specs.Option.{option_map}
 use Rattle.std.proofs.lemmas.Bool.Decides.{Decides-eqb}
 use Rattle.std.proofs.lemmas.Slice.Eq.{strip_prefix_is}
-use Rattle.tera_meaning.specs.Form.{Form}
-use Rattle.tera_script.specs.Readers.{IsLiteralAt, IsQuotedAt, value_rest}
+use Rattle.tera_script.specs.Readers.{value_rest}
 use Rattle.tera_script.proofs.Literals.{on_answer, quoted_found, plain_found, unquoted}
 use Rattle.tera_script.proofs.literal.take_literal.Goals as goal
 

@@ -1,4 +1,4 @@
-use Rattle.std.proofs.Common.{◌≡◌, ◌-◌, ℕ, List, [], ◌∷◌, length, take, drop, cond, true, Option, Some, None, ap, sym, ◌∙◌}
+use Rattle.std.proofs.Common.{◌≡◌, ◌-◌, ℕ, List, [], ◌∷◌, length, take, drop, true, Option, Some, sym, ◌∙◌}
 use Rattle.tera_script.specs.Line.{is_name_start, is_name_byte}
 use Rattle.tera_script.specs.Readers.{front, past, name_at}
 use Rattle.tera_script.proofs.Fronts.{length-past, take_to_past, drop_to_past}
