@@ -1,0 +1,67 @@
+#!/bin/sh
+# Runs the built program on what the gate cannot give it: a full device, long scripts, scripts of
+# examples/, and refused memory. A line 'pass NAME' or 'FAIL NAME' for each test.
+top=$(cd "$(dirname "$0")/.." && pwd)
+cd "$top" || exit 1
+work=$(mktemp -d)
+trap 'rm -rf "$work"' EXIT
+
+tell() {
+    if [ "$2" -eq 0 ]; then echo "pass $1"; else echo "FAIL $1"; fi
+}
+
+# Builds the program; what is timed or compared below is the program alone.
+./replay </dev/null >/dev/null 2>"$work/build"
+tell "the empty script ends with status 0" $?
+program=crates/tera_replay/out/tera_replay
+
+for script in examples/*.replay; do
+    name=${script%.replay}
+    wanted=0
+    [ -f "$name.status" ] && wanted=$(cat "$name.status")
+    ./replay <"$script" >"$work/out" 2>"$work/err"
+    status=$?
+    [ "$status" -eq "$wanted" ] && cmp -s "$work/out" "$name.answers"
+    tell "$script" $?
+done
+
+./replay <examples/first.replay >/dev/full 2>"$work/err"
+status=$?
+[ "$status" -eq 1 ] && [ "$(cat "$work/err")" = "error: writing failed" ]
+tell "a full device is a failed write" $?
+
+./replay <examples/first.replay >"$work/out" 2>/dev/full
+status=$?
+[ "$status" -eq 0 ] && cmp -s "$work/out" examples/first.answers
+tell "a full device for reports changes nothing" $?
+
+printf 'eq a b\nfrob\n' | ./replay >"$work/out" 2>/dev/full
+status=$?
+[ "$status" -eq 2 ] && [ "$(cat "$work/out")" = "true" ]
+tell "a report that cannot be written changes nothing" $?
+
+printf 'eq a b\nfrob\neq a b\n' | ./replay >"$work/out" 2>"$work/err"
+status=$?
+[ "$status" -eq 2 ] && [ "$(cat "$work/out")" = "true" ] && [ "$(cat "$work/err")" = "bad line 2" ]
+tell "a bad line ends the run" $?
+
+./replay <"$work" >"$work/out" 2>"$work/err"
+status=$?
+[ "$status" -eq 1 ] && [ ! -s "$work/out" ] && [ "$(cat "$work/err")" = "error: reading failed" ]
+tell "a folder for standard input is a failed read" $?
+
+python3 bench/scalars.py 400000 >"$work/script"
+python3 bench/scalars.py 400000 --answers >"$work/wanted"
+"$program" <"$work/script" >"$work/out" 2>"$work/err"
+status=$?
+[ "$status" -eq 0 ] && [ ! -s "$work/err" ] && cmp -s "$work/out" "$work/wanted"
+tell "400,000 short lines" $?
+
+python3 -c 'print("set t \"" + "long text, " * 100000 + "\"\nprint t")' >"$work/script"
+python3 -c 'print("ok\ntext " + "long text, " * 100000)' >"$work/wanted"
+"$program" <"$work/script" >"$work/out" 2>"$work/err"
+status=$?
+[ "$status" -eq 0 ] && [ ! -s "$work/err" ] && cmp -s "$work/out" "$work/wanted"
+tell "a text of a megabyte" $?
+
+echo "program tests: end"
