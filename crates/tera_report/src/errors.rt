@@ -94,8 +94,7 @@ impl Error {
 pub fn kinds_equal_by_refusal()
     ensures { (a b : ErrorKind) →
         IsTrue (⟦<ErrorKind as PartialEq>⟧.eq a b) ↔ (refusal_of a ≡ refusal_of b) }
-{
-}
+{}
 
 impl fmt::Display for ErrorKind {
     ghost output = { λ kind. text_of (refusal_of kind) };

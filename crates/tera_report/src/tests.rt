@@ -134,61 +134,73 @@ fn io_kinds_by_name(rt: HostRuntime) -> Result<(), Fail> {
     Ok(())
 }
 
-#[test]
-fn causes(rt: HostRuntime) -> Result<(), Fail> {
-    let alloc = rt.alloc();
-    let error = Error::chain(alloc, "outer", anyhow::Error::msg("inner"));
-    prints(&rt, &error, "outer")?;
-    let inner = error.source().ok_or("no cause")?;
-    let text = format!(in alloc; "{inner}")?;
-    assert_eq!(rt; text.as_str(), "inner");
-
-    let error = Error::from(io::Error::from(io::ErrorKind::NotFound));
-    let inner = error.source().ok_or("no cause")?;
-    let text = format!(in alloc; "{inner}")?;
-    assert_eq!(rt; text.as_str(), "entity not found");
-
-    let bytes = Vec::from_slice(alloc, b"a\xff")?;
-    match String::from_utf8(bytes) {
-        Ok(_) => panic!(rt; "text of other bytes"),
-        Err(wrong) => {
-            let error = Error::from(wrong);
-            let inner = error.source().ok_or("no cause")?;
-            let text = format!(in alloc; "{inner}")?;
-            let expected = "invalid utf-8 sequence of 1 bytes from index 1";
-            assert_eq!(rt; text.as_str(), expected);
-        }
-    }
-    assert!(rt; Error::message(alloc, "a").source().is_none());
+fn has_cause(rt: &(impl Abort + AllocGlobal), error: &Error, expected: &str) -> Result<(), Fail> {
+    let cause = error.source().ok_or("no cause")?;
+    let text = format!(in rt.alloc(); "{cause}")?;
+    assert_eq!(rt; text.as_str(), expected);
     Ok(())
 }
 
 #[test]
-fn kinds_are_compared_and_cloned(rt: HostRuntime) -> Result<(), Fail> {
-    let alloc = rt.alloc();
-    let first = Error::circular_extend(alloc, "a", names(rt.alloc(), &["a", "b"])?);
-    let other = Error::circular_extend(alloc, "a", names(rt.alloc(), &["a", "c"])?);
-    let include = Error::circular_include(alloc, "a", names(rt.alloc(), &["a", "b"])?);
-    assert!(rt; *first.kind() == first.kind().clone(alloc)?);
-    assert!(rt; *first.kind() != *other.kind());
-    assert!(rt; *first.kind() != *include.kind());
-    for error in [
-        Error::message(alloc, "a"),
-        include,
-        Error::missing_parent(alloc, "a", "b"),
-        Error::template_not_found(alloc, "a"),
-        Error::component_not_found(alloc, "a"),
-        Error::invalid_arg_type(alloc, "a", "b"),
-        Error::missing_arg(alloc, "a"),
-        Error::out_of_range_arg(alloc, "a", "b"),
-        Error::new(ErrorKind::Io(io::ErrorKind::NotFound)),
-        Error::new(ErrorKind::Utf8Conversion),
-        Error::new(ErrorKind::OutOfMemory),
-    ] {
-        assert!(rt; *error.kind() == error.kind().clone(alloc)?);
-        assert!(rt; *error.kind() != *first.kind());
-    }
+fn causes(rt: HostRuntime) -> Result<(), Fail> {
+    let error = Error::chain(rt.alloc(), "outer", anyhow::Error::msg("inner"));
+    prints(&rt, &error, "outer")?;
+    has_cause(&rt, &error, "inner")?;
+    let error = Error::from(io::Error::from(io::ErrorKind::NotFound));
+    has_cause(&rt, &error, "entity not found")?;
+    assert!(rt; Error::message(rt.alloc(), "a").source().is_none());
     Ok(())
+}
+
+#[test]
+fn bytes_that_are_no_text(rt: HostRuntime) -> Result<(), Fail> {
+    let bytes = Vec::from_slice(rt.alloc(), b"a\xff")?;
+    let wrong = String::from_utf8(bytes).err().ok_or("text")?;
+    let error = Error::from(wrong);
+    has_cause(
+        &rt,
+        &error,
+        "invalid utf-8 sequence of 1 bytes from index 1",
+    )
+}
+
+// The kind is its clone, and is not the other.
+fn is_its_clone(
+    rt: &(impl Abort + AllocGlobal),
+    error: Error,
+    other: &ErrorKind,
+) -> Result<(), Fail> {
+    assert!(rt; *error.kind() == error.kind().clone(rt.alloc())?);
+    assert!(rt; *error.kind() != *other);
+    Ok(())
+}
+
+#[test]
+fn kinds_of_chains_and_templates(rt: HostRuntime) -> Result<(), Fail> {
+    let alloc = rt.alloc();
+    let first = Error::circular_extend(alloc, "a", names(alloc, &["a", "b"])?);
+    let other = first.kind();
+    let error = Error::circular_extend(alloc, "a", names(alloc, &["a", "c"])?);
+    is_its_clone(&rt, error, other)?;
+    let error = Error::circular_include(alloc, "a", names(alloc, &["a", "b"])?);
+    is_its_clone(&rt, error, other)?;
+    is_its_clone(&rt, Error::message(alloc, "a"), other)?;
+    is_its_clone(&rt, Error::missing_parent(alloc, "a", "b"), other)?;
+    is_its_clone(&rt, Error::template_not_found(alloc, "a"), other)?;
+    is_its_clone(&rt, Error::component_not_found(alloc, "a"), other)
+}
+
+#[test]
+fn kinds_of_arguments_and_memory(rt: HostRuntime) -> Result<(), Fail> {
+    let alloc = rt.alloc();
+    let other = ErrorKind::Io(io::ErrorKind::BrokenPipe);
+    is_its_clone(&rt, Error::invalid_arg_type(alloc, "a", "b"), &other)?;
+    is_its_clone(&rt, Error::missing_arg(alloc, "a"), &other)?;
+    is_its_clone(&rt, Error::out_of_range_arg(alloc, "a", "b"), &other)?;
+    let error = Error::new(ErrorKind::Io(io::ErrorKind::NotFound));
+    is_its_clone(&rt, error, &other)?;
+    is_its_clone(&rt, Error::new(ErrorKind::Utf8Conversion), &other)?;
+    is_its_clone(&rt, Error::new(ErrorKind::OutOfMemory), &other)
 }
 
 fn span() -> Span {
@@ -302,74 +314,84 @@ fn fails_after(left: usize, step: usize, interrupts: bool) -> Failing {
     }
 }
 
+fn kind_of(answer: io::Result<()>) -> Option<io::ErrorKind> {
+    match answer {
+        Ok(()) => None,
+        Err(e) => Some(e.kind()),
+    }
+}
+
+// The watched and the plain call to such a writer answer this.
+fn answers(
+    rt: &impl Abort,
+    left: usize,
+    step: usize,
+    interrupts: bool,
+    expected: Option<io::ErrorKind>,
+) {
+    let mut writer = fails_after(left, step, interrupts);
+    let mut watched = Watched::new(&mut writer);
+    let answer = escape_watched(PAGE, &mut watched);
+    assert_eq!(rt; kind_of(answer), expected);
+    // An interrupted write is a fault that was told, and no reason to end.
+    assert_eq!(rt; watched.has_failed(), interrupts || expected.is_some());
+    let mut writer = fails_after(left, step, interrupts);
+    let answer = escape_html(PAGE, &mut writer);
+    assert_eq!(rt; kind_of(answer), expected);
+    assert_eq!(rt; writer.left, 0);
+}
+
 #[test]
 fn writers_that_fail(rt: HostRuntime) {
     for (step, interrupts) in [(100, false), (1, false), (3, true)] {
         for left in 0..ESCAPED_PAGE.len() {
-            let mut writer = fails_after(left, step, interrupts);
-            let mut watched = Watched::new(&mut writer);
-            let answer = escape_watched(PAGE, &mut watched);
-            assert_eq!(rt;
-                answer.err().map(|e| e.kind()),
-                Some(io::ErrorKind::StorageFull)
-            );
-            assert!(rt; watched.has_failed());
-            let mut writer = fails_after(left, step, interrupts);
-            let answer = escape_html(PAGE, &mut writer);
-            assert_eq!(rt;
-                answer.err().map(|e| e.kind()),
-                Some(io::ErrorKind::StorageFull)
-            );
-            assert_eq!(rt; writer.left, 0);
+            let full = Some(io::ErrorKind::StorageFull);
+            answers(&rt, left, step, interrupts, full);
         }
-        let mut writer = fails_after(ESCAPED_PAGE.len(), step, interrupts);
-        let mut watched = Watched::new(&mut writer);
-        let answer = escape_watched(PAGE, &mut watched);
-        assert!(rt; answer.is_ok());
-        // An interrupted write is a fault that was told, and no reason to end.
-        assert_eq!(rt; watched.has_failed(), interrupts);
-        let mut writer = fails_after(ESCAPED_PAGE.len(), step, interrupts);
-        assert!(rt; escape_html(PAGE, &mut writer).is_ok());
-        assert_eq!(rt; writer.left, 0);
+        answers(&rt, ESCAPED_PAGE.len(), step, interrupts, None);
     }
+}
+
+#[test]
+fn writers_that_take_nothing(rt: HostRuntime) {
     let mut writer = fails_after(5, 0, false);
     let answer = escape_html("a", &mut writer);
-    assert_eq!(rt;
-        answer.err().map(|e| e.kind()),
-        Some(io::ErrorKind::WriteZero)
-    );
+    assert_eq!(rt; kind_of(answer), Some(io::ErrorKind::WriteZero));
     let mut writer = fails_after(0, 1, false);
-    assert!(rt; escape_html("", &mut writer).is_ok());
+    assert_eq!(rt; kind_of(escape_html("", &mut writer)), None);
+}
+
+fn escapes_and_tells(rt: &(impl Abort + AllocGlobal), text: &str) -> Result<(), Fail> {
+    let made = escape_text(rt.alloc(), text)?;
+    assert_eq!(rt; made.len() / 4, text.len());
+    let error = Error::message(rt.alloc(), text);
+    prints(rt, &error, text)?;
+    let error = Error::out_of_range_arg(rt.alloc(), text, text);
+    is_its_clone(rt, error, &ErrorKind::OutOfMemory)
+}
+
+fn chains(rt: &(impl Abort + AllocGlobal), count: usize) -> Result<(), Fail> {
+    let mut chain = Vec::new(rt.alloc());
+    for _ in 0..count {
+        chain.push(String::from_str(rt.alloc(), "a")?)?;
+    }
+    let error = Error::circular_extend(rt.alloc(), "a", chain);
+    match error.kind().clone(rt.alloc())? {
+        ErrorKind::CircularExtend {
+            inheritance_chain,
+            ..
+        } => assert_eq!(rt; inheritance_chain.len(), count),
+        _ => panic!(rt; "another kind"),
+    }
+    Ok(())
 }
 
 #[test]
 fn with_ample_memory(rt: HostRuntime) -> Result<(), Fail> {
-    let alloc = rt.alloc();
     for count in [0, 1, 1000] {
-        let text = many(alloc, count)?;
-        let made = escape_text(alloc, text.as_str())?;
-        assert_eq!(rt; made.len(), count * 4);
-        let error = Error::message(alloc, text.as_str());
-        prints(&rt, &error, text.as_str())?;
-        let mut chain = Vec::new(alloc);
-        for _ in 0..count {
-            chain.push(String::from_str(alloc, "a")?)?;
-        }
-        let error = Error::circular_extend(alloc, text.as_str(), chain);
-        match error.kind().clone(alloc)? {
-            ErrorKind::CircularExtend {
-                tpl,
-                inheritance_chain,
-            } => {
-                assert_eq!(rt; tpl.as_str(), text.as_str());
-                assert_eq!(rt; inheritance_chain.len(), count);
-            }
-            _ => panic!(rt; "another kind"),
-        }
-        let error = Error::out_of_range_arg(alloc, text.as_str(), text.as_str());
-        let copy = error.kind().clone(alloc)?;
-        assert!(rt; copy == *error.kind());
-        assert!(rt; copy != ErrorKind::OutOfMemory);
+        let text = many(rt.alloc(), count)?;
+        escapes_and_tells(&rt, text.as_str())?;
+        chains(&rt, count)?;
     }
     Ok(())
 }

@@ -12,21 +12,26 @@ returns c (Msg s) (Msg t) = ((λ h. ap message (same_text s t h)), (λ e. text_s
 returns c (TemplateNotFound s) (TemplateNotFound t) = ((λ h. ap template_not_found (same_text s t h)), (λ e. text_same s t (cc)))
 returns c (ComponentNotFound s) (ComponentNotFound t) = ((λ h. ap component_not_found (same_text s t h)), (λ e. text_same s t (cc)))
 returns c (MissingArgument s) (MissingArgument t) = ((λ h. ap missing_argument (same_text s t h)), (λ e. text_same s t (cc)))
-returns c (CircularExtend s xs) (CircularExtend t ys) =
-    ((λ h. let name = same_text s t (first_true _ _ h) in let chain = same_texts xs.items ys.items (second_true _ _ h) in cc),
-     (λ e. both_true _ _ (text_same s t (cc)) (texts_same xs.items ys.items (cc))))
-returns c (CircularInclude s xs) (CircularInclude t ys) =
-    ((λ h. let name = same_text s t (first_true _ _ h) in let chain = same_texts xs.items ys.items (second_true _ _ h) in cc),
-     (λ e. both_true _ _ (text_same s t (cc)) (texts_same xs.items ys.items (cc))))
-returns c (MissingParent s u) (MissingParent t v) =
-    ((λ h. let one = same_text s t (first_true _ _ h) in let two = same_text u v (second_true _ _ h) in cc),
-     (λ e. both_true _ _ (text_same s t (cc)) (text_same u v (cc))))
-returns c (InvalidArgument s u) (InvalidArgument t v) =
-    ((λ h. let one = same_text s t (first_true _ _ h) in let two = same_text u v (second_true _ _ h) in cc),
-     (λ e. both_true _ _ (text_same s t (cc)) (text_same u v (cc))))
-returns c (OutOfRangeArgument s u) (OutOfRangeArgument t v) =
-    ((λ h. let one = same_text s t (first_true _ _ h) in let two = same_text u v (second_true _ _ h) in cc),
-     (λ e. both_true _ _ (text_same s t (cc)) (text_same u v (cc))))
+returns c (CircularExtend s xs) (CircularExtend t ys) = (
+  (λ h. let name = same_text s t (first_true _ _ h) in let chain = same_texts xs.items ys.items (second_true _ _ h) in cc),
+  (λ e. both_true _ _ (text_same s t (cc)) (texts_same xs.items ys.items (cc))),
+)
+returns c (CircularInclude s xs) (CircularInclude t ys) = (
+  (λ h. let name = same_text s t (first_true _ _ h) in let chain = same_texts xs.items ys.items (second_true _ _ h) in cc),
+  (λ e. both_true _ _ (text_same s t (cc)) (texts_same xs.items ys.items (cc))),
+)
+returns c (MissingParent s u) (MissingParent t v) = (
+  (λ h. let one = same_text s t (first_true _ _ h) in let two = same_text u v (second_true _ _ h) in cc),
+  (λ e. both_true _ _ (text_same s t (cc)) (text_same u v (cc))),
+)
+returns c (InvalidArgument s u) (InvalidArgument t v) = (
+  (λ h. let one = same_text s t (first_true _ _ h) in let two = same_text u v (second_true _ _ h) in cc),
+  (λ e. both_true _ _ (text_same s t (cc)) (text_same u v (cc))),
+)
+returns c (OutOfRangeArgument s u) (OutOfRangeArgument t v) = (
+  (λ h. let one = same_text s t (first_true _ _ h) in let two = same_text u v (second_true _ _ h) in cc),
+  (λ e. both_true _ _ (text_same s t (cc)) (text_same u v (cc))),
+)
 returns c (Io s) (Io t) = ((λ h. ap writing_failed (same_true the_type (search rules) s t h)), (λ e. true_same the_type s t (cc)))
 returns c Utf8Conversion Utf8Conversion = ((λ h. refl), (λ e. refl))
 returns c OutOfMemory OutOfMemory = ((λ h. refl), (λ e. refl))
