@@ -21,3 +21,7 @@ expanded span other = record span {
   end_col = other.end_col;
   range = record span.range { end = other.range.end };
 }
+
+-- the span of no node
+abbrev pub zeros : Span
+zeros = record { start_line = 0; start_col = 0; end_line = 0; end_col = 0; range = record { start = 0; end = 0 } }

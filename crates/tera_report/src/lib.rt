@@ -11,5 +11,5 @@ pub mod watch;
 
 pub use errors::{Error, ErrorKind, TeraResult, kinds_equal_by_refusal};
 pub use escape::{escape_html, escape_text, escape_watched, one_decoding, one_spelling};
-pub use span::Span;
-pub use spanned::Spanned;
+pub use span::{Span, spans_equal_by_numbers};
+pub use spanned::{Spanned, spanned_equal_by_parts};

@@ -1,6 +1,7 @@
 // Where a node stands in the source of its template.
-ghost use Rattle.std.specs.Prelude.{◌≡◌, Some};
-ghost use Rattle.tera_report.specs.Span.{span_text, span_debug_text, expanded};
+ghost use Rattle.std.specs.Prelude.{◌≡◌, ◌↔◌, Some, IsTrue};
+ghost use Rattle.tera_report.specs.Span.{span_text, span_debug_text, expanded, zeros};
+ghost use Rattle.tera_report.specs.declared.span.Span.{Span};
 
 use std::fmt;
 use std::ops::Range;
@@ -29,6 +30,16 @@ impl Span {
         self.end_col = other.end_col;
         self.range.end = other.range.end;
     }
+}
+
+/// Two spans are `==` exactly where their numbers are, a default span is all zeros, and a clone is
+/// the span itself, which takes no memory.
+pub fn spans_equal_by_numbers()
+    ensures same { (a b : Span) → IsTrue (⟦<Span as PartialEq>⟧.eq a b) ↔ (a ≡ b) }
+    ensures zeros { (span : Span) → ⟦<Span as Default>⟧.is_default span → span ≡ zeros }
+    ensures cloned { (a b : Span) → ⟦<Span as Clone>⟧.is_clone a b → a ≡ b }
+    ensures free { (span : Span) → ⟦<Span as Clone>⟧.is_infallible span }
+{
 }
 
 // ` @ 1:0-1:5`, with no width or fill.

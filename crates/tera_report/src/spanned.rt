@@ -1,10 +1,11 @@
 // A node with its place in the source.
-ghost use Rattle.std.specs.Prelude.{◌≡◌, Some, IfOk, IfErr};
+ghost use Rattle.std.specs.Prelude.{◌≡◌, ◌↔◌, Some, IfOk, IfErr, IsTrue};
 ghost use Rattle.std.specs.Borrow.{sem, Lends};
 ghost use Rattle.std.specs.Fmt.{◌++?◌};
 ghost use Rattle.tera_report.specs.Errors.{IsOutOfMemory};
 ghost use Rattle.tera_report.specs.Span.{span_debug_text};
 ghost use Rattle.tera_report.specs.Spanned.{node_of, span_of, placed_at};
+ghost use Rattle.tera_report.specs.declared.spanned.Spanned.{Spanned};
 ghost use Rattle.tera_report.specs.contracts.span.Span.{the_row as span-row};
 ghost use Rattle.tera_report.specs.contracts.spanned.Spanned.{the_row};
 
@@ -82,6 +83,13 @@ impl<T: Debug> Spanned<T> {
         let span = self.span.clone()?;
         Spanned::new(alloc, node, span)
     }
+}
+
+/// Two nodes with places are `==` exactly where the nodes are and the places are the same.
+pub fn spanned_equal_by_parts<T: Debug + PartialEq>()
+    ensures { (a b : Spanned T) → IsTrue (⟦<Spanned<T> as PartialEq>⟧.eq a b)
+        ↔ (IsTrue (T.eq (node_of a) (node_of b)) × (span_of a ≡ span_of b)) }
+{
 }
 
 // The node's and then the place's.
