@@ -1,0 +1,9 @@
+pub mod RunLemmas
+pub mod SplitLemmas
+pub mod StretchLemmas
+pub mod EndLemmas
+pub mod LineLemmas
+pub mod FeedLemmas
+pub mod PieceLemmas
+pub mod InputLemmas
+pub mod ReplayLemmas

@@ -1,0 +1,6 @@
+-- Where a feed stands.
+use Rattle.tera_replay.specs.declared.feed.Feed.{Feed}
+use Rattle.tera_replay.specs.Stretch.{Place}
+
+abbrev pub place_of : Feed → Place
+place_of feed = record { number = feed.number; part = feed.part.items; state = feed.context; wanted = feed.wanted_memory }
