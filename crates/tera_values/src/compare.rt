@@ -1,5 +1,5 @@
 //! The order of values: that of their meanings, whatever the kind of an integer or the flag of a text.
-ghost use Rattle.std.specs.Prelude.{◌≡◌, ◌↔◌, IsTrue, Some};
+ghost use Rattle.std.specs.Prelude.{◌≡◌, ◌↔◌, IsTrue};
 ghost use Rattle.std.specs.Cmp.{on_total, on_equiv, on_per, on_po};
 ghost use Rattle.std.specs.Ordering.{on, as_partial_cmp};
 ghost use Rattle.std.proofs.Common.{refl};
@@ -21,8 +21,11 @@ impl PartialEq for Value {
 
     ghost laws = { on_per plain same_partial_equivalence };
 
-    fn eq(&self, other: &Value) -> bool {
-        self.cmp(other) == Ordering::Equal
+    fn eq(&self, other: &Value) -> bool
+        ensures value { result ≡ same (plain self.now) (plain other.now) }
+        ensures meaning { IsTrue result ↔ (plain self.now ≡ plain other.now) }
+    {
+        self.cmp(other).is_eq()
     }
 }
 

@@ -2,8 +2,10 @@
 #![tactic(auto)]
 
 mod compare;
+mod key;
 mod number;
 mod print;
 mod value;
 
+pub use key::Key;
 pub use value::Value;

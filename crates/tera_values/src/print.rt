@@ -60,14 +60,14 @@ impl Value {
 }
 
 // The word for a truth value.
-fn truth_text(b: bool) -> &'static str
+pub(crate) fn truth_text(b: bool) -> &'static str
     ensures { result.now ≡ printed_truth b }
 {
     if b { "true" } else { "false" }
 }
 
 // Writes an integer in decimal.
-fn write_integer<I: Integer, W: Write>(n: I, out: &mut Watched<'_, W>) -> io::Result<()>
+pub(crate) fn write_integer<I: Integer, W: Write>(n: I, out: &mut Watched<'_, W>) -> io::Result<()>
     ensures bytes { OnOk result (Appends (held W.contents out.old) (held W.contents out.new) (I.text n)) }
     ensures same { SameWriter out.old out.new }
     ensures told { OnErr result (HasFailed out.new) }

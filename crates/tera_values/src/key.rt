@@ -1,0 +1,339 @@
+//! The keys of maps: truth values, numbers and texts. Keys of one meaning are one key, whatever kind of integer or of
+//! text holds them.
+ghost use Rattle.std.specs.Prelude.{◌≡◌, pos, Some, None, IfOk, IfErr, IsOk, OnOk, OnErr, MatchOption, fold};
+ghost use Rattle.std.specs.Cmp.{on_total, on_equiv, on_per, on_po, partial_equiv_from_equiv};
+ghost use Rattle.std.specs.Io.KnownBytes.{Appends};
+ghost use Rattle.std.specs.Option.{option_map};
+ghost use Rattle.std.specs.Ordering.{on, eq_by_cmp, as_partial_cmp};
+ghost use Rattle.std.proofs.Common.{ap, refl};
+ghost use Rattle.tera_meaning.specs.Integer.{u128, i128};
+ghost use Rattle.tera_meaning.specs.KeyLaws.{key_total, key_equivalence, key_partial, key_is};
+ghost use Rattle.tera_meaning.specs.KeyMeaning.{truth_key, number_key, text_key, borrowed, key_order, key_rank};
+ghost use Rattle.tera_report.specs.Errors.{IsOutOfMemory};
+ghost use Rattle.tera_report.specs.Watch.{HasFailed, SameWriter, held};
+ghost use Rattle.tera_values.specs.Key.{integer_key, key_form, meaning_of_key, text_in_key, owned_in_key, number_in_key, key_value, shown_key, fed_number, fed};
+ghost use Rattle.tera_values.specs.Whole.{whole_value};
+
+use crate::Value;
+use crate::number::Whole;
+use crate::print::{truth_text, write_integer};
+use itoa::Buffer;
+use std::alloc::Global;
+use std::cmp::Ordering;
+use std::hash::{Hash, Hasher};
+use std::io::Write;
+use std::rc::RcStr;
+use std::{fmt, io};
+use tera_report::TeraResult;
+use tera_report::watch::Watched;
+
+/// The key of a pair of a map. Mirrors `tera::value::Key`.
+#[derive(Debug, Drop)]
+#[non_exhaustive]
+pub enum Key<'a> {
+    /// A truth value.
+    Bool(bool),
+    /// A number of 64 bits without a sign.
+    U64(u64),
+    /// A number of 64 bits with a sign.
+    I64(i64),
+    /// A number of 128 bits without a sign.
+    U128(u128),
+    /// A number of 128 bits with a sign.
+    I128(i128),
+    /// A text that the key owns.
+    String(RcStr),
+    /// A text that is lent.
+    Str(&'a str),
+}
+
+impl<'a> Key<'a> {
+    /// The text that it is, lent. Mirrors `Key::as_str`. Takes no memory.
+    pub fn as_str(&self) -> Option<&str>
+        ensures { MatchOption result (text_in_key (key_form self.now) ≡ None) (λ t. text_in_key (key_form self.now) ≡ Some t.now) }
+    {
+        match self {
+            Key::String(text) => Some(text.as_str()),
+            Key::Str(text) => Some(*text),
+            Key::Bool(_) => None,
+            Key::U64(_) => None,
+            Key::I64(_) => None,
+            Key::U128(_) => None,
+            Key::I128(_) => None,
+        }
+    }
+
+    /// The value that it is: a number of the same kind, a text that is not marked safe. Mirrors
+    /// `Key::as_value`.
+    ///
+    /// Takes memory for a text; the only refusal is want of it, `Out of memory`.
+    pub fn as_value(&self, alloc: Global) -> TeraResult<Value>
+        ensures ok { IfOk result (λ v. v ≡ key_value (key_form self.now)) }
+        ensures err { IfErr result IsOutOfMemory }
+        ensures succeeds { text_in_key (key_form self.now) ≡ None → IsOk result }
+    {
+        match self {
+            Key::Bool(b) => Ok(Value::from(*b)),
+            Key::U64(n) => Ok(Value::from(*n)),
+            Key::I64(z) => Ok(Value::from(*z)),
+            Key::U128(n) => Ok(Value::from(*n)),
+            Key::I128(z) => Ok(Value::from(*z)),
+            Key::String(text) => Value::normal_string(alloc, text.as_str()),
+            Key::Str(text) => Value::normal_string(alloc, *text),
+        }
+    }
+
+    /// A key of the same form: the kind of an integer is kept, a text that it owns is copied, and a
+    /// text that is lent stays lent.
+    ///
+    /// Takes memory for a text that it owns; the only refusal is want of it, `Out of memory`.
+    pub fn clone(&self, alloc: Global) -> TeraResult<Key<'a>>
+        ensures ok { IfOk result (λ k. key_form k ≡ key_form self.now) }
+        ensures err { IfErr result IsOutOfMemory }
+        ensures succeeds { owned_in_key (key_form self.now) ≡ None → IsOk result }
+    {
+        match self {
+            Key::Bool(b) => Ok(Key::Bool(*b)),
+            Key::U64(n) => Ok(Key::U64(*n)),
+            Key::I64(z) => Ok(Key::I64(*z)),
+            Key::U128(n) => Ok(Key::U128(*n)),
+            Key::I128(z) => Ok(Key::I128(*z)),
+            Key::String(text) => Ok(Key::String(RcStr::from_str(alloc, text.as_str())?)),
+            Key::Str(text) => Ok(Key::Str(*text)),
+        }
+    }
+
+    /// Writes what it prints: `true` or `false`, a number in decimal, a text as it is. Mirrors
+    /// `Key::format`, which is private there.
+    ///
+    /// Answers an error only where, during the call, a write of the writer answered an error or
+    /// took no byte. Takes no memory.
+    pub fn format<W: Write>(&self, out: &mut W) -> io::Result<()>
+        ensures { OnOk result (Appends (W.contents out.old) (W.contents out.new) (shown_key (meaning_of_key self.now))) }
+    {
+        self.format_watched(&mut Watched::new(out))
+    }
+
+    /// Writes what it prints to a watched writer: an error comes only where that writer failed.
+    ///
+    /// Takes no memory.
+    pub fn format_watched<W: Write>(&self, out: &mut Watched<'_, W>) -> io::Result<()>
+        ensures bytes { OnOk result (Appends (held W.contents out.old) (held W.contents out.new) (shown_key (meaning_of_key self.now))) }
+        ensures same { SameWriter out.old out.new }
+        ensures told { OnErr result (HasFailed out.new) }
+        ensures kept { HasFailed out.old → HasFailed out.new }
+    {
+        match self {
+            Key::Bool(b) => out.write_all(truth_text(*b).as_bytes()),
+            Key::U64(n) => write_integer(*n, out),
+            Key::I64(z) => write_integer(*z, out),
+            Key::U128(n) => write_integer(*n, out),
+            Key::I128(z) => write_integer(*z, out),
+            Key::String(text) => out.write_all(text.as_str().as_bytes()),
+            Key::Str(text) => out.write_all(text.as_bytes()),
+        }
+    }
+
+    // The number that it is.
+    fn whole(&self) -> Option<Whole>
+        ensures { option_map whole_value result ≡ number_in_key (key_form self.now) }
+    {
+        match self {
+            Key::U64(n) => Some(Whole::Unsigned(u128::from(*n))),
+            Key::I64(z) => Some(Whole::Signed(i128::from(*z))),
+            Key::U128(n) => Some(Whole::Unsigned(*n)),
+            Key::I128(z) => Some(Whole::Signed(*z)),
+            Key::Bool(_) => None,
+            Key::String(_) => None,
+            Key::Str(_) => None,
+        }
+    }
+
+    // The place of its kind in the order of keys.
+    fn rank(&self) -> u8
+        ensures { result ≡ key_rank (meaning_of_key self.now) }
+    {
+        match self {
+            Key::Bool(_) => 0,
+            Key::U64(_) => 1,
+            Key::I64(_) => 1,
+            Key::U128(_) => 1,
+            Key::I128(_) => 1,
+            Key::String(_) => 2,
+            Key::Str(_) => 2,
+        }
+    }
+}
+
+/// Two keys are equal exactly where their meanings are: numbers by number, texts by text, whatever
+/// holds them. Mirrors `PartialEq` of `tera::value::Key`. Takes no memory.
+impl PartialEq for Key<'_> {
+    ghost eq = { on meaning_of_key (eq_by_cmp key_order) };
+
+    ghost laws = { on_per meaning_of_key (partial_equiv_from_equiv key_equivalence) };
+
+    fn eq(&self, other: &Self) -> bool {
+        self.cmp(other) == Ordering::Equal
+    }
+}
+
+impl Eq for Key<'_> {
+    ghost laws = { on_equiv meaning_of_key key_equivalence };
+}
+
+/// The total order, so always an answer. Mirrors `PartialOrd` of `tera::value::Key`. Takes no
+/// memory.
+impl PartialOrd for Key<'_> {
+    ghost partial_cmp = { as_partial_cmp (on meaning_of_key key_order) };
+
+    ghost laws = { on_po meaning_of_key key_partial };
+
+    fn partial_cmp(&self, other: &Self) -> Option<Ordering> {
+        Some(self.cmp(other))
+    }
+}
+
+/// Truth values, then numbers, then texts; `false` before `true`, numbers by number, texts by their
+/// bytes. Mirrors `Ord` of `tera::value::Key`. Takes no memory.
+impl Ord for Key<'_> {
+    ghost cmp = { on meaning_of_key key_order };
+
+    ghost total = { on_total meaning_of_key key_total };
+
+    ghost matches_partial_cmp = { λ k l. refl };
+
+    ghost matches_eq = { λ k l. refl };
+
+    fn cmp(&self, other: &Self) -> Ordering {
+        match self {
+            Key::Bool(b) => truth_order(*b, other),
+            Key::U64(n) => number_order(Whole::Unsigned(u128::from(*n)), other),
+            Key::I64(z) => number_order(Whole::Signed(i128::from(*z)), other),
+            Key::U128(n) => number_order(Whole::Unsigned(*n), other),
+            Key::I128(z) => number_order(Whole::Signed(*z), other),
+            Key::String(text) => text_order(text.as_str(), other),
+            Key::Str(text) => text_order(*text, other),
+        }
+    }
+}
+
+// The order of a truth value and a key.
+fn truth_order(b: bool, other: &Key<'_>) -> Ordering
+    ensures { result ≡ key_order (truth_key b) (meaning_of_key other.now) }
+{
+    match other {
+        Key::Bool(c) => b.cmp(c),
+        _ => 0.cmp(&other.rank()),
+    }
+}
+
+// The order of a number and a key.
+fn number_order(n: Whole, other: &Key<'_>) -> Ordering
+    ensures { result ≡ key_order (number_key (whole_value n)) (meaning_of_key other.now) }
+{
+    match other.whole() {
+        Some(m) => n.order(m),
+        None => 1.cmp(&other.rank()),
+    }
+}
+
+// The order of a text and a key.
+fn text_order(left: &str, other: &Key<'_>) -> Ordering
+    ensures { result ≡ key_order (text_key left.now) (meaning_of_key other.now) }
+{
+    match other.as_str() {
+        Some(t) => left.cmp(t),
+        None => 2.cmp(&other.rank()),
+    }
+}
+
+/// What a hasher is fed goes by the meaning alone: a text feeds what `str` feeds, a truth value what
+/// `bool` feeds, and a number a `u8`, 1 if it is negative and else 0, and then an `i128` if it is
+/// negative, else a `u128`. Mirrors `Hash` of `tera::value::Key`. Takes no memory.
+impl Hash for Key<'_> {
+    ghost hash_input = { λ k. fed (meaning_of_key k) };
+
+    ghost respects_eq = { λ k l e. ap fed ((key_is (meaning_of_key k) (meaning_of_key l)).0 e) };
+
+    fn hash<H: Hasher>(&self, state: &mut H) {
+        match self {
+            Key::Bool(b) => b.hash(state),
+            Key::U64(n) => feed_natural(u128::from(*n), state),
+            Key::I64(z) => feed_integer(i128::from(*z), state),
+            Key::U128(n) => feed_natural(*n, state),
+            Key::I128(z) => feed_integer(*z, state),
+            Key::String(text) => text.as_str().hash(state),
+            Key::Str(text) => text.hash(state),
+        }
+    }
+}
+
+// Feeds a number without a sign.
+fn feed_natural<H: Hasher>(n: u128, state: &mut H)
+    ensures { state.new ≡ fold H.write state.old (fed_number (pos n)) }
+{
+    0u8.hash(state);
+    n.hash(state);
+}
+
+// Feeds a number with a sign.
+fn feed_integer<H: Hasher>(z: i128, state: &mut H)
+    ensures { state.new ≡ fold H.write state.old (fed_number z) }
+{
+    if z < 0 {
+        1u8.hash(state);
+        z.hash(state);
+    } else {
+        feed_natural(z as u128, state);
+    }
+}
+
+/// What `format` writes. A width or a fill of the format changes nothing. Takes no memory.
+impl fmt::Display for Key<'_> {
+    ghost output = { λ k. Some (shown_key (meaning_of_key k)) };
+
+    ghost styled_output = { λ k _. Some (shown_key (meaning_of_key k)) };
+
+    fn fmt<W: fmt::Write>(&self, f: &mut fmt::Formatter<W>) -> fmt::Result {
+        match self {
+            Key::Bool(b) => f.write_str(truth_text(*b)),
+            Key::U64(n) => f.write_str(Buffer::new().format(*n)),
+            Key::I64(z) => f.write_str(Buffer::new().format(*z)),
+            Key::U128(n) => f.write_str(Buffer::new().format(*n)),
+            Key::I128(z) => f.write_str(Buffer::new().format(*z)),
+            Key::String(text) => f.write_str(text.as_str()),
+            Key::Str(text) => f.write_str(*text),
+        }
+    }
+}
+
+/// A key that borrows the text, so it takes no memory. Mirrors `From<&'static str>` of
+/// `tera::value::Key`.
+impl From<&'static str> for Key<'static> {
+    ghost from_gives = { λ t k. key_form k ≡ text_key (borrowed t.now) };
+
+    fn from(text: &'static str) -> Key<'static> {
+        Key::Str(text)
+    }
+}
+
+/// Mirrors `From<u128>` of `tera::value::Key`. Takes no memory.
+impl From<u128> for Key<'static> {
+    ghost from_gives = { λ n k. key_form k ≡ integer_key u128 (pos n) };
+
+    fn from(n: u128) -> Key<'static> {
+        Key::U128(n)
+    }
+}
+
+/// Mirrors `From<i128>` of `tera::value::Key`. Takes no memory.
+impl From<i128> for Key<'static> {
+    ghost from_gives = { λ z k. key_form k ≡ integer_key i128 z };
+
+    fn from(z: i128) -> Key<'static> {
+        Key::I128(z)
+    }
+}
+
+#[cfg(test)]
+mod tests;
