@@ -39,8 +39,7 @@ pub fn spans_equal_by_numbers()
     ensures zeros { (span : Span) → ⟦<Span as Default>⟧.is_default span → span ≡ zeros }
     ensures cloned { (a b : Span) → ⟦<Span as Clone>⟧.is_clone a b → a ≡ b }
     ensures free { (span : Span) → ⟦<Span as Clone>⟧.is_infallible span }
-{
-}
+{}
 
 // ` @ 1:0-1:5`, with no width or fill.
 impl fmt::Display for Span {

@@ -89,8 +89,7 @@ impl<T: Debug> Spanned<T> {
 pub fn spanned_equal_by_parts<T: Debug + PartialEq>()
     ensures { (a b : Spanned T) → IsTrue (⟦<Spanned<T> as PartialEq>⟧.eq a b)
         ↔ (IsTrue (T.eq (node_of a) (node_of b)) × (span_of a ≡ span_of b)) }
-{
-}
+{}
 
 // The node's and then the place's.
 impl<T: Debug> Debug for Spanned<T> {
