@@ -1,6 +1,6 @@
 // From a script's bytes to the bytes of its answers.
 ghost use Rattle.std.specs.Io.KnownBytes.{Appends};
-ghost use Rattle.std.specs.Prelude.{◌≡◌, ◌≤◌, IfSome, OnOk, OnErr, IsTrue, Bool, false, None};
+ghost use Rattle.std.specs.Prelude.{⊤, ◌≡◌, ◌≤◌, IfSome, OnOk, OnErr, IsTrue, Bool, false, None};
 ghost use Rattle.tera_replay.specs.Replay.{Replays, report};
 ghost use Rattle.tera_replay.specs.Stretch.{Ends, told, status_at};
 
@@ -25,7 +25,7 @@ pub fn replay<R: Read + Drop, W: Write, E: Write>(
 ) -> u8
     ensures known { IfSome (R.remaining input) (λ bytes. Replays bytes None false
         (λ text. Appends (W.contents out.old) (W.contents out.new) text)
-        (λ text. ⊥ → Appends (E.contents err.old) (E.contents err.new) text) result) }
+        (λ _. ⊤) result) }
     ensures status { result ≤ 2 }
 {
     replay_from(alloc, &mut input, out, err)
