@@ -3,8 +3,8 @@
 use std::cmp::Ordering;
 use tera_values::Value;
 
-/// A call, and the name under which what it finds is to be kept. No call of this stage finds a
-/// value, so none heeds the name.
+/// A call, and the name under which what it finds is to be kept. No call of `Call` finds a value,
+/// so none heeds the name.
 #[derive(Debug, Drop)]
 pub struct Step {
     pub call: Call,
