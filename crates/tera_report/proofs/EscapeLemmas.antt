@@ -1,9 +1,8 @@
 -- Each text has one spelling, and spelled bytes stand for one text.
-use Rattle.std.proofs.Common.{◌≡◌, ℕ, suc, ◌+◌, ◌<◌, length, get_or, take, drop, arith, add-one, append_assoc, Result, Ok, Err, OnOk, ◌-◌, slice_range, Bool, true, false, ◌||◌, ◌==◌, List, [], ◌∷◌, ◌++◌, map, refl, sym, ap, ◌∙◌, subst, if◌then◌else◌}
+use Rattle.std.proofs.Common.{◌≡◌, ℕ, suc, ◌<◌, ◌≤◌, length, get_or, take, drop, arith, append_assoc, append-nil, Bool, true, false, ◌||◌, ◌==◌, List, [], ◌∷◌, ◌++◌, map, refl, sym, ap, ◌∙◌, subst, if◌then◌else◌}
 use Rattle.std.proofs.lemmas.Bool.{eqb-true, eq-eqb}
 use Rattle.std.proofs.lemmas.List.Concat.{flat_map-append}
 use Rattle.std.proofs.lemmas.List.{length-take, get_or-take, take-append-drop}
-use Rattle.std.proofs.Math.Seq.{drop-cons}
 use Rattle.std.specs.List.{flat_map, AllByRecursion}
 use Rattle.tera_report.specs.Escaping.{Token, itself, ampersand, less_than, greater_than, double_quote, single_quote, spelling, decoding, is_special, IsToken, Spells, token_of, escaped, IsPlain}
 
@@ -153,41 +152,22 @@ escaped_plain (x ∷ xs) plain =
     let others = escaped_plain xs (λ k h. plain (suc k) (omega arith)) in
     cc
 
--- where a text is cut at its first special byte
-pub escaped_cut : (xs : List ℕ) (i : ℕ) → i < length xs → IsPlain xs 0 i
-    → escaped xs ≡ take i xs ++ (spelling (token_of (get_or xs i 0)) ++ escaped (drop (i + 1) xs))
-escaped_cut xs i within plain =
-    let front = escaped_plain (take i xs) (λ k h.
-    let before : k < i = omega (arith, length-take i xs) in
-    subst (λ b. is_special b ≡ false) (sym (get_or-take i xs k 0 before)) (plain k (omega arith) before)) in
-    let later : drop i xs ≡ get_or xs i 0 ∷ drop (i + 1) xs = rw add-one (drop-cons xs i 0 within) in
-    let parts : xs ≡ take i xs ++ (get_or xs i 0 ∷ drop (i + 1) xs) = sym (take-append-drop i xs) ∙ ap (λ l. take i xs ++ l) later in
-    ap escaped parts ∙ flat_map-append (λ byte. spelling (token_of byte)) (take i xs) (get_or xs i 0 ∷ drop (i + 1) xs) ∙ ap (λ run. run ++ (spelling (token_of (get_or xs i 0)) ++ escaped (drop (i + 1) xs))) front
+-- a text that begins with a run of ordinary bytes
+pub escaped_run : (text bytes run rest : List ℕ) (i : ℕ) → bytes ≡ text → i ≤ length bytes → IsPlain bytes 0 i
+    → run ≡ take i text → rest ≡ drop i text → escaped text ≡ run ++ escaped rest
+escaped_run text bytes run rest i same within plain run_is rest_is =
+    let front = escaped_plain (take i bytes) (λ k h.
+    let before : k < i = omega (arith, length-take i bytes) in
+    subst (λ b. is_special b ≡ false) (sym (get_or-take i bytes k 0 before)) (plain k (omega arith) before)) in
+    let parts = ap escaped (sym (take-append-drop i bytes)) ∙ flat_map-append (λ byte. spelling (token_of byte)) (take i bytes) (drop i bytes) ∙ ap (λ l. l ++ escaped (drop i bytes)) front in
+    let moved = subst (λ t. escaped t ≡ take i t ++ escaped (drop i t)) same parts in
+    rw (run_is, rest_is) moved
 
--- a text that is plain throughout
-pub escaped_whole : (xs : List ℕ) (i : ℕ) → i ≡ length xs → IsPlain xs 0 i → escaped xs ≡ xs
-escaped_whole xs i all plain = escaped_plain xs (λ k h. plain k (omega arith) (omega arith))
+-- one more piece is done
+pub done_more : (whole rest done piece after : List ℕ) → whole ≡ done ++ escaped rest → escaped rest ≡ piece ++ escaped after
+    → whole ≡ (done ++ piece) ++ escaped after
+done_more whole rest done piece after split cut = split ∙ ap (λ bytes. done ++ bytes) cut ∙ sym (append_assoc done piece (escaped after))
 
--- the same, of slices of the text and of its bytes
-pub cut_of_slices : (text bytes run entity rest : List ℕ) (i : ℕ) → bytes ≡ text → i < length bytes → IsPlain bytes 0 i
-    → run ≡ slice_range text 0 i → entity ≡ spelling (token_of (get_or bytes i 0)) → rest ≡ drop (i + 1) text
-    → escaped text ≡ run ++ (entity ++ escaped rest)
-cut_of_slices text bytes run entity rest i same within plain run_is entity_is rest_is =
-    let cut = escaped_cut bytes i within plain in
-    let moved = subst (λ t. escaped t ≡ take i t ++ (spelling (token_of (get_or bytes i 0)) ++ escaped (drop (i + 1) t))) same cut in
-    let all : i - 0 ≡ i = omega arith in
-    rw (run_is, entity_is, rest_is, all) moved
-
--- one more run and its entity are done
-pub done_more : (whole rest done run entity after : List ℕ) → whole ≡ done ++ escaped rest → escaped rest ≡ run ++ (entity ++ escaped after)
-    → whole ≡ ((done ++ run) ++ entity) ++ escaped after
-done_more whole rest done run entity after split cut =
-    split ∙ ap (λ bytes. done ++ bytes) cut ∙ sym (append_assoc done run (entity ++ escaped after)) ∙ sym (append_assoc (done ++ run) entity (escaped after))
-
--- the last run is done
-pub done_whole : (whole rest done : List ℕ) → whole ≡ done ++ escaped rest → escaped rest ≡ rest → done ++ rest ≡ whole
-done_whole whole rest done split plain = sym (split ∙ ap (λ bytes. done ++ bytes) plain)
-
-pub OnOk-map : {T E : Type 0} (r : Result T E) (P Q : Type 0) → (P → Q) → OnOk r P → OnOk r Q
-OnOk-map (Ok v) P Q f h = f h
-OnOk-map (Err e) P Q f h = h
+-- nothing is left
+pub done_whole : (whole rest done : List ℕ) → whole ≡ done ++ escaped rest → rest ≡ [] → done ≡ whole
+done_whole whole rest done split ended = sym (split ∙ ap (λ t. done ++ escaped t) ended ∙ append-nil done)

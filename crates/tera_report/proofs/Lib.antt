@@ -1,3 +1,4 @@
 pub mod ErrorLemmas
 pub mod EscapeLemmas
+pub mod LaneLemmas
 pub mod WatchLemmas

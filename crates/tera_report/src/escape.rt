@@ -1,12 +1,14 @@
 // From a text to HTML: five bytes become entities, every other byte stays.
-ghost use Rattle.std.specs.Prelude.{◌≡◌, ℕ, ◌++◌, ◌<◌, ◌≤◌, true, List, length, IfOk, IfErr, IfNone, IfSome, OnOk, OnErr, slice_index, string_bytes};
+ghost use Rattle.std.specs.Prelude.{◌≡◌, ℕ, ◌++◌, List, IfOk, IfErr, OnOk, OnErr, is_ok, if◌then◌else◌, string_bytes};
 ghost use Rattle.tera_report.specs.Errors.{IsOutOfMemory};
-ghost use Rattle.tera_report.specs.Escaping.{Spells, WritesEscaped, IsPlain, is_special, escaped, spelling, token_of};
+ghost use Rattle.tera_report.specs.Escaping.{Spells, WritesEscaped, escaped};
+ghost use Rattle.tera_report.specs.Pieces.{written};
 ghost use Rattle.tera_report.specs.Watch.{held, HasFailed, SameWriter};
 
 use crate::errors::TeraResult;
+use crate::pieces::{Piece, first_piece};
 use crate::watch::Watched;
-use std::alloc::Global;
+use std::alloc::{AllocError, Global};
 use std::io;
 use std::io::Write;
 
@@ -29,12 +31,11 @@ pub fn escape_watched<W: Write>(text: &str, writer: &mut Watched<'_, W>) -> io::
     ensures kept { HasFailed writer.old → HasFailed writer.new }
 {
     let mut rest = text;
-    while let Some((run, entity, after)) = split_special(rest) {
-        writer.write_all(run.as_bytes())?;
-        writer.write_all(entity.as_bytes())?;
+    while let Some((piece, after)) = first_piece(rest) {
+        writer.write_all(piece.text().as_bytes())?;
         rest = after;
     }
-    writer.write_all(rest.as_bytes())
+    Ok(())
 }
 
 /// The text that `escape_html` writes. `Out of memory` where it finds none.
@@ -44,14 +45,10 @@ pub fn escape_text(alloc: Global, text: &str) -> TeraResult<String>
 {
     let mut made = String::with_capacity(alloc, text.len())?;
     let mut rest = text;
-    while let Some((run, entity, after)) = split_special(rest) {
-        if !run.is_empty() {
-            made.push_str(run)?;
-        }
-        made.push_str(entity)?;
+    while let Some((piece, after)) = first_piece(rest) {
+        push_piece(&mut made, &piece)?;
         rest = after;
     }
-    made.push_str(rest)?;
     Ok(made)
 }
 
@@ -66,63 +63,19 @@ pub fn one_decoding()
     ensures { (bytes s t : List ℕ) → Spells bytes s → Spells bytes t → s ≡ t }
 {}
 
-// The text before the first special byte, the entity of that byte, and the text after it.
-fn split_special(text: &str) -> Option<(&str, &'static str, &str)>
-    ensures cut { IfSome result (λ cut.
-        escaped text.now ≡ cut.0.now ++ (cut.1.now ++ escaped cut.2.now)) }
-    ensures shorter { IfSome result (λ cut. length cut.2.now < length text.now) }
-    ensures plain { IfNone result (escaped text.now ≡ text.now) }
+// Appends what is written for the piece. Each entity has a call of its own, so that it is a constant
+// where it is copied.
+#[inline(always)]
+fn push_piece(made: &mut String, piece: &Piece<'_>) -> Result<(), AllocError>
+    ensures { string_bytes made.new
+        ≡ (if is_ok result then string_bytes made.old ++ written piece.now else string_bytes made.old) }
 {
-    let bytes = text.as_bytes();
-    let at = ordinary_len(bytes);
-    if at == bytes.len() {
-        return None;
-    }
-    let entity = entity_of(bytes[at]);
-    Some((&text[..at], entity, &text[at + 1..]))
-}
-
-// How many ordinary bytes stand before the first special one.
-fn ordinary_len(bytes: &[u8]) -> usize
-    ensures within { result ≤ length bytes.now }
-    ensures plain { IsPlain bytes.now 0 result }
-    ensures stops { result < length bytes.now → is_special (slice_index bytes.now result) ≡ true }
-{
-    scan(bytes, 0, bytes.len())
-}
-
-// The first special byte in that range, or the range's end.
-fn scan(bytes: &[u8], start: usize, end: usize) -> usize
-    requires ordered { start ≤ end }
-    requires inside { end ≤ length bytes.now }
-    ensures after { start ≤ result }
-    ensures within { result ≤ end }
-    ensures plain { IsPlain bytes.now start result }
-    ensures stops { result < end → is_special (slice_index bytes.now result) ≡ true }
-{
-    for at in start..end {
-        if is_special(bytes[at]) {
-            return at;
-        }
-    }
-    end
-}
-
-fn is_special(byte: u8) -> bool
-    ensures { result ≡ is_special byte }
-{
-    byte == b'&' || byte == b'<' || byte == b'>' || byte == b'"' || byte == b'\''
-}
-
-fn entity_of(byte: u8) -> &'static str
-    requires { is_special byte ≡ true }
-    ensures { result.now ≡ spelling (token_of byte) }
-{
-    match byte {
-        b'&' => "&amp;",
-        b'<' => "&lt;",
-        b'>' => "&gt;",
-        b'"' => "&quot;",
-        _ => "&#39;",
+    match piece {
+        Piece::Run(run) => made.push_str(run),
+        Piece::Ampersand => made.push_str("&amp;"),
+        Piece::LessThan => made.push_str("&lt;"),
+        Piece::GreaterThan => made.push_str("&gt;"),
+        Piece::DoubleQuote => made.push_str("&quot;"),
+        Piece::SingleQuote => made.push_str("&#39;"),
     }
 }

@@ -3,10 +3,9 @@
 
 mod errors;
 mod escape;
+mod pieces;
 mod span;
 mod spanned;
-#[cfg(test)]
-mod tests;
 pub mod watch;
 
 pub use errors::{Error, ErrorKind, TeraResult, kinds_equal_by_refusal};

@@ -5,8 +5,8 @@ use denote.Shadow.{shadow}
 use Rattle.tera_report.specs.Escaping.{escaped}
 use Rattle.tera_report.proofs.escape.escape_text.Given as goal
 
-abbrev pub invariant-loop-run : goal.invariant-loop-run
-invariant-loop-run l = shadow (Utf8 l.rest) × (string_bytes l.made ++ escaped l.rest ≡ escaped l.fn.text)
+abbrev pub invariant-loop-piece : goal.invariant-loop-piece
+invariant-loop-piece l = shadow (Utf8 l.rest) × (string_bytes l.made ++ escaped l.rest ≡ escaped l.fn.text)
 
-abbrev pub decreases-loop-run : goal.decreases-loop-run
-decreases-loop-run l = length l.rest
+abbrev pub decreases-loop-piece : goal.decreases-loop-piece
+decreases-loop-piece l = length l.rest

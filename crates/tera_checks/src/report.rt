@@ -1,12 +1,12 @@
 // Worked texts, what the texts of other libraries are, writers that fail, and calls with ample memory.
-use crate::watch::Watched;
-use crate::{Error, ErrorKind, Span, Spanned, escape_html, escape_text, escape_watched};
 use std::alloc::{AllocError, AllocFailed, Global};
 use std::fmt::Display;
 use std::io;
 use std::io::Write;
 use std::process::Abort;
 use std::test::Fail;
+use tera_report::watch::Watched;
+use tera_report::{Error, ErrorKind, Span, Spanned, escape_html, escape_text, escape_watched};
 
 const PAGE: &str = "<a href='x'>&amp;\"/";
 
@@ -33,10 +33,10 @@ fn names(alloc: Global, texts: &[&str]) -> Result<Vec<String>, AllocError> {
     Ok(names)
 }
 
-fn many(alloc: Global, count: usize) -> Result<String, AllocError> {
+fn many(alloc: Global, letter: char, count: usize) -> Result<String, AllocError> {
     let mut text = String::new(alloc);
     for _ in 0..count {
-        text.push('<')?;
+        text.push(letter)?;
     }
     Ok(text)
 }
@@ -276,6 +276,29 @@ fn escaped_texts(rt: HostRuntime) -> Result<(), Fail> {
     Ok(())
 }
 
+// Long texts are looked through by blocks, and what is left of them byte by byte.
+#[test]
+fn special_bytes_at_each_place(rt: HostRuntime) -> Result<(), Fail> {
+    let alloc = rt.alloc();
+    for place in 0..72 {
+        let before = many(alloc, '%', place)?;
+        let after = many(alloc, '=', 72 - place)?;
+        for (special, entity) in [
+            ("&", "&amp;"),
+            ("<", "&lt;"),
+            (">", "&gt;"),
+            ("\"", "&quot;"),
+            ("'", "&#39;"),
+        ] {
+            let text = format!(in alloc; "{before}{special}{after}")?;
+            let expected = format!(in alloc; "{before}{entity}{after}")?;
+            let made = escape_text(alloc, text.as_str())?;
+            assert_eq!(rt; made.as_str(), expected.as_str());
+        }
+    }
+    Ok(())
+}
+
 // Takes at most `step` bytes a write, and no more than `left` in all; then it answers an error.
 // Where `interrupts`, every other write is interrupted.
 #[derive(Drop)]
@@ -300,7 +323,11 @@ impl Write for Failing {
         Ok(taken)
     }
 
+    // What is full cannot be flushed.
     fn flush(&mut self) -> io::Result<()> {
+        if self.left == 0 {
+            return Err(io::Error::from(io::ErrorKind::StorageFull));
+        }
         Ok(())
     }
 }
@@ -361,6 +388,15 @@ fn writers_that_take_nothing(rt: HostRuntime) {
     assert_eq!(rt; kind_of(escape_html("", &mut writer)), None);
 }
 
+#[test]
+fn flushes_of_a_watched_writer(rt: HostRuntime) {
+    for (left, expected) in [(0, Some(io::ErrorKind::StorageFull)), (1, None)] {
+        let mut writer = fails_after(left, 1, false);
+        let answer = Watched::new(&mut writer).flush();
+        assert_eq!(rt; kind_of(answer), expected);
+    }
+}
+
 fn escapes_and_tells(rt: &(impl Abort + AllocGlobal), text: &str) -> Result<(), Fail> {
     let made = escape_text(rt.alloc(), text)?;
     assert_eq!(rt; made.len() / 4, text.len());
@@ -389,7 +425,7 @@ fn chains(rt: &(impl Abort + AllocGlobal), count: usize) -> Result<(), Fail> {
 #[test]
 fn with_ample_memory(rt: HostRuntime) -> Result<(), Fail> {
     for count in [0, 1, 1000] {
-        let text = many(rt.alloc(), count)?;
+        let text = many(rt.alloc(), '<', count)?;
         escapes_and_tells(&rt, text.as_str())?;
         chains(&rt, count)?;
     }
