@@ -1,6 +1,8 @@
 -- What a meaning prints.
-use Rattle.std.specs.Prelude.{ℕ, Bool, true, false, List, [], ◌∷◌, ◌++◌, ℤ, flat_map, codes}
+use Rattle.std.specs.Prelude.{◌≡◌, ℕ, Bool, true, false, ◌&&◌, IsTrue, List, [], ◌∷◌, ◌++◌, ℤ, flat_map, codes}
+use Rattle.std.specs.Char.{is_ascii}
 use Rattle.std.specs.Fmt.{signed_decimal, debug_escape}
+use Rattle.std.specs.List.{list_all}
 use Rattle.std.specs.Str.Lossy.{utf8_lossy}
 use Rattle.tera_meaning.specs.KeyMeaning.{KeyMeaning, truth_key, number_key, text_key}
 use Rattle.tera_meaning.specs.Meaning.{Meaning}
@@ -50,3 +52,50 @@ abbrev mutual
 -- a text by itself prints as itself; inside arrays and maps texts print in debug form
 abbrev pub printed : Meaning → List ℕ
 printed x = printed_with (λ t. t) x
+
+abbrev pub is_exact_key : KeyMeaning → Bool
+is_exact_key (truth_key b) = true
+is_exact_key (number_key z) = true
+is_exact_key (text_key t) = list_all is_ascii t
+
+-- whether each text that is quoted where the meaning stands in an array or map is ASCII
+abbrev mutual
+  pub is_exact_inside : Meaning → Bool
+  is_exact_inside undefined = true
+  is_exact_inside none = true
+  is_exact_inside (truth b) = true
+  is_exact_inside (number z) = true
+  is_exact_inside (text t) = list_all is_ascii t
+  is_exact_inside (bytes bs) = true
+  is_exact_inside (array xs) = are_exact_items xs
+  is_exact_inside (object ps) = are_exact_members ps
+
+  pub are_exact_items : Items ℤ (List ℕ) KeyMeaning → Bool
+  are_exact_items no_items = true
+  are_exact_items (item x xs) = is_exact_inside x && are_exact_items xs
+
+  pub are_exact_members : Members ℤ (List ℕ) KeyMeaning → Bool
+  are_exact_members no_members = true
+  are_exact_members (member k x ps) = is_exact_key k && (is_exact_inside x && are_exact_members ps)
+
+-- whether the meaning has one printed text: a text by itself has, and all else where each text that is quoted is ASCII
+abbrev pub is_exact : Meaning → Bool
+is_exact undefined = true
+is_exact none = true
+is_exact (truth b) = true
+is_exact (number z) = true
+is_exact (text t) = true
+is_exact (bytes bs) = true
+is_exact (array xs) = are_exact_items xs
+is_exact (object ps) = are_exact_members ps
+
+abbrev pub IsExact : Meaning → Type 0
+IsExact x = IsTrue (is_exact x)
+
+-- what is printed of a meaning: some bytes, and these where it is exact
+abbrev pub Prints : Meaning → List ℕ → Type 0
+Prints x written = IsExact x → written ≡ printed x
+
+-- the same of a meaning that stands in an array or map, where texts are quoted
+abbrev pub PrintsInside : Meaning → List ℕ → Type 0
+PrintsInside x written = IsTrue (is_exact_inside x) → written ≡ printed_with quoted x

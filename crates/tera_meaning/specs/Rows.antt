@@ -1,11 +1,12 @@
 -- Small meanings, on which the definitions are tried.
-use Rattle.std.specs.Prelude.{ℕ, Bool, true, ◌&&◌, pos, List, [], ◌∷◌}
+use Rattle.std.specs.Prelude.{ℕ, Bool, true, false, ◌&&◌, pos, List, [], ◌∷◌}
 use Rattle.std.specs.List.{list_all}
 use Rattle.std.specs.Ordering.{is_lt}
+use Rattle.tera_meaning.specs.Form.{Form}
 use Rattle.tera_meaning.specs.KeyMeaning.{KeyMeaning}
 use Rattle.tera_meaning.specs.Meaning.{Meaning}
 use Rattle.tera_meaning.specs.Order.{compare}
-use Rattle.tera_meaning.specs.Tree.{Tree, none, number, array, object, items, members}
+use Rattle.tera_meaning.specs.Tree.{Tree, none, number, text, array, object, items, members}
 
 abbrev pub count : ℕ → Meaning
 count n = number (pos n)
@@ -24,3 +25,10 @@ map_at k = object (members ((k, none) ∷ []))
 abbrev pub rises : List Meaning → Bool
 rises [] = true
 rises (x ∷ xs) = list_all (λ y. is_lt (compare x y)) xs && rises xs
+
+-- a text as a form, with its flag unset and set
+abbrev pub normal : List ℕ → Form
+normal t = text (record { spelled = t; safe = false })
+
+abbrev pub marked : List ℕ → Form
+marked t = text (record { spelled = t; safe = true })

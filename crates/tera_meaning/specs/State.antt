@@ -10,6 +10,10 @@ use Rattle.tera_meaning.specs.Tree.{undefined}
 abbrev pub State : Type 0
 State = FinMap (slice_cmp nat_cmp) Form
 
--- what a name means. One that is absent reads as undefined
+-- the form at a name. One that is absent reads as undefined
+abbrev pub form_at : State → List ℕ → Form
+form_at state name = unwrap_or (get state name) undefined
+
+-- what a name means
 abbrev pub meaning_at : State → List ℕ → Meaning
-meaning_at state name = plain (unwrap_or (get state name) undefined)
+meaning_at state name = plain (form_at state name)

@@ -1,11 +1,11 @@
--- What a state holds after a value is set.
-use Rattle.std.specs.Prelude.{◌≡◌, ◌≢◌, ℕ, Bool, true, false, cond, List, Some, refl}
-use Rattle.std.proofs.Common.{◌∙◌, ap}
+-- What a state holds after a value is set or a name is removed.
+use Rattle.std.specs.Prelude.{◌≡◌, ◌≢◌, ℕ, Bool, true, false, cond, List, Some, None, refl}
+use Rattle.std.proofs.Common.{sym, ◌∙◌, ap}
 use Rattle.std.specs.Ordering.{nat_cmp, is_eq, eq_by_cmp}
 use Rattle.std.specs.Cmp.{tied_itself, Equal-is}
 use Rattle.std.specs.Cmp.Lexicographic.{slice_cmp, nat_list_cmp_total}
 use Rattle.std.specs.Option.{unwrap_or}
-use Rattle.std.specs.FinMap.{empty, get, insert, get-empty, get-insert, same_map, IsAntisymmetric, nat_cmp-IsAntisymmetric, slice_cmp-IsAntisymmetric}
+use Rattle.std.specs.FinMap.{empty, get, insert, remove, get-empty, get-insert, get-remove, same_map, IsAntisymmetric, nat_cmp-IsAntisymmetric, slice_cmp-IsAntisymmetric}
 use Rattle.tera_meaning.specs.Form.{Form}
 use Rattle.tera_meaning.specs.Meaning.{plain}
 use Rattle.tera_meaning.specs.State.{State, meaning_at}
@@ -19,27 +19,54 @@ refuted true f = absurd (f refl)
 refuted false f = refl
 
 pub apart : (q k : List ℕ) → q ≢ k → eq_by_cmp (slice_cmp nat_cmp) q k ≡ false
-apart q k n = refuted (eq_by_cmp (slice_cmp nat_cmp) q k) (λ e. n (name_exact q k ((Equal-is (slice_cmp nat_cmp q k)).0 e)))
+apart q k n =
+    refuted (eq_by_cmp (slice_cmp nat_cmp) q k) (λ e. n (name_exact q k ((Equal-is (slice_cmp nat_cmp q k)).0 e)))
 
 -- the name that is set has the value, and each other name has what it had
 pub get_set : (state : State) (name : List ℕ) (value : Form) → get (insert state name value) name ≡ Some value
 get_set state name value =
     get-insert nat_list_cmp_total state name value name ∙ ap (λ r. cond (is_eq r) (Some value) (get state name)) (tied_itself nat_list_cmp_total name)
 
-pub get_other : (state : State) (name : List ℕ) (value : Form) (other : List ℕ) → other ≢ name → get (insert state name value) other ≡ get state other
+pub get_other : (state : State) (name : List ℕ) (value : Form) (other : List ℕ) → other ≢ name
+    → get (insert state name value) other ≡ get state other
 get_other state name value other n =
     get-insert nat_list_cmp_total state name value other ∙ ap (λ b. cond b (Some value) (get state other)) (apart other name n)
+
+-- a name that is removed is held no more, and each other name has what it had
+pub get_removed : (state : State) (name : List ℕ) → get (remove state name) name ≡ None
+get_removed state name =
+    get-remove nat_list_cmp_total state name name ∙ ap (λ r. cond (is_eq r) None (get state name)) (tied_itself nat_list_cmp_total name)
+
+pub get_kept : (state : State) (name other : List ℕ) → other ≢ name → get (remove state name) other ≡ get state other
+get_kept state name other n =
+    get-remove nat_list_cmp_total state name other ∙ ap (λ b. cond b None (get state other)) (apart other name n)
 
 -- states that answer alike are one
 pub same_state : (f g : State) → ((name : List ℕ) → get f name ≡ get g name) → f ≡ g
 same_state f g is = same_map nat_list_cmp_total name_exact f g is
 
-pub meaning_set : (state : State) (name : List ℕ) (value : Form) → meaning_at (insert state name value) name ≡ plain value
+pub meaning_set : (state : State) (name : List ℕ) (value : Form)
+    → meaning_at (insert state name value) name ≡ plain value
 meaning_set state name value = ap (λ o. plain (unwrap_or o undefined)) (get_set state name value)
 
-pub meaning_other : (state : State) (name : List ℕ) (value : Form) (other : List ℕ) → other ≢ name → meaning_at (insert state name value) other ≡ meaning_at state other
+pub meaning_other : (state : State) (name : List ℕ) (value : Form) (other : List ℕ) → other ≢ name
+    → meaning_at (insert state name value) other ≡ meaning_at state other
 meaning_other state name value other n = ap (λ o. plain (unwrap_or o undefined)) (get_other state name value other n)
 
 -- in a state that holds nothing each name reads as undefined
 pub meaning_empty : (name : List ℕ) → meaning_at empty name ≡ undefined
 meaning_empty name = ap (λ o. plain (unwrap_or o undefined)) (get-empty {X = Form} (slice_cmp nat_cmp) name)
+
+pub held_empty : (name : List ℕ) → get {X = Form} {R = slice_cmp nat_cmp} empty name ≡ None
+held_empty name = get-empty {X = Form} (slice_cmp nat_cmp) name
+
+-- to remove a name that is not held changes nothing
+removed_absent : (state : State) (name other : List ℕ) (b : Bool) → eq_by_cmp (slice_cmp nat_cmp) other name ≡ b
+    → get state name ≡ None → cond b None (get state other) ≡ get state other
+removed_absent state name other true e h =
+    sym (ap (get state) (name_exact other name ((Equal-is (slice_cmp nat_cmp other name)).0 e)) ∙ h)
+removed_absent state name other false e h = refl
+
+pub remove_absent : (state : State) (name : List ℕ) → get state name ≡ None → remove state name ≡ state
+remove_absent state name h =
+    same_state (remove state name) state (λ other. get-remove nat_list_cmp_total state name other ∙ removed_absent state name other (eq_by_cmp (slice_cmp nat_cmp) other name) refl h)

@@ -1,26 +1,40 @@
 //! Answers depend on meanings alone: not on the kind of an integer, the safe flag of a text, or how a key holds its
 //! text. Each function here does nothing: its clauses are the law.
-ghost use Rattle.std.specs.Prelude.{◌≡◌, ℕ, List};
-ghost use Rattle.tera_meaning.specs.Alike.{MeanTheSame, AskTheSame, AllAskTheSame};
-ghost use Rattle.tera_meaning.specs.Run.{answers_of, state_after_all};
-ghost use Rattle.tera_meaning.specs.State.{State, meaning_at};
-ghost use Rattle.tera_meaning.specs.Step.{Request, answer_of, state_after};
+ghost use Rattle.std.specs.Prelude.{◌≡◌, ◌≢◌, ◌↔◌, ℕ, List};
+ghost use Rattle.tera_meaning.specs.Alike.{meaning_held, MeanTheSame, AskTheSame, AllAskTheSame, AnswerAlike, AreAlike, AreToldApartBy, IsSettled, probe, shape};
+ghost use Rattle.tera_meaning.specs.Run.{AreAnswers, state_after_all};
+ghost use Rattle.tera_meaning.specs.State.{State, form_at};
+ghost use Rattle.tera_meaning.specs.Step.{Command, Outcome, IsAnswer, state_after};
 
-/// From states of equal meaning, requests of equal meaning give equal answers and leave states of equal meaning. Takes
-/// no memory.
+/// From states of equal meaning, commands of equal meaning have answers of equal shapes, where meanings settle them,
+/// and leave states of equal meaning. Takes no memory.
 pub fn answers_depend_on_meaning()
-    ensures answer { (f g : State) (q r : Request) → MeanTheSame f g → AskTheSame q r → answer_of f q ≡ answer_of g r }
-    ensures state { (f g : State) (q r : Request) → MeanTheSame f g → AskTheSame q r → MeanTheSame (state_after f q) (state_after g r) }
+    ensures answer { (f g : State) (command also : Command) (outcome other : Outcome) → MeanTheSame f g
+        → AskTheSame command also → IsAnswer f command outcome → IsAnswer g also other → IsSettled f command.request
+        → shape outcome ≡ shape other }
+    ensures state { (f g : State) (command also : Command) → MeanTheSame f g → AskTheSame command also
+        → MeanTheSame (state_after f command) (state_after g also) }
 {}
 
-/// The same of whole lists of requests, however long. Takes no memory.
+/// The same of whole lists of commands, however long. Takes no memory.
 pub fn all_answers_depend_on_meaning()
-    ensures answers { (f g : State) (qs rs : List Request) → MeanTheSame f g → AllAskTheSame qs rs → answers_of f qs ≡ answers_of g rs }
-    ensures state { (f g : State) (qs rs : List Request) → MeanTheSame f g → AllAskTheSame qs rs → MeanTheSame (state_after_all f qs) (state_after_all g rs) }
+    ensures answers { (f g : State) (commands also : List Command) (outcomes others : List Outcome) → MeanTheSame f g
+        → AllAskTheSame commands also → AreAnswers f commands outcomes → AreAnswers g also others
+        → AreAlike f commands outcomes others }
+    ensures state { (f g : State) (commands also : List Command) → MeanTheSame f g → AllAskTheSame commands also
+        → MeanTheSame (state_after_all f commands) (state_after_all g also) }
 {}
 
-/// States that mean different things at a name are told apart: states that answer every list of requests alike mean the
-/// same at every name. One that is absent reads as undefined. Takes no memory.
+/// States answer alike exactly where they mean the same: the same names are held, and each means the same. Takes no
+/// memory.
+pub fn states_answer_alike_where_they_mean_the_same()
+    ensures { (f g : State) → MeanTheSame f g ↔ AnswerAlike f g }
+{}
+
+/// States of unequal meaning are told apart by some list of commands; and those that mean different things at a name by
+/// whether they hold it, or by setting one value under another name and comparing the two. Takes no memory.
 pub fn unequal_meanings_are_told_apart()
-    ensures { (f g : State) → ((requests : List Request) → answers_of f requests ≡ answers_of g requests) → (name : List ℕ) → meaning_at f name ≡ meaning_at g name }
+    ensures name { (f g : State) (name : List ℕ) → meaning_held f name ≢ meaning_held g name
+        → AreToldApartBy (probe name (form_at f name)) f g }
+    ensures states { (f g : State) → (MeanTheSame f g → ⊥) → (commands : List Command) × AreToldApartBy commands f g }
 {}

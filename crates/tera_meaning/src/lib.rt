@@ -3,8 +3,11 @@
 
 pub mod alike;
 pub mod keys;
+pub mod marks;
 pub mod order;
 pub mod rows;
 pub mod runs;
+pub mod scripts;
 pub mod state;
 pub mod steps;
+pub mod well_made;

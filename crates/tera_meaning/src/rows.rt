@@ -1,12 +1,16 @@
 //! The definitions at work on small meanings. Each function here does nothing: its clauses are the rows.
-ghost use Rattle.std.specs.Prelude.{◌≡◌, ◌-◌, ◌^◌, codes, true, false, pos, negsuc, [], ◌∷◌, IsTrue};
-ghost use Rattle.tera_meaning.specs.Integer.{u64, i128};
-ghost use Rattle.tera_meaning.specs.KeyMeaning.{truth_key, number_key, text_key, owned, borrowed};
+ghost use Rattle.std.specs.Prelude.{◌≡◌, ℕ, ℤ, Bool, ◌-◌, ◌^◌, codes, true, false, pos, negsuc, List, [], ◌∷◌, IsTrue};
+ghost use Rattle.tera_report.specs.Escaping.{escaped};
+ghost use Rattle.tera_meaning.specs.Form.{Form, MarkedText};
+ghost use Rattle.tera_meaning.specs.Integer.{Integer, u64, i64, u128, i128};
+ghost use Rattle.tera_meaning.specs.KeyMeaning.{KeyForm, truth_key, number_key, text_key, owned, borrowed};
+ghost use Rattle.tera_meaning.specs.Kind.{kind_in, kind_name};
 ghost use Rattle.tera_meaning.specs.Meaning.{plain};
 ghost use Rattle.tera_meaning.specs.Order.{compare, same};
-ghost use Rattle.tera_meaning.specs.Printed.{printed};
+ghost use Rattle.tera_meaning.specs.Printed.{is_exact, printed};
+ghost use Rattle.tera_meaning.specs.Read.{safe_in, size_in, truthy_in};
 ghost use Rattle.tera_meaning.specs.Rows.{count, list_of, map_of, map_at, rises};
-ghost use Rattle.tera_meaning.specs.Tree.{undefined, none, truth, number, text, bytes};
+ghost use Rattle.tera_meaning.specs.Tree.{undefined, none, truth, number, text, bytes, array, object, items, members};
 
 use std::cmp::Ordering;
 
@@ -52,6 +56,80 @@ pub fn nested_values_print()
     ensures escapes { printed (list_of (text (97 ∷ 34 ∷ 31 ∷ 127 ∷ 39 ∷ []) ∷ [])) ≡ codes "[\"a\\\"\\u{1f}\\u{7f}'\"]" }
     ensures map { printed (map_of ((text_key (codes "hello"), text (codes "world")) ∷ (text_key (codes "other"), count 2) ∷ [])) ≡ codes "{\"hello\": \"world\", \"other\": 2}" }
     ensures keys { printed (map_of ((truth_key true, count 1) ∷ (number_key (pos 1), count 2) ∷ (text_key (codes "1"), count 3) ∷ [])) ≡ codes "{true: 1, 1: 2, \"1\": 3}" }
+{}
+
+/// The texts of bytes are quoted in no array, those of safe texts are, and where no character stands next in bytes the
+/// longest beginning of one is one U+FFFD. Takes no memory.
+pub fn texts_and_bytes_print_in_arrays()
+    ensures safe { printed (plain (array (items (text (record { spelled = codes "a"; safe = true }) ∷ bytes (104 ∷ 105 ∷ []) ∷ array (items []) ∷ [])))) ≡ codes "[\"a\", hi, []]" }
+    ensures lossy { printed (list_of (bytes (226 ∷ 130 ∷ 65 ∷ 240 ∷ 128 ∷ 128 ∷ []) ∷ [])) ≡ 91 ∷ 239 ∷ 191 ∷ 189 ∷ 65 ∷ 239 ∷ 191 ∷ 189 ∷ 239 ∷ 191 ∷ 189 ∷ 239 ∷ 191 ∷ 189 ∷ 93 ∷ [] }
+    ensures escaped { escaped (printed (list_of (text (codes "<") ∷ []))) ≡ codes "[&quot;&lt;&quot;]" }
+{}
+
+/// A text by itself may be any text; inside arrays and maps, and as keys, texts are to be ASCII. Takes no memory.
+pub fn quoted_texts_are_to_be_ascii()
+    ensures alone { is_exact (text (195 ∷ 169 ∷ [])) ≡ true }
+    ensures item { is_exact (list_of (text (195 ∷ 169 ∷ []) ∷ [])) ≡ false }
+    ensures value { is_exact (map_of ((text_key (codes "a"), text (195 ∷ 169 ∷ [])) ∷ [])) ≡ false }
+    ensures key { is_exact (map_of ((text_key (195 ∷ 169 ∷ []), none) ∷ [])) ≡ false }
+    ensures nested { is_exact (list_of (count 1 ∷ list_of (text (195 ∷ 169 ∷ []) ∷ []) ∷ [])) ≡ false }
+    ensures bytes { is_exact (list_of (bytes (255 ∷ []) ∷ text (codes "a") ∷ [])) ≡ true }
+{}
+
+/// A text is as long as its characters, whatever bytes spell them, an accent that combines being one; bytes, arrays and
+/// maps have a length, and nothing else has. Takes no memory.
+pub fn sizes_count_characters()
+    ensures accent { size_in (text (101 ∷ 204 ∷ 129 ∷ 99 ∷ 111 ∷ 108 ∷ 101 ∷ [])) ≡ Some 6 }
+    ensures euro { size_in (text (226 ∷ 130 ∷ 172 ∷ [])) ≡ Some 1 }
+    ensures empty { size_in (text []) ≡ Some 0 }
+    ensures bytes { size_in (bytes (226 ∷ 130 ∷ 172 ∷ [])) ≡ Some 3 }
+    ensures items { size_in (list_of (none ∷ list_of (none ∷ none ∷ []) ∷ [])) ≡ Some 2 }
+    ensures pairs { size_in (map_at (truth_key true)) ≡ Some 1 }
+    ensures number { size_in (count 3) ≡ None }
+    ensures truth { size_in (truth true) ≡ None }
+    ensures none { size_in none ≡ None }
+    ensures undefined { size_in undefined ≡ None }
+{}
+
+/// Undefined, none, false, 0 and what is empty are false; all else is true. Takes no memory.
+pub fn what_is_empty_is_false()
+    ensures undefined { truthy_in undefined ≡ false }
+    ensures none { truthy_in none ≡ false }
+    ensures truth { (b : Bool) → truthy_in (truth b) ≡ b }
+    ensures zero { truthy_in (count 0) ≡ false }
+    ensures one { truthy_in (count 1) ≡ true }
+    ensures below { truthy_in (number (negsuc 0)) ≡ true }
+    ensures texts { truthy_in (text []) ≡ false × (truthy_in (text (codes "0")) ≡ true) }
+    ensures bytes { truthy_in (bytes []) ≡ false × (truthy_in (bytes (0 ∷ [])) ≡ true) }
+    ensures lists { truthy_in (list_of []) ≡ false × (truthy_in (list_of (none ∷ [])) ≡ true) }
+    ensures maps { truthy_in (map_of []) ≡ false × (truthy_in (map_at (truth_key false)) ≡ true) }
+{}
+
+/// A text is safe by its flag; arrays, maps and bytes are not safe, and all else is. Takes no memory.
+pub fn texts_are_safe_by_their_flags()
+    ensures text { (t : List ℕ) (b : Bool) → safe_in (text (record { spelled = t; safe = b })) ≡ b }
+    ensures array { (xs : List Form) → safe_in (array (items xs)) ≡ false }
+    ensures bytes { (bs : List ℕ) → safe_in (bytes bs) ≡ false }
+    ensures map { (ps : List (KeyForm × Form)) → safe_in (object (members ps)) ≡ false }
+    ensures number { (n : Integer) → safe_in (number n) ≡ true }
+    ensures truth { (b : Bool) → safe_in (truth b) ≡ true }
+    ensures none { safe_in none ≡ true }
+    ensures undefined { safe_in undefined ≡ true }
+{}
+
+/// The name of each kind. Takes no memory.
+pub fn kinds_have_names()
+    ensures undefined { kind_name (kind_in undefined) ≡ codes "undefined" }
+    ensures none { kind_name (kind_in none) ≡ codes "none" }
+    ensures truth { (b : Bool) → kind_name (kind_in (truth b)) ≡ codes "bool" }
+    ensures u64 { (z : ℤ) → kind_name (kind_in (number (record { kind = u64; value = z }))) ≡ codes "u64" }
+    ensures i64 { (z : ℤ) → kind_name (kind_in (number (record { kind = i64; value = z }))) ≡ codes "i64" }
+    ensures u128 { (z : ℤ) → kind_name (kind_in (number (record { kind = u128; value = z }))) ≡ codes "u128" }
+    ensures i128 { (z : ℤ) → kind_name (kind_in (number (record { kind = i128; value = z }))) ≡ codes "i128" }
+    ensures text { (t : MarkedText) → kind_name (kind_in (text t)) ≡ codes "string" }
+    ensures array { (xs : List Form) → kind_name (kind_in (array (items xs))) ≡ codes "array" }
+    ensures map { (ps : List (KeyForm × Form)) → kind_name (kind_in (object (members ps))) ≡ codes "map/struct" }
+    ensures bytes { (bs : List ℕ) → kind_name (kind_in (bytes bs)) ≡ codes "bytes" }
 {}
 
 /// A form means what it holds: the kind of an integer, the safe flag of a text and how a key is held are forgotten. Takes

@@ -1,26 +1,53 @@
 //! The laws of whole runs. Each function here does nothing: its clauses are the law.
 ghost use Rattle.std.specs.Prelude.{◌≡◌, List};
-ghost use Rattle.tera_meaning.specs.Alike.{MeanTheSame, AllAskTheSame};
-ghost use Rattle.tera_meaning.specs.Run.{IsRun, IsAmpleRun, answers_of, state_after_all, answered, answers, requests_of};
+ghost use Rattle.tera_meaning.specs.Alike.{MeanTheSame, AllAskTheSame, AreAlike};
+ghost use Rattle.tera_meaning.specs.Run.{IsRun, IsAmpleRun, AreAnswers, AreFixed, state_after_all, answered, answers};
 ghost use Rattle.tera_meaning.specs.State.{State};
-ghost use Rattle.tera_meaning.specs.Step.{Command, Outcome};
+ghost use Rattle.tera_meaning.specs.Step.{Command, Outcome, IsAnswer, IsFixed};
+
+/// Each call has an answer, whatever the context holds, and where what it prints is exact it has one alone. Takes no
+/// memory.
+pub fn calls_have_answers()
+    ensures some { (state : State) (command : Command) → (outcome : Outcome) × IsAnswer state command outcome }
+    ensures one { (state : State) (command : Command) (outcome other : Outcome) → IsFixed state command.request
+        → IsAnswer state command outcome → IsAnswer state command other → outcome ≡ other }
+{}
 
 /// A run with the steps that want memory left out is a run in which no step does, to the same state; the other answers
 /// are unchanged. Takes no memory.
 pub fn wants_of_memory_can_be_left_out()
-    ensures { (old : State) (commands : List Command) (outcomes : List Outcome) (new : State) → IsRun old commands outcomes new → IsAmpleRun old (answered commands outcomes) (answers outcomes) new }
+    ensures { (old : State) (commands : List Command) (outcomes : List Outcome) (new : State)
+        → IsRun old commands outcomes new → IsAmpleRun old (answered commands outcomes) (answers outcomes) new }
 {}
 
-/// A run in which no step wants memory has the answers of its requests and leaves the state after them: nothing is left
-/// open. Takes no memory.
+/// A run in which no step wants memory gives answers of its commands, one after another, and leaves the state after
+/// them; and whatever answers them is given by such a run. Takes no memory.
 pub fn runs_give_their_answers()
-    ensures answers { (old : State) (commands : List Command) (outcomes : List Outcome) (new : State) → IsAmpleRun old commands outcomes new → outcomes ≡ answers_of old (requests_of commands) }
-    ensures state { (old : State) (commands : List Command) (outcomes : List Outcome) (new : State) → IsAmpleRun old commands outcomes new → new ≡ state_after_all old (requests_of commands) }
+    ensures answers { (old : State) (commands : List Command) (outcomes : List Outcome) (new : State)
+        → IsAmpleRun old commands outcomes new → AreAnswers old commands outcomes }
+    ensures state { (old : State) (commands : List Command) (outcomes : List Outcome) (new : State)
+        → IsAmpleRun old commands outcomes new → new ≡ state_after_all old commands }
+    ensures given { (old : State) (commands : List Command) (outcomes : List Outcome)
+        → AreAnswers old commands outcomes → IsAmpleRun old commands outcomes (state_after_all old commands) }
 {}
 
-/// Two runs of requests of equal meaning, from states of equal meaning, in which no step wants memory, have equal answers
-/// and end in states of equal meaning. Takes no memory.
+/// Each list of commands has answers, and one list alone where all that they print is exact: nothing else is left open.
+/// Takes no memory.
+pub fn runs_have_answers()
+    ensures some { (state : State) (commands : List Command)
+        → (outcomes : List Outcome) × AreAnswers state commands outcomes }
+    ensures one { (old : State) (commands : List Command) (outcomes others : List Outcome) (new also : State)
+        → AreFixed old commands → IsAmpleRun old commands outcomes new → IsAmpleRun old commands others also
+        → outcomes ≡ others }
+{}
+
+/// Two runs of commands of equal meaning, from states of equal meaning, in which no step wants memory, have answers of
+/// equal shapes wherever meanings settle them, and end in states of equal meaning. Takes no memory.
 pub fn runs_depend_on_meaning()
-    ensures answers { (f g : State) (commands also : List Command) (outcomes others : List Outcome) (f' g' : State) → MeanTheSame f g → AllAskTheSame (requests_of commands) (requests_of also) → IsAmpleRun f commands outcomes f' → IsAmpleRun g also others g' → outcomes ≡ others }
-    ensures state { (f g : State) (commands also : List Command) (outcomes others : List Outcome) (f' g' : State) → MeanTheSame f g → AllAskTheSame (requests_of commands) (requests_of also) → IsAmpleRun f commands outcomes f' → IsAmpleRun g also others g' → MeanTheSame f' g' }
+    ensures answers { (f g : State) (commands also : List Command) (outcomes others : List Outcome) (f' g' : State)
+        → MeanTheSame f g → AllAskTheSame commands also → IsAmpleRun f commands outcomes f'
+        → IsAmpleRun g also others g' → AreAlike f commands outcomes others }
+    ensures state { (f g : State) (commands also : List Command) (outcomes others : List Outcome) (f' g' : State)
+        → MeanTheSame f g → AllAskTheSame commands also → IsAmpleRun f commands outcomes f'
+        → IsAmpleRun g also others g' → MeanTheSame f' g' }
 {}

@@ -1,6 +1,8 @@
 //! The laws of what a context holds. Each function here does nothing: its clauses are the law.
 ghost use Rattle.std.specs.Prelude.{◌≡◌, ◌≢◌, ℕ, List};
-ghost use Rattle.std.specs.FinMap.{empty, get, insert};
+ghost use Rattle.std.specs.Cmp.Lexicographic.{slice_cmp};
+ghost use Rattle.std.specs.FinMap.{empty, get, insert, remove};
+ghost use Rattle.std.specs.Ordering.{nat_cmp};
 ghost use Rattle.tera_meaning.specs.Form.{Form};
 ghost use Rattle.tera_meaning.specs.Meaning.{plain};
 ghost use Rattle.tera_meaning.specs.State.{State, meaning_at};
@@ -9,15 +11,28 @@ ghost use Rattle.tera_meaning.specs.Tree.{undefined};
 /// After a value is set the name holds it, and each other name what it held. Takes no memory.
 pub fn setting_keeps_other_names()
     ensures set { (state : State) (name : List ℕ) (value : Form) → get (insert state name value) name ≡ Some value }
-    ensures others { (state : State) (name : List ℕ) (value : Form) (other : List ℕ) → other ≢ name → get (insert state name value) other ≡ get state other }
+    ensures others { (state : State) (name : List ℕ) (value : Form) (other : List ℕ)
+        → other ≢ name → get (insert state name value) other ≡ get state other }
+{}
+
+/// After a name is removed it is held no more, and each other name holds what it held. To remove one that is not held
+/// changes nothing. Takes no memory.
+pub fn removing_keeps_other_names()
+    ensures removed { (state : State) (name : List ℕ) → get (remove state name) name ≡ None }
+    ensures others { (state : State) (name : List ℕ) (other : List ℕ) → other ≢ name
+        → get (remove state name) other ≡ get state other }
+    ensures absent { (state : State) (name : List ℕ) → get state name ≡ None → remove state name ≡ state }
 {}
 
 /// After a value is set the name means what the value means, and each other name what it meant. Where nothing is held
 /// each name reads as undefined. Takes no memory.
 pub fn setting_gives_the_meaning()
-    ensures set { (state : State) (name : List ℕ) (value : Form) → meaning_at (insert state name value) name ≡ plain value }
-    ensures others { (state : State) (name : List ℕ) (value : Form) (other : List ℕ) → other ≢ name → meaning_at (insert state name value) other ≡ meaning_at state other }
+    ensures set { (state : State) (name : List ℕ) (value : Form)
+        → meaning_at (insert state name value) name ≡ plain value }
+    ensures others { (state : State) (name : List ℕ) (value : Form) (other : List ℕ) → other ≢ name
+        → meaning_at (insert state name value) other ≡ meaning_at state other }
     ensures empty { (name : List ℕ) → meaning_at empty name ≡ undefined }
+    ensures nothing { (name : List ℕ) → get {X = Form} {R = slice_cmp nat_cmp} empty name ≡ None }
 {}
 
 /// Two states that hold the same at each name are one state. Takes no memory.

@@ -1,4 +1,4 @@
-use Rattle.tera_meaning.specs.StateLaws.{meaning_empty, meaning_other, meaning_set}
+use Rattle.tera_meaning.specs.StateLaws.{held_empty, meaning_empty, meaning_other, meaning_set}
 use Rattle.tera_meaning.proofs.state.setting_gives_the_meaning.Goals as goal
 
 pub returns-clause-set : goal.returns-clause-set
@@ -9,3 +9,6 @@ returns-clause-others c = meaning_other
 
 pub returns-clause-empty : goal.returns-clause-empty
 returns-clause-empty c = meaning_empty
+
+pub returns-clause-nothing : goal.returns-clause-nothing
+returns-clause-nothing c = held_empty

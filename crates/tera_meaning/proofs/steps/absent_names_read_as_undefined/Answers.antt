@@ -1,11 +1,10 @@
-use Rattle.tera_meaning.specs.StepLaws.{absent_equal, absent_ordered, absent_printed}
+use Rattle.std.specs.Prelude.{None, refl}
+use Rattle.tera_meaning.specs.StateLaws.{remove_absent}
+use Rattle.tera_meaning.proofs.StepLaws.{escapes}
 use Rattle.tera_meaning.proofs.steps.absent_names_read_as_undefined.Goals as goal
 
-pub returns-clause-equal : goal.returns-clause-equal
-returns-clause-equal c = absent_equal
+pub returns-clause-removed : goal.returns-clause-removed
+returns-clause-removed c = remove_absent
 
-pub returns-clause-order : goal.returns-clause-order
-returns-clause-order c = absent_ordered
-
-pub returns-clause-print : goal.returns-clause-print
-returns-clause-print c = absent_printed
+pub returns-clause-escape : goal.returns-clause-escape
+returns-clause-escape c state name e = escapes state name None e refl

@@ -1,0 +1,171 @@
+-- States answer alike exactly where they mean the same, and others are told apart.
+use Rattle.std.specs.Prelude.{◌≡◌, ◌≢◌, ◌↔◌, ◌⊎◌, ℕ, suc, length, Bool, true, false, ◌||◌, List, [], ◌∷◌, Option, Some, None, is_some, refl}
+use Rattle.std.proofs.Common.{sym, ◌∙◌, ap, subst, arith, inl, inr}
+use Rattle.std.specs.List.{AllByRecursion, list_any}
+use Rattle.std.specs.Option.{option_map, unwrap_or}
+use Rattle.std.specs.Ordering.{nat_cmp, eq_by_cmp}
+use Rattle.std.specs.Cmp.{Equal-is}
+use Rattle.std.specs.Cmp.Lexicographic.{slice_cmp}
+use Rattle.std.specs.FinMap.{get as held_at, insert, keys, contains_key-keys}
+use Rattle.tera_meaning.specs.Form.{Form}
+use Rattle.tera_meaning.specs.Meaning.{Meaning, plain}
+use Rattle.tera_meaning.specs.Order.{same}
+use Rattle.tera_meaning.specs.State.{State, form_at, meaning_at}
+use Rattle.tera_meaning.specs.Step.{Command, OutcomeOf, Outcome, done, holds}
+use Rattle.tera_meaning.specs.Run.{AreAnswers}
+use Rattle.tera_meaning.specs.OrderLaws.{same_is, same_equivalence}
+use Rattle.tera_meaning.specs.StateLaws.{meaning_set, meaning_other, name_exact}
+use Rattle.tera_meaning.specs.Alike.{meaning_held, MeanTheSame, shape, AreAlike, AnswerAlike, AreToldApartBy, probe}
+use Rattle.tera_meaning.proofs.AlikeLaws.{some_one, answers_alike}
+use Rattle.tera_meaning.specs.Tree.{undefined}
+
+truth_of : OutcomeOf Meaning → Bool
+truth_of (holds b) = b
+truth_of _ = false
+
+same_truth : (a b : Bool) (o p : Outcome) → o ≡ holds a → p ≡ holds b → shape o ≡ shape p → a ≡ b
+unfolding truth_of
+same_truth a b o p e i s = sym (ap (λ q. truth_of (shape q)) e) ∙ ap truth_of s ∙ ap (λ q. truth_of (shape q)) i
+
+held_one : (o p : Option Form) → is_some o ≡ is_some p → plain (unwrap_or o undefined) ≡ plain (unwrap_or p undefined)
+    → option_map plain o ≡ option_map plain p
+held_one None None s e = refl
+held_one (Some v) (Some w) s e = λ i. Some (e i)
+held_one None (Some w) s e = cc
+held_one (Some v) None s e = cc
+
+not_longer : (name : List ℕ) → name ≢ 0 ∷ name
+not_longer name e = let one : length name ≡ suc (length name) = ap length e in omega arith
+
+-- whether a name means what a value means, as a probe asks it
+probe_equal : State → List ℕ → Form → Bool
+probe_equal state name value =
+    same (meaning_at (insert state (0 ∷ name) value) name) (meaning_at (insert state (0 ∷ name) value) (0 ∷ name))
+
+probed : (state : State) (name : List ℕ) (value : Form)
+    → probe_equal state name value ≡ same (meaning_at state name) (plain value)
+unfolding probe_equal
+probed state name value =
+    λ i. same (meaning_other state (0 ∷ name) value name (not_longer name) i) (meaning_set state (0 ∷ name) value i)
+
+module _ (f g : State) (name : List ℕ) where
+  by_truths : is_some (held_at f name) ≡ is_some (held_at g name)
+      → probe_equal f name (form_at f name) ≡ probe_equal g name (form_at f name)
+      → meaning_held f name ≡ meaning_held g name
+  by_truths s e =
+      let is : same (meaning_at g name) (meaning_at f name) ≡ true = sym (probed g name (form_at f name)) ∙ sym e ∙ probed f name (form_at f name) ∙ same_equivalence.refl (meaning_at f name) in
+      held_one (held_at f name) (held_at g name) s (sym ((same_is (meaning_at g name) (meaning_at f name)).0 is))
+
+  -- states that answer the probe with a name's own value alike hold the same meaning at the name
+  pub by_answers : (os ps : List Outcome) → AreAnswers f (probe name (form_at f name)) os
+      → AreAnswers g (probe name (form_at f name)) ps → AreAlike f (probe name (form_at f name)) os ps
+      → meaning_held f name ≡ meaning_held g name
+  unfolding probe_equal
+  by_answers (a ∷ b ∷ c ∷ []) (k ∷ l ∷ m ∷ []) e i s =
+      by_truths
+      (same_truth (is_some (held_at f name)) (is_some (held_at g name)) a k e.0 i.0 (s.0 tt))
+      (same_truth (probe_equal f name (form_at f name)) (probe_equal g name (form_at f name)) c m e.1.1.0 i.1.1.0 (s.1.1.0 tt))
+  by_answers [] ps e i s = absurd e
+  by_answers (a ∷ []) ps e i s = absurd e.1
+  by_answers (a ∷ b ∷ []) ps e i s = absurd e.1.1
+  by_answers (a ∷ b ∷ c ∷ d ∷ os) ps e i s = absurd e.1.1.1
+  by_answers (a ∷ b ∷ c ∷ []) [] e i s = absurd i
+  by_answers (a ∷ b ∷ c ∷ []) (k ∷ []) e i s = absurd i.1
+  by_answers (a ∷ b ∷ c ∷ []) (k ∷ l ∷ []) e i s = absurd i.1.1
+  by_answers (a ∷ b ∷ c ∷ []) (k ∷ l ∷ m ∷ n ∷ ps) e i s = absurd i.1.1.1
+
+  probe_answers : (state : State) → List Outcome
+  probe_answers state =
+      holds (is_some (held_at state name)) ∷ done ∷ holds (probe_equal state name (form_at f name)) ∷ []
+
+  probe_answered : (state : State) → AreAnswers state (probe name (form_at f name)) (probe_answers state)
+  unfolding probe_answers probe_equal
+  probe_answered state = (refl, (refl, (refl, tt)))
+
+  pub by_alike : AnswerAlike f g → meaning_held f name ≡ meaning_held g name
+  by_alike alike =
+      by_answers (probe_answers f) (probe_answers g) (probe_answered f) (probe_answered g)
+      (alike (probe name (form_at f name)) (probe name (form_at f name)) (probe_answers f) (probe_answers g) ((refl, refl), (((refl, refl), refl), (((refl, refl), refl), tt))) (probe_answered f) (probe_answered g))
+
+-- states answer alike exactly where they mean the same
+pub alike_exactly : (f g : State) → MeanTheSame f g ↔ AnswerAlike f g
+alike_exactly f g =
+    (λ h cs ds os ps a e i. answers_alike f g cs ds os ps h a e i, λ alike name. by_alike f g name alike)
+
+-- at a name where they mean different things
+pub apart_at : (f g : State) (name : List ℕ) → meaning_held f name ≢ meaning_held g name
+    → AreToldApartBy (probe name (form_at f name)) f g
+apart_at f g name n os ps e i s = n (by_answers f g name os ps e i s)
+
+yes_no : true ≡ false → ⊥
+yes_no e = cc
+
+decided : (b : Bool) (v w : Form) → same (plain v) (plain w) ≡ b
+    → (option_map plain (Some v) ≡ option_map plain (Some w)) ⊎ (option_map plain (Some v) ≢ option_map plain (Some w))
+decided true v w e = inl (λ i. Some ((same_is (plain v) (plain w)).0 e i))
+decided false v w e = inr (λ h. yes_no (sym ((same_is (plain v) (plain w)).1 (some_one v w h)) ∙ e))
+
+held_decided : (o p : Option Form)
+    → (option_map plain o ≡ option_map plain p) ⊎ (option_map plain o ≢ option_map plain p)
+held_decided None None = inl refl
+held_decided (Some v) (Some w) = decided (same (plain v) (plain w)) v w refl
+held_decided None (Some w) = inr (λ e. cc)
+held_decided (Some v) None = inr (λ e. cc)
+
+module _ (f g : State) where
+  Agree : List ℕ → Type 0
+  Agree name = meaning_held f name ≡ meaning_held g name
+
+  Differ : Type 0
+  Differ = (name : List ℕ) × (meaning_held f name ≢ meaning_held g name)
+
+  more_agree : (name : List ℕ) (names : List (List ℕ))
+      → (meaning_held f name ≡ meaning_held g name) ⊎ (meaning_held f name ≢ meaning_held g name)
+      → Differ ⊎ AllByRecursion Agree names → Differ ⊎ AllByRecursion Agree (name ∷ names)
+  unfolding Agree Differ
+  more_agree name names (inl e) (inl d) = inl d
+  more_agree name names (inl e) (inr es) = inr (e, es)
+  more_agree name names (inr n) rest = inl (name, n)
+
+  agree_or_differ : (names : List (List ℕ)) → Differ ⊎ AllByRecursion Agree names
+  agree_or_differ [] = inr tt
+  agree_or_differ (name ∷ names) =
+      more_agree name names (held_decided (held_at f name) (held_at g name)) (agree_or_differ names)
+
+  agree_at : (name k : List ℕ) (ks : List (List ℕ)) (b : Bool) → eq_by_cmp (slice_cmp nat_cmp) name k ≡ b
+      → (b || list_any (eq_by_cmp (slice_cmp nat_cmp) name) ks) ≡ true
+      → (list_any (eq_by_cmp (slice_cmp nat_cmp) name) ks ≡ true → Agree name) → Agree k → Agree name
+  agree_at name k ks true e h rest agree =
+      subst Agree (sym (name_exact name k ((Equal-is (slice_cmp nat_cmp name k)).0 e))) agree
+  agree_at name k ks false e h rest agree = rest h
+
+  agree_among : (name : List ℕ) (ks : List (List ℕ)) → AllByRecursion Agree ks
+      → list_any (eq_by_cmp (slice_cmp nat_cmp) name) ks ≡ true → Agree name
+  agree_among name [] all h = cc
+  agree_among name (k ∷ ks) all h =
+      agree_at name k ks (eq_by_cmp (slice_cmp nat_cmp) name k) refl h (agree_among name ks all.1) all.0
+
+  agree_held : (name : List ℕ) (o p : Option Form) → held_at f name ≡ o → held_at g name ≡ p
+      → (is_some o ≡ true → Agree name) → (is_some p ≡ true → Agree name) → Agree name
+  unfolding Agree
+  agree_held name (Some v) p d e one other = one refl
+  agree_held name None (Some w) d e one other = other refl
+  agree_held name None None d e one other = ap (option_map plain) d ∙ sym (ap (option_map plain) e)
+
+  agree_everywhere : AllByRecursion Agree (keys f) → AllByRecursion Agree (keys g) → MeanTheSame f g
+  unfolding Agree
+  agree_everywhere all also name =
+      agree_held name (held_at f name) (held_at g name) refl refl
+      (λ h. agree_among name (keys f) all (sym (contains_key-keys f name) ∙ h))
+      (λ h. agree_among name (keys g) also (sym (contains_key-keys g name) ∙ h))
+
+  told : (MeanTheSame f g → ⊥) → Differ ⊎ AllByRecursion Agree (keys f) → Differ ⊎ AllByRecursion Agree (keys g)
+      → (commands : List Command) × AreToldApartBy commands f g
+  unfolding Differ
+  told n (inl d) also = (probe d.0 (form_at f d.0), apart_at f g d.0 d.1)
+  told n (inr all) (inl d) = (probe d.0 (form_at f d.0), apart_at f g d.0 d.1)
+  told n (inr all) (inr also) = absurd (n (agree_everywhere all also))
+
+  -- states of unequal meaning are told apart by some commands
+  pub told_apart : (MeanTheSame f g → ⊥) → (commands : List Command) × AreToldApartBy commands f g
+  told_apart n = told n (agree_or_differ (keys f)) (agree_or_differ (keys g))

@@ -1,0 +1,5 @@
+mod AlikeLaws
+mod ApartLaws
+mod RunLaws
+mod StepLaws
+mod WellMadeLaws
