@@ -3,7 +3,17 @@
 #![tactic(auto)]
 
 #[cfg(test)]
+mod calls;
+#[cfg(test)]
 mod contexts;
+#[cfg(test)]
+mod keys;
+#[cfg(test)]
+mod lists;
+#[cfg(test)]
+mod quoted;
+#[cfg(test)]
+mod report;
 #[cfg(test)]
 mod values;
 #[cfg(test)]

@@ -2,6 +2,7 @@
 
 use crate::writer::Narrow;
 use std::cmp::Ordering;
+use std::process::Abort;
 use std::test::Fail;
 use tera_values::Value;
 
@@ -66,40 +67,62 @@ fn texts_are_equal_whatever_their_flags(rt: HostRuntime) -> Result<(), Fail> {
     Ok(())
 }
 
-#[test]
-fn printed_texts(rt: HostRuntime) -> Result<(), Fail> {
-    let alloc = rt.alloc();
-    for (value, text) in [
-        (Value::undefined(), ""),
-        (Value::none(), ""),
-        (Value::from(()), ""),
-        (Value::from(true), "true"),
-        (Value::from(false), "false"),
-        (Value::from(0u64), "0"),
-        (Value::from(-0i64), "0"),
-        (Value::from(u64::MAX), "18446744073709551615"),
-        (Value::from(i64::MIN), "-9223372036854775808"),
-        (
-            Value::from(u128::MAX),
-            "340282366920938463463374607431768211455",
-        ),
-        (
-            Value::from(i128::MIN),
-            "-170141183460469231731687303715884105728",
-        ),
-        (Value::normal_string(alloc, "a\"é\u{1f}")?, "a\"é\u{1f}"),
-        (Value::safe_string(alloc, "<&>")?, "<&>"),
-        (Value::from(String::from_str(alloc, "owned")?), "owned"),
-    ] {
-        assert_eq!(rt; value.to_text(alloc)?.as_str(), text);
-        assert_eq!(rt; format!(in alloc; "{value:>60}")?.as_str(), text);
-        assert_eq!(rt; format!(in alloc; "{value:#<60}")?.as_str(), text);
-        let mut out = Vec::new(alloc);
-        value.format(&mut out)?;
-        assert_eq!(rt; out.as_slice(), text.as_bytes());
-        assert!(rt; value.clone(alloc)? == value);
-    }
+// It prints that: as a text of its own, by `{}` at any width and fill, and to a writer.
+fn prints(rt: &(impl Abort + AllocGlobal), value: Value, printed: &str) -> Result<(), Fail> {
+    let text = value.to_text(rt.alloc())?;
+    assert_eq!(rt; text.as_str(), printed);
+    let wide = format!(in rt.alloc(); "{value:>60}")?;
+    assert_eq!(rt; wide.as_str(), printed);
+    let filled = format!(in rt.alloc(); "{value:#<60}")?;
+    assert_eq!(rt; filled.as_str(), printed);
+    let mut out = Vec::new(rt.alloc());
+    value.format(&mut out)?;
+    assert_eq!(rt; out.as_slice(), printed.as_bytes());
+    let copy = value.clone(rt.alloc())?;
+    assert!(rt; copy == value);
     Ok(())
+}
+
+#[test]
+fn single_values_print(rt: HostRuntime) -> Result<(), Fail> {
+    prints(&rt, Value::undefined(), "")?;
+    prints(&rt, Value::none(), "")?;
+    prints(&rt, Value::from(()), "")?;
+    prints(&rt, Value::from(true), "true")?;
+    prints(&rt, Value::from(false), "false")?;
+    prints(&rt, Value::from(0u64), "0")?;
+    prints(&rt, Value::from(-0i64), "0")
+}
+
+#[test]
+fn the_greatest_and_least_numbers_print(rt: HostRuntime) -> Result<(), Fail> {
+    prints(&rt, Value::from(u64::MAX), "18446744073709551615")?;
+    prints(&rt, Value::from(i64::MIN), "-9223372036854775808")?;
+    prints(
+        &rt,
+        Value::from(u128::MAX),
+        "340282366920938463463374607431768211455",
+    )?;
+    prints(
+        &rt,
+        Value::from(i128::MIN),
+        "-170141183460469231731687303715884105728",
+    )
+}
+
+#[test]
+fn texts_print_as_they_are(rt: HostRuntime) -> Result<(), Fail> {
+    prints(
+        &rt,
+        Value::normal_string(rt.alloc(), "a\"é\u{1f}")?,
+        "a\"é\u{1f}",
+    )?;
+    prints(&rt, Value::safe_string(rt.alloc(), "<&>")?, "<&>")?;
+    prints(
+        &rt,
+        Value::from(String::from_str(rt.alloc(), "owned")?),
+        "owned",
+    )
 }
 
 // What a writer with that much room holds of the printed text, and whether `format` told a fault.

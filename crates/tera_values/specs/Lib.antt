@@ -1,3 +1,10 @@
 pub mod Key
 pub mod View
+pub mod Depth
+pub mod Kind
 pub mod Whole
+pub mod Quoted
+pub mod Lossy
+pub mod Print
+pub mod Sink
+pub mod SinkLaws

@@ -1,11 +1,11 @@
--- From the code's values to forms, and what a form holds.
-use Rattle.std.specs.Prelude.{ℕ, pos, ℤ, Bool, true, List, Option, Some, None as Nothing}
+-- From the code's values to forms.
+use Rattle.std.specs.Prelude.{ℕ, pos, ℤ, Bool, List}
 use Rattle.std.specs.String.{string_bytes}
 use Rattle.tera_meaning.specs.Form.{Form}
 use Rattle.tera_meaning.specs.Integer.{IntegerKind, u64, i64, u128, i128}
-use Rattle.tera_meaning.specs.Tree.{undefined, none, truth, number, text}
+use Rattle.tera_meaning.specs.Tree.{undefined, none, truth, number, text, bytes, array, items}
 use Rattle.tera_values.specs.declared.value.ValueInner.{ValueInner}
-use Rattle.tera_values.specs.declared.value.ValueInner.TheVariants.{Undefined, None, Bool as Truth, U64, I64, U128, I128, String}
+use Rattle.tera_values.specs.declared.value.ValueInner.TheVariants.{Undefined, None, Bool as Truth, U64, I64, U128, I128, String, Array, Bytes}
 
 -- a number as a value holds it
 abbrev pub integer : IntegerKind → ℤ → Form
@@ -24,23 +24,5 @@ form_of (I64 z) = integer i64 z
 form_of (U128 n) = integer u128 (pos n)
 form_of (I128 z) = integer i128 z
 form_of (String t b) = marked (string_bytes t) b
-
--- the truth value that it is
-abbrev pub truth_in : Form → Option Bool
-truth_in (truth b) = Some b
-truth_in _ = Nothing
-
--- the number that it is
-abbrev pub number_in : Form → Option ℤ
-number_in (number n) = Some n.value
-number_in _ = Nothing
-
--- the text that it is
-abbrev pub text_in : Form → Option (List ℕ)
-text_in (text t) = Some t.spelled
-text_in _ = Nothing
-
--- the same, a text with its flag set
-abbrev pub marked_safe : Form → Form
-marked_safe (text t) = marked t.spelled true
-marked_safe v = v
+form_of (Array xs) = array (items xs.items)
+form_of (Bytes bs) = bytes bs.items

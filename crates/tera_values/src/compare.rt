@@ -4,18 +4,18 @@ ghost use Rattle.std.specs.Cmp.{on_total, on_equiv, on_per, on_po};
 ghost use Rattle.std.specs.Ordering.{on, as_partial_cmp};
 ghost use Rattle.std.proofs.Common.{refl};
 ghost use Rattle.tera_meaning.specs.Meaning.{plain};
-ghost use Rattle.tera_meaning.specs.Order.{compare, same};
-ghost use Rattle.tera_meaning.specs.Tree.{truth, number, text};
-ghost use Rattle.tera_values.specs.Whole.{whole_value};
+ghost use Rattle.tera_meaning.specs.Order.{rank, compare, same};
 ghost use Rattle.tera_meaning.specs.OrderLaws.{compare_total, compare_partial, same_equivalence, same_partial_equivalence};
+ghost use Rattle.tera_meaning.specs.Tree.{truth, number, text, bytes, array, items};
+ghost use Rattle.tera_values.specs.Whole.{whole_value};
 
 use crate::Value;
 use crate::number::Whole;
 use crate::value::ValueInner;
 use std::cmp::Ordering;
 
-/// Values are equal exactly where their meanings are: integers by number, texts whatever their
-/// flags. Mirrors `PartialEq` of `tera::Value`. Takes no memory.
+/// Values are equal exactly where their meanings are: integers by number, texts whatever their flags, arrays item by
+/// item. Mirrors `PartialEq` of `tera::Value`. Takes no memory.
 impl PartialEq for Value {
     ghost eq = { on plain same };
 
@@ -25,7 +25,7 @@ impl PartialEq for Value {
         ensures value { result ≡ same (plain self.now) (plain other.now) }
         ensures meaning { IsTrue result ↔ (plain self.now ≡ plain other.now) }
     {
-        self.cmp(other).is_eq()
+        order(self, other).is_eq()
     }
 }
 
@@ -40,12 +40,12 @@ impl PartialOrd for Value {
     ghost laws = { on_po plain compare_partial };
 
     fn partial_cmp(&self, other: &Value) -> Option<Ordering> {
-        Some(self.cmp(other))
+        Some(order(self, other))
     }
 }
 
-/// By kind (truth values, numbers, texts, none, undefined), and inside a kind by value. Mirrors
-/// `Ord` of `tera::Value`. Takes no memory.
+/// By kind (truth values, numbers, texts, arrays, bytes, none, undefined), and inside a kind by value: arrays by the
+/// first items that differ, a proper beginning being less. Mirrors `Ord` of `tera::Value`. Takes no memory.
 impl Ord for Value {
     ghost cmp = { on plain compare };
 
@@ -56,17 +56,52 @@ impl Ord for Value {
     ghost matches_eq = { λ a b. refl };
 
     fn cmp(&self, other: &Value) -> Ordering {
-        match &self.inner {
-            ValueInner::Undefined => self.rank().cmp(&other.rank()),
-            ValueInner::None => self.rank().cmp(&other.rank()),
-            ValueInner::Bool(b) => truth_order(*b, other),
-            ValueInner::U64(n) => number_order(Whole::Unsigned(u128::from(*n)), other),
-            ValueInner::I64(z) => number_order(Whole::Signed(i128::from(*z)), other),
-            ValueInner::U128(n) => number_order(Whole::Unsigned(*n), other),
-            ValueInner::I128(z) => number_order(Whole::Signed(*z), other),
-            ValueInner::String(text, _) => text_order(text.as_str(), other),
+        order(self, other)
+    }
+}
+
+// The order of two values.
+#[cycle(order)]
+fn order(left: &Value, right: &Value) -> Ordering
+    ensures { result ≡ compare (plain left.now) (plain right.now) }
+{
+    match &left.inner {
+        ValueInner::Undefined => 7.cmp(&rank(right)),
+        ValueInner::None => 6.cmp(&rank(right)),
+        ValueInner::Bool(b) => truth_order(*b, right),
+        ValueInner::U64(n) => number_order(Whole::Unsigned(u128::from(*n)), right),
+        ValueInner::I64(z) => number_order(Whole::Signed(i128::from(*z)), right),
+        ValueInner::U128(n) => number_order(Whole::Unsigned(*n), right),
+        ValueInner::I128(z) => number_order(Whole::Signed(*z), right),
+        ValueInner::String(text, _) => text_order(text.as_str(), right),
+        ValueInner::Array(all) => array_order(all.as_slice(), right),
+        ValueInner::Bytes(held) => bytes_order(held.as_slice(), right),
+    }
+}
+
+// The order of an array of these items and a value.
+#[cycle(order)]
+fn array_order(left: &[Value], right: &Value) -> Ordering
+    ensures { result ≡ compare (plain (array (items left.now))) (plain right.now) }
+{
+    match right.as_array() {
+        Some(all) => items_order(left, all),
+        None => 3.cmp(&rank(right)),
+    }
+}
+
+// The order of two arrays of these items: that of the first that differ, and where none do, that of the lengths.
+#[cycle(order)]
+fn items_order(left: &[Value], right: &[Value]) -> Ordering
+    ensures { result ≡ compare (plain (array (items left.now))) (plain (array (items right.now))) }
+{
+    for place in 0..left.len().min(right.len()) {
+        let first = order(&left[place], &right[place]);
+        if first != Ordering::Equal {
+            return first;
         }
     }
+    left.len().cmp(&right.len())
 }
 
 // The order of a truth value and a value.
@@ -75,7 +110,7 @@ fn truth_order(b: bool, other: &Value) -> Ordering
 {
     match other.as_bool() {
         Some(c) => b.cmp(&c),
-        None => 0.cmp(&other.rank()),
+        None => 0.cmp(&rank(other)),
     }
 }
 
@@ -85,7 +120,7 @@ fn number_order(n: Whole, other: &Value) -> Ordering
 {
     match other.whole() {
         Some(m) => n.order(m),
-        None => 1.cmp(&other.rank()),
+        None => 1.cmp(&rank(other)),
     }
 }
 
@@ -95,6 +130,34 @@ fn text_order(left: &str, other: &Value) -> Ordering
 {
     match other.as_str() {
         Some(t) => left.cmp(t),
-        None => 2.cmp(&other.rank()),
+        None => 2.cmp(&rank(other)),
+    }
+}
+
+// The order of bytes and a value.
+fn bytes_order(left: &[u8], other: &Value) -> Ordering
+    ensures { result ≡ compare (bytes left.now) (plain other.now) }
+{
+    match other.as_bytes() {
+        Some(held) => left.cmp(held),
+        None => 5.cmp(&rank(other)),
+    }
+}
+
+// The place of its kind in the order of values.
+fn rank(value: &Value) -> u8
+    ensures { result ≡ rank (plain value.now) }
+{
+    match &value.inner {
+        ValueInner::Bool(_) => 0,
+        ValueInner::U64(_) => 1,
+        ValueInner::I64(_) => 1,
+        ValueInner::U128(_) => 1,
+        ValueInner::I128(_) => 1,
+        ValueInner::String(_, _) => 2,
+        ValueInner::Array(_) => 3,
+        ValueInner::Bytes(_) => 5,
+        ValueInner::None => 6,
+        ValueInner::Undefined => 7,
     }
 }

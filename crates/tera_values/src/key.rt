@@ -1,6 +1,6 @@
 //! The keys of maps: truth values, numbers and texts. Keys of one meaning are one key, whatever kind of integer or of
 //! text holds them.
-ghost use Rattle.std.specs.Prelude.{◌≡◌, pos, Some, None, IfOk, IfErr, IsOk, OnOk, OnErr, MatchOption, fold};
+ghost use Rattle.std.specs.Prelude.{◌≡◌, pos, Some, None, IfOk, IfErr, IsOk, OnOk, OnErr, MatchOption, MatchResult, fold};
 ghost use Rattle.std.specs.Cmp.{on_total, on_equiv, on_per, on_po, partial_equiv_from_equiv};
 ghost use Rattle.std.specs.Io.KnownBytes.{Appends};
 ghost use Rattle.std.specs.Option.{option_map};
@@ -16,8 +16,8 @@ ghost use Rattle.tera_values.specs.Whole.{whole_value};
 
 use crate::Value;
 use crate::number::Whole;
-use crate::print::{truth_text, write_integer};
-use itoa::Buffer;
+use crate::print::{put_integer, truth_text};
+use crate::sink::Sink;
 use std::alloc::Global;
 use std::cmp::Ordering;
 use std::hash::{Hash, Hasher};
@@ -123,14 +123,23 @@ impl<'a> Key<'a> {
         ensures told { OnErr result (HasFailed out.new) }
         ensures kept { HasFailed out.old → HasFailed out.new }
     {
+        self.put(out)
+    }
+
+    // Puts what it prints.
+    fn put<S: Sink>(&self, out: &mut S) -> Result<(), S::Fault>
+        ensures { MatchResult result
+            (λ _. S.takes out.old (shown_key (meaning_of_key self.now)) out.new)
+            (λ _. S.fails out.old out.new) }
+    {
         match self {
-            Key::Bool(b) => out.write_all(truth_text(*b).as_bytes()),
-            Key::U64(n) => write_integer(*n, out),
-            Key::I64(z) => write_integer(*z, out),
-            Key::U128(n) => write_integer(*n, out),
-            Key::I128(z) => write_integer(*z, out),
-            Key::String(text) => out.write_all(text.as_str().as_bytes()),
-            Key::Str(text) => out.write_all(text.as_bytes()),
+            Key::Bool(b) => out.put(truth_text(*b)),
+            Key::U64(n) => put_integer(*n, out),
+            Key::I64(z) => put_integer(*z, out),
+            Key::U128(n) => put_integer(*n, out),
+            Key::I128(z) => put_integer(*z, out),
+            Key::String(text) => out.put(text.as_str()),
+            Key::Str(text) => out.put(*text),
         }
     }
 
@@ -295,15 +304,7 @@ impl fmt::Display for Key<'_> {
     ghost styled_output = { λ k _. Some (shown_key (meaning_of_key k)) };
 
     fn fmt<W: fmt::Write>(&self, f: &mut fmt::Formatter<W>) -> fmt::Result {
-        match self {
-            Key::Bool(b) => f.write_str(truth_text(*b)),
-            Key::U64(n) => f.write_str(Buffer::new().format(*n)),
-            Key::I64(z) => f.write_str(Buffer::new().format(*z)),
-            Key::U128(n) => f.write_str(Buffer::new().format(*n)),
-            Key::I128(z) => f.write_str(Buffer::new().format(*z)),
-            Key::String(text) => f.write_str(text.as_str()),
-            Key::Str(text) => f.write_str(*text),
-        }
+        self.put(f)
     }
 }
 
@@ -334,6 +335,3 @@ impl From<i128> for Key<'static> {
         Key::I128(z)
     }
 }
-
-#[cfg(test)]
-mod tests;

@@ -2,10 +2,20 @@
 #![tactic(auto)]
 
 mod compare;
+mod copy;
+mod from;
 mod key;
+mod kind;
+mod lossy;
 mod number;
 mod print;
+mod quote;
+mod read;
+mod sink;
 mod value;
+mod well_made;
 
 pub use key::Key;
+pub use kind::{ValueKind, kinds_equal_where_the_same};
 pub use value::Value;
+pub use well_made::is_well_made;

@@ -1,6 +1,7 @@
 //! Whole numbers of any kind, by their value alone.
 ghost use Rattle.std.specs.Prelude.{◌≡◌, pos};
 ghost use Rattle.std.specs.Ordering.{int_cmp};
+ghost use Rattle.tera_meaning.specs.Read.{is_nonzero};
 ghost use Rattle.tera_values.specs.Whole.{whole_value};
 
 use std::cmp::Ordering;
@@ -26,6 +27,16 @@ impl Whole {
                 Whole::Signed(z) => signed_to_unsigned(z, m).reverse(),
                 Whole::Unsigned(n) => m.cmp(&n),
             },
+        }
+    }
+
+    /// Whether it is another number than zero.
+    pub fn is_nonzero(self) -> bool
+        ensures { result ≡ is_nonzero (whole_value self) }
+    {
+        match self {
+            Whole::Signed(z) => z != 0,
+            Whole::Unsigned(n) => n != 0,
         }
     }
 }

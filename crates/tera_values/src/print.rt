@@ -1,13 +1,17 @@
 //! What values print.
-ghost use Rattle.std.specs.Prelude.{◌≡◌, Some, List, ℕ, IfOk, IfErr, OnOk, OnErr};
-ghost use Rattle.std.specs.Io.KnownBytes.{Appends};
+ghost use Rattle.std.specs.Prelude.{◌≡◌, OnOk, OnErr, IfOk, IfErr, MatchResult};
 ghost use Rattle.std.specs.String.{string_bytes};
 ghost use Rattle.tera_meaning.specs.Meaning.{plain};
-ghost use Rattle.tera_meaning.specs.Printed.{printed, printed_truth};
+ghost use Rattle.tera_meaning.specs.Printed.{Prints, PrintsInside, printed_truth};
 ghost use Rattle.tera_report.specs.Errors.{IsOutOfMemory};
 ghost use Rattle.tera_report.specs.Watch.{HasFailed, SameWriter, held};
+ghost use Rattle.tera_values.specs.Print.{PrintsArray, PrintsItems, WritesInside, WritesPrinted, printed_if_exact};
+ghost use Rattle.tera_values.specs.Sink.{Puts};
 
 use crate::Value;
+use crate::lossy::put_lossy;
+use crate::quote::put_quoted;
+use crate::sink::Sink;
 use crate::value::ValueInner;
 use itoa::{Buffer, Integer};
 use std::alloc::Global;
@@ -17,12 +21,14 @@ use tera_report::TeraResult;
 use tera_report::watch::Watched;
 
 impl Value {
-    /// Writes the printed text. Mirrors `Value::format`, which is private there.
+    /// Writes the printed text. Undefined and none print nothing, a text itself, bytes the text that they are, with
+    /// U+FFFD for what is no character, and an array its items between brackets, where texts are quoted. Mirrors
+    /// `Value::format`, which is private there.
     ///
     /// Answers an error only where, during the call, a write of the writer answered an error or
     /// took no byte. Takes no memory.
     pub fn format<W: Write>(&self, out: &mut W) -> io::Result<()>
-        ensures { OnOk result (Appends (W.contents out.old) (W.contents out.new) (printed (plain self.now))) }
+        ensures { OnOk result (WritesPrinted (plain self.now) (W.contents out.old) (W.contents out.new)) }
     {
         self.format_watched(&mut Watched::new(out))
     }
@@ -31,32 +37,121 @@ impl Value {
     ///
     /// Takes no memory.
     pub fn format_watched<W: Write>(&self, out: &mut Watched<'_, W>) -> io::Result<()>
-        ensures bytes { OnOk result (Appends (held W.contents out.old) (held W.contents out.new) (printed (plain self.now))) }
+        ensures bytes { OnOk result
+            (WritesPrinted (plain self.now) (held W.contents out.old) (held W.contents out.new)) }
         ensures same { SameWriter out.old out.new }
         ensures told { OnErr result (HasFailed out.new) }
         ensures kept { HasFailed out.old → HasFailed out.new }
     {
-        match &self.inner {
-            ValueInner::Undefined => Ok(()),
-            ValueInner::None => Ok(()),
-            ValueInner::Bool(b) => out.write_all(truth_text(*b).as_bytes()),
-            ValueInner::U64(n) => write_integer(*n, out),
-            ValueInner::I64(z) => write_integer(*z, out),
-            ValueInner::U128(n) => write_integer(*n, out),
-            ValueInner::I128(z) => write_integer(*z, out),
-            ValueInner::String(text, _) => out.write_all(text.as_bytes()),
-        }
+        put_value(self, out)
+    }
+
+    /// Writes what is printed of the value inside an array: a text in debug form, and every other value as `format` does.
+    ///
+    /// Answers an error only where, during the call, a write of the writer answered an error or
+    /// took no byte. Takes no memory.
+    pub fn format_inside<W: Write>(&self, out: &mut W) -> io::Result<()>
+        ensures { OnOk result (WritesInside (plain self.now) (W.contents out.old) (W.contents out.new)) }
+    {
+        self.format_inside_watched(&mut Watched::new(out))
+    }
+
+    /// The same to a watched writer: an error comes only where that writer failed.
+    ///
+    /// Takes no memory.
+    pub fn format_inside_watched<W: Write>(&self, out: &mut Watched<'_, W>) -> io::Result<()>
+        ensures bytes { OnOk result
+            (WritesInside (plain self.now) (held W.contents out.old) (held W.contents out.new)) }
+        ensures same { SameWriter out.old out.new }
+        ensures told { OnErr result (HasFailed out.new) }
+        ensures kept { HasFailed out.old → HasFailed out.new }
+    {
+        put_inside(self, out)
     }
 
     /// The printed text as a text of its own.
     ///
     /// Takes memory for it; the only refusal is want of it, `Out of memory`.
     pub fn to_text(&self, alloc: Global) -> TeraResult<String>
-        ensures ok { IfOk result (λ t. string_bytes t ≡ printed (plain self.now)) }
+        ensures ok { IfOk result (λ t. Prints (plain self.now) (string_bytes t)) }
         ensures err { IfErr result IsOutOfMemory }
     {
         Ok(self.to_string(alloc)?)
     }
+}
+
+/// The printed text. A width or a fill of the format changes nothing. Takes no memory.
+impl fmt::Display for Value {
+    ghost output = { λ v. printed_if_exact (plain v) };
+
+    ghost styled_output = { λ v _. printed_if_exact (plain v) };
+
+    fn fmt<W: fmt::Write>(&self, f: &mut fmt::Formatter<W>) -> fmt::Result {
+        put_value(self, f)
+    }
+}
+
+// Puts the printed text.
+#[cycle(print)]
+fn put_value<S: Sink>(value: &Value, out: &mut S) -> Result<(), S::Fault>
+    ensures { Puts S.takes S.fails result (Prints (plain value.now)) out.old out.new }
+{
+    match &value.inner {
+        ValueInner::Undefined => Ok(()),
+        ValueInner::None => Ok(()),
+        ValueInner::Bool(b) => out.put(truth_text(*b)),
+        ValueInner::U64(n) => put_integer(*n, out),
+        ValueInner::I64(z) => put_integer(*z, out),
+        ValueInner::U128(n) => put_integer(*n, out),
+        ValueInner::I128(z) => put_integer(*z, out),
+        ValueInner::String(text, _) => out.put(text.as_str()),
+        ValueInner::Array(items) => put_array(items.as_slice(), out),
+        ValueInner::Bytes(bytes) => put_lossy(bytes.as_slice(), out),
+    }
+}
+
+// Puts what a value prints inside an array: a text is quoted there.
+#[cycle(print)]
+fn put_inside<S: Sink>(value: &Value, out: &mut S) -> Result<(), S::Fault>
+    ensures { Puts S.takes S.fails result (PrintsInside (plain value.now)) out.old out.new }
+{
+    match value.as_str() {
+        Some(text) => put_quoted(text, out),
+        None => put_value(value, out),
+    }
+}
+
+// Puts items between brackets.
+#[cycle(print)]
+fn put_array<S: Sink>(items: &[Value], out: &mut S) -> Result<(), S::Fault>
+    ensures { Puts S.takes S.fails result (PrintsArray items.now) out.old out.new }
+{
+    out.put("[")?;
+    put_items(items, out)?;
+    out.put("]")
+}
+
+// Puts items joined by commas.
+#[cycle(print)]
+fn put_items<S: Sink>(items: &[Value], out: &mut S) -> Result<(), S::Fault>
+    ensures { Puts S.takes S.fails result (PrintsItems items.now) out.old out.new }
+{
+    let Some((first, others)) = items.split_first() else {
+        return Ok(());
+    };
+    put_inside(first, out)?;
+    for item in others {
+        out.put(", ")?;
+        put_inside(item, out)?;
+    }
+    Ok(())
+}
+
+// Puts an integer in decimal.
+pub(crate) fn put_integer<I: Integer, S: Sink>(n: I, out: &mut S) -> Result<(), S::Fault>
+    ensures { MatchResult result (λ _. S.takes out.old (I.text n) out.new) (λ _. S.fails out.old out.new) }
+{
+    out.put(Buffer::new().format(n))
 }
 
 // The word for a truth value.
@@ -64,35 +159,4 @@ pub(crate) fn truth_text(b: bool) -> &'static str
     ensures { result.now ≡ printed_truth b }
 {
     if b { "true" } else { "false" }
-}
-
-// Writes an integer in decimal.
-pub(crate) fn write_integer<I: Integer, W: Write>(n: I, out: &mut Watched<'_, W>) -> io::Result<()>
-    ensures bytes { OnOk result (Appends (held W.contents out.old) (held W.contents out.new) (I.text n)) }
-    ensures same { SameWriter out.old out.new }
-    ensures told { OnErr result (HasFailed out.new) }
-    ensures kept { HasFailed out.old → HasFailed out.new }
-{
-    let mut buffer = Buffer::new();
-    out.write_all(buffer.format(n).as_bytes())
-}
-
-/// The printed text. A width or a fill of the format changes nothing. Takes no memory.
-impl fmt::Display for Value {
-    ghost output = { λ v. Some (printed (plain v)) };
-
-    ghost styled_output = { λ v _. Some (printed (plain v)) };
-
-    fn fmt<W: fmt::Write>(&self, f: &mut fmt::Formatter<W>) -> fmt::Result {
-        match &self.inner {
-            ValueInner::Undefined => Ok(()),
-            ValueInner::None => Ok(()),
-            ValueInner::Bool(b) => f.write_str(truth_text(*b)),
-            ValueInner::U64(n) => f.write_str(Buffer::new().format(*n)),
-            ValueInner::I64(z) => f.write_str(Buffer::new().format(*z)),
-            ValueInner::U128(n) => f.write_str(Buffer::new().format(*n)),
-            ValueInner::I128(z) => f.write_str(Buffer::new().format(*z)),
-            ValueInner::String(text, _) => f.write_str(text.as_str()),
-        }
-    }
 }

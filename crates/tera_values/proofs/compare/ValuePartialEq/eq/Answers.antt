@@ -7,6 +7,6 @@ use Rattle.tera_values.proofs.compare.ValuePartialEq.eq.Goals as goal
 
 pub returns-clause-meaning : goal.returns-clause-meaning
 returns-clause-meaning c =
-    let e : c.is_eq.result ≡ same (plain c.args.self.now) (plain c.args.other.now) = c.is_eq.ensures ∙ ap is_eq c.cmp.ensures in
+    let e : c.is_eq.result ≡ same (plain c.args.self.now) (plain c.args.other.now) = c.is_eq.ensures ∙ ap is_eq c.order.ensures in
     let P = λ (b : Bool). IsTrue b ↔ (plain c.args.self.now ≡ plain c.args.other.now) in
     subst P (sym e) (same_is (plain c.args.self.now) (plain c.args.other.now))

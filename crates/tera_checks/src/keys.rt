@@ -1,5 +1,4 @@
 // Keys of every kind beside one another: what is equal, what hashes alike, what is printed.
-use crate::{Key, Value};
 use std::alloc::Global;
 use std::cmp::Ordering;
 use std::fmt::{Debug, Display};
@@ -8,6 +7,7 @@ use std::process::Abort;
 use std::rc::RcStr;
 use std::test::Fail;
 use tera_report::TeraResult;
+use tera_values::{Key, Value};
 
 const ONES: [Key<'static>; 4] = [Key::U64(1), Key::I64(1), Key::U128(1), Key::I128(1)];
 

@@ -1,0 +1,13 @@
+use Rattle.std.proofs.Common.{◌≡◌, ◌+◌, ◌*◌, take}
+use Rattle.tera_meaning.specs.Tree.{items, depth, items_depth}
+use Rattle.tera_values.proofs.+copy.Given as goal
+
+abbrev pub decreases-value::Value::clone : goal.decreases-value::Value::clone
+decreases-value::Value::clone l = 2 * depth l.self.now + 1
+
+abbrev pub decreases-copy::copies : goal.decreases-copy::copies
+decreases-copy::copies l = 2 * items_depth (items l.all.now) + 2
+
+-- those so far are copied
+abbrev pub invariant-copy::copies-loop-value : goal.invariant-copy::copies-loop-value
+invariant-copy::copies-loop-value l = l.made.items ≡ take l.value-index l.all

@@ -1,0 +1,4 @@
+pub mod Parts
+pub mod QuoteLemmas
+pub mod LossyLemmas
+pub mod PrintLemmas

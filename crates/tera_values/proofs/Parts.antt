@@ -1,0 +1,75 @@
+-- The items of arrays: how many, how deep, and the first that differ.
+use Rattle.std.specs.Prelude.{◌≡◌, ◌<◌, ◌≤◌, ℕ, ℤ, Some, zero, suc, min, List, [], ◌∷◌, length, refl}
+use Rattle.std.proofs.Common.{sym, ◌∙◌, ap, subst, arith, get_or, take, drop}
+use Rattle.std.specs.Cmp.{nat_cmp_is, ranks}
+use Rattle.std.specs.Ordering.{MatchOrdering, nat_cmp}
+use Rattle.std.specs.declared.cmp.Ordering.{Ordering}
+use Rattle.std.specs.declared.cmp.Ordering.TheVariants.{Less, Equal, Greater}
+use Rattle.tera_meaning.specs.Chained.{less_nat}
+use Rattle.tera_meaning.specs.Form.{Form}
+use Rattle.tera_meaning.specs.KeyMeaning.{KeyMeaning, key_meaning}
+use Rattle.tera_meaning.specs.Meaning.{plain}
+use Rattle.tera_meaning.specs.Order.{compare}
+use Rattle.tera_meaning.specs.Read.{items_in}
+use Rattle.tera_meaning.specs.TreeLaws.{items_of_list}
+use Rattle.tera_meaning.specs.Tree.{Items, undefined, none, truth, number, text, bytes, object, array, items, items_list, relabeled_items, depth, items_depth}
+use Rattle.tera_meaning.specs.WellMade.{IsWellMade, AreWellMade}
+
+-- the items once kinds and flags are forgotten
+abbrev plain_items : List Form → Items ℤ (List ℕ) KeyMeaning
+plain_items xs = relabeled_items (λ n. n.value) (λ t. t.spelled) key_meaning (items xs)
+
+pub plain_length : (xs : List Form) → length (items_list (plain_items xs)) ≡ length xs
+plain_length [] = refl
+plain_length (x ∷ xs) = ap suc (plain_length xs)
+
+-- an item is no deeper than the deepest
+pub depth_at : (xs : List Form) (i : ℕ) (x : Form) → i < length xs → x ≡ get_or xs i x
+    → depth x ≤ items_depth (items xs)
+depth_at [] i x h e = absurd (omega arith)
+depth_at (y ∷ ys) zero x h e = let same : depth x ≡ depth y = ap depth e in omega arith
+depth_at (y ∷ ys) (suc i) x h e = omega (arith, depth_at ys i x (omega arith) e)
+
+some_one : (xs ys : List Form) → Some xs ≡ Some ys → xs ≡ ys
+some_one xs ys e = cc
+
+-- what holds these items is the array of them
+pub array_of_items : (v : Form) (xs : List Form) → items_in v ≡ Some xs → array (items xs) ≡ v
+array_of_items (array ys) xs e = ap array (ap items (sym (some_one (items_list ys) xs e)) ∙ items_of_list ys)
+array_of_items undefined xs e = cc
+array_of_items none xs e = cc
+array_of_items (truth b) xs e = cc
+array_of_items (number n) xs e = cc
+array_of_items (text t) xs e = cc
+array_of_items (bytes bs) xs e = cc
+array_of_items (object ps) xs e = cc
+
+abbrev pub lists_order : List Form → List Form → Ordering
+lists_order xs ys = compare (plain (array (items xs))) (plain (array (items ys)))
+
+one_more : (m n : ℕ) (r : Ordering) → MatchOrdering r (m < n) (m ≡ n) (n < m)
+    → MatchOrdering r (suc m < suc n) (suc m ≡ suc n) (suc n < suc m)
+one_more m n Less h = omega arith
+one_more m n Equal h = ap suc h
+one_more m n Greater h = omega arith
+
+nat_cmp_suc : (m n : ℕ) → nat_cmp m n ≡ nat_cmp (suc m) (suc n)
+nat_cmp_suc m n = nat_cmp_is (suc m) (suc n) (nat_cmp m n) (one_more m n (nat_cmp m n) (ranks m n))
+
+-- where one has ended the lengths decide
+pub order_ended : (xs ys : List Form) (n : ℕ) → n ≡ min (length xs) (length ys)
+    → lists_order (drop n xs) (drop n ys) ≡ nat_cmp (length xs) (length ys)
+order_ended [] [] zero e = refl
+order_ended [] (y ∷ ys) zero e = sym (less_nat 0 (length (y ∷ ys)) (omega arith))
+order_ended (x ∷ xs) [] zero e = nat_cmp_is (length (x ∷ xs)) 0 Greater (omega arith)
+order_ended (x ∷ xs) (y ∷ ys) zero e = absurd (omega arith)
+order_ended [] ys (suc n) e = absurd (omega arith)
+order_ended (x ∷ xs) [] (suc n) e = absurd (omega arith)
+order_ended (x ∷ xs) (y ∷ ys) (suc n) e = order_ended xs ys n (omega arith) ∙ nat_cmp_suc (length xs) (length ys)
+
+-- where the first i are well made and the next is, one more are
+pub one_more_well_made : (xs : List Form) (i : ℕ) (x : Form) → i < length xs → x ≡ get_or xs i x
+    → AreWellMade (items (take i xs)) → IsWellMade x → AreWellMade (items (take (suc i) xs))
+one_more_well_made [] i x h e made next = absurd (omega arith)
+one_more_well_made (y ∷ ys) zero x h e made next = (subst IsWellMade e next, tt)
+one_more_well_made (y ∷ ys) (suc i) x h e made next = (made.0, one_more_well_made ys i x (omega arith) e made.1 next)

@@ -1,0 +1,78 @@
+-- Items are printed one after another.
+use Rattle.std.specs.Prelude.{◌≡◌, ℕ, IsTrue, List, [], ◌∷◌, ◌++◌, codes, Some, None, refl}
+use Rattle.std.proofs.Common.{sym, ◌∙◌, ap, subst, append_assoc, append-nil}
+use Rattle.std.proofs.lemmas.Bool.{and_parts}
+use Rattle.tera_meaning.specs.Form.{Form}
+use Rattle.tera_meaning.specs.Meaning.{plain}
+use Rattle.tera_meaning.specs.Printed.{printed_with, printed_items, quoted, is_exact_inside, are_exact_items, Prints, PrintsInside}
+use Rattle.tera_meaning.specs.Read.{text_in}
+use Rattle.tera_meaning.specs.Tree.{undefined, none, truth, number, text, bytes, array, object}
+use Rattle.tera_values.specs.Print.{plain_items, PrintsItems}
+use Rattle.tera_values.specs.Quoted.{Quotes, is_ascii_text}
+
+-- what is printed of the items that come after others
+abbrev pub later : List Form → List ℕ
+later [] = []
+later (x ∷ xs) = codes ", " ++ printed_items (plain_items (x ∷ xs))
+
+first_printed : (x : Form) (xs : List Form)
+    → printed_items (plain_items (x ∷ xs)) ≡ printed_with quoted (plain x) ++ later xs
+first_printed x [] = refl
+first_printed x (y ∷ ys) = refl
+
+-- what is done and what is printed of the items that are left are the whole, where that is exact
+abbrev pub IsDone : List Form → List ℕ → List Form → Type 0
+IsDone all done left =
+    IsTrue (are_exact_items (plain_items all)) → IsTrue (are_exact_items (plain_items left)) × (printed_items (plain_items all) ≡ done ++ later left)
+
+pub first_done : (all others : List Form) (x : Form) (written : List ℕ) → all ≡ x ∷ others
+    → PrintsInside (plain x) written → IsDone all written others
+first_done all others x written is prints exact =
+    let exact_parts = and_parts (is_exact_inside (plain x)) _ (subst (λ l. IsTrue (are_exact_items (plain_items l))) is exact) in (
+      exact_parts.1,
+      ap (λ l. printed_items (plain_items l)) is ∙ first_printed x others
+          ∙ ap (λ l. l ++ later others) (sym (prints exact_parts.0)),
+    )
+
+pub next_done : (all left others : List Form) (x : Form) (done written : List ℕ) → left ≡ x ∷ others
+    → IsDone all done left → PrintsInside (plain x) written
+    → IsDone all ((done ++ codes ", ") ++ written) others
+next_done all left others x done written is before prints exact =
+    let so_far = before exact in
+    let exact_parts = and_parts (is_exact_inside (plain x)) _ (subst (λ l. IsTrue (are_exact_items (plain_items l))) is so_far.0) in (
+      exact_parts.1,
+      so_far.1 ∙ ap (λ l. done ++ later l) is
+          ∙ ap (λ l. done ++ (codes ", " ++ l)) (first_printed x others
+          ∙ ap (λ l. l ++ later others) (sym (prints exact_parts.0)))
+          ∙ sym (append_assoc done (codes ", ") (written ++ later others))
+          ∙ sym (append_assoc (done ++ codes ", ") written (later others)),
+    )
+
+pub all_done : (all left : List Form) (done : List ℕ) → left ≡ [] → IsDone all done left → PrintsItems all done
+all_done all left done is before exact =
+    sym ((before exact).1 ∙ ap (λ l. done ++ later l) is ∙ append-nil done)
+
+-- inside an array a text is quoted, and all else prints as by itself
+pub text_inside : (v : Form) (t written : List ℕ) → text_in v ≡ Some t → Quotes t written
+    → PrintsInside (plain v) written
+text_inside undefined t written is quotes exact = absurd (cc)
+text_inside none t written is quotes exact = absurd (cc)
+text_inside (truth b) t written is quotes exact = absurd (cc)
+text_inside (number n) t written is quotes exact = absurd (cc)
+text_inside (text s) t written is quotes exact =
+    let same : s.spelled ≡ t = cc in
+    quotes (subst (λ l. IsTrue (is_ascii_text l)) same exact) ∙ ap quoted (sym same)
+text_inside (bytes bs) t written is quotes exact = absurd (cc)
+text_inside (array xs) t written is quotes exact = absurd (cc)
+text_inside (object ps) t written is quotes exact = absurd (cc)
+
+pub other_inside : (v : Form) (written : List ℕ) → text_in v ≡ None → Prints (plain v) written
+    → PrintsInside (plain v) written
+other_inside undefined written is prints exact = prints exact
+other_inside none written is prints exact = prints exact
+other_inside (truth b) written is prints exact = prints exact
+other_inside (number n) written is prints exact = prints exact
+other_inside (text s) written is prints exact = absurd (cc)
+other_inside (bytes bs) written is prints exact = prints exact
+other_inside (array xs) written is prints exact = prints exact
+other_inside (object ps) written is prints exact = prints exact

@@ -1,0 +1,48 @@
+//! Copies of values, deep.
+ghost use Rattle.std.specs.Prelude.{◌≡◌, IfOk, IfErr};
+ghost use Rattle.tera_report.specs.Errors.{IsOutOfMemory};
+
+use crate::Value;
+use crate::value::ValueInner;
+use std::alloc::Global;
+use tera_report::TeraResult;
+
+impl Value {
+    /// A value of the same form: kinds of integers and flags of texts are kept at every depth.
+    ///
+    /// Takes memory for texts, bytes and items; the only refusal is want of it, `Out of memory`.
+    #[cycle(copy)]
+    pub fn clone(&self, alloc: Global) -> TeraResult<Value>
+        ensures ok { IfOk result (λ v. v ≡ self.now) }
+        ensures err { IfErr result IsOutOfMemory }
+    {
+        let inner = match &self.inner {
+            ValueInner::Undefined => ValueInner::Undefined,
+            ValueInner::None => ValueInner::None,
+            ValueInner::Bool(b) => ValueInner::Bool(*b),
+            ValueInner::U64(n) => ValueInner::U64(*n),
+            ValueInner::I64(z) => ValueInner::I64(*z),
+            ValueInner::U128(n) => ValueInner::U128(*n),
+            ValueInner::I128(z) => ValueInner::I128(*z),
+            ValueInner::String(text, safe) => {
+                ValueInner::String(String::from_str(alloc, text.as_str())?, *safe)
+            }
+            ValueInner::Array(all) => ValueInner::Array(copies(alloc, all.as_slice())?),
+            ValueInner::Bytes(held) => ValueInner::Bytes(held.as_slice().to_vec(alloc)?),
+        };
+        Ok(Value { inner })
+    }
+}
+
+// A copy of each item, in their order.
+#[cycle(copy)]
+fn copies(alloc: Global, all: &[Value]) -> TeraResult<Vec<Value>>
+    ensures ok { IfOk result (λ v. v.items ≡ all.now) }
+    ensures err { IfErr result IsOutOfMemory }
+{
+    let mut made = Vec::with_capacity(alloc, all.len())?;
+    for value in all {
+        made.push(value.clone(alloc)?)?;
+    }
+    Ok(made)
+}

@@ -1,0 +1,233 @@
+//! What a value holds: its parts, lent or handed on, and what it counts as.
+ghost use Rattle.std.specs.Prelude.{◌≡◌, None, Some, MatchOption, length};
+ghost use Rattle.std.specs.Option.{option_map};
+ghost use Rattle.std.specs.Str.{chars};
+ghost use Rattle.tera_meaning.specs.Meaning.{plain};
+ghost use Rattle.tera_meaning.specs.Read.{truth_in, number_in, text_in, bytes_in, items_in, safe_in, marked_safe, truthy_in, size_in, iterable_in, is_nonempty};
+ghost use Rattle.tera_values.specs.Whole.{whole_value};
+
+use crate::Value;
+use crate::number::Whole;
+use crate::value::ValueInner;
+
+impl Value {
+    /// The truth value that it is. Mirrors `Value::as_bool`. Takes no memory.
+    pub fn as_bool(&self) -> Option<bool>
+        ensures { result ≡ truth_in self.now }
+    {
+        match &self.inner {
+            ValueInner::Bool(b) => Some(*b),
+            ValueInner::Undefined => None,
+            ValueInner::None => None,
+            ValueInner::U64(_) => None,
+            ValueInner::I64(_) => None,
+            ValueInner::U128(_) => None,
+            ValueInner::I128(_) => None,
+            ValueInner::String(_, _) => None,
+            ValueInner::Array(_) => None,
+            ValueInner::Bytes(_) => None,
+        }
+    }
+
+    /// The text that it is, lent, whatever its flag. Mirrors `Value::as_str`. Takes no memory.
+    pub fn as_str(&self) -> Option<&str>
+        ensures { MatchOption result (text_in self.now ≡ None) (λ t. text_in self.now ≡ Some t.now) }
+    {
+        match &self.inner {
+            ValueInner::String(text, _) => Some(text.as_str()),
+            ValueInner::Undefined => None,
+            ValueInner::None => None,
+            ValueInner::Bool(_) => None,
+            ValueInner::U64(_) => None,
+            ValueInner::I64(_) => None,
+            ValueInner::U128(_) => None,
+            ValueInner::I128(_) => None,
+            ValueInner::Array(_) => None,
+            ValueInner::Bytes(_) => None,
+        }
+    }
+
+    /// The items of the array that it is, lent. Mirrors `Value::as_array`. Takes no memory.
+    #[tactic(auto, using(tera_meaning::specs::TreeLaws::list_of_items))]
+    pub fn as_array(&self) -> Option<&[Value]>
+        ensures { MatchOption result (items_in self.now ≡ None) (λ xs. items_in self.now ≡ Some xs.now) }
+    {
+        match &self.inner {
+            ValueInner::Array(all) => Some(all.as_slice()),
+            ValueInner::Undefined => None,
+            ValueInner::None => None,
+            ValueInner::Bool(_) => None,
+            ValueInner::U64(_) => None,
+            ValueInner::I64(_) => None,
+            ValueInner::U128(_) => None,
+            ValueInner::I128(_) => None,
+            ValueInner::String(_, _) => None,
+            ValueInner::Bytes(_) => None,
+        }
+    }
+
+    /// The bytes that it is, lent. Those of a text are no bytes. Mirrors `Value::as_bytes`. Takes no memory.
+    pub fn as_bytes(&self) -> Option<&[u8]>
+        ensures { MatchOption result (bytes_in self.now ≡ None) (λ bs. bytes_in self.now ≡ Some bs.now) }
+    {
+        match &self.inner {
+            ValueInner::Bytes(held) => Some(held.as_slice()),
+            ValueInner::Undefined => None,
+            ValueInner::None => None,
+            ValueInner::Bool(_) => None,
+            ValueInner::U64(_) => None,
+            ValueInner::I64(_) => None,
+            ValueInner::U128(_) => None,
+            ValueInner::I128(_) => None,
+            ValueInner::String(_, _) => None,
+            ValueInner::Array(_) => None,
+        }
+    }
+
+    /// The items of the array that it is, handed on. Mirrors `Value::into_vec`, which is private there. Takes no
+    /// memory.
+    #[tactic(auto, using(tera_meaning::specs::TreeLaws::list_of_items))]
+    pub fn into_vec(self) -> Option<Vec<Value>>
+        ensures { MatchOption result (items_in self ≡ None) (λ xs. items_in self ≡ Some xs.items) }
+    {
+        match self.inner {
+            ValueInner::Array(all) => Some(all),
+            ValueInner::Undefined => None,
+            ValueInner::None => None,
+            ValueInner::Bool(_) => None,
+            ValueInner::U64(_) => None,
+            ValueInner::I64(_) => None,
+            ValueInner::U128(_) => None,
+            ValueInner::I128(_) => None,
+            ValueInner::String(_, _) => None,
+            ValueInner::Bytes(_) => None,
+        }
+    }
+
+    /// Whether it is shown as it is: a text by its flag, arrays and bytes never, all else always. Mirrors
+    /// `Value::is_safe`. Takes no memory.
+    pub fn is_safe(&self) -> bool
+        ensures { result ≡ safe_in self.now }
+    {
+        match &self.inner {
+            ValueInner::String(_, safe) => *safe,
+            ValueInner::Array(_) => false,
+            ValueInner::Bytes(_) => false,
+            ValueInner::Undefined => true,
+            ValueInner::None => true,
+            ValueInner::Bool(_) => true,
+            ValueInner::U64(_) => true,
+            ValueInner::I64(_) => true,
+            ValueInner::U128(_) => true,
+            ValueInner::I128(_) => true,
+        }
+    }
+
+    /// The same value, a text with its flag set. Mirrors `Value::mark_safe`. Takes no memory.
+    pub fn mark_safe(self) -> Value
+        ensures { result ≡ marked_safe self }
+    {
+        let inner = match self.inner {
+            ValueInner::String(text, _) => ValueInner::String(text, true),
+            ValueInner::Undefined => ValueInner::Undefined,
+            ValueInner::None => ValueInner::None,
+            ValueInner::Bool(b) => ValueInner::Bool(b),
+            ValueInner::U64(n) => ValueInner::U64(n),
+            ValueInner::I64(z) => ValueInner::I64(z),
+            ValueInner::U128(n) => ValueInner::U128(n),
+            ValueInner::I128(z) => ValueInner::I128(z),
+            ValueInner::Array(all) => ValueInner::Array(all),
+            ValueInner::Bytes(held) => ValueInner::Bytes(held),
+        };
+        Value { inner }
+    }
+
+    /// Whether a condition holds at it: undefined and none never, a truth value itself, a number unless zero, a text,
+    /// an array or bytes unless empty. Mirrors `Value::is_truthy`. Takes no memory.
+    pub fn is_truthy(&self) -> bool
+        ensures { result ≡ truthy_in (plain self.now) }
+    {
+        match &self.inner {
+            ValueInner::Undefined => false,
+            ValueInner::None => false,
+            ValueInner::Bool(b) => *b,
+            ValueInner::U64(n) => Whole::Unsigned(u128::from(*n)).is_nonzero(),
+            ValueInner::I64(z) => Whole::Signed(i128::from(*z)).is_nonzero(),
+            ValueInner::U128(n) => Whole::Unsigned(*n).is_nonzero(),
+            ValueInner::I128(z) => Whole::Signed(*z).is_nonzero(),
+            ValueInner::String(text, _) => is_nonempty(text.as_bytes()),
+            ValueInner::Array(all) => is_nonempty(all.as_slice()),
+            ValueInner::Bytes(held) => is_nonempty(held.as_slice()),
+        }
+    }
+
+    /// How many characters the text has, items the array, bytes the bytes; nothing on other kinds. Mirrors
+    /// `Value::len`. Takes no memory.
+    pub fn len(&self) -> Option<usize>
+        ensures { result ≡ size_in (plain self.now) }
+    {
+        match &self.inner {
+            ValueInner::String(text, _) => Some(characters(text.as_str())),
+            ValueInner::Array(all) => Some(all.len()),
+            ValueInner::Bytes(held) => Some(held.len()),
+            ValueInner::Undefined => None,
+            ValueInner::None => None,
+            ValueInner::Bool(_) => None,
+            ValueInner::U64(_) => None,
+            ValueInner::I64(_) => None,
+            ValueInner::U128(_) => None,
+            ValueInner::I128(_) => None,
+        }
+    }
+
+    /// Whether it is a text, an array or bytes. Mirrors `Value::can_be_iterated_on`, which is private there. Takes no
+    /// memory.
+    pub fn can_be_iterated_on(&self) -> bool
+        ensures { result ≡ iterable_in self.now }
+    {
+        match &self.inner {
+            ValueInner::String(_, _) => true,
+            ValueInner::Array(_) => true,
+            ValueInner::Bytes(_) => true,
+            ValueInner::Undefined => false,
+            ValueInner::None => false,
+            ValueInner::Bool(_) => false,
+            ValueInner::U64(_) => false,
+            ValueInner::I64(_) => false,
+            ValueInner::U128(_) => false,
+            ValueInner::I128(_) => false,
+        }
+    }
+
+    // The number that it is.
+    pub(crate) fn whole(&self) -> Option<Whole>
+        ensures { option_map whole_value result ≡ number_in self.now }
+    {
+        match &self.inner {
+            ValueInner::U64(n) => Some(Whole::Unsigned(u128::from(*n))),
+            ValueInner::I64(z) => Some(Whole::Signed(i128::from(*z))),
+            ValueInner::U128(n) => Some(Whole::Unsigned(*n)),
+            ValueInner::I128(z) => Some(Whole::Signed(*z)),
+            ValueInner::Undefined => None,
+            ValueInner::None => None,
+            ValueInner::Bool(_) => None,
+            ValueInner::String(_, _) => None,
+            ValueInner::Array(_) => None,
+            ValueInner::Bytes(_) => None,
+        }
+    }
+}
+
+// Whether there is an item.
+fn is_nonempty<T>(all: &[T]) -> bool
+    ensures { result ≡ is_nonempty all.now }
+{
+    !all.is_empty()
+}
+
+// How many characters a text has.
+fn characters(text: &str) -> usize
+    ensures { result ≡ length (chars text.now) }
+{
+    text.chars().count()
+}

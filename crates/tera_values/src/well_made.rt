@@ -1,0 +1,53 @@
+//! The law that values are well made.
+ghost use Rattle.std.specs.List.{AllByRecursion};
+ghost use Rattle.tera_meaning.specs.Tree.{array, items};
+ghost use Rattle.tera_meaning.specs.WellMade.{IsWellMade, IsByte};
+
+use crate::Value;
+use crate::value::ValueInner;
+
+/// Each value that a program holds is well made: each number is one of its kind, each text spells characters in UTF-8,
+/// and each byte is below 256, at every depth. It only walks through the value, for the sake of the clause. Takes no
+/// memory.
+#[cycle(well_made)]
+pub fn is_well_made(value: &Value)
+    ensures { IsWellMade value.now }
+{
+    match &value.inner {
+        ValueInner::Undefined => {}
+        ValueInner::None => {}
+        ValueInner::Bool(_) => {}
+        ValueInner::U64(n) => {
+            let _number = *n;
+        }
+        ValueInner::I64(z) => {
+            let _number = *z;
+        }
+        ValueInner::U128(n) => {
+            let _number = *n;
+        }
+        ValueInner::I128(z) => {
+            let _number = *z;
+        }
+        ValueInner::String(text, _) => {
+            let _text = text.as_str();
+        }
+        ValueInner::Array(all) => items_are_well_made(all.as_slice()),
+        ValueInner::Bytes(held) => bytes_are_small(held.as_slice()),
+    }
+}
+
+// Items are well made.
+#[cycle(well_made)]
+fn items_are_well_made(all: &[Value])
+    ensures { IsWellMade (array (items all.now)) }
+{
+    for value in all {
+        is_well_made(value);
+    }
+}
+
+// Bytes are below 256.
+fn bytes_are_small(held: &[u8])
+    ensures { AllByRecursion IsByte held.now }
+{}
