@@ -1,12 +1,15 @@
 //! The values that a template's names stand for.
 ghost use Rattle.std.specs.Prelude.{◌≡◌, MatchOption, None, Some, OnOk, OnErr, IfErr};
-ghost use Rattle.std.specs.FinMap.{empty, get, insert};
+ghost use Rattle.std.specs.FinMap.{empty, get, contains_key, insert, remove};
 ghost use Rattle.std.specs.String.{string_bytes};
+ghost use Rattle.tera_meaning.specs.Read.{marked_safe};
+ghost use Rattle.tera_meaning.specs.Step.{marking};
 ghost use Rattle.tera_report.specs.Errors.{IsOutOfMemory};
 
 use std::alloc::Global;
 use std::collections::BTreeMap;
 use std::marker::Model;
+use std::mem;
 use tera_report::TeraResult;
 use tera_values::Value;
 
@@ -49,6 +52,32 @@ impl Context {
         self.values.get(name)
     }
 
+    /// Whether the name is there. Mirrors `Context::contains_key`. Takes no memory.
+    pub fn contains_key(&self, name: &str) -> bool
+        ensures { result ≡ contains_key self.now name.now }
+    {
+        self.values.contains_key(name)
+    }
+
+    /// Takes the name away, and answers the value that it had. Mirrors `Context::remove`. Takes no
+    /// memory.
+    pub fn remove(&mut self, name: &str) -> Option<Value>
+        ensures result { result ≡ get self.old name.now }
+        ensures state { self.new ≡ remove self.old name.now }
+    {
+        self.values.remove(name)
+    }
+
+    /// Marks the value of the name safe where it is. A name that isn't there stays away. Takes no
+    /// memory.
+    pub(crate) fn mark_safe(&mut self, name: &str)
+        ensures { self.new ≡ marking self.old name.now (get self.old name.now) }
+    {
+        if let Some(value) = self.values.get_mut(name) {
+            mark(value);
+        }
+    }
+
     /// Keeps the value under the name, in the place of what was there.
     ///
     /// Takes memory; the only refusal is want of it, `Out of memory`, and then nothing has changed.
@@ -65,4 +94,12 @@ impl Context {
     pub(crate) fn allocator(&self) -> Global {
         self.alloc
     }
+}
+
+// Marks the value safe where it is.
+fn mark(value: &mut Value)
+    ensures { value.new ≡ marked_safe value.old }
+{
+    let held = mem::replace(value, Value::undefined());
+    *value = held.mark_safe();
 }
