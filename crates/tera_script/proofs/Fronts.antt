@@ -1,12 +1,8 @@
 -- The bytes at the front that pass a test, and those behind them.
-use Rattle.std.proofs.Common.{◌≡◌, ◌-◌, ◌≤◌, ℕ, Bool, true, false, cond, ◌&&◌, List, [], ◌∷◌, ◌++◌, length, take, drop, refl, ap, sym, ◌∙◌, ◌⊎◌, inl, inr, arith, append_assoc, length-append}
+use Rattle.std.proofs.Common.{◌≡◌, ◌-◌, ◌≤◌, ℕ, Bool, true, false, cond, ◌&&◌, List, [], ◌∷◌, ◌++◌, length, take, drop, refl, ap, sym, ◌∙◌, arith, append_assoc, length-append}
 use Rattle.std.proofs.lemmas.List.{take_at, drop_at}
 use Rattle.std.specs.List.{list_all}
 use Rattle.tera_script.specs.Readers.{Stops, front, past}
-
-pub true_or_false : (b : Bool) → (b ≡ true) ⊎ (b ≡ false)
-true_or_false true = inl refl
-true_or_false false = inr refl
 
 module _ (p : ℕ → Bool) where
   front_step : (b : ℕ) (xs : List ℕ) (t : Bool) → p b ≡ t → front p xs ++ past p xs ≡ xs → cond (p b) (b ∷ front p xs) [] ++ cond (p b) (past p xs) (b ∷ xs) ≡ b ∷ xs

@@ -10,7 +10,15 @@ pub mod HexNumbers
 pub mod Decoding
 pub mod Escapes
 pub mod TextStops
+pub mod Utf8Fronts
+pub mod Words
+pub mod HexBytes
+pub mod Shapes
 pub mod Literals
+pub mod Arrays
+pub mod Verbs
 pub mod Calls
+pub mod Commands
 pub mod Lines
 pub mod WorkedLines
+pub mod WorkedFaults

@@ -1,278 +1,287 @@
--- Literals: each is a word or stands in quotes, and no bytes begin with two of them.
-use Rattle.std.proofs.Common.{◌≡◌, ◌≢◌, ◌<◌, ℕ, Bool, true, false, cond, List, [], ◌∷◌, ◌++◌, length, drop, Option, Some, None, refl, ap, sym, ◌∙◌, ◌⊎◌, inl, inr, arith, append_assoc, length-append, subst, lit<, ◌+◌, ◌≤◌, Result, Ok, Err, IfOk, take, ◌-◌}
-use Rattle.std.specs.Prelude.{codes}
-use Rattle.std.specs.Char.{is_ascii_digit}
-use Rattle.std.specs.List.{list_all}
+-- No bytes begin with two literals, and what the readers of literals answer.
+use Rattle.std.proofs.Common.{◌≡◌, ◌≢◌, ◌<◌, ◌≤◌, ◌+◌, ℕ, Bool, true, false, List, [], ◌∷◌, ◌++◌, length, drop, Option, Some, None, Result, Ok, Err, IfOk, refl, ap, sym, ◌∙◌, ◌⊎◌, inl, inr, arith, append_assoc, append-nil, length-append, subst, lit<}
 use Rattle.std.specs.Option.{option_map}
-use Rattle.std.specs.Str.{bytes_eq, IsUtf8}
+use Rattle.std.specs.Str.{IsUtf8}
 use Rattle.std.proofs.lemmas.Bool.Decides.{nat_tests}
-use Rattle.std.proofs.lemmas.Slice.Eq.{bytes_eq-Decides}
-use Rattle.tera_meaning.specs.Integer.{IntegerKind, u64, i64, u128, i128, Integer}
-use Rattle.tera_meaning.specs.Form.{Form, MarkedText}
-use Rattle.tera_meaning.specs.Tree.{undefined, none, truth, number, text, bytes, array, object}
-use Rattle.tera_script.specs.Number.{sign_of, suffix_of, SpellsNumber}
-use Rattle.tera_script.specs.Text.{BeginsWithText}
-use Rattle.tera_script.specs.Literal.{mark_of, SpellsMarkedText, SpellsLiteral}
-use Rattle.tera_script.specs.Line.{is_blank}
-use Rattle.tera_script.specs.Readers.{Stops, front, past, digits_at, unsigned_in, number_in, number_value, is_word_byte, if_word, value_in, plain_at, IsLiteralAt, IsQuotedAt}
-use Rattle.tera_script.proofs.Fronts.{front_is, past_is, front-past, past_stops, take_to_past, both_pass}
-use Rattle.tera_script.proofs.Integers.{number_found, number_only, digits_only}
-use Rattle.tera_script.proofs.Texts.{one_reading, text_is_utf8}
-use Rattle.tera_script.proofs.Utf8Texts.{after_byte, around_byte}
 use Rattle.std.proofs.lemmas.List.Prefix.{front_rest}
 use Rattle.std.proofs.lemmas.List.{drop_at}
+use Rattle.std.proofs.lemmas.Option.{some_pair_parts}
+use Rattle.tera_meaning.specs.Integer.{Integer}
+use Rattle.tera_meaning.specs.Form.{Form, MarkedText}
+use Rattle.tera_meaning.specs.KeyMeaning.{KeyForm}
+use Rattle.tera_meaning.specs.Tree.{Items, undefined, none, truth, number, text, bytes, array, object, no_items, item, depth}
+use Rattle.tera_script.specs.Text.{SpellsText, BeginsWithText}
+use Rattle.tera_script.specs.Word.{is_blank}
+use Rattle.tera_script.specs.Literal.{mark_of, SpellsBytes, SpellsLiteral}
+use Rattle.tera_script.specs.Readers.{Stops, front, past, number_in, unsigned_in, digits_at, is_word_byte, value_in, plain_at, hex_at, bytes_read, BeginsWithLiteral, Ends, ItemsAt, MoreAt, IsLiteralAt, IsQuotedAt, IsArrayAt}
+use Rattle.tera_script.proofs.Fronts.{front-past, past_stops}
+use Rattle.tera_script.proofs.Words.{IsWord, option_same, value_is_flat, value_found, word_front, word_behind, no_value_nowhere}
+use Rattle.tera_script.proofs.HexBytes.{hex_only, hex_found}
+use Rattle.tera_script.proofs.Shapes.{a_word, a_text, a_byte_string, an_array, shape_of, items_at, text_begins, bytes_begin, array_begins, quoted_utf8}
+use Rattle.tera_script.proofs.Texts.{one_reading, text_is_utf8}
+use Rattle.tera_script.proofs.Utf8Texts.{after_byte}
 use Rattle.tera_values.specs.View.{marked}
 
-chosen : {A : Type 0} (b : Bool) (x y z : A) → cond b x y ≡ z → ((b ≡ true) × (x ≡ z)) ⊎ ((b ≡ false) × (y ≡ z))
-chosen true x y z e = inl (refl, e)
-chosen false x y z e = inr (refl, e)
-
-option_same : {A : Type 0} (x y : A) → ◌≡◌ {A = Option A} (Some x) (Some y) → x ≡ y
-option_same x y e = cc
-
--- words
-word_found : (word t : List ℕ) (value : Form) (otherwise : Option Form) (v : Form) → if_word word t value otherwise ≡ Some v → ((word ≡ t) × (value ≡ v)) ⊎ (otherwise ≡ Some v)
-word_found word t value otherwise v e = elim (chosen (bytes_eq word t) (Some value) otherwise (Some v) e) [
-  | inl h ↦ inl ((bytes_eq-Decides word t).0 h.0, option_same value v h.1)
-  | inr h ↦ inr h.1
-]
-
-number_value_found : (word : List ℕ) (n : Option Integer) (v : Form) → ((i : Integer) → n ≡ Some i → SpellsNumber word i) → number_value n ≡ Some v → SpellsLiteral word v
-number_value_found word None v h e = cc
-number_value_found word (Some i) v h e = rw (← option_same (number i) v e) (h i refl)
-
-pub value_found : (word : List ℕ) (v : Form) → value_in word ≡ Some v → SpellsLiteral word v
-unfolding value_in
-value_found word v e = elim (word_found word (codes "undefined") undefined (if_word word (codes "none") none (if_word word (codes "true") (truth true) (if_word word (codes "false") (truth false) (number_value (number_in word))))) v e) [
-  | inl h ↦ rw (← h.1) (h.0)
-  | inr e ↦ elim (word_found word (codes "none") none (if_word word (codes "true") (truth true) (if_word word (codes "false") (truth false) (number_value (number_in word)))) v e) [
-    | inl h ↦ rw (← h.1) (h.0)
-    | inr e ↦ elim (word_found word (codes "true") (truth true) (if_word word (codes "false") (truth false) (number_value (number_in word))) v e) [
-      | inl h ↦ rw (← h.1) (h.0)
-      | inr e ↦ elim (word_found word (codes "false") (truth false) (number_value (number_in word)) v e) [
-        | inl h ↦ rw (← h.1) (h.0)
-        | inr e ↦ number_value_found word (number_in word) v (λ i. number_found word i) e
-      ]
-    ]
-  ]
-]
-
--- a number is none of the other words
-not_word : (word t : List ℕ) (n : Integer) → number_in word ≡ Some n → number_in t ≡ None → bytes_eq word t ≡ false
-not_word word t n e no_number = differs (bytes_eq word t) (λ h. let same = (bytes_eq-Decides word t).0 h in let other = ap number_in same in cc)
-  where
-    differs : (b : Bool) → ¬ (b ≡ true) → b ≡ false
-    differs true h = absurd (h refl)
-    differs false h = refl
-
-no_number_undefined : number_in (codes "undefined") ≡ None
-unfolding number_in unsigned_in digits_at
-no_number_undefined = refl
-
-no_number_none : number_in (codes "none") ≡ None
-unfolding number_in unsigned_in digits_at
-no_number_none = refl
-
-no_number_true : number_in (codes "true") ≡ None
-unfolding number_in unsigned_in digits_at
-no_number_true = refl
-
-no_number_false : number_in (codes "false") ≡ None
-unfolding number_in unsigned_in digits_at
-no_number_false = refl
-
-pub number_value_only : (word : List ℕ) (n : Integer) → SpellsNumber word n → value_in word ≡ Some (number n)
-unfolding value_in
-number_value_only word n h =
-    let e = number_only word n h in
-    rw (not_word word (codes "undefined") n e no_number_undefined, not_word word (codes "none") n e no_number_none, not_word word (codes "true") n e no_number_true, not_word word (codes "false") n e no_number_false, e)
-
--- the bytes of a number
-all_append : (p : ℕ → Bool) (xs ys : List ℕ) → list_all p xs ≡ true → list_all p ys ≡ true → list_all p (xs ++ ys) ≡ true
-all_append p [] ys h g = g
-all_append p (b ∷ xs) ys h g = let e = both_pass p (p b) (list_all p xs) h in rw (e.0) (all_append p xs ys e.1 g)
-
-digits_are_word : (digits : List ℕ) → list_all is_ascii_digit digits ≡ true → list_all is_word_byte digits ≡ true
-digits_are_word [] h = refl
-digits_are_word (b ∷ digits) h =
-    let e = both_pass is_ascii_digit (is_ascii_digit b) (list_all is_ascii_digit digits) h in
-    let first : is_word_byte b ≡ true = grind (arith, nat_tests, e.0) in
-    rw first (digits_are_word digits e.1)
-
-sign_is_word : (minus : Bool) → list_all is_word_byte (sign_of minus) ≡ true
-sign_is_word true = refl
-sign_is_word false = refl
-
-suffix_is_word : (suffix : Option IntegerKind) → list_all is_word_byte (suffix_of suffix) ≡ true
-suffix_is_word None = refl
-suffix_is_word (Some u64) = refl
-suffix_is_word (Some i64) = refl
-suffix_is_word (Some u128) = refl
-suffix_is_word (Some i128) = refl
-
-number_is_word : (word : List ℕ) (n : Integer) → SpellsNumber word n → list_all is_word_byte word ≡ true
-number_is_word word n h = rw (h.spelled) (all_append is_word_byte (sign_of h.minus ++ h.digits) (suffix_of h.suffix) (all_append is_word_byte (sign_of h.minus) h.digits (sign_is_word h.minus) (digits_are_word h.digits (digits_only h.digits h.numeral.1))) (suffix_is_word h.suffix))
-
--- a literal is a word that names the value
-pub record IsWord (literal : List ℕ) (value : Form) : Type 0 where
-  pub names : value_in literal ≡ Some value
-  pub bytes : list_all is_word_byte literal ≡ true
-
--- or a text in quotes
-pub record IsQuoted (literal : List ℕ) (value : Form) : Type 0 where
-  pub held : MarkedText
-  pub value_is : value ≡ text held
-  pub spells : SpellsMarkedText literal held
-
-word_undefined : IsWord (codes "undefined") undefined
-unfolding value_in
-word_undefined = record { names = refl; bytes = refl }
-
-word_none : IsWord (codes "none") none
-unfolding value_in
-word_none = record { names = refl; bytes = refl }
-
-word_true : IsWord (codes "true") (truth true)
-unfolding value_in
-word_true = record { names = refl; bytes = refl }
-
-word_false : IsWord (codes "false") (truth false)
-unfolding value_in
-word_false = record { names = refl; bytes = refl }
-
-pub word_or_quoted : (literal : List ℕ) (value : Form) → SpellsLiteral literal value → IsWord literal value ⊎ IsQuoted literal value
-word_or_quoted literal undefined h = inl (rw h word_undefined)
-word_or_quoted literal none h = inl (rw h word_none)
-word_or_quoted literal (truth true) h = inl (rw h word_true)
-word_or_quoted literal (truth false) h = inl (rw h word_false)
-word_or_quoted literal (number n) h = inl (record { names = number_value_only literal n h; bytes = number_is_word literal n h })
-word_or_quoted literal (text t) h = inr (record { held = t; value_is = refl; spells = h })
-word_or_quoted literal (bytes bs) h = absurd h
-word_or_quoted literal (array xs) h = absurd h
-word_or_quoted literal (object ps) h = absurd h
-
--- what stands behind a quoted text's mark
-quoted_bytes : (safe : Bool) (inner rest : List ℕ) → (mark_of safe ++ (34 ∷ inner) ++ (34 ∷ [])) ++ rest ≡ mark_of safe ++ (34 ∷ (inner ++ 34 ∷ rest))
-quoted_bytes true inner rest = ap (λ xs. 115 ∷ 34 ∷ xs) (append_assoc inner (34 ∷ []) rest)
-quoted_bytes false inner rest = ap (λ xs. 34 ∷ xs) (append_assoc inner (34 ∷ []) rest)
-
-marked_front : (safe : Bool) (xs : List ℕ) → value_in (front is_word_byte (mark_of safe ++ (34 ∷ xs))) ≡ None
-unfolding value_in number_in unsigned_in digits_at
-marked_front true xs = refl
-marked_front false xs = refl
-
--- a word is what stands at the front; quoted, no word does
-word_front : (literal rest : List ℕ) (value : Form) → IsWord literal value → Stops is_word_byte rest → value_in (front is_word_byte (literal ++ rest)) ≡ Some value
-word_front literal rest value w s = ap value_in (front_is is_word_byte literal rest w.bytes s) ∙ w.names
-
-quoted_front : (literal rest : List ℕ) (value : Form) → IsQuoted literal value → value_in (front is_word_byte (literal ++ rest)) ≡ None
-quoted_front literal rest value q = ap (λ xs. value_in (front is_word_byte xs)) (ap (λ l. l ++ rest) q.spells.2 ∙ quoted_bytes q.held.safe q.spells.0 rest) ∙ marked_front q.held.safe (q.spells.0 ++ 34 ∷ rest)
-
-abbrev head : List ℕ → ℕ
+abbrev pub head : List ℕ → ℕ
 head [] = 0
 head (b ∷ xs) = b
 
-abbrev tail : List ℕ → List ℕ
+abbrev pub tail : List ℕ → List ℕ
 tail [] = []
 tail (b ∷ xs) = xs
 
-apart : (m n : ℕ) → m ≡ n → m < n ⊎ n < m → ⊥
-apart m n e h = elim h [ inl l ↦ omega arith | inr l ↦ omega arith ]
+pub more : (m n : ℕ) → m < n → m ≡ n → ⊥
+more m n h e = omega arith
+
+pub less : (m n : ℕ) → n < m → m ≡ n → ⊥
+less m n h e = omega arith
+
+-- which byte opens a literal: a text's is a quote or an s (34, 115), that of bytes an x (120), and an array's a bracket (91)
+text_apart : (safe : Bool) (xs : List ℕ) (b : ℕ) (ys : List ℕ) → 34 < b → b ≢ 115 → mark_of safe ++ (34 ∷ xs) ≡ b ∷ ys → ⊥
+text_apart true xs b ys h n e = n (sym (ap head e))
+text_apart false xs b ys h n e = more 34 b h (ap head e)
+
+opens_apart : (m n : ℕ) (xs ys : List ℕ) → m < n ⊎ n < m → m ∷ xs ≡ n ∷ ys → ⊥
+opens_apart m n xs ys (inl h) e = more m n h (ap head e)
+opens_apart m n xs ys (inr h) e = less m n h (ap head e)
+
+other_x : ◌≢◌ {A = ℕ} 120 115
+other_x e = less 120 115 (lit< tt) e
+
+other_bracket : ◌≢◌ {A = ℕ} 91 115
+other_bracket e = more 91 115 (lit< tt) e
+
+-- no word is opened so
+text_front : (safe : Bool) (xs : List ℕ) → value_in (front is_word_byte (mark_of safe ++ (34 ∷ xs))) ≡ None
+unfolding value_in number_in unsigned_in digits_at
+text_front true xs = refl
+text_front false xs = refl
+
+bytes_front : (xs : List ℕ) → value_in (front is_word_byte (120 ∷ 34 ∷ xs)) ≡ None
+unfolding value_in number_in unsigned_in digits_at
+bytes_front xs = refl
+
+array_front : (xs : List ℕ) → value_in (front is_word_byte (91 ∷ xs)) ≡ None
+array_front xs = no_value_nowhere
+
+no_word : (xs literal rest ys : List ℕ) (value : Form) → IsWord literal value → xs ≡ literal ++ rest → Stops is_word_byte rest → xs ≡ ys → value_in (front is_word_byte ys) ≡ None → ⊥
+no_word xs literal rest ys value w e s same nothing = let one = word_front xs literal rest value w e s in let other = ap (λ zs. value_in (front is_word_byte zs)) same ∙ nothing in cc
+
+pub blank_ends_word : (b : ℕ) → is_blank b ≡ true → is_word_byte b ≡ false
+blank_ends_word b h = grind (arith, nat_tests)
+
+pub stops_end : (value : Form) (rest : List ℕ) → Stops is_word_byte rest → Ends value rest
+stops_end undefined rest s = s
+stops_end none rest s = s
+stops_end (truth b) rest s = s
+stops_end (number n) rest s = s
+stops_end (text t) rest s = tt
+stops_end (bytes bs) rest s = tt
+stops_end (array all) rest s = tt
+stops_end (object ps) rest s = s
+
+bracket_or_comma : (xs : List ℕ) (b : ℕ) (rest : List ℕ) → past is_blank xs ≡ b ∷ rest → is_word_byte b ≡ false → Stops is_word_byte xs
+bracket_or_comma [] b rest e n = tt
+bracket_or_comma (c ∷ xs) b rest e n = by_blank (is_blank c) refl
+  where
+    by_blank : (t : Bool) → is_blank c ≡ t → is_word_byte c ≡ false
+    by_blank true h = blank_ends_word c h
+    by_blank false h = subst (λ d. is_word_byte d ≡ false) (sym (ap head (rw h at e))) n
+
+-- what stands behind an item ends it
+pub more_stops : (all : Items Integer MarkedText KeyForm) (xs rest : List ℕ) → MoreAt xs all rest → Stops is_word_byte xs
+more_stops no_items xs rest h = bracket_or_comma xs 93 rest h refl
+more_stops (item value all) xs rest h = bracket_or_comma xs 44 h.0 h.2 refl
+
+-- no literal begins with a comma or a closing bracket
+module _ (c : ℕ) (word : is_word_byte c ≡ false) (quote : 34 < c) (letter : c < 115) (bracket : ◌≢◌ {A = ℕ} 91 c) where
+  no_first : (xs : List ℕ) (value : Form) (rest ys : List ℕ) → BeginsWithLiteral xs value rest → xs ≡ c ∷ ys → Ends value rest → ⊥
+  no_first xs value rest ys b e ends = elim (shape_of xs value rest b) [
+    | a_word literal w s stops ↦ no_word xs literal rest (c ∷ ys) value w s (stops ends) e (rw word no_value_nowhere)
+    | a_text t inner v s m ↦ text_apart t.safe (inner ++ 34 ∷ rest) c ys quote (λ n. more c 115 letter n) (sym m ∙ e)
+    | a_byte_string bs digits v s m ↦ opens_apart 120 c (34 ∷ (digits ++ 34 ∷ rest)) ys (inr (omega (arith, letter))) (sym m ∙ e)
+    | an_array all inside v h m ↦ bracket (ap head (sym m ∙ e))
+  ]
+
+pub no_literal : (xs : List ℕ) (value : Form) (rest ys : List ℕ) → BeginsWithLiteral xs value rest → xs ≡ 93 ∷ ys → Ends value rest → ⊥
+no_literal = no_first 93 refl (lit< tt) (lit< tt) (more 91 93 (lit< tt))
+
+pub no_first_comma : (xs : List ℕ) (value : Form) (rest ys : List ℕ) → BeginsWithLiteral xs value rest → xs ≡ 44 ∷ ys → Ends value rest → ⊥
+no_first_comma = no_first 44 refl (lit< tt) (lit< tt) (less 91 44 (lit< tt))
 
 same_marks : (s t : Bool) (xs ys : List ℕ) → mark_of s ++ (34 ∷ xs) ≡ mark_of t ++ (34 ∷ ys) → (s ≡ t) × (xs ≡ ys)
 same_marks true true xs ys e = (refl, ap (λ l. tail (tail l)) e)
 same_marks false false xs ys e = (refl, ap tail e)
-same_marks true false xs ys e = absurd (apart 115 34 (ap head e) (inr (lit< tt)))
-same_marks false true xs ys e = absurd (apart 34 115 (ap head e) (inl (lit< tt)))
+same_marks true false xs ys e = absurd (less 115 34 (lit< tt) (ap head e))
+same_marks false true xs ys e = absurd (more 34 115 (lit< tt) (ap head e))
 
 behind_same : (inner other x y : List ℕ) → inner ≡ other → inner ++ 34 ∷ x ≡ other ++ 34 ∷ y → x ≡ y
 behind_same inner other x y same e =
     ap tail (sym (front_rest (inner ++ 34 ∷ x) inner (34 ∷ x) refl) ∙ front_rest (inner ++ 34 ∷ x) inner (34 ∷ y) (e ∙ ap (λ xs. xs ++ 34 ∷ y) (sym same)))
 
-one_quoted : (a b x y : List ℕ) (v w : Form) → IsQuoted a v → IsQuoted b w → a ++ x ≡ b ++ y → (v ≡ w) × (x ≡ y)
-one_quoted a b x y v w p q e =
-    let left = ap (λ l. l ++ x) p.spells.2 ∙ quoted_bytes p.held.safe p.spells.0 x in
-    let right = ap (λ l. l ++ y) q.spells.2 ∙ quoted_bytes q.held.safe q.spells.0 y in
-    let marks = same_marks p.held.safe q.held.safe (p.spells.0 ++ 34 ∷ x) (q.spells.0 ++ 34 ∷ y) (sym left ∙ e ∙ right) in
-    let reading = one_reading p.spells.0 q.spells.0 x y p.held.spelled q.held.spelled p.spells.1 q.spells.1 marks.1 in
-    (p.value_is ∙ (λ i. text (record { spelled = reading.1 i; safe = marks.0 i })) ∙ sym q.value_is, behind_same p.spells.0 q.spells.0 x y reading.0 marks.1)
+-- the literal is the only one at the front
+abbrev IsOnly : List ℕ → Form → List ℕ → Type 0
+IsOnly xs v x = (w : Form) (y : List ℕ) → BeginsWithLiteral xs w y → Ends w y → (v ≡ w) × (x ≡ y)
 
--- no bytes begin with two literals
-pub one_literal : (a b x y : List ℕ) (v w : Form) → SpellsLiteral a v → SpellsLiteral b w → a ++ x ≡ b ++ y → Stops is_word_byte x → Stops is_word_byte y → (v ≡ w) × (x ≡ y)
-one_literal a b x y v w p q e s t = elim (word_or_quoted a v p) [
-  | inl m ↦ elim (word_or_quoted b w q) [
-    | inl n ↦ (option_same v w (sym (word_front a x v m s) ∙ ap (λ xs. value_in (front is_word_byte xs)) e ∙ word_front b y w n t), sym (past_is is_word_byte a x m.bytes s) ∙ ap (past is_word_byte) e ∙ past_is is_word_byte b y n.bytes t)
-    | inr n ↦ let one = word_front a x v m s in let other = quoted_front b y w n in let same = ap (λ xs. value_in (front is_word_byte xs)) e in cc
-  ]
-  | inr m ↦ elim (word_or_quoted b w q) [
-    | inl n ↦ let one = quoted_front a x v m in let other = word_front b y w n t in let same = ap (λ xs. value_in (front is_word_byte xs)) e in cc
-    | inr n ↦ one_quoted a b x y v w m n e
-  ]
+only_word : (xs : List ℕ) (v : Form) (x literal : List ℕ) → IsWord literal v → xs ≡ literal ++ x → Stops is_word_byte x → IsOnly xs v x
+only_word xs v x literal m e s w y c t = elim (shape_of xs w y c) [
+  | a_word other n f stops ↦ (option_same v w (sym (word_front xs literal x v m e s) ∙ word_front xs other y w n f (stops t)), sym (word_behind xs literal x v m e s) ∙ word_behind xs other y w n f (stops t))
+  | a_text u inner is p f ↦ absurd (no_word xs literal x _ v m e s f (text_front u.safe (inner ++ 34 ∷ y)))
+  | a_byte_string bs digits is p f ↦ absurd (no_word xs literal x _ v m e s f (bytes_front (digits ++ 34 ∷ y)))
+  | an_array all inside is p f ↦ absurd (no_word xs literal x _ v m e s f (array_front inside))
 ]
 
--- the reader of words
-pub plain_found : (xs : List ℕ) (answer : Option (Form × List ℕ)) → ((literal rest : List ℕ) (value : Form) → IsQuoted literal value → xs ≢ literal ++ rest) → answer ≡ plain_at xs → IsLiteralAt xs answer
+only_text : (xs : List ℕ) (v : Form) (x : List ℕ) (t : MarkedText) (inner : List ℕ) → v ≡ text t → SpellsText inner t.spelled → xs ≡ mark_of t.safe ++ (34 ∷ (inner ++ 34 ∷ x)) → IsOnly xs v x
+only_text xs v x t inner is p e w y c ends = elim (shape_of xs w y c) [
+  | a_word other n f stops ↦ absurd (no_word xs other y _ w n f (stops ends) e (text_front t.safe (inner ++ 34 ∷ x)))
+  | a_text u other also q f ↦
+      let marks = same_marks t.safe u.safe (inner ++ 34 ∷ x) (other ++ 34 ∷ y) (sym e ∙ f) in
+      let reading = one_reading inner other x y t.spelled u.spelled p q marks.1 in
+      (is ∙ (λ i. text (record { spelled = reading.1 i; safe = marks.0 i })) ∙ sym also, behind_same inner other x y reading.0 marks.1)
+  | a_byte_string bs digits also q f ↦ absurd (text_apart t.safe (inner ++ 34 ∷ x) 120 (34 ∷ (digits ++ 34 ∷ y)) (lit< tt) other_x (sym e ∙ f))
+  | an_array all inside also q f ↦ absurd (text_apart t.safe (inner ++ 34 ∷ x) 91 inside (lit< tt) other_bracket (sym e ∙ f))
+]
+
+only_bytes : (xs : List ℕ) (v : Form) (x bs digits : List ℕ) → v ≡ bytes bs → SpellsBytes digits bs → xs ≡ 120 ∷ 34 ∷ (digits ++ 34 ∷ x) → IsOnly xs v x
+only_bytes xs v x bs digits is p e w y c ends = elim (shape_of xs w y c) [
+  | a_word other n f stops ↦ absurd (no_word xs other y _ w n f (stops ends) e (bytes_front (digits ++ 34 ∷ x)))
+  | a_text u inner also q f ↦ absurd (text_apart u.safe (inner ++ 34 ∷ y) 120 (34 ∷ (digits ++ 34 ∷ x)) (lit< tt) other_x (sym f ∙ e))
+  | a_byte_string cs others also q f ↦
+      let found = sym (hex_only bs digits x p) ∙ ap hex_at (ap (λ l. tail (tail l)) (sym e ∙ f)) ∙ hex_only cs others y q in
+      let parts = some_pair_parts bs cs x y found in
+      (is ∙ ap bytes parts.0 ∙ sym also, parts.1)
+  | an_array all inside also q f ↦ absurd (opens_apart 120 91 (34 ∷ (digits ++ 34 ∷ x)) inside (inr (lit< tt)) (sym e ∙ f))
+]
+
+only_array : (xs : List ℕ) (v : Form) (x : List ℕ) (all : Items Integer MarkedText KeyForm) (inside : List ℕ) → v ≡ array all → xs ≡ 91 ∷ inside → ((others : Items Integer MarkedText KeyForm) (y : List ℕ) → ItemsAt inside others y → (all ≡ others) × (x ≡ y)) → IsOnly xs v x
+only_array xs v x all inside is e only w y c ends = elim (shape_of xs w y c) [
+  | a_word other n f stops ↦ absurd (no_word xs other y _ w n f (stops ends) e (array_front inside))
+  | a_text u inner also q f ↦ absurd (text_apart u.safe (inner ++ 34 ∷ y) 91 inside (lit< tt) other_bracket (sym f ∙ e))
+  | a_byte_string cs digits also q f ↦ absurd (opens_apart 120 91 (34 ∷ (digits ++ 34 ∷ y)) inside (inr (lit< tt)) (sym f ∙ e))
+  | an_array others behind also q f ↦
+      let same = only others y (subst (λ ys. ItemsAt ys others y) (ap tail (sym f ∙ e)) q) in
+      (is ∙ ap array same.0 ∙ sym also, same.1)
+]
+
+-- a literal that is no array
+only_flat : (xs : List ℕ) (v : Form) (x : List ℕ) → ((all : Items Integer MarkedText KeyForm) → v ≢ array all) → BeginsWithLiteral xs v x → Ends v x → IsOnly xs v x
+only_flat xs v x flat b s = elim (shape_of xs v x b) [
+  | a_word literal m e stops ↦ only_word xs v x literal m e (stops s)
+  | a_text t inner is p e ↦ only_text xs v x t inner is p e
+  | a_byte_string bs digits is p e ↦ only_bytes xs v x bs digits is p e
+  | an_array all inside is p e ↦ absurd (flat all is)
+]
+
+-- the inside of an array
+inside_of : (xs : List ℕ) (all : Items Integer MarkedText KeyForm) (x : List ℕ) → BeginsWithLiteral xs (array all) x → (inside : List ℕ) × ItemsAt inside all x × (xs ≡ 91 ∷ inside)
+inside_of xs all x b = (b.spells.0 ++ 93 ∷ x, items_at all b.spells.0 x b.spells.1, b.spelled ∙ ap (λ l. l ++ x) b.spells.2 ∙ ap (λ ys. 91 ∷ ys) (append_assoc b.spells.0 (93 ∷ []) x))
+
+closed_at_once : (xs x : List ℕ) (others : Items Integer MarkedText KeyForm) (y : List ℕ) → past is_blank xs ≡ 93 ∷ x → ItemsAt xs others y → (no_items ≡ others) × (x ≡ y)
+closed_at_once xs x no_items y h g = (refl, ap tail (sym h ∙ g))
+closed_at_once xs x (item w others) y h g = absurd (no_literal (past is_blank xs) w g.0 x g.1 h (stops_end w g.0 (more_stops others g.0 y g.2)))
+
+closed_more : (xs x : List ℕ) (others : Items Integer MarkedText KeyForm) (y : List ℕ) → past is_blank xs ≡ 93 ∷ x → MoreAt xs others y → (no_items ≡ others) × (x ≡ y)
+closed_more xs x no_items y h g = (refl, ap tail (sym h ∙ g))
+closed_more xs x (item w others) y h g = absurd (less 93 44 (lit< tt) (ap head (sym h ∙ g.2)))
+
+mutual
+  pub only_at : (v : Form) (xs x : List ℕ) → BeginsWithLiteral xs v x → Ends v x → IsOnly xs v x
+  only_at undefined xs x b s = only_flat xs undefined x (λ all e. cc) b s
+  only_at none xs x b s = only_flat xs none x (λ all e. cc) b s
+  only_at (truth t) xs x b s = only_flat xs (truth t) x (λ all e. cc) b s
+  only_at (number n) xs x b s = only_flat xs (number n) x (λ all e. cc) b s
+  only_at (text t) xs x b s = only_flat xs (text t) x (λ all e. cc) b s
+  only_at (bytes bs) xs x b s = only_flat xs (bytes bs) x (λ all e. cc) b s
+  only_at (object ps) xs x b s = absurd b.spells
+  only_at (array all) xs x b s = let i = inside_of xs all x b in only_array xs (array all) x all i.0 refl i.2 (only_items all i.0 x i.1)
+
+  pub only_items : (all : Items Integer MarkedText KeyForm) (xs x : List ℕ) → ItemsAt xs all x → (others : Items Integer MarkedText KeyForm) (y : List ℕ) → ItemsAt xs others y → (all ≡ others) × (x ≡ y)
+  only_items no_items xs x h others y g = closed_at_once xs x others y h g
+  only_items (item v all) xs x h no_items y g = absurd (no_literal (past is_blank xs) v h.0 y h.1 g (stops_end v h.0 (more_stops all h.0 x h.2)))
+  only_items (item v all) xs x h (item w others) y g =
+      let first = only_at v (past is_blank xs) h.0 h.1 (stops_end v h.0 (more_stops all h.0 x h.2)) w g.0 g.1 (stops_end w g.0 (more_stops others g.0 y g.2)) in
+      let rest = only_more all h.0 x h.2 others y (subst (λ ys. MoreAt ys others y) (sym first.1) g.2) in
+      ((λ i. item (first.0 i) (rest.0 i)), rest.1)
+
+  pub only_more : (all : Items Integer MarkedText KeyForm) (xs x : List ℕ) → MoreAt xs all x → (others : Items Integer MarkedText KeyForm) (y : List ℕ) → MoreAt xs others y → (all ≡ others) × (x ≡ y)
+  only_more no_items xs x h others y g = closed_more xs x others y h g
+  only_more (item v all) xs x h no_items y g = absurd (less 93 44 (lit< tt) (ap head (sym g ∙ h.2)))
+  only_more (item v all) xs x h (item w others) y g =
+      let next : h.0 ≡ g.0 = ap tail (sym h.2 ∙ g.2) in
+      let first = only_at v (past is_blank h.0) h.1 h.3 (stops_end v h.1 (more_stops all h.1 x h.4)) w g.1 (subst (λ ys. BeginsWithLiteral (past is_blank ys) w g.1) (sym next) g.3) (stops_end w g.1 (more_stops others g.1 y g.4)) in
+      let rest = only_more all h.1 x h.4 others y (subst (λ ys. MoreAt ys others y) (sym first.1) g.4) in
+      ((λ i. item (first.0 i) (rest.0 i)), rest.1)
+
+-- no literal spells two values
+pub one_value : (literal : List ℕ) (v w : Form) → SpellsLiteral literal v → SpellsLiteral literal w → v ≡ w
+one_value literal v w p q = (only_at v literal [] (record { literal = literal; spells = p; spelled = sym (append-nil literal) }) (stops_end v [] tt) w [] (record { literal = literal; spells = q; spelled = sym (append-nil literal) }) (stops_end w [] tt)).0
+
+pub other_byte : (b c : ℕ) (xs ys : List ℕ) → b ≢ c → b ∷ xs ≡ c ∷ ys → ⊥
+other_byte b c xs ys n e = n (ap head e)
+
+-- what the readers answer, part by part
+pub plain_found : (levels : ℕ) (xs : List ℕ) (answer : Option (Form × List ℕ)) → ((ys : List ℕ) → xs ≢ (34 ∷ []) ++ ys) → ((ys : List ℕ) → xs ≢ (115 ∷ 34 ∷ []) ++ ys) → ((ys : List ℕ) → xs ≢ (120 ∷ 34 ∷ []) ++ ys) → ((ys : List ℕ) → xs ≢ (91 ∷ []) ++ ys) → answer ≡ plain_at xs → IsLiteralAt levels xs answer
 unfolding plain_at
-plain_found xs answer unquoted e = rw e (go (value_in (front is_word_byte xs)) refl)
+plain_found levels xs answer normal safe hex bracket e = rw e (go (value_in (front is_word_byte xs)) refl)
   where
-    go : (v : Option Form) → value_in (front is_word_byte xs) ≡ v → IsLiteralAt xs (option_map (λ v. (v, past is_word_byte xs)) v)
-    go (Some v) h =
-        let spells = value_found (front is_word_byte xs) v h in
-        let spelled = sym (front-past is_word_byte xs) in (
-          record { literal = front is_word_byte xs; spells = spells; spelled = spelled },
-          λ w other b stops. (one_literal b.literal (front is_word_byte xs) other (past is_word_byte xs) w v b.spells spells (sym b.spelled ∙ spelled) stops (past_stops is_word_byte xs)).1,
-        )
-    go None h = λ utf8 w rest b stops. elim (word_or_quoted b.literal w b.spells) [
-      | inl m ↦ let one = word_front b.literal rest w m stops in let same = ap (λ ys. value_in (front is_word_byte ys)) b.spelled in cc
-      | inr m ↦ absurd (unquoted b.literal rest w m b.spelled)
+    unmarked : (b : Bool) (ys : List ℕ) → xs ≡ mark_of b ++ (34 ∷ ys) → ⊥
+    unmarked true ys f = safe ys f
+    unmarked false ys f = normal ys f
+
+    go : (v : Option Form) → value_in (front is_word_byte xs) ≡ v → IsLiteralAt levels xs (option_map (λ v. (v, past is_word_byte xs)) v)
+    go (Some v) h = (
+      record { literal = front is_word_byte xs; spells = value_found (front is_word_byte xs) v h; spelled = sym (front-past is_word_byte xs) },
+      stops_end v (past is_word_byte xs) (past_stops is_word_byte xs),
+      value_is_flat levels (front is_word_byte xs) v h,
+    )
+    go None h = λ utf8 w rest b d stops. elim (shape_of xs w rest b) [
+      | a_word literal m f ends ↦ let one = word_front xs literal rest w m f stops in cc
+      | a_text t inner is p f ↦ unmarked t.safe (inner ++ 34 ∷ rest) f
+      | a_byte_string bs digits is p f ↦ hex (digits ++ 34 ∷ rest) f
+      | an_array all inside is p f ↦ bracket inside f
     ]
 
--- the reader of texts, behind the mark and the quote
-marked_utf8 : (safe : Bool) (inner rest : List ℕ) → IsUtf8 (mark_of safe ++ (34 ∷ (inner ++ 34 ∷ rest))) → IsUtf8 inner
-marked_utf8 true inner rest u = (around_byte inner rest 34 (omega arith) (after_byte (inner ++ 34 ∷ rest) 34 (omega arith) (after_byte (34 ∷ (inner ++ 34 ∷ rest)) 115 (omega arith) u))).0
-marked_utf8 false inner rest u = (around_byte inner rest 34 (omega arith) (after_byte (inner ++ 34 ∷ rest) 34 (omega arith) u)).0
-
-pub quoted_found : (safe : Bool) (xs behind : List ℕ) (answer : Option (Form × List ℕ)) → xs ≡ mark_of safe ++ (34 ∷ behind) → IsQuotedAt safe behind answer → IsLiteralAt xs answer
-quoted_found safe xs behind (Some found) e h =
-    let literal = mark_of safe ++ (34 ∷ h.0) ++ (34 ∷ []) in
-    let spells : SpellsLiteral literal found.0 = rw (h.3) (h.0, h.2, refl) in
-    let spelled : xs ≡ literal ++ found.1 = e ∙ ap (λ ys. mark_of safe ++ (34 ∷ ys)) h.4 ∙ sym (quoted_bytes safe h.0 found.1) in
-    let quoted : IsQuoted literal found.0 = record { held = record { spelled = h.1; safe = safe }; value_is = h.3; spells = (h.0, h.2, refl) } in (
-      record { literal = literal; spells = spells; spelled = spelled },
-      λ w other b stops. elim (word_or_quoted b.literal w b.spells) [
-        | inl m ↦ let one = word_front b.literal other w m stops in let not_one = quoted_front literal found.1 found.0 quoted in let same = ap (λ ys. value_in (front is_word_byte ys)) (sym b.spelled ∙ spelled) in cc
-        | inr m ↦ (one_quoted b.literal literal other found.1 w found.0 m quoted (sym b.spelled ∙ spelled)).1
-      ],
-    )
-quoted_found safe xs behind None e h = λ utf8 w rest b stops. elim (word_or_quoted b.literal w b.spells) [
-  | inl m ↦ let one = word_front b.literal rest w m stops in let other = marked_front safe behind in let same = ap (λ ys. value_in (front is_word_byte ys)) (sym e ∙ b.spelled) in cc
-  | inr m ↦
-      let bytes = ap (λ l. l ++ rest) m.spells.2 ∙ quoted_bytes m.held.safe m.spells.0 rest in
-      let marks = same_marks safe m.held.safe behind (m.spells.0 ++ 34 ∷ rest) (sym e ∙ b.spelled ∙ bytes) in
-      let u : IsUtf8 (mark_of m.held.safe ++ (34 ∷ (m.spells.0 ++ 34 ∷ rest))) = subst IsUtf8 (b.spelled ∙ bytes) utf8 in
-      absurd (h m.held.spelled m.spells.0 rest (marked_utf8 m.held.safe m.spells.0 rest u) m.spells.1 marks.1)
+pub quoted_found : (levels : ℕ) (safe : Bool) (xs behind : List ℕ) (answer : Option (Form × List ℕ)) → xs ≡ mark_of safe ++ (34 ∷ behind) → IsQuotedAt safe behind answer → IsLiteralAt levels xs answer
+quoted_found levels safe xs behind (Some found) e h =
+    let t : MarkedText = record { spelled = h.1; safe = safe } in
+    let b : BeginsWithLiteral xs (text t) found.1 = text_begins xs t h.0 found.1 h.2 (e ∙ ap (λ ys. mark_of safe ++ (34 ∷ ys)) h.4) in
+    subst (λ v. BeginsWithLiteral xs v found.1 × Ends v found.1 × (depth v ≤ levels)) (sym h.3) (b, tt, omega arith)
+quoted_found levels safe xs behind None e h = λ utf8 w rest b d stops. elim (shape_of xs w rest b) [
+  | a_word literal m f ends ↦ no_word xs literal rest _ w m f stops e (text_front safe behind)
+  | a_text t inner is p f ↦
+      let marks = same_marks safe t.safe behind (inner ++ 34 ∷ rest) (sym e ∙ f) in
+      h t.spelled inner rest (quoted_utf8 t.safe inner rest (subst IsUtf8 f utf8)) p marks.1
+  | a_byte_string bs digits is p f ↦ text_apart safe behind 120 (34 ∷ (digits ++ 34 ∷ rest)) (lit< tt) other_x (sym e ∙ f)
+  | an_array all inside is p f ↦ text_apart safe behind 91 inside (lit< tt) other_bracket (sym e ∙ f)
 ]
 
-word_is_not_blank : (b : ℕ) → is_word_byte b ≡ true → is_blank b ≡ false
-word_is_not_blank b h = grind (arith, nat_tests)
+pub bytes_found : (levels : ℕ) (xs behind : List ℕ) (answer : Option (Form × List ℕ)) → xs ≡ 120 ∷ 34 ∷ behind → answer ≡ bytes_read (hex_at behind) → IsLiteralAt levels xs answer
+bytes_found levels xs behind answer e h = rw h (go (hex_at behind) refl)
+  where
+    go : (read : Option (List ℕ × List ℕ)) → hex_at behind ≡ read → IsLiteralAt levels xs (bytes_read read)
+    go (Some found) f =
+        let has = hex_found behind found.0 found.1 f in
+        (bytes_begin xs found.0 has.digits found.1 has.spells (e ∙ ap (λ ys. 120 ∷ 34 ∷ ys) has.spelled), tt, omega arith)
+    go None f = λ utf8 w rest b d stops. elim (shape_of xs w rest b) [
+      | a_word literal m g ends ↦ no_word xs literal rest _ w m g stops e (bytes_front behind)
+      | a_text t inner is p g ↦ text_apart t.safe (inner ++ 34 ∷ rest) 120 (34 ∷ behind) (lit< tt) other_x (sym g ∙ e)
+      | a_byte_string bs digits is p g ↦
+          let one = hex_only bs digits rest p in
+          let same : hex_at behind ≡ hex_at (digits ++ 34 ∷ rest) = ap hex_at (ap (λ l. tail (tail l)) (sym e ∙ g)) in
+          cc
+      | an_array all inside is p g ↦ opens_apart 91 120 inside (34 ∷ behind) (inl (lit< tt)) (sym g ∙ e)
+    ]
 
-no_value_nowhere : value_in [] ≡ None
-unfolding value_in number_in
-no_value_nowhere = refl
-
-word_stops_blanks : (literal rest : List ℕ) (value : Form) → IsWord literal value → Stops is_blank (literal ++ rest)
-word_stops_blanks [] rest value w = let n = w.names in let m = no_value_nowhere in cc
-word_stops_blanks (b ∷ literal) rest value w = word_is_not_blank b (both_pass is_word_byte (is_word_byte b) (list_all is_word_byte literal) w.bytes).0
-
-mark_stops_blanks : (safe : Bool) (xs : List ℕ) → Stops is_blank (mark_of safe ++ (34 ∷ xs))
-mark_stops_blanks true xs = refl
-mark_stops_blanks false xs = refl
-
--- no literal begins with a blank
-pub literal_stops_blanks : (literal rest : List ℕ) (value : Form) → SpellsLiteral literal value → Stops is_blank (literal ++ rest)
-literal_stops_blanks literal rest value h = elim (word_or_quoted literal value h) [
-  | inl w ↦ word_stops_blanks literal rest value w
-  | inr q ↦ subst (Stops is_blank) (sym (ap (λ l. l ++ rest) q.spells.2 ∙ quoted_bytes q.held.safe q.spells.0 rest)) (mark_stops_blanks q.held.safe (q.spells.0 ++ 34 ∷ rest))
+pub array_found : (levels : ℕ) (xs inside : List ℕ) (answer : Option (Form × List ℕ)) → xs ≡ 91 ∷ inside → IsArrayAt levels inside answer → IsLiteralAt levels xs answer
+array_found levels xs inside (Some found) e h =
+    let b : BeginsWithLiteral xs (array h.0) found.1 = array_begins xs inside found.1 h.0 h.2 e in
+    (subst (λ v. BeginsWithLiteral xs v found.1) (sym h.1) b, subst (λ v. Ends v found.1) (sym h.1) tt, h.3)
+array_found levels xs inside None e h = λ utf8 w rest b d stops. elim (shape_of xs w rest b) [
+  | a_word literal m f ends ↦ no_word xs literal rest _ w m f stops e (array_front inside)
+  | a_text t inner is p f ↦ text_apart t.safe (inner ++ 34 ∷ rest) 91 inside (lit< tt) other_bracket (sym f ∙ e)
+  | a_byte_string bs digits is p f ↦ opens_apart 120 91 (34 ∷ (digits ++ 34 ∷ rest)) inside (inr (lit< tt)) (sym f ∙ e)
+  | an_array all behind is p f ↦
+      h (after_byte inside 91 (omega arith) (subst IsUtf8 e utf8)) all rest (subst (λ ys. ItemsAt ys all rest) (ap tail (sym f ∙ e)) p) (subst (λ v. depth v ≤ levels) is d)
 ]
 
 -- from what the reader of texts says
@@ -286,28 +295,7 @@ quoted_some safe xs t rest used value h v r =
     let behind : rest ≡ h.1 = r ∙ ap (drop used) cut ∙ drop_at (h.0 ++ (34 ∷ [])) h.1 used used_is in
     (h.0, t, h.2, v, h.3 ∙ ap (λ ys. h.0 ++ 34 ∷ ys) (sym behind))
 
-pub used_fits : (xs t : List ℕ) (used : ℕ) → BeginsWithText xs t used → used ≤ length xs
-used_fits xs t used h = omega (arith, ap length h.3, length-append h.0 (34 ∷ h.1), h.4)
-
 -- what holds of an answer, from something else that does
 pub on_answer : {A E : Type 0} (P Q : A → Type 0) (r : Result A E) → ((a : A) → P a → Q a) → IfOk r P → IfOk r Q
 on_answer P Q (Ok a) f h = f a h
 on_answer P Q (Err e) f h = h
-
-pub unquoted : (xs literal rest : List ℕ) (value : Form) → ((ys : List ℕ) → xs ≢ (34 ∷ []) ++ ys) → ((ys : List ℕ) → xs ≢ (115 ∷ 34 ∷ []) ++ ys) → IsQuoted literal value → xs ≢ literal ++ rest
-unquoted xs literal rest value normal safe q e = marked_by q.held.safe (e ∙ ap (λ l. l ++ rest) q.spells.2 ∙ quoted_bytes q.held.safe q.spells.0 rest)
-  where
-    marked_by : (b : Bool) → xs ≡ mark_of b ++ (34 ∷ (q.spells.0 ++ 34 ∷ rest)) → ⊥
-    marked_by true e = safe (q.spells.0 ++ 34 ∷ rest) e
-    marked_by false e = normal (q.spells.0 ++ 34 ∷ rest) e
-
-cut_word : (xs rest : List ℕ) → rest ≡ past is_word_byte xs → take (length xs - length rest) xs ≡ front is_word_byte xs
-cut_word xs rest r = rw r (take_to_past is_word_byte [] xs xs refl)
-
-pub plain_none : (xs rest : List ℕ) → rest ≡ past is_word_byte xs → value_in (take (length xs - length rest) xs) ≡ None → plain_at xs ≡ None
-unfolding plain_at
-plain_none xs rest r e = rw (sym (ap value_in (cut_word xs rest r)) ∙ e)
-
-pub plain_some : (xs rest : List ℕ) (v : Form) → rest ≡ past is_word_byte xs → value_in (take (length xs - length rest) xs) ≡ Some v → plain_at xs ≡ Some (v, rest)
-unfolding plain_at
-plain_some xs rest v r e = rw (sym (ap value_in (cut_word xs rest r)) ∙ e, r)

@@ -3,7 +3,8 @@ use Rattle.std.proofs.Common.{◌≡◌, ℕ, Bool, true, false, cond, List, [],
 use Rattle.std.specs.List.{list_all}
 use Rattle.std.proofs.lemmas.Option.{option_and_then_some, some_pair_parts}
 use Rattle.std.proofs.lemmas.Bool.Decides.{nat_tests}
-use Rattle.tera_script.specs.Line.{is_blank, IsGap, is_name_start, is_name_byte, IsName, SpellsOperand}
+use Rattle.tera_script.specs.Word.{is_blank, IsGap, is_name_start, is_name_byte, IsName}
+use Rattle.tera_script.specs.Line.{SpellsOperand}
 use Rattle.tera_script.specs.Readers.{Stops, front, past, gap_at, name_at, operand_at}
 use Rattle.tera_script.proofs.Fronts.{front-past, front_all, past_stops, front_is, past_is, both_pass}
 

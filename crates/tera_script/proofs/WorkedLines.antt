@@ -1,83 +1,118 @@
--- Worked lines, good, bad and skipped.
-use Rattle.std.proofs.Common.{subst, length-append, ◌≡◌, ◌≢◌, ◌<◌, ℕ, pos, true, false, List, [], ◌∷◌, ◌++◌, length, Some, None, refl, ap, sym, inl, inr, arith, lit<, lit≤}
+-- Worked lines that say a call or are skipped.
+use Rattle.std.proofs.Common.{◌≡◌, ◌≤◌, ◌+◌, ℕ, zero, suc, pos, true, false, List, [], ◌∷◌, ◌++◌, Some, None, refl, sym, inl, inr, arith, lit<, lit≤, append-nil}
 use lib.Utf8.{encode}
 use Rattle.std.specs.Prelude.{codes}
-use Rattle.std.specs.Str.{IsUtf8, is_utf8, chars}
-use Rattle.std.proofs.lemmas.Str.{is_utf8-from_IsUtf8}
-use Rattle.std.proofs.lemmas.Bool.{false≢true}
+use Rattle.std.specs.Str.{IsUtf8, IsAscii}
+use Rattle.std.proofs.lemmas.Str.{IsAscii-append, IsUtf8-from_ascii}
+use Rattle.std.proofs.lemmas.Str.Ascii.{IsAscii-nil, IsAscii-cons}
+use Rattle.tera_meaning.specs.Form.{Form}
 use Rattle.tera_meaning.specs.Integer.{IntegerKind, Integer, i64, u64}
-use Rattle.tera_meaning.specs.Tree.{number, text}
-use Rattle.tera_meaning.specs.Step.{Command, Request, set, equal, order, print}
+use Rattle.tera_meaning.specs.Tree.{none, number, text, bytes, array, items, depth}
+use Rattle.tera_meaning.specs.Step.{Command, Request, set, remove, has, get, len, truthy, kind_of, is_safe, mark_safe, escape, print, equal, order}
 use Rattle.tera_script.specs.Number.{SpellsNumber}
 use Rattle.tera_script.specs.Text.{SpellsText, itself, character, line_feed}
-use Rattle.tera_script.specs.Line.{IsGap, IsName, SpellsOperand, Says, IsSkipped, IsBad}
-use Rattle.tera_script.specs.Readers.{gap_at, name_at, operand_at, two_in, plain_at, value_in, number_in, unsigned_in, digits_at, suffix_in, integer_of}
-use Rattle.tera_script.proofs.Literals.{plain_found, quoted_found, unquoted}
-use Rattle.tera_script.proofs.Lines.{set_none_name, set_none_value, equal_answer_none, call_answer, call_none_word, bad_call, bad_utf8}
-use Rattle.tera_script.proofs.WorkedTexts.{unknown_escape}
+use Rattle.tera_script.specs.Word.{IsGap, IsName}
+use Rattle.tera_script.specs.Literal.{SpellsLiteral}
+use Rattle.tera_script.specs.Line.{levels, SpellsOperand, SpellsCommand, Says, IsSkipped}
+use Rattle.tera_script.specs.Nested.{in_brackets, in_arrays}
+use Rattle.tera_script.proofs.Literals.{less}
 
-abbrev head : List ℕ → ℕ
-head [] = 0
-head (b ∷ xs) = b
-
-abbrev tail : List ℕ → List ℕ
-tail [] = []
-tail (b ∷ xs) = xs
-
-more : (m n : ℕ) → m < n → m ≡ n → ⊥
-more m n h e = omega arith
-
-less : (m n : ℕ) → n < m → m ≡ n → ⊥
-less m n h e = omega arith
-
-abbrev command : Request → Command
+abbrev pub command : Request → Command
 command request = record { request = request; into = None }
 
-one_blank : IsGap (codes " ")
+abbrev pub keeping : Request → List ℕ → Command
+keeping request name = record { request = request; into = Some name }
+
+pub one_blank : IsGap (codes " ")
 one_blank = (lit< tt, refl)
 
-blank_then : (name : List ℕ) → IsName name → SpellsOperand (codes " " ++ name) name
+pub blank_then : (name : List ℕ) → IsName name → SpellsOperand (codes " " ++ name) name
 blank_then name n = (codes " ", one_blank, n, refl)
+
+-- a line with no blanks around it
+pub says : (line : List ℕ) (c : Command) → IsUtf8 line → SpellsCommand line c → Says line c
+says line c u s = record { utf8 = u; before = []; call = line; after = []; padded = (refl, refl); spelled = s; whole = sym (append-nil line) }
+
+operand_a : SpellsOperand (codes " a") (codes "a")
+operand_a = blank_then (codes "a") (refl, refl)
+
+operand_b : SpellsOperand (codes " b") (codes "b")
+operand_b = blank_then (codes "b") (refl, refl)
 
 pub says_eq : Says (codes "eq a b") (command (equal (codes "a") (codes "b")))
 unfolding encode
-says_eq = record {
-  utf8 = (codes "eq a b", (refl, refl));
-  into = refl;
-  before = [];
-  call = codes "eq a b";
-  after = [];
-  padded = (refl, refl);
-  spelled = (codes " a b", (codes " a", codes " b", blank_then (codes "a") (refl, refl), blank_then (codes "b") (refl, refl), refl), refl);
-  whole = refl;
-}
+says_eq = says (codes "eq a b") (command (equal (codes "a") (codes "b"))) (codes "eq a b", (refl, refl)) (codes " a b", (refl, (codes " a", codes " b", operand_a, operand_b, refl)), refl)
 
 pub says_cmp : Says (codes "cmp a b") (command (order (codes "a") (codes "b")))
 unfolding encode
-says_cmp = record {
-  utf8 = (codes "cmp a b", (refl, refl));
-  into = refl;
-  before = [];
-  call = codes "cmp a b";
-  after = [];
-  padded = (refl, refl);
-  spelled = (codes " a b", (codes " a", codes " b", blank_then (codes "a") (refl, refl), blank_then (codes "b") (refl, refl), refl), refl);
-  whole = refl;
-}
+says_cmp = says (codes "cmp a b") (command (order (codes "a") (codes "b"))) (codes "cmp a b", (refl, refl)) (codes " a b", (refl, (codes " a", codes " b", operand_a, operand_b, refl)), refl)
 
 pub says_print : Says (codes "\tprint _x9 ") (command (print (codes "_x9")))
 unfolding encode
 says_print = record {
   utf8 = (codes "\tprint _x9 ", (refl, refl));
-  into = refl;
   before = codes "\t";
   call = codes "print _x9";
   after = codes " ";
   padded = (refl, refl);
-  spelled = (codes " _x9", blank_then (codes "_x9") (refl, refl), refl);
+  spelled = (codes " _x9", (refl, blank_then (codes "_x9") (refl, refl)), refl);
   whole = refl;
 }
 
+pub says_remove : Says (codes "remove a") (command (remove (codes "a")))
+unfolding encode
+says_remove = says (codes "remove a") (command (remove (codes "a"))) (codes "remove a", (refl, refl)) (codes " a", (refl, operand_a), refl)
+
+pub says_has : Says (codes "has a") (command (has (codes "a")))
+unfolding encode
+says_has = says (codes "has a") (command (has (codes "a"))) (codes "has a", (refl, refl)) (codes " a", (refl, operand_a), refl)
+
+pub says_len : Says (codes "len a") (command (len (codes "a")))
+unfolding encode
+says_len = says (codes "len a") (command (len (codes "a"))) (codes "len a", (refl, refl)) (codes " a", (refl, operand_a), refl)
+
+pub says_truthy : Says (codes "truthy a") (command (truthy (codes "a")))
+unfolding encode
+says_truthy = says (codes "truthy a") (command (truthy (codes "a"))) (codes "truthy a", (refl, refl)) (codes " a", (refl, operand_a), refl)
+
+pub says_kind : Says (codes "kind a") (command (kind_of (codes "a")))
+unfolding encode
+says_kind = says (codes "kind a") (command (kind_of (codes "a"))) (codes "kind a", (refl, refl)) (codes " a", (refl, operand_a), refl)
+
+pub says_is_safe : Says (codes "is_safe a") (command (is_safe (codes "a")))
+unfolding encode
+says_is_safe = says (codes "is_safe a") (command (is_safe (codes "a"))) (codes "is_safe a", (refl, refl)) (codes " a", (refl, operand_a), refl)
+
+pub says_escape : Says (codes "escape a") (command (escape (codes "a")))
+unfolding encode
+says_escape = says (codes "escape a") (command (escape (codes "a"))) (codes "escape a", (refl, refl)) (codes " a", (refl, operand_a), refl)
+
+pub says_get : Says (codes "get a") (command (get (codes "a")))
+unfolding encode
+says_get = says (codes "get a") (command (get (codes "a"))) (codes "get a", (refl, refl)) (codes " a", (codes " a", [], operand_a, refl, refl), refl)
+
+pub says_mark_safe : Says (codes "mark_safe a") (command (mark_safe (codes "a")))
+unfolding encode
+says_mark_safe = says (codes "mark_safe a") (command (mark_safe (codes "a"))) (codes "mark_safe a", (refl, refl)) (codes " a", (codes " a", [], operand_a, refl, refl), refl)
+
+-- with a name for what is found
+pub says_get_into : Says (codes "get a -> b") (keeping (get (codes "a")) (codes "b"))
+unfolding encode
+says_get_into = says (codes "get a -> b") (keeping (get (codes "a")) (codes "b")) (codes "get a -> b", (refl, refl)) (codes " a -> b", (codes " a", codes " -> b", operand_a, (codes " ", codes " b", one_blank, operand_b, refl), refl), refl)
+
+pub says_mark_safe_into : Says (codes "mark_safe a\t->  a ") (keeping (mark_safe (codes "a")) (codes "a"))
+unfolding encode
+says_mark_safe_into = record {
+  utf8 = (codes "mark_safe a\t->  a ", (refl, refl));
+  before = [];
+  call = codes "mark_safe a\t->  a";
+  after = codes " ";
+  padded = (refl, refl);
+  spelled = (codes " a\t->  a", (codes " a", codes "\t->  a", operand_a, (codes "\t", codes "  a", (lit< tt, refl), (codes "  ", (lit< tt, refl), (refl, refl), refl), refl), refl), refl);
+  whole = refl;
+}
+
+-- values
 zero_spelled : SpellsNumber (codes "-0") (record { kind = i64; value = pos 0 })
 zero_spelled = record { minus = true; digits = codes "0"; suffix = None; numeral = (lit< tt, (lit< tt, tt)); spelled = refl; value = refl; kind = lit< tt }
 
@@ -85,43 +120,31 @@ pub says_set_zero : Says (codes "  set a_1   -0  ") (command (set (codes "a_1") 
 unfolding encode
 says_set_zero = record {
   utf8 = (codes "  set a_1   -0  ", (refl, refl));
-  into = refl;
   before = codes "  ";
   call = codes "set a_1   -0";
   after = codes "  ";
   padded = (refl, refl);
-  spelled = (codes " a_1   -0", (codes " a_1", codes "   -0", blank_then (codes "a_1") (refl, refl), (codes "   ", codes "-0", (lit< tt, refl), zero_spelled, refl), refl), refl);
+  spelled = (codes " a_1   -0", (refl, codes " a_1", codes "   -0", blank_then (codes "a_1") (refl, refl), (codes "   ", codes "-0", (lit< tt, refl), zero_spelled, lit≤ tt, refl), refl), refl);
   whole = refl;
 }
+
+-- a line that sets a
+sets : (literal : List ℕ) (value : Form) → IsUtf8 (codes "set a " ++ literal) → SpellsLiteral literal value → depth value ≤ levels → Says (codes "set a " ++ literal) (command (set (codes "a") value))
+sets literal value u s d = says (codes "set a " ++ literal) (command (set (codes "a") value)) u (codes " a " ++ literal, (refl, codes " a", codes " " ++ literal, operand_a, (codes " ", literal, one_blank, s, d, refl), refl), refl)
 
 abbrev one_in : IntegerKind → Integer
 one_in kind = record { kind = kind; value = pos 1 }
 
 pub says_set_u64 : Says (codes "set a 1u64") (command (set (codes "a") (number (one_in u64))))
 unfolding encode
-says_set_u64 = record {
-  utf8 = (codes "set a 1u64", (refl, refl));
-  into = refl;
-  before = [];
-  call = codes "set a 1u64";
-  after = [];
-  padded = (refl, refl);
-  spelled = (codes " a 1u64", (codes " a", codes " 1u64", blank_then (codes "a") (refl, refl), (codes " ", codes "1u64", one_blank, record { minus = false; digits = codes "1"; suffix = Some u64; numeral = (lit< tt, (lit< tt, tt)); spelled = refl; value = refl; kind = (tt, refl, lit< tt) }, refl), refl), refl);
-  whole = refl;
-}
+says_set_u64 = sets (codes "1u64") (number (one_in u64)) (codes "set a 1u64", (refl, refl)) (record { minus = false; digits = codes "1"; suffix = Some u64; numeral = (lit< tt, (lit< tt, tt)); spelled = refl; value = refl; kind = (tt, refl, lit< tt) }) (lit≤ tt)
+
+pub one_spelled : SpellsNumber (codes "1") (one_in i64)
+one_spelled = record { minus = false; digits = codes "1"; suffix = None; numeral = (lit< tt, (lit< tt, tt)); spelled = refl; value = refl; kind = lit< tt }
 
 pub says_set_plain : Says (codes "set a 1") (command (set (codes "a") (number (one_in i64))))
 unfolding encode
-says_set_plain = record {
-  utf8 = (codes "set a 1", (refl, refl));
-  into = refl;
-  before = [];
-  call = codes "set a 1";
-  after = [];
-  padded = (refl, refl);
-  spelled = (codes " a 1", (codes " a", codes " 1", blank_then (codes "a") (refl, refl), (codes " ", codes "1", one_blank, record { minus = false; digits = codes "1"; suffix = None; numeral = (lit< tt, (lit< tt, tt)); spelled = refl; value = refl; kind = lit< tt }, refl), refl), refl);
-  whole = refl;
-}
+says_set_plain = sets (codes "1") (number (one_in i64)) (codes "set a 1", (refl, refl)) one_spelled (lit≤ tt)
 
 safe_text : SpellsText (codes "a\\u{e9}\\n") (97 ∷ 195 ∷ 169 ∷ 10 ∷ [])
 unfolding encode
@@ -129,16 +152,54 @@ safe_text = (itself 97 ∷ character (codes "e9") ∷ line_feed ∷ [], ((less 9
 
 pub says_set_text : Says (codes "set t s\"a\\u{e9}\\n\"") (command (set (codes "t") (text (record { spelled = 97 ∷ 195 ∷ 169 ∷ 10 ∷ []; safe = true }))))
 unfolding encode
-says_set_text = record {
-  utf8 = (codes "set t s\"a\\u{e9}\\n\"", (refl, refl));
-  into = refl;
-  before = [];
-  call = codes "set t s\"a\\u{e9}\\n\"";
-  after = [];
-  padded = (refl, refl);
-  spelled = (codes " t s\"a\\u{e9}\\n\"", (codes " t", codes " s\"a\\u{e9}\\n\"", blank_then (codes "t") (refl, refl), (codes " ", codes "s\"a\\u{e9}\\n\"", one_blank, (codes "a\\u{e9}\\n", safe_text, refl), refl), refl), refl);
-  whole = refl;
-}
+says_set_text = says (codes "set t s\"a\\u{e9}\\n\"") (command (set (codes "t") (text (record { spelled = 97 ∷ 195 ∷ 169 ∷ 10 ∷ []; safe = true })))) (codes "set t s\"a\\u{e9}\\n\"", (refl, refl))
+    (codes " t s\"a\\u{e9}\\n\"", (refl, codes " t", codes " s\"a\\u{e9}\\n\"", blank_then (codes "t") (refl, refl), (codes " ", codes "s\"a\\u{e9}\\n\"", one_blank, (codes "a\\u{e9}\\n", safe_text, refl), lit≤ tt, refl), refl), refl)
+
+pub says_set_bytes : Says (codes "set a x\"6aFF\"") (command (set (codes "a") (bytes (106 ∷ 255 ∷ []))))
+unfolding encode
+says_set_bytes = sets (codes "x\"6aFF\"") (bytes (106 ∷ 255 ∷ [])) (codes "set a x\"6aFF\"", (refl, refl)) (codes "6aFF", (54, 97, codes "FF", lit< tt, lit< tt, refl, (70, 70, [], lit< tt, lit< tt, refl, refl, refl), refl), refl) (lit≤ tt)
+
+pub says_set_no_bytes : Says (codes "set a x\"\"") (command (set (codes "a") (bytes [])))
+unfolding encode
+says_set_no_bytes = sets (codes "x\"\"") (bytes []) (codes "set a x\"\"", (refl, refl)) ([], refl, refl) (lit≤ tt)
+
+pub says_set_no_items : Says (codes "set a []") (command (set (codes "a") (array (items []))))
+unfolding encode
+says_set_no_items = sets (codes "[]") (array (items [])) (codes "set a []", (refl, refl)) ([], refl, refl) (lit≤ tt)
+
+pub says_set_blanks : Says (codes "set a [ none\t,[ ] ]") (command (set (codes "a") (array (items (none ∷ array (items []) ∷ [])))))
+unfolding encode
+says_set_blanks = sets (codes "[ none\t,[ ] ]") (array (items (none ∷ array (items []) ∷ []))) (codes "set a [ none\t,[ ] ]", (refl, refl))
+    (codes " none\t,[ ] ", (codes " none\t", codes ",[ ] ", (codes " ", codes "none", codes "\t", refl, refl, refl, refl), (codes "[ ] ", [], ([], codes "[ ]", codes " ", refl, (codes " ", refl, refl), refl, refl), refl, refl), refl), refl) (lit≤ tt)
+
+-- arrays that nest
+pub nested_spelled : (n : ℕ) (literal : List ℕ) (value : Form) → SpellsLiteral literal value → SpellsLiteral (in_brackets n literal) (in_arrays n value)
+nested_spelled zero literal value s = s
+nested_spelled (suc n) literal value s =
+    let inner = in_brackets n literal in
+    (inner, (inner, [], ([], inner, [], refl, nested_spelled n literal value s, refl, sym (append-nil inner)), refl, sym (append-nil inner)), refl)
+
+pub nested_depth : (n : ℕ) (value : Form) → depth (in_arrays n value) ≡ n + depth value
+nested_depth zero value = omega arith
+nested_depth (suc n) value = omega (arith, nested_depth n value)
+
+nested_ascii : (n : ℕ) (literal : List ℕ) → IsAscii literal → IsAscii (in_brackets n literal)
+nested_ascii zero literal a = a
+nested_ascii (suc n) literal a = IsAscii-cons 91 (in_brackets n literal ++ 93 ∷ []) (lit< tt) (IsAscii-append (in_brackets n literal) (93 ∷ []) (nested_ascii n literal a) (IsAscii-cons 93 [] (lit< tt) IsAscii-nil))
+
+none_ascii : IsAscii (codes "none")
+none_ascii = IsAscii-cons 110 (codes "one") (lit< tt) (IsAscii-cons 111 (codes "ne") (lit< tt) (IsAscii-cons 110 (codes "e") (lit< tt) (IsAscii-cons 101 [] (lit< tt) IsAscii-nil)))
+
+set_ascii : IsAscii (codes "set a ")
+set_ascii = IsAscii-cons 115 (codes "et a ") (lit< tt) (IsAscii-cons 101 (codes "t a ") (lit< tt) (IsAscii-cons 116 (codes " a ") (lit< tt) (IsAscii-cons 32 (codes "a ") (lit< tt) (IsAscii-cons 97 (codes " ") (lit< tt) (IsAscii-cons 32 [] (lit< tt) IsAscii-nil)))))
+
+nested_says : (n : ℕ) → n ≤ levels → Says (codes "set a " ++ in_brackets n (codes "none")) (command (set (codes "a") (in_arrays n none)))
+nested_says n h =
+    let literal = in_brackets n (codes "none") in
+    sets literal (in_arrays n none) (IsUtf8-from_ascii (codes "set a " ++ literal) (IsAscii-append (codes "set a ") literal set_ascii (nested_ascii n (codes "none") none_ascii))) (nested_spelled n (codes "none") none refl) (omega (arith, nested_depth n none, h))
+
+pub says_deepest : Says (codes "set a " ++ in_brackets 64 (codes "none")) (command (set (codes "a") (in_arrays 64 none)))
+says_deepest = nested_says 64 (lit≤ tt)
 
 pub skips_nothing : IsSkipped []
 skips_nothing = inl refl
@@ -148,47 +209,3 @@ skips_blanks = inl refl
 
 pub skips_comment : IsSkipped (codes "  # set" ++ (255 ∷ []))
 skips_comment = inr (codes "  ", codes " set" ++ (255 ∷ []), refl, refl)
-
-pub bad_word : IsBad (codes "frob")
-unfolding name_at
-bad_word = bad_call (codes "frob") refl (call_none_word (codes "frob") (codes "frob") [] refl (λ e. more 102 115 (lit< tt) (ap head e)) (λ e. less 102 101 (lit< tt) (ap head e)) (λ e. less 102 99 (lit< tt) (ap head e)) (λ e. more 102 112 (lit< tt) (ap head e)))
-
-pub bad_longer_word : IsBad (codes "eqa b c")
-unfolding name_at
-bad_longer_word = bad_call (codes "eqa b c") refl (call_none_word (codes "eqa b c") (codes "eqa") (codes " b c") refl (λ e. more 101 115 (lit< tt) (ap head e)) (λ e. less 97 0 (lit< tt) (ap (λ xs. head (tail (tail xs))) e)) (λ e. less 101 99 (lit< tt) (ap head e)) (λ e. more 101 112 (lit< tt) (ap head e)))
-
-pub bad_one_operand : IsBad (codes "eq a")
-unfolding name_at two_in operand_at gap_at
-bad_one_operand = bad_call (codes "eq a") refl (call_answer (codes "eq a") (codes "eq") (codes " a") refl None (equal_answer_none (codes " a") refl))
-
-pub bad_name : IsBad (codes "set 1a none")
-unfolding name_at operand_at gap_at
-bad_name = bad_call (codes "set 1a none") refl (call_answer (codes "set 1a none") (codes "set") (codes " 1a none") refl None (set_none_name (codes " 1a none") refl))
-
-pub bad_large : IsBad (codes "set a 18446744073709551616u64")
-unfolding name_at operand_at gap_at plain_at value_in number_in unsigned_in digits_at suffix_in integer_of
-bad_large = bad_call (codes "set a 18446744073709551616u64") refl (call_answer (codes "set a 18446744073709551616u64") (codes "set") (codes " a 18446744073709551616u64") refl None
-    (set_none_value (codes " a 18446744073709551616u64") (codes "a") (codes " 18446744073709551616u64") refl (codes "18446744073709551616u64") refl
-    (plain_found (codes "18446744073709551616u64") None (λ literal rest value q. unquoted (codes "18446744073709551616u64") literal rest value (λ ys e. less 49 34 (lit< tt) (ap head e)) (λ ys e. more 49 115 (lit< tt) (ap head e)) q) refl)))
-
-pub bad_minus : IsBad (codes "set a -1u64")
-unfolding name_at operand_at gap_at plain_at value_in number_in unsigned_in digits_at suffix_in integer_of
-bad_minus = bad_call (codes "set a -1u64") refl (call_answer (codes "set a -1u64") (codes "set") (codes " a -1u64") refl None
-    (set_none_value (codes " a -1u64") (codes "a") (codes " -1u64") refl (codes "-1u64") refl
-    (plain_found (codes "-1u64") None (λ literal rest value q. unquoted (codes "-1u64") literal rest value (λ ys e. less 45 34 (lit< tt) (ap head e)) (λ ys e. more 45 115 (lit< tt) (ap head e)) q) refl)))
-
-no_text : (t inner rest : List ℕ) → IsUtf8 inner → SpellsText inner t → codes "\\x\"" ≢ inner ++ 34 ∷ rest
-no_text t [] rest u s e = less 92 34 (lit< tt) (ap head e)
-no_text t (a ∷ []) rest u s e = less 120 34 (lit< tt) (ap (λ xs. head (tail xs)) e)
-no_text t (a ∷ b ∷ []) rest u s e = unknown_escape t (subst (λ xs. SpellsText xs t) (λ i. ap head (sym e) i ∷ ap (λ xs. head (tail xs)) (sym e) i ∷ []) s)
-no_text t (a ∷ b ∷ c ∷ inner) rest u s e = let length_is = ap (λ xs. length (tail (tail (tail xs)))) e in omega (arith, length_is, length-append inner (34 ∷ rest))
-
-pub bad_escape : IsBad (codes "set a \"\\x\"")
-unfolding name_at operand_at gap_at
-bad_escape = bad_call (codes "set a \"\\x\"") refl (call_answer (codes "set a \"\\x\"") (codes "set") (codes " a \"\\x\"") refl None
-    (set_none_value (codes " a \"\\x\"") (codes "a") (codes " \"\\x\"") refl (codes "\"\\x\"") refl
-    (quoted_found false (codes "\"\\x\"") (codes "\\x\"") None refl no_text)))
-
-pub bad_bytes : IsBad (codes "eq a b " ++ (255 ∷ []))
-unfolding is_utf8 chars encode
-bad_bytes = bad_utf8 (codes "eq a b " ++ (255 ∷ [])) refl (λ u. let yes = is_utf8-from_IsUtf8 (codes "eq a b " ++ (255 ∷ [])) u in absurd (false≢true yes))

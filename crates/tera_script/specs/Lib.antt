@@ -1,7 +1,9 @@
+pub mod Word
 pub mod Text
 pub mod TextParts
 pub mod Number
 pub mod Literal
 pub mod Line
 pub mod Readers
+pub mod Nested
 pub mod Said

@@ -1,71 +1,80 @@
 -- What a line of a script says.
-use Rattle.std.specs.Prelude.{◌≡◌, ◌<◌, ℕ, Bool, IsTrue, ◌||◌, ◌==◌, ◌⊎◌, List, [], ◌∷◌, ◌++◌, length, None, codes}
-use Rattle.std.specs.Char.{is_ascii_alphabetic, is_ascii_alphanumeric}
-use Rattle.std.specs.List.{list_all}
+use Rattle.std.specs.Prelude.{◌≡◌, ◌≤◌, ℕ, ◌⊎◌, List, [], ◌∷◌, ◌++◌, Option, Some, None, codes}
 use Rattle.std.specs.Str.{IsUtf8}
 use Rattle.tera_meaning.specs.Form.{Form}
-use Rattle.tera_meaning.specs.Step.{Command, Request, set, equal, order, print}
+use Rattle.tera_meaning.specs.Step.{Command, Request, set, remove, has, get, len, truthy, kind_of, is_safe, mark_safe, escape, print, equal, order}
+use Rattle.tera_meaning.specs.Tree.{depth}
 use Rattle.tera_script.specs.Literal.{SpellsLiteral}
+use Rattle.tera_script.specs.Word.{AreBlanks, IsGap, IsName}
 
--- a space or a tab
-abbrev pub is_blank : ℕ → Bool
-is_blank b = (b == 32) || (b == 9)
-
-abbrev pub AreBlanks : List ℕ → Type 0
-AreBlanks bytes = IsTrue (list_all is_blank bytes)
-
--- one or more blanks
-abbrev pub IsGap : List ℕ → Type 0
-IsGap bytes = (0 < length bytes) × AreBlanks bytes
-
--- an ASCII letter or _; these and the digits
-abbrev pub is_name_start : ℕ → Bool
-is_name_start b = is_ascii_alphabetic b || (b == 95)
-
-abbrev pub is_name_byte : ℕ → Bool
-is_name_byte b = is_ascii_alphanumeric b || (b == 95)
-
-abbrev pub IsName : List ℕ → Type 0
-IsName [] = ⊥
-IsName (b ∷ bytes) = IsTrue (is_name_start b) × IsTrue (list_all is_name_byte bytes)
-
--- a gap and a name; a gap and a literal
+-- a gap and a name
 abbrev pub SpellsOperand : List ℕ → List ℕ → Type 0
 SpellsOperand bytes name = (gap : List ℕ) × IsGap gap × IsName name × (bytes ≡ gap ++ name)
 
-abbrev pub SpellsValue : List ℕ → Form → Type 0
-SpellsValue bytes value = (gap : List ℕ) × (literal : List ℕ) × IsGap gap × SpellsLiteral literal value × (bytes ≡ gap ++ literal)
+-- how deep arrays may nest; the outermost is level 1
+abbrev pub levels : ℕ
+levels = 64
 
--- the word of a call
-abbrev pub word_of : Request → List ℕ
-word_of (set name value) = codes "set"
-word_of (equal left right) = codes "eq"
-word_of (order left right) = codes "cmp"
-word_of (print name) = codes "print"
+-- a gap and a literal
+abbrev pub SpellsValue : List ℕ → Form → Type 0
+SpellsValue bytes value = (gap : List ℕ) × (literal : List ℕ) × IsGap gap × SpellsLiteral literal value × (depth value ≤ levels) × (bytes ≡ gap ++ literal)
 
 -- two operands, one behind the other
 abbrev pub SpellsTwo : List ℕ → List ℕ → List ℕ → Type 0
 SpellsTwo bytes left right = (first : List ℕ) × (second : List ℕ) × SpellsOperand first left × SpellsOperand second right × (bytes ≡ first ++ second)
 
--- what stands behind the word of a call
-abbrev pub SpellsOperands : List ℕ → Request → Type 0
-SpellsOperands bytes (set name value) = (first : List ℕ) × (second : List ℕ) × SpellsOperand first name × SpellsValue second value × (bytes ≡ first ++ second)
-SpellsOperands bytes (equal left right) = SpellsTwo bytes left right
-SpellsOperands bytes (order left right) = SpellsTwo bytes left right
-SpellsOperands bytes (print name) = SpellsOperand bytes name
+-- nothing; or a gap, an arrow, a gap and the name under which is kept what is found
+abbrev pub SpellsInto : List ℕ → Option (List ℕ) → Type 0
+SpellsInto bytes None = bytes ≡ []
+SpellsInto bytes (Some into) = (gap : List ℕ) × (operand : List ℕ) × IsGap gap × SpellsOperand operand into × (bytes ≡ gap ++ (codes "->" ++ operand))
 
-abbrev pub SpellsCall : List ℕ → Request → Type 0
-SpellsCall bytes request = (operands : List ℕ) × SpellsOperands operands request × (bytes ≡ word_of request ++ operands)
+-- an operand, and then the name for what is found, if one is given
+abbrev pub SpellsKeeping : List ℕ → List ℕ → Option (List ℕ) → Type 0
+SpellsKeeping bytes name into = (first : List ℕ) × (second : List ℕ) × SpellsOperand first name × SpellsInto second into × (bytes ≡ first ++ second)
 
--- a call with blanks before and after it, or with none, all of it UTF-8. None of these calls has a name for what it finds
+-- the word of a call
+abbrev pub word_of : Request → List ℕ
+word_of (set name value) = codes "set"
+word_of (remove name) = codes "remove"
+word_of (has name) = codes "has"
+word_of (get name) = codes "get"
+word_of (len name) = codes "len"
+word_of (truthy name) = codes "truthy"
+word_of (kind_of name) = codes "kind"
+word_of (is_safe name) = codes "is_safe"
+word_of (mark_safe name) = codes "mark_safe"
+word_of (escape name) = codes "escape"
+word_of (print name) = codes "print"
+word_of (equal left right) = codes "eq"
+word_of (order left right) = codes "cmp"
+
+-- what stands behind the word of a call. Only `get` and `mark_safe` may have a name for what they find
+abbrev pub SpellsOperands : List ℕ → Request → Option (List ℕ) → Type 0
+SpellsOperands bytes (get name) into = SpellsKeeping bytes name into
+SpellsOperands bytes (mark_safe name) into = SpellsKeeping bytes name into
+SpellsOperands bytes (set name value) into = (into ≡ None) × (first : List ℕ) × (second : List ℕ) × SpellsOperand first name × SpellsValue second value × (bytes ≡ first ++ second)
+SpellsOperands bytes (equal left right) into = (into ≡ None) × SpellsTwo bytes left right
+SpellsOperands bytes (order left right) into = (into ≡ None) × SpellsTwo bytes left right
+SpellsOperands bytes (remove name) into = (into ≡ None) × SpellsOperand bytes name
+SpellsOperands bytes (has name) into = (into ≡ None) × SpellsOperand bytes name
+SpellsOperands bytes (len name) into = (into ≡ None) × SpellsOperand bytes name
+SpellsOperands bytes (truthy name) into = (into ≡ None) × SpellsOperand bytes name
+SpellsOperands bytes (kind_of name) into = (into ≡ None) × SpellsOperand bytes name
+SpellsOperands bytes (is_safe name) into = (into ≡ None) × SpellsOperand bytes name
+SpellsOperands bytes (escape name) into = (into ≡ None) × SpellsOperand bytes name
+SpellsOperands bytes (print name) into = (into ≡ None) × SpellsOperand bytes name
+
+abbrev pub SpellsCommand : List ℕ → Command → Type 0
+SpellsCommand bytes command = (operands : List ℕ) × SpellsOperands operands command.request command.into × (bytes ≡ word_of command.request ++ operands)
+
+-- a command with blanks before and after it, or with none, all of it UTF-8
 pub record Says (line : List ℕ) (command : Command) : Type 0 where
   pub utf8 : IsUtf8 line
-  pub into : command.into ≡ None
   pub before : List ℕ
   pub call : List ℕ
   pub after : List ℕ
   pub padded : AreBlanks before × AreBlanks after
-  pub spelled : SpellsCall call command.request
+  pub spelled : SpellsCommand call command
   pub whole : line ≡ before ++ call ++ after
 
 -- blanks alone, or blanks and then a # (35) with any bytes behind it

@@ -1,19 +1,29 @@
 -- What the readers give, as functions on lists: a value and the bytes behind it, or nothing.
-use Rattle.std.specs.Prelude.{◌≡◌, ◌≢◌, IsTrue, ℕ, ◌^◌, ℤ, pos, negsuc, Bool, true, false, cond, ◌&&◌, ◌||◌, ◌==◌, ◌++◌, codes, nat_lt, List, [], ◌∷◌, length, Option, Some, None, option_and_then}
+use Rattle.std.specs.Prelude.{◌≡◌, ◌≢◌, ◌≤◌, ◌+◌, ◌*◌, IsTrue, ℕ, ◌^◌, ℤ, pos, negsuc, Bool, true, false, cond, ◌&&◌, ◌||◌, ◌==◌, ◌++◌, codes, nat_lt, List, [], ◌∷◌, length, Option, Some, None, option_and_then, Vec}
 use Rattle.std.specs.Borrow.{Bor}
 use Rattle.std.specs.Option.{option_map}
-use Rattle.std.specs.Char.{is_ascii_digit}
+use Rattle.std.specs.Char.{digit_value, is_ascii_digit}
 use Rattle.std.specs.List.{list_all}
 use Rattle.std.specs.Str.{bytes_eq, IsUtf8}
 use Rattle.std.specs.Str.Parse.{digits_value}
 use Rattle.tera_meaning.specs.Integer.{IntegerKind, u64, i64, u128, i128, Integer}
-use Rattle.tera_meaning.specs.Form.{Form}
-use Rattle.tera_meaning.specs.Tree.{undefined, none, truth, number}
-use Rattle.tera_meaning.specs.Step.{Request}
+use Rattle.tera_meaning.specs.Form.{Form, MarkedText}
+use Rattle.tera_meaning.specs.KeyMeaning.{KeyForm}
+use Rattle.tera_meaning.specs.Tree.{Items, undefined, none, truth, number, text as text_value, bytes as bytes_value, array, no_items, item, depth}
+use Rattle.tera_meaning.specs.Step.{Request, Command, set, remove, has, get, len, truthy, kind_of, is_safe, mark_safe, escape, print, equal, order}
 use Rattle.tera_script.specs.Number.{kind_word, signed}
 use Rattle.tera_script.specs.declared.number.Suffix.{Suffix}
 use Rattle.tera_script.specs.declared.number.Suffix.TheVariants.{U64, I64, U128, I128}
-use Rattle.tera_script.specs.Line.{is_blank, AreBlanks, is_name_start, is_name_byte, word_of, SpellsOperands, SpellsCall}
+use Rattle.tera_script.specs.declared.verb.Verb.{Verb}
+use Rattle.tera_script.specs.declared.verb.Verb.TheVariants.{Set, Two, One, Keeping}
+use Rattle.tera_script.specs.declared.verb.TwoNames.{TwoNames}
+use Rattle.tera_script.specs.declared.verb.TwoNames.TheVariants.{Equal, Compare}
+use Rattle.tera_script.specs.declared.verb.OneName.{OneName}
+use Rattle.tera_script.specs.declared.verb.OneName.TheVariants.{Remove, Has, Len, Truthy, Kind, IsSafe, Escape, Print}
+use Rattle.tera_script.specs.declared.verb.Kept.{Kept}
+use Rattle.tera_script.specs.declared.verb.Kept.TheVariants.{Get, MarkSafe}
+use Rattle.tera_script.specs.Word.{is_blank, AreBlanks, is_name_start, is_name_byte}
+use Rattle.tera_script.specs.Line.{SpellsOperands, SpellsCommand}
 use Rattle.tera_script.specs.Literal.{SpellsLiteral}
 use Rattle.tera_script.specs.Text.{SpellsText}
 use Rattle.tera_values.specs.View.{marked}
@@ -111,11 +121,11 @@ abbrev pub number_rest : ℕ × Bor (List ℕ) → ℕ × List ℕ
 number_rest pair = (pair.0, pair.1.now)
 
 -- the kind that a suffix names
-abbrev pub kind_of : Suffix → IntegerKind
-kind_of U64 = u64
-kind_of I64 = i64
-kind_of U128 = u128
-kind_of I128 = i128
+abbrev pub suffix_kind : Suffix → IntegerKind
+suffix_kind U64 = u64
+suffix_kind I64 = i64
+suffix_kind U128 = u128
+suffix_kind I128 = i128
 
 -- the value that holds a number
 abbrev pub number_value : Option Integer → Option Form
@@ -139,14 +149,17 @@ pub record BeginsWithLiteral (bytes : List ℕ) (value : Form) (rest : List ℕ)
   pub spells : SpellsLiteral literal value
   pub spelled : bytes ≡ literal ++ rest
 
--- this rest stands behind each literal that ends as a word does
-abbrev pub IsOnlyRest : List ℕ → List ℕ → Type 0
-IsOnlyRest bytes rest = (value : Form) (other : List ℕ) → BeginsWithLiteral bytes value other → Stops is_word_byte other → other ≡ rest
+-- a literal without quotes and brackets ends where no byte of a word follows
+abbrev pub Ends : Form → List ℕ → Type 0
+Ends (text_value t) rest = Unit {0}
+Ends (bytes_value bs) rest = Unit {0}
+Ends (array xs) rest = Unit {0}
+Ends value rest = Stops is_word_byte rest
 
--- what a reader of literals answers: a literal and the rest, or nothing, and then there is none that ends as a word does
-abbrev pub IsLiteralAt : List ℕ → Option (Form × List ℕ) → Type 0
-IsLiteralAt bytes (Some found) = BeginsWithLiteral bytes found.0 found.1 × IsOnlyRest bytes found.1
-IsLiteralAt bytes None = IsUtf8 bytes → (value : Form) (rest : List ℕ) → BeginsWithLiteral bytes value rest → ¬ Stops is_word_byte rest
+-- what a reader of literals answers: a literal of at most these levels and the rest, or nothing, and then there is none that ends as a word does
+abbrev pub IsLiteralAt : ℕ → List ℕ → Option (Form × List ℕ) → Type 0
+IsLiteralAt levels xs (Some found) = BeginsWithLiteral xs found.0 found.1 × Ends found.0 found.1 × (depth found.0 ≤ levels)
+IsLiteralAt levels xs None = IsUtf8 xs → (value : Form) (rest : List ℕ) → BeginsWithLiteral xs value rest → depth value ≤ levels → ¬ Stops is_word_byte rest
 
 -- a literal without quotes, and the bytes behind it
 unfoldable pub plain_at : List ℕ → Option (Form × List ℕ)
@@ -156,6 +169,38 @@ plain_at bytes = option_map (λ v. (v, past is_word_byte bytes)) (value_in (fron
 abbrev pub IsQuotedAt : Bool → List ℕ → Option (Form × List ℕ) → Type 0
 IsQuotedAt safe bytes (Some found) = (inner : List ℕ) × (t : List ℕ) × SpellsText inner t × (found.0 ≡ marked t safe) × (bytes ≡ inner ++ 34 ∷ found.1)
 IsQuotedAt safe bytes None = (t inner rest : List ℕ) → IsUtf8 inner → SpellsText inner t → bytes ≢ inner ++ 34 ∷ rest
+
+-- a byte more before what was read
+abbrev pub byte_before : ℕ → ℕ → Option (List ℕ × List ℕ) → Option (List ℕ × List ℕ)
+byte_before high low read = option_map (λ found. ((digit_value high * 16 + digit_value low) ∷ found.0, found.1)) read
+
+-- the bytes that the digits up to the closing quote spell, and what stands behind it
+unfoldable pub hex_at : List ℕ → Option (List ℕ × List ℕ)
+hex_at [] = None
+hex_at (high ∷ []) = cond (high == 34) (Some ([], [])) None
+hex_at (high ∷ low ∷ rest) = cond (high == 34) (Some ([], low ∷ rest)) (cond (nat_lt (digit_value high) 16 && nat_lt (digit_value low) 16) (byte_before high low (hex_at rest)) None)
+
+-- some bytes and a slice, by what they hold
+abbrev pub bytes_rest : {A : Type 0} → Vec ℕ A × Bor (List ℕ) → List ℕ × List ℕ
+bytes_rest pair = (pair.0.items, pair.1.now)
+
+-- the value of the bytes that were read
+abbrev pub bytes_read : Option (List ℕ × List ℕ) → Option (Form × List ℕ)
+bytes_read found = option_map (λ pair. (bytes_value pair.0, pair.1)) found
+
+-- behind an item, and behind an opening bracket: the items up to the closing bracket (93), and what stands behind it
+abbrev pub MoreAt : List ℕ → Items Integer MarkedText KeyForm → List ℕ → Type 0
+MoreAt xs no_items rest = past is_blank xs ≡ 93 ∷ rest
+MoreAt xs (item value more) rest = (next : List ℕ) × (behind : List ℕ) × (past is_blank xs ≡ 44 ∷ next) × BeginsWithLiteral (past is_blank next) value behind × MoreAt behind more rest
+
+abbrev pub ItemsAt : List ℕ → Items Integer MarkedText KeyForm → List ℕ → Type 0
+ItemsAt xs no_items rest = past is_blank xs ≡ 93 ∷ rest
+ItemsAt xs (item value more) rest = (behind : List ℕ) × BeginsWithLiteral (past is_blank xs) value behind × MoreAt behind more rest
+
+-- what a reader of arrays answers behind the opening bracket
+abbrev pub IsArrayAt : ℕ → List ℕ → Option (Form × List ℕ) → Type 0
+IsArrayAt levels xs (Some found) = (all : Items Integer MarkedText KeyForm) × (found.0 ≡ array all) × ItemsAt xs all found.1 × (depth found.0 ≤ levels)
+IsArrayAt levels xs None = IsUtf8 xs → (all : Items Integer MarkedText KeyForm) (rest : List ℕ) → ItemsAt xs all rest → ¬ (depth (array all) ≤ levels)
 
 -- a value and a slice, by what they hold
 abbrev pub value_rest : Form × Bor (List ℕ) → Form × List ℕ
@@ -173,31 +218,107 @@ one_in bytes = do
   name ← operand_at bytes
   cond (list_all is_blank name.1) (Some name.0) None
 
--- the operands of the request stand before blanks
-pub record EndsInOperands (bytes : List ℕ) (request : Request) : Type 0 where
+-- behind an arrow (45 and 62)
+unfoldable pub arrow_at : List ℕ → Option (List ℕ)
+arrow_at [] = None
+arrow_at (b ∷ []) = None
+arrow_at (b ∷ c ∷ rest) = cond ((b == 45) && (c == 62)) (Some rest) None
+
+-- the name for what is found, if there are more than blanks
+unfoldable pub into_in : List ℕ → Option (Option (List ℕ))
+into_in bytes = cond (list_all is_blank bytes) (Some None) (option_map Some (gap_at bytes >>= arrow_at >>= one_in))
+
+-- a name, and the name for what is found
+unfoldable pub keeping_in : List ℕ → Option (List ℕ × Option (List ℕ))
+keeping_in bytes = do
+  name ← operand_at bytes
+  into ← into_in name.1
+  Some (name.0, into)
+
+-- a name and a name that may be there, by what they hold
+abbrev pub name_into : Bor (List ℕ) × Option (Bor (List ℕ)) → List ℕ × Option (List ℕ)
+name_into pair = (pair.0.now, option_map (λ name. name.now) pair.1)
+
+-- what is called
+abbrev pub two_request : TwoNames → List ℕ → List ℕ → Request
+two_request Equal left right = equal left right
+two_request Compare left right = order left right
+
+abbrev pub one_request : OneName → List ℕ → Request
+one_request Remove name = remove name
+one_request Has name = has name
+one_request Len name = len name
+one_request Truthy name = truthy name
+one_request Kind name = kind_of name
+one_request IsSafe name = is_safe name
+one_request Escape name = escape name
+one_request Print name = print name
+
+abbrev pub kept_request : Kept → List ℕ → Request
+kept_request Get name = get name
+kept_request MarkSafe name = mark_safe name
+
+abbrev pub verb_of : Request → Verb
+verb_of (set name value) = Set
+verb_of (equal left right) = Two Equal
+verb_of (order left right) = Two Compare
+verb_of (remove name) = One Remove
+verb_of (has name) = One Has
+verb_of (len name) = One Len
+verb_of (truthy name) = One Truthy
+verb_of (kind_of name) = One Kind
+verb_of (is_safe name) = One IsSafe
+verb_of (escape name) = One Escape
+verb_of (print name) = One Print
+verb_of (get name) = Keeping Get
+verb_of (mark_safe name) = Keeping MarkSafe
+
+-- the verb, if the word is this text, and else what is given
+abbrev pub if_verb : List ℕ → List ℕ → Verb → Option Verb → Option Verb
+if_verb word text verb otherwise = cond (bytes_eq word text) (Some verb) otherwise
+
+-- the verb that a word names
+unfoldable pub verb_in : List ℕ → Option Verb
+verb_in word =
+    if_verb word (codes "set") Set
+    (if_verb word (codes "eq") (Two Equal)
+    (if_verb word (codes "cmp") (Two Compare)
+    (if_verb word (codes "remove") (One Remove)
+    (if_verb word (codes "has") (One Has)
+    (if_verb word (codes "len") (One Len)
+    (if_verb word (codes "truthy") (One Truthy)
+    (if_verb word (codes "kind") (One Kind)
+    (if_verb word (codes "is_safe") (One IsSafe)
+    (if_verb word (codes "escape") (One Escape)
+    (if_verb word (codes "print") (One Print)
+    (if_verb word (codes "get") (Keeping Get)
+    (if_verb word (codes "mark_safe") (Keeping MarkSafe) None))))))))))))
+
+-- the operands of the command stand before blanks
+pub record EndsInOperands (bytes : List ℕ) (command : Command) : Type 0 where
   pub operands : List ℕ
   pub after : List ℕ
-  pub spells : SpellsOperands operands request
+  pub spells : SpellsOperands operands command.request command.into
   pub blanks : AreBlanks after
   pub spelled : bytes ≡ operands ++ after
 
--- what a reader of operands answers behind a call's word: the one request that stands there, or nothing where none does
-abbrev pub AreOperandsOf : List ℕ → List ℕ → Option Request → Type 0
-AreOperandsOf word bytes (Some request) = (word_of request ≡ word) × EndsInOperands bytes request
-AreOperandsOf word bytes None = IsUtf8 bytes → (request : Request) → word_of request ≡ word → ¬ EndsInOperands bytes request
+-- what a reader of operands answers behind a call's word: the one command that stands there, or nothing where none does
+abbrev pub AreOperandsOf : Verb → List ℕ → Option Command → Type 0
+AreOperandsOf verb bytes (Some command) = (verb_of command.request ≡ verb) × EndsInOperands bytes command
+AreOperandsOf verb bytes None = IsUtf8 bytes → (command : Command) → verb_of command.request ≡ verb → ¬ EndsInOperands bytes command
 
--- a call stands before blanks
-pub record EndsInCall (bytes : List ℕ) (request : Request) : Type 0 where
+-- a command stands before blanks
+pub record EndsInCommand (bytes : List ℕ) (command : Command) : Type 0 where
   pub call : List ℕ
   pub after : List ℕ
-  pub spells : SpellsCall call request
+  pub spells : SpellsCommand call command
   pub blanks : AreBlanks after
   pub spelled : bytes ≡ call ++ after
 
--- what a reader of calls answers: the request that stands there, or nothing where none does
-abbrev pub IsCallAt : List ℕ → Option Request → Type 0
-IsCallAt bytes (Some request) = EndsInCall bytes request
-IsCallAt bytes None = IsUtf8 bytes → (request : Request) → ¬ EndsInCall bytes request
+-- what a reader of commands answers: the command that stands there, or nothing where none does
+abbrev pub IsCommandAt : List ℕ → Option Command → Type 0
+IsCommandAt bytes (Some command) = EndsInCommand bytes command
+IsCommandAt bytes None = IsUtf8 bytes → (command : Command) → ¬ EndsInCommand bytes command
 
 -- whether there are no bytes, or a # (35) is the first
 abbrev pub is_end_or_comment : List ℕ → Bool

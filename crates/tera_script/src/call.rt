@@ -1,42 +1,50 @@
-//! Calls: a word and its operands.
-ghost use Rattle.std.specs.Prelude.{◌≡◌, ℕ, List, IfOk, codes};
+//! Commands: a word, its operands, and the name for what is found.
+ghost use Rattle.std.specs.Prelude.{◌≡◌, ℕ, List, Some, IfOk, IfSome};
 ghost use Rattle.std.specs.List.{list_all};
 ghost use Rattle.std.specs.Option.{option_map};
 ghost use Rattle.std.specs.String.{string_bytes};
-ghost use Rattle.tera_context.specs.Call.{request_of};
-ghost use Rattle.tera_script.specs.Line.{is_blank, IsName};
-ghost use Rattle.tera_script.specs.Readers.{two_in, one_in, named_rest, AreOperandsOf, IsCallAt};
+ghost use Rattle.tera_context.specs.Call.{command_of};
+ghost use Rattle.tera_script.specs.Word.{is_blank, IsName};
+ghost use Rattle.tera_script.specs.Readers.{two_in, one_in, arrow_at, into_in, keeping_in, named_rest, name_into};
+ghost use Rattle.tera_script.specs.Readers.{AreOperandsOf, IsCommandAt};
+ghost use Rattle.tera_script.specs.declared.verb.Verb.TheVariants.{Set, Two, One, Keeping};
 
-use crate::literal::take_literal;
+use crate::literal::{LEVELS, take_literal};
+use crate::verb::{Kept, OneName, TwoNames, Verb, kept_call, one_call, two_call, verb_in};
 use crate::word::{are_blanks, past_gap, take_name, take_operand};
 use std::alloc::{AllocError, Global};
 use std::str;
-use tera_context::Call;
+use tera_context::{Call, Step};
 
-/// The call that the bytes say, up to blanks at their end. `None` where they say none. Takes memory for names and
-/// texts, and fails for want of it alone.
-pub(crate) fn read_call(alloc: Global, bytes: &[u8]) -> Result<Option<Call>, AllocError>
-    ensures { IfOk result (λ answer. IsCallAt bytes.now (option_map request_of answer)) }
+/// The step that the bytes say, up to blanks at their end. `None` where they say none. Takes memory for names, texts,
+/// byte strings and arrays, and fails for want of it alone.
+pub(crate) fn read_step(alloc: Global, bytes: &[u8]) -> Result<Option<Step>, AllocError>
+    ensures { IfOk result (λ answer. IsCommandAt bytes.now (option_map command_of answer)) }
 {
     let Some((word, operands)) = take_name(bytes) else {
         return Ok(None);
     };
-    if word == b"set".as_slice() {
-        read_set(alloc, operands)
-    } else if word == b"eq".as_slice() {
-        read_equal(alloc, operands)
-    } else if word == b"cmp".as_slice() {
-        read_compare(alloc, operands)
-    } else if word == b"print".as_slice() {
-        read_print(alloc, operands)
-    } else {
-        Ok(None)
+    let Some(verb) = verb_in(word) else {
+        return Ok(None);
+    };
+    read_operands(alloc, verb, operands)
+}
+
+// What stands behind the word of a call.
+fn read_operands(alloc: Global, verb: Verb, bytes: &[u8]) -> Result<Option<Step>, AllocError>
+    ensures { IfOk result (λ answer. AreOperandsOf verb bytes.now (option_map command_of answer)) }
+{
+    match verb {
+        Verb::Set => read_set(alloc, bytes),
+        Verb::Two(two) => read_two(alloc, two, bytes),
+        Verb::One(one) => read_one(alloc, one, bytes),
+        Verb::Keeping(kept) => read_keeping(alloc, kept, bytes),
     }
 }
 
 // The operands of `set`: a name and a literal.
-fn read_set(alloc: Global, bytes: &[u8]) -> Result<Option<Call>, AllocError>
-    ensures { IfOk result (λ answer. AreOperandsOf (codes "set") bytes.now (option_map request_of answer)) }
+fn read_set(alloc: Global, bytes: &[u8]) -> Result<Option<Step>, AllocError>
+    ensures { IfOk result (λ answer. AreOperandsOf Set bytes.now (option_map command_of answer)) }
 {
     let Some((name, behind)) = take_operand(bytes) else {
         return Ok(None);
@@ -44,49 +52,61 @@ fn read_set(alloc: Global, bytes: &[u8]) -> Result<Option<Call>, AllocError>
     let Some(literal) = past_gap(behind) else {
         return Ok(None);
     };
-    let Some((value, rest)) = take_literal(alloc, literal)? else {
+    let Some((value, rest)) = take_literal(alloc, literal, LEVELS)? else {
         return Ok(None);
     };
     if !are_blanks(rest) {
         return Ok(None);
     }
     let name = name_text(alloc, name)?;
-    Ok(Some(Call::Set { name, value }))
+    Ok(Some(Step {
+        call: Call::Set { name, value },
+        into: None,
+    }))
 }
 
-// The operands of `eq`: two names.
-fn read_equal(alloc: Global, bytes: &[u8]) -> Result<Option<Call>, AllocError>
-    ensures { IfOk result (λ answer. AreOperandsOf (codes "eq") bytes.now (option_map request_of answer)) }
+// Two names.
+fn read_two(alloc: Global, verb: TwoNames, bytes: &[u8]) -> Result<Option<Step>, AllocError>
+    ensures { IfOk result (λ answer. AreOperandsOf (Two verb) bytes.now (option_map command_of answer)) }
 {
     let Some((left, right)) = two_in(bytes) else {
         return Ok(None);
     };
     let left = name_text(alloc, left)?;
     let right = name_text(alloc, right)?;
-    Ok(Some(Call::Equal { left, right }))
+    Ok(Some(Step {
+        call: two_call(verb, left, right),
+        into: None,
+    }))
 }
 
-// The operands of `cmp`: two names.
-fn read_compare(alloc: Global, bytes: &[u8]) -> Result<Option<Call>, AllocError>
-    ensures { IfOk result (λ answer. AreOperandsOf (codes "cmp") bytes.now (option_map request_of answer)) }
-{
-    let Some((left, right)) = two_in(bytes) else {
-        return Ok(None);
-    };
-    let left = name_text(alloc, left)?;
-    let right = name_text(alloc, right)?;
-    Ok(Some(Call::Compare { left, right }))
-}
-
-// The operand of `print`: a name.
-fn read_print(alloc: Global, bytes: &[u8]) -> Result<Option<Call>, AllocError>
-    ensures { IfOk result (λ answer. AreOperandsOf (codes "print") bytes.now (option_map request_of answer)) }
+// One name.
+fn read_one(alloc: Global, verb: OneName, bytes: &[u8]) -> Result<Option<Step>, AllocError>
+    ensures { IfOk result (λ answer. AreOperandsOf (One verb) bytes.now (option_map command_of answer)) }
 {
     let Some(name) = one_in(bytes) else {
         return Ok(None);
     };
-    let of = name_text(alloc, name)?;
-    Ok(Some(Call::Print { of }))
+    let name = name_text(alloc, name)?;
+    Ok(Some(Step {
+        call: one_call(verb, name),
+        into: None,
+    }))
+}
+
+// One name, and maybe a name for what is found.
+fn read_keeping(alloc: Global, verb: Kept, bytes: &[u8]) -> Result<Option<Step>, AllocError>
+    ensures { IfOk result (λ answer. AreOperandsOf (Keeping verb) bytes.now (option_map command_of answer)) }
+{
+    let Some((name, into)) = keeping_in(bytes) else {
+        return Ok(None);
+    };
+    let name = name_text(alloc, name)?;
+    let into = into_text(alloc, into)?;
+    Ok(Some(Step {
+        call: kept_call(verb, name),
+        into,
+    }))
 }
 
 // Two names behind one another, and no more than blanks behind them.
@@ -112,6 +132,41 @@ fn one_in(bytes: &[u8]) -> Option<&[u8]>
     if are_blanks(rest) { Some(name) } else { None }
 }
 
+// One name, and behind it no more than blanks, or an arrow and one name.
+#[tactic(auto, unfolding(crate::specs::Readers::keeping_in))]
+fn keeping_in(bytes: &[u8]) -> Option<(&[u8], Option<&[u8]>)>
+    ensures { option_map name_into result ≡ keeping_in bytes.now }
+{
+    let (name, rest) = take_operand(bytes)?;
+    let into = into_in(rest)?;
+    Some((name, into))
+}
+
+// No more than blanks, or a gap, an arrow and one name.
+#[tactic(auto, unfolding(crate::specs::Readers::into_in))]
+fn into_in(bytes: &[u8]) -> Option<Option<&[u8]>>
+    ensures { option_map (option_map (λ name. name.now)) result ≡ into_in bytes.now }
+{
+    if are_blanks(bytes) {
+        return Some(None);
+    }
+    let arrow = past_gap(bytes)?;
+    let behind = past_arrow(arrow)?;
+    let name = one_in(behind)?;
+    Some(Some(name))
+}
+
+// The bytes behind an arrow.
+#[tactic(auto, unfolding(crate::specs::Readers::arrow_at))]
+fn past_arrow(bytes: &[u8]) -> Option<&[u8]>
+    ensures { option_map (λ rest. rest.now) result ≡ arrow_at bytes.now }
+{
+    match bytes {
+        [b'-', b'>', rest @ ..] => Some(rest),
+        _ => None,
+    }
+}
+
 // A name as a text of its own.
 fn name_text(alloc: Global, name: &[u8]) -> Result<String, AllocError>
     requires { IsName name.now }
@@ -120,5 +175,19 @@ fn name_text(alloc: Global, name: &[u8]) -> Result<String, AllocError>
     match str::from_utf8(name) {
         Ok(text) => String::from_str(alloc, text),
         Err(_) => unreachable!(),
+    }
+}
+
+// A name that may be there, as a text of its own.
+fn into_text(alloc: Global, name: Option<&[u8]>) -> Result<Option<String>, AllocError>
+    requires { IfSome name (λ name. IsName name.now) }
+    ensures { IfOk result (λ text. option_map string_bytes text ≡ option_map (λ name. name.now) name.entry) }
+{
+    match name {
+        Some(name) => {
+            let text = name_text(alloc, name)?;
+            Ok(Some(text))
+        }
+        None => Ok(None),
     }
 }

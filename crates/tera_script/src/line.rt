@@ -3,7 +3,7 @@ ghost use Rattle.std.specs.Prelude.{◌≡◌, IfOk};
 ghost use Rattle.tera_script.specs.Readers.{is_end_or_comment};
 ghost use Rattle.tera_script.specs.Said.{IsReadingOf};
 
-use crate::call::read_call;
+use crate::call::read_step;
 use crate::word::past_blanks;
 use std::alloc::{AllocError, Global};
 use std::str;
@@ -22,7 +22,7 @@ pub enum Reading {
 
 /// What a line says. The line comes without its end of line.
 ///
-/// Takes memory for names and texts; the only refusal is want of it.
+/// Takes memory for names, texts, byte strings and arrays; the only refusal is want of it.
 pub fn read_line(alloc: Global, line: &[u8]) -> Result<Reading, AllocError>
     ensures { IfOk result (IsReadingOf line.now) }
 {
@@ -32,8 +32,8 @@ pub fn read_line(alloc: Global, line: &[u8]) -> Result<Reading, AllocError>
     }
     match str::from_utf8(line) {
         Err(_) => Ok(Reading::Bad),
-        Ok(_) => match read_call(alloc, bytes)? {
-            Some(call) => Ok(Reading::Says(Step { call, into: None })),
+        Ok(_) => match read_step(alloc, bytes)? {
+            Some(step) => Ok(Reading::Says(step)),
             None => Ok(Reading::Bad),
         },
     }

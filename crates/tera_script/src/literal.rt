@@ -1,27 +1,75 @@
 //! Literals: how a script spells a value.
 ghost use Rattle.std.specs.Prelude.{◌≡◌, ℕ, List, IfOk};
 ghost use Rattle.std.specs.Option.{option_map};
-ghost use Rattle.tera_script.specs.Readers.{past, is_word_byte, value_in, plain_at, IsQuotedAt, IsLiteralAt, value_rest};
+ghost use Rattle.tera_script.specs.Readers.{past, is_word_byte, value_in, plain_at, hex_at, bytes_read, value_rest};
+ghost use Rattle.tera_script.specs.Readers.{IsQuotedAt, IsLiteralAt, IsArrayAt};
 
+use crate::hex::take_hex;
 use crate::number::number_in;
 use crate::text::take_text;
+use crate::word::past_blanks;
 use std::alloc::{AllocError, Global};
 use tera_values::Value;
 
-/// The literal at the front of the bytes, and the bytes behind it. `None` where there is none that ends as a word
-/// does. Takes memory for a text, and fails for want of it alone.
+/// How deep arrays may nest. The outermost is level 1.
+pub(crate) const LEVELS: usize = 64;
+
+/// The literal at the front of the bytes, in which arrays nest at most `levels` deep, and the bytes behind it. `None`
+/// where there is none that ends as a word does. Takes memory for texts, byte strings and arrays, and fails for want
+/// of it alone.
+#[cycle(literal)]
 pub(crate) fn take_literal(
     alloc: Global,
     bytes: &[u8],
+    levels: usize,
 ) -> Result<Option<(Value, &[u8])>, AllocError>
-    ensures { IfOk result (λ answer. IsLiteralAt bytes.now (option_map value_rest answer)) }
+    ensures { IfOk result (λ answer. IsLiteralAt levels bytes.now (option_map value_rest answer)) }
 {
     if let Some(text) = bytes.strip_prefix(b"\"".as_slice()) {
         take_quoted(alloc, text, false)
     } else if let Some(text) = bytes.strip_prefix(b"s\"".as_slice()) {
         take_quoted(alloc, text, true)
+    } else if let Some(digits) = bytes.strip_prefix(b"x\"".as_slice()) {
+        take_bytes(alloc, digits)
+    } else if let Some(inside) = bytes.strip_prefix(b"[".as_slice()) {
+        take_array(alloc, inside, levels)
     } else {
         Ok(take_plain(bytes))
+    }
+}
+
+// The array behind an opening bracket, and the bytes behind its closing bracket.
+#[cycle(literal)]
+fn take_array(
+    alloc: Global,
+    bytes: &[u8],
+    levels: usize,
+) -> Result<Option<(Value, &[u8])>, AllocError>
+    ensures { IfOk result (λ answer. IsArrayAt levels bytes.now (option_map value_rest answer)) }
+{
+    if levels == 0 {
+        return Ok(None);
+    }
+    let mut items = Vec::new(alloc);
+    let mut rest = past_blanks(bytes);
+    if let Some(behind) = rest.strip_prefix(b"]".as_slice()) {
+        return Ok(Some((Value::of_array(items), behind)));
+    }
+    loop {
+        let Some((item, behind)) = take_literal(alloc, rest, levels - 1)? else {
+            return Ok(None);
+        };
+        items.push(item)?;
+        let Some((mark, next)) = past_blanks(behind).split_first() else {
+            return Ok(None);
+        };
+        if *mark == b']' {
+            return Ok(Some((Value::of_array(items), next)));
+        }
+        if *mark != b',' {
+            return Ok(None);
+        }
+        rest = past_blanks(next);
     }
 }
 
@@ -42,6 +90,16 @@ fn take_quoted(
         Ok(Some((value.mark_safe(), rest)))
     } else {
         Ok(Some((value, rest)))
+    }
+}
+
+// The byte string behind an opening quote, and the bytes behind its closing quote.
+fn take_bytes(alloc: Global, bytes: &[u8]) -> Result<Option<(Value, &[u8])>, AllocError>
+    ensures { IfOk result (λ answer. option_map value_rest answer ≡ bytes_read (hex_at bytes.now)) }
+{
+    match take_hex(alloc, bytes)? {
+        Some((taken, rest)) => Ok(Some((Value::bytes(taken), rest))),
+        None => Ok(None),
     }
 }
 

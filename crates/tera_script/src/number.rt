@@ -4,7 +4,8 @@ ghost use Rattle.std.specs.Char.{digit_value, is_ascii_digit};
 ghost use Rattle.std.specs.Option.{option_map};
 ghost use Rattle.tera_meaning.specs.Integer.{i128 as kind_i128};
 ghost use Rattle.tera_script.specs.Number.{signed};
-ghost use Rattle.tera_script.specs.Readers.{Stops, BeginsWithDigit, digits_at, suffix_in, integer_of, is_of_kind, unsigned_in, number_in, number_rest, number_value, kind_of};
+ghost use Rattle.tera_script.specs.Readers.{Stops, BeginsWithDigit, digits_at, suffix_in, integer_of, is_of_kind};
+ghost use Rattle.tera_script.specs.Readers.{unsigned_in, number_in, number_rest, number_value, suffix_kind};
 
 use tera_values::Value;
 
@@ -78,7 +79,7 @@ fn with_digit(magnitude: u128, digit: u8) -> Option<u128>
 // The kind that a word names, or none where there is no word. `None` for any other word.
 #[tactic(auto, unfolding(crate::specs::Readers::suffix_in))]
 fn suffix_in(word: &[u8]) -> Option<Option<Suffix>>
-    ensures { option_map (option_map kind_of) result ≡ suffix_in word.now }
+    ensures { option_map (option_map suffix_kind) result ≡ suffix_in word.now }
 {
     if word.is_empty() {
         Some(None)
@@ -98,7 +99,7 @@ fn suffix_in(word: &[u8]) -> Option<Option<Suffix>>
 // The number with this sign in the kind of its suffix, or in the first kind that holds it.
 #[tactic(auto, unfolding(crate::specs::Readers::integer_of))]
 fn integer_of(minus: bool, magnitude: u128, suffix: Option<Suffix>) -> Option<Value>
-    ensures { result ≡ number_value (integer_of minus magnitude (option_map kind_of suffix)) }
+    ensures { result ≡ number_value (integer_of minus magnitude (option_map suffix_kind suffix)) }
 {
     match suffix {
         None => in_first_kind(minus, magnitude),

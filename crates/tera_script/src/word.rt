@@ -2,7 +2,7 @@
 ghost use Rattle.std.specs.Prelude.{◌≡◌, ℕ, List};
 ghost use Rattle.std.specs.List.{list_all};
 ghost use Rattle.std.specs.Option.{option_map};
-ghost use Rattle.tera_script.specs.Line.{is_blank, is_name_start, is_name_byte};
+ghost use Rattle.tera_script.specs.Word.{is_blank, is_name_start, is_name_byte};
 ghost use Rattle.tera_script.specs.Readers.{past, gap_at, name_at, operand_at, named_rest};
 
 fn is_blank(byte: u8) -> bool

@@ -1,4 +1,4 @@
-use Rattle.tera_script.proofs.Lines.{name_utf8}
+use Rattle.tera_script.proofs.Utf8Fronts.{name_utf8}
 use Rattle.tera_script.proofs.call.name_text.Goals as goal
 
 pub unreachable-requires : goal.unreachable-requires

@@ -2,7 +2,7 @@ use Rattle.std.proofs.Common.{[], ap, sym, ◌∙◌, refl}
 use Rattle.std.specs.Option.{option_map}
 use Rattle.tera_script.specs.Readers.{is_word_byte, value_rest}
 use Rattle.tera_script.proofs.Fronts.{length-past}
-use Rattle.tera_script.proofs.Literals.{plain_none, plain_some}
+use Rattle.tera_script.proofs.Words.{plain_none, plain_some}
 use Rattle.tera_script.proofs.literal.take_plain.Goals as goal
 
 pub slice_bounds-value_in-count : goal.slice_bounds-value_in-count

@@ -1,6 +1,7 @@
 use Rattle.std.proofs.Common.{ap, sym, ◌∙◌}
 use Rattle.std.specs.String.{string_bytes}
-use Rattle.tera_values.specs.View.{marked, marked_safe}
+use Rattle.tera_meaning.specs.Read.{marked_safe}
+use Rattle.tera_values.specs.View.{marked}
 use Rattle.tera_script.proofs.Literals.{quoted_none, quoted_some}
 use Rattle.tera_script.proofs.literal.take_quoted.Goals as goal
 

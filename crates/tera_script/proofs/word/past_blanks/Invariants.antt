@@ -1,5 +1,5 @@
 use Rattle.std.proofs.Common.{◌≡◌, length}
-use Rattle.tera_script.specs.Line.{is_blank}
+use Rattle.tera_script.specs.Word.{is_blank}
 use Rattle.tera_script.specs.Readers.{past}
 use Rattle.tera_script.proofs.word.past_blanks.Given as goal
 

@@ -1,5 +1,5 @@
 use Rattle.std.proofs.Common.{◌≡◌, length}
-use Rattle.tera_script.specs.Line.{is_name_byte}
+use Rattle.tera_script.specs.Word.{is_name_byte}
 use Rattle.tera_script.specs.Readers.{past}
 use Rattle.tera_script.proofs.word.past_name.Given as goal
 

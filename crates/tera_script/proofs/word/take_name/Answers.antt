@@ -1,5 +1,5 @@
 use Rattle.std.proofs.Common.{◌≡◌, ◌-◌, ℕ, List, [], ◌∷◌, length, take, drop, true, Option, Some, sym, ◌∙◌}
-use Rattle.tera_script.specs.Line.{is_name_start, is_name_byte}
+use Rattle.tera_script.specs.Word.{is_name_start, is_name_byte}
 use Rattle.tera_script.specs.Readers.{front, past, name_at}
 use Rattle.tera_script.proofs.Fronts.{length-past, take_to_past, drop_to_past}
 use Rattle.tera_script.proofs.word.take_name.Goals as goal

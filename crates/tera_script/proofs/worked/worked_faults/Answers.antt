@@ -1,4 +1,4 @@
-use Rattle.tera_script.proofs.WorkedLines.{bad_word, bad_longer_word, bad_one_operand, bad_name, bad_large, bad_minus, bad_escape, bad_bytes}
+use Rattle.tera_script.proofs.WorkedFaults.{bad_word, bad_longer_word, bad_one_operand, bad_name, bad_large, bad_minus, bad_escape, bad_bytes}
 use Rattle.tera_script.proofs.worked.worked_faults.Goals as goal
 
 pub returns : goal.returns
