@@ -57,7 +57,7 @@ at_end bytes text more fails p v new told g h =
       split = record { whole = g.split; each = g.each; rest = g.rest };
       answers = record { commands = all.commands; state = new; script = subst P (sym (all_given fails g.lines p.part told)) all.script; run = all.run };
       ended = λ is. absurd (not_failing fails told is);
-      out_is = all.text_is;
+      replied = all.replied;
       err_is = refl;
       status_is = ap (λ (w : Bool). cond (w || v) 1 0) g.wanted_is ∙ ap (λ (w : Bool). cond w 1 0) all.wanted_is;
     }
@@ -83,7 +83,7 @@ at_bad bytes text fails n s =
         run = g.runs.run;
       };
       ended = λ is. refl;
-      out_is = g.runs.text_is;
+      replied = g.runs.replied;
       err_is = refl;
       status_is = refl;
     }
@@ -106,7 +106,7 @@ at_bad_end bytes text fails p told g whole bad =
         run = g.runs.run;
       };
       ended = λ is. refl;
-      out_is = g.runs.text_is;
+      replied = g.runs.replied;
       err_is = refl;
       status_is = refl;
     }
@@ -130,7 +130,7 @@ at_memory bytes text fails s =
       split = Splits-more (s.place.part ++ s.unread) bytes t.0 g.lines t.1 g.each t.2 (regrouped bytes s.read s.unread text s.place g s.bytes_are);
       front = given.1;
       answers = runs_answer s.read text s.place g;
-      out_is = g.runs.text_is;
+      replied = g.runs.replied;
       err_is = refl;
       status_is = refl;
     }
@@ -147,7 +147,7 @@ at_failure bytes given rest text fails p e cause g = record {
   cause = cause;
   split = record { whole = g.split; each = g.each; rest = g.rest };
   answers = runs_answer given text p g;
-  out_is = g.runs.text_is;
+  replied = g.runs.replied;
   err_is = refl;
   status_is = refl;
 }

@@ -1,4 +1,6 @@
+pub mod ReplyLemmas
 pub mod RunLemmas
+pub mod ScriptLemmas
 pub mod SplitLemmas
 pub mod StretchLemmas
 pub mod EndLemmas

@@ -7,12 +7,12 @@ use Rattle.tera_report.specs.declared.errors.Error.{Error}
 use Rattle.tera_meaning.specs.State.{State}
 use Rattle.tera_meaning.specs.Step.{Command, Outcome, IsStep}
 use Rattle.tera_context.specs.declared.call.Answer.{Answer}
-use Rattle.tera_context.specs.declared.call.Answer.TheVariants.{Done, Truth, Order, Text}
+use Rattle.tera_context.specs.declared.call.Answer.TheVariants.{Done, Truth, Order, Found, Size, Kind, Text}
 use Rattle.tera_context.specs.Call.{outcome_of}
 use Rattle.tera_script.specs.Line.{Says, IsSkipped}
-use Rattle.tera_replay.specs.Reply.{reply}
+use Rattle.tera_replay.specs.Reply.{IsReply}
 use Rattle.tera_replay.specs.Replay.{is_out_of_memory}
-use Rattle.tera_replay.specs.Script.{without_return, carriage_return}
+use Rattle.tera_replay.specs.Script.{without_return, carriage_return, ended}
 use Rattle.tera_replay.specs.Stretch.{Runs}
 
 -- a carriage return at the end is dropped
@@ -41,17 +41,17 @@ Runs-skipped n state line skipped = record {
   outcomes = [];
   script = inl (skipped, (refl, refl));
   run = refl;
-  text_is = refl;
+  replied = ([], tt, refl);
   wanted_is = refl;
 }
 
-pub Runs-says : (n : ℕ) (old new : State) (line : List ℕ) (command : Command) (outcome : Outcome) → Says line command → IsStep old command outcome new → Runs n old (line ∷ []) (reply outcome) (is_out_of_memory outcome) new
-Runs-says n old new line command outcome says step = record {
+pub Runs-says : (n : ℕ) (old new : State) (line text : List ℕ) (command : Command) (outcome : Outcome) → Says line command → IsStep old command outcome new → IsReply outcome text → Runs n old (line ∷ []) (ended text) (is_out_of_memory outcome) new
+Runs-says n old new line text command outcome says step replied = record {
   commands = command ∷ [];
   outcomes = outcome ∷ [];
   script = inr (inl (command, [], says, refl, (refl, refl)));
   run = (new, step, refl);
-  text_is = sym (append-nil (reply outcome));
+  replied = (text ∷ [], (replied, tt), sym (append-nil (ended text)));
   wanted_is = or_false (is_out_of_memory outcome);
 }
 
@@ -60,6 +60,9 @@ pub wants-is_err : (answer : Result Answer Error) → is_out_of_memory (outcome_
 wants-is_err (Ok Done) = refl
 wants-is_err (Ok (Truth b)) = refl
 wants-is_err (Ok (Order o)) = refl
+wants-is_err (Ok (Found v)) = refl
+wants-is_err (Ok (Size n)) = refl
+wants-is_err (Ok (Kind k)) = refl
 wants-is_err (Ok (Text t)) = refl
 wants-is_err (Err e) = refl
 

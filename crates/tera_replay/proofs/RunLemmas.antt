@@ -4,9 +4,10 @@ use Rattle.std.proofs.lemmas.List.Folds.{list_any-append}
 use Rattle.std.proofs.lemmas.List.Concat.{flat_map-append}
 use Rattle.tera_meaning.specs.State.{State}
 use Rattle.tera_meaning.specs.Step.{Command, Outcome}
+use Rattle.std.specs.List.{AllZip}
 use Rattle.tera_meaning.specs.Run.{IsRun}
-use Rattle.tera_replay.specs.Script.{Script}
-use Rattle.tera_replay.specs.Reply.{reply}
+use Rattle.tera_replay.specs.Script.{Script, ended}
+use Rattle.tera_replay.specs.Reply.{IsReply, AreReplies}
 use Rattle.tera_replay.specs.Replay.{is_out_of_memory}
 use Rattle.tera_replay.specs.Stretch.{Runs}
 
@@ -37,13 +38,27 @@ or_assoc : (a b c : Bool) → ((a || b) || c) ≡ (a || (b || c))
 or_assoc true b c = refl
 or_assoc false b c = refl
 
+AllZip-append : (xs ys : List Outcome) (ss ts : List (List ℕ)) → AllZip IsReply xs ss → AllZip IsReply ys ts → AllZip IsReply (xs ++ ys) (ss ++ ts)
+AllZip-append [] ys [] ts h g = g
+AllZip-append (x ∷ xs) ys (s ∷ ss) ts h g = (h.0, AllZip-append xs ys ss ts h.1 g)
+AllZip-append [] ys (s ∷ ss) ts h g = absurd h
+AllZip-append (x ∷ xs) ys [] ts h g = absurd h
+
+-- replies behind replies
+AreReplies-append : (xs ys : List Outcome) (s t : List ℕ) → AreReplies xs s → AreReplies ys t → AreReplies (xs ++ ys) (s ++ t)
+AreReplies-append xs ys s t h g = (
+  h.0 ++ g.0,
+  AllZip-append xs ys h.0 g.0 h.1 g.1,
+  (λ i. h.2 i ++ g.2 i) ∙ sym (flat_map-append ended h.0 g.0),
+)
+
 pub Runs-append : (n m : ℕ) (a b c : State) (xs ys : List (List ℕ)) (s t : List ℕ) (v w : Bool) → Runs n a xs s v b → m ≡ n + length xs → Runs m b ys t w c → Runs n a (xs ++ ys) (s ++ t) (v || w) c
 Runs-append n m a b c xs ys s t v w g e h = record {
   commands = g.commands ++ h.commands;
   outcomes = g.outcomes ++ h.outcomes;
   script = Script-append n xs ys g.commands h.commands None g.script m e h.script;
   run = IsRun-append a b c g.commands h.commands g.outcomes h.outcomes g.run h.run;
-  text_is = (λ i. g.text_is i ++ h.text_is i) ∙ sym (flat_map-append reply g.outcomes h.outcomes);
+  replied = AreReplies-append g.outcomes h.outcomes s t g.replied h.replied;
   wanted_is = (λ i. g.wanted_is i || h.wanted_is i) ∙ sym (list_any-append is_out_of_memory g.outcomes h.outcomes);
 }
 
@@ -53,6 +68,6 @@ Runs-none n a = record {
   outcomes = [];
   script = (refl, refl);
   run = refl;
-  text_is = refl;
+  replied = ([], tt, refl);
   wanted_is = refl;
 }

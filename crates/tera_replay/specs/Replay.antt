@@ -3,16 +3,19 @@ use Rattle.std.specs.Prelude.{◌≡◌, ℕ, ◌-◌, ◌^◌, ◌≤◌, ◌�
 use Rattle.std.specs.List.{list_any}
 use Rattle.std.specs.FinMap.{empty}
 use Rattle.tera_meaning.specs.State.{State}
-use Rattle.tera_meaning.specs.Step.{Command, Outcome, done, holds, ordered, shown, out_of_memory}
+use Rattle.tera_meaning.specs.Step.{Command, Outcome, done, holds, ordered, found, size, of_kind, shown, out_of_memory}
 use Rattle.tera_meaning.specs.Run.{IsRun}
 use Rattle.tera_replay.specs.Script.{Splits, Script, without_return, last_line, ended}
-use Rattle.tera_replay.specs.Reply.{replies}
+use Rattle.tera_replay.specs.Reply.{AreReplies}
 
 abbrev pub is_out_of_memory : Outcome → Bool
 is_out_of_memory done = false
 is_out_of_memory (holds truth) = false
 is_out_of_memory (ordered order) = false
-is_out_of_memory (shown text) = false
+is_out_of_memory (found value) = false
+is_out_of_memory (size n) = false
+is_out_of_memory (of_kind kind) = false
+is_out_of_memory (shown printed) = false
 is_out_of_memory out_of_memory = true
 
 -- some answer was want of memory
@@ -50,7 +53,7 @@ pub record AllAnswered (bytes : List ℕ) (fails : Option Bool) (out err : List 
   pub split : Splits bytes lines part
   pub answers : Answers (lines_given fails lines part) bad outcomes
   pub ended : fails ≡ Some true → IsSome bad
-  pub out_is : out ≡ replies outcomes
+  pub replied : AreReplies outcomes out
   pub err_is : err ≡ report bad
   pub status_is : status ≡ status_of bad outcomes
 
@@ -71,7 +74,7 @@ pub record ReadingFailed (bytes : List ℕ) (fails : Option Bool) (out err : Lis
   pub cause : SourceMayFail fails rest ⊎ (2 ^ 64 - 1 ≤ length given)
   pub split : Splits given lines part
   pub answers : Answers (map without_return lines) None outcomes
-  pub out_is : out ≡ replies outcomes
+  pub replied : AreReplies outcomes out
   pub err_is : err ≡ codes "error: reading failed\n"
   pub status_is : status ≡ 1
 
@@ -85,7 +88,7 @@ pub record MemoryFailed (bytes : List ℕ) (fails : Option Bool) (out err : List
   pub split : Splits bytes lines part
   pub front : lines_given fails lines part ≡ first ++ later
   pub answers : Answers first None outcomes
-  pub out_is : out ≡ replies outcomes
+  pub replied : AreReplies outcomes out
   pub err_is : err ≡ codes "error: Out of memory\n"
   pub status_is : status ≡ 1
 

@@ -9,7 +9,7 @@ use Rattle.tera_replay.specs.declared.fault.Fault.{Fault}
 use Rattle.tera_replay.specs.declared.fault.Fault.TheVariants.{BadLine, ReadFailed, WriteFailed, OutOfMemory}
 use Rattle.tera_script.specs.Line.{IsBad}
 use Rattle.tera_replay.specs.Script.{Script, HasNoLineFeed, without_return, ended, line_feed}
-use Rattle.tera_replay.specs.Reply.{replies}
+use Rattle.tera_replay.specs.Reply.{AreReplies}
 use Rattle.tera_replay.specs.Replay.{wants_memory, report, AllAnswered, ReadingFailed, MemoryFailed}
 
 -- None of the lines, numbered from n on, is bad, and a run over what they say is answered by the text.
@@ -18,7 +18,7 @@ pub record Runs (n : ℕ) (old : State) (lines : List (List ℕ)) (text : List �
   pub outcomes : List Outcome
   pub script : Script n lines commands None
   pub run : IsRun old commands outcomes new
-  pub text_is : text ≡ replies outcomes
+  pub replied : AreReplies outcomes text
   pub wanted_is : wanted ≡ wants_memory outcomes
 
 -- Where a replay stands between two bytes: the number of the line at hand and what was read of it, the state,
@@ -74,6 +74,13 @@ LineStops n line never_fails OutStays (BadLine m) = (m ≡ n) × IsBad line × O
 LineStops n line never_fails OutStays ReadFailed = ⊥
 LineStops n line never_fails OutStays WriteFailed = ¬ IsTrue never_fails
 LineStops n line never_fails OutStays OutOfMemory = OutStays
+
+-- what stands where a fault ended the writing of a reply
+abbrev pub ReplyStops : Bool → Type 0 → Fault → Type 0
+ReplyStops never_fails OutStays (BadLine m) = ⊥
+ReplyStops never_fails OutStays ReadFailed = ⊥
+ReplyStops never_fails OutStays WriteFailed = ¬ IsTrue never_fails
+ReplyStops never_fails OutStays OutOfMemory = OutStays
 
 -- how answering all of the input went: whether memory was wanted by an answer, or a fault
 abbrev pub Ends : List ℕ → Option Bool → Bool → (List ℕ → Type 0) → Result Bool Fault → Type 0

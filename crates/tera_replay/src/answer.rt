@@ -1,29 +1,47 @@
 // The line that answers a call.
 ghost use Rattle.std.specs.Io.KnownBytes.{Appends};
-ghost use Rattle.std.specs.Prelude.{◌≡◌, ◌++◌, codes, OnOk, OnErr, IsTrue};
+ghost use Rattle.std.specs.Prelude.{◌≡◌, ℕ, List, [], ◌++◌, codes, decimal, IfOk, OnOk, OnErr, IfErr, IsTrue};
 ghost use Rattle.tera_context.specs.Call.{outcome_of};
-ghost use Rattle.tera_replay.specs.Reply.{reply, order_name};
+ghost use Rattle.tera_meaning.specs.Kind.{kind_name};
+ghost use Rattle.tera_values.specs.Kind.{kind_form};
+ghost use Rattle.tera_replay.specs.declared.fault.Fault.TheVariants.{OutOfMemory};
+ghost use Rattle.tera_replay.specs.Reply.{IsFormOf, IsReply, order_name};
 ghost use Rattle.tera_replay.specs.Script.{ended};
+ghost use Rattle.tera_replay.specs.Stretch.{ReplyStops};
 
+use crate::fault::Fault;
 use crate::sink::{Sink, WriteError};
+use itoa::Buffer;
+use std::alloc::Global;
 use std::cmp::Ordering;
 use tera_context::Answer;
 use tera_report::TeraResult;
+use tera_values::{Value, ValueKind};
 
 /// Writes the line that answers a call, with its line feed.
-pub fn write_answer<W: Sink>(answer: &TeraResult<Answer>, out: &mut W) -> Result<(), WriteError>
-    ensures ok { OnOk result (Appends (W.holds out.old) (W.holds out.new) (reply (outcome_of answer.now))) }
+pub fn write_answer<W: Sink>(
+    alloc: Global,
+    answer: &TeraResult<Answer>,
+    out: &mut W,
+) -> Result<(), Fault>
+    ensures ok { OnOk result ((text : List ℕ) × IsReply (outcome_of answer.now) text × Appends (W.holds out.old) (W.holds out.new) (ended text)) }
     ensures stays { W.never_fails out.new ≡ W.never_fails out.old }
-    ensures err { OnErr result (¬ IsTrue (W.never_fails out.old)) }
+    ensures err { IfErr result (ReplyStops (W.never_fails out.old) (Appends (W.holds out.old) (W.holds out.new) [])) }
 {
     match answer {
-        Ok(Answer::Done) => out.put(b"ok\n"),
-        Ok(Answer::Truth(true)) => out.put(b"true\n"),
-        Ok(Answer::Truth(false)) => out.put(b"false\n"),
-        Ok(Answer::Order(order)) => out.put(order_line(*order)),
-        Ok(Answer::Text(text)) => write_text(text.as_str(), out),
-        Err(_) => out.put(b"error: Out of memory\n"),
+        Ok(Answer::Done) => out.put(b"ok\n")?,
+        Ok(Answer::Truth(true)) => out.put(b"true\n")?,
+        Ok(Answer::Truth(false)) => out.put(b"false\n")?,
+        Ok(Answer::Order(order)) => out.put(order_line(*order))?,
+        Ok(Answer::Found(None)) => out.put(b"nothing\n")?,
+        Ok(Answer::Found(Some(value))) => write_value(alloc, value, out)?,
+        Ok(Answer::Size(None)) => out.put(b"nothing\n")?,
+        Ok(Answer::Size(Some(size))) => write_size(*size, out)?,
+        Ok(Answer::Kind(kind)) => write_kind(*kind, out)?,
+        Ok(Answer::Text(text)) => write_text(text.as_str(), out)?,
+        Err(_) => out.put(b"error: Out of memory\n")?,
     }
+    Ok(())
 }
 
 fn order_line(order: Option<Ordering>) -> &'static [u8]
@@ -35,6 +53,70 @@ fn order_line(order: Option<Ordering>) -> &'static [u8]
         Some(Ordering::Equal) => b"equal\n",
         Some(Ordering::Greater) => b"greater\n",
     }
+}
+
+// Writes a value: undefined and none by their names, and every other one as it prints inside an array.
+fn write_value<W: Sink>(alloc: Global, value: &Value, out: &mut W) -> Result<(), Fault>
+    ensures ok { OnOk result ((form : List ℕ) × IsFormOf value.now form × Appends (W.holds out.old) (W.holds out.new) (ended (codes "value " ++ form))) }
+    ensures stays { W.never_fails out.new ≡ W.never_fails out.old }
+    ensures err { IfErr result (ReplyStops (W.never_fails out.old) (Appends (W.holds out.old) (W.holds out.new) [])) }
+{
+    let line = value_line(alloc, value)?;
+    out.put(line.as_slice())?;
+    Ok(())
+}
+
+// The line for a value, with its line feed.
+fn value_line(alloc: Global, value: &Value) -> Result<Vec<u8>, Fault>
+    ensures ok { IfOk result (λ line. (form : List ℕ) × IsFormOf value.now form × (line.items ≡ ended (codes "value " ++ form))) }
+    ensures err { IfErr result (λ fault. fault ≡ OutOfMemory) }
+{
+    let mut line = Vec::from_slice(alloc, b"value ")?;
+    put_form(value, &mut line)?;
+    line.extend_from_slice(b"\n")?;
+    Ok(line)
+}
+
+// Puts a value's form behind what the line holds.
+fn put_form(value: &Value, line: &mut Vec<u8>) -> Result<(), Fault>
+    ensures ok { OnOk result ((form : List ℕ) × IsFormOf value.now form × (line.new.items ≡ line.old.items ++ form)) }
+    ensures err { IfErr result (λ fault. fault ≡ OutOfMemory) }
+{
+    if value.is_undefined() {
+        line.extend_from_slice(b"undefined")?;
+        return Ok(());
+    }
+    if value.is_none() {
+        line.extend_from_slice(b"none")?;
+        return Ok(());
+    }
+    match value.format_inside(line) {
+        Ok(()) => Ok(()),
+        Err(_) => Err(Fault::OutOfMemory),
+    }
+}
+
+// Writes a length.
+fn write_size<W: Sink>(size: usize, out: &mut W) -> Result<(), WriteError>
+    ensures ok { OnOk result (Appends (W.holds out.old) (W.holds out.new) (ended (codes "size " ++ decimal size))) }
+    ensures stays { W.never_fails out.new ≡ W.never_fails out.old }
+    ensures err { OnErr result (¬ IsTrue (W.never_fails out.old)) }
+{
+    let mut digits = Buffer::new();
+    out.put(b"size ")?;
+    out.put(digits.format(size).as_bytes())?;
+    out.put(b"\n")
+}
+
+// Writes the name of a kind.
+fn write_kind<W: Sink>(kind: ValueKind, out: &mut W) -> Result<(), WriteError>
+    ensures ok { OnOk result (Appends (W.holds out.old) (W.holds out.new) (ended (codes "kind " ++ kind_name (kind_form kind)))) }
+    ensures stays { W.never_fails out.new ≡ W.never_fails out.old }
+    ensures err { OnErr result (¬ IsTrue (W.never_fails out.old)) }
+{
+    out.put(b"kind ")?;
+    out.put(kind.name().as_bytes())?;
+    out.put(b"\n")
 }
 
 // Writes a text as it is, line feeds and all.

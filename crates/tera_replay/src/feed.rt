@@ -117,6 +117,8 @@ impl Feed {
             × Appends (W.holds out.old) (W.holds out.new) text) }
         ensures err { IfErr result (λ fault. (last_line self.old.part.items ≡ self.old.part.items ∷ [])
             × LineStops self.old.number self.old.part.items (W.never_fails out.old) (Appends (W.holds out.old) (W.holds out.new) []) fault) }
+        ensures number { self.new.number ≡ self.old.number }
+        ensures wanted { self.new.wanted_memory ≡ self.old.wanted_memory }
     {
         if self.part.is_empty() {
             return Ok(self.wanted_memory);
@@ -146,7 +148,7 @@ fn answer_line<W: Sink>(
         Reading::Bad => Err(Fault::BadLine(number)),
         Reading::Says(call) => {
             let answer = step(context, call);
-            write_answer(&answer, out)?;
+            write_answer(alloc, &answer, out)?;
             Ok(answer.is_err())
         }
     }

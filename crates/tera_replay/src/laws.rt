@@ -1,6 +1,10 @@
 //! Laws of the definitions.
-ghost use Rattle.std.specs.Prelude.{◌≡◌, ℕ, List, [], ◌∷◌, codes};
-ghost use Rattle.tera_replay.specs.Script.{Splits, without_return, last_line};
+ghost use Rattle.std.specs.Prelude.{◌≡◌, ℕ, List, [], ◌∷◌, Option, codes};
+ghost use Rattle.tera_meaning.specs.Step.{Command, Outcome};
+ghost use Rattle.tera_replay.specs.Reply.{IsFixedReply, IsReply};
+ghost use Rattle.tera_replay.specs.Script.{Script, Splits, without_return, last_line};
+
+use tera_script::{one_command, skipped_says_nothing};
 
 /// All bytes are lines and a part of one.
 pub fn bytes_are_lines()
@@ -13,6 +17,15 @@ pub fn lines_are_split_one_way()
         → (lines ≡ others) × (part ≡ other) }
 {}
 
+/// What lines say is one list of commands, up to one first bad line or none.
+pub fn scripts_say_one_thing()
+    ensures { (n : ℕ) (lines : List (List ℕ)) (commands others : List Command) (bad other : Option ℕ)
+        → Script n lines commands bad → Script n lines others other → (commands ≡ others) × (bad ≡ other) }
+{
+    one_command();
+    skipped_says_nothing();
+}
+
 /// Two lines as most systems end them, of which the second has no line feed.
 pub fn two_lines_are_split()
     ensures split { Splits (codes "eq a b\r\nfrob") (codes "eq a b\r" ∷ []) (codes "frob") }
@@ -24,4 +37,10 @@ pub fn two_lines_are_split()
 pub fn one_return_is_dropped()
     ensures two { without_return (codes "a\r\r") ≡ codes "a\r" }
     ensures middle { without_return (codes "a\rb") ≡ codes "a\rb" }
+{}
+
+/// Each outcome has a reply, and one alone, but where a value is found that quotes a text past ASCII.
+pub fn outcomes_have_one_reply()
+    ensures some { (outcome : Outcome) → (line : List ℕ) × IsReply outcome line }
+    ensures one { (outcome : Outcome) (line other : List ℕ) → IsFixedReply outcome → IsReply outcome line → IsReply outcome other → line ≡ other }
 {}

@@ -1,12 +1,27 @@
 -- What the source gave so far is answered, also where a fault ends the loop.
-use Rattle.std.proofs.Common.{◌≡◌, ◌<◌, ◌≤◌, ℕ, Bool, Option, length, take, ◌∙◌, subst, rules, arith}
+use Rattle.std.proofs.Common.{◌≡◌, ◌<◌, ◌≤◌, ℕ, Bool, Option, length, take, sym, ◌∙◌, subst, refl, rules, arith}
 use Rattle.std.proofs.lemmas.Result.{err_from_is_err_and}
 use Rattle.std.proofs.lemmas.List.{length-take-le}
 use Rattle.std.specs.Io.KnownBytes.{Consumes}
 use Rattle.tera_replay.specs.Place.{place_of}
+use Rattle.tera_replay.specs.Stretch.{Place}
 use Rattle.tera_replay.specs.Source.{EndIsTold, MayErr}
-use Rattle.tera_replay.proofs.InputLemmas.{Fed-kept, Fed-more, Fed-failed, Fed-too_long, Fed-stops, Fed-all}
+use Rattle.tera_replay.proofs.InputLemmas.{Fed, Fed-none, Fed-kept, Fed-more, Fed-failed, Fed-too_long, Fed-stops, Fed-all}
 use Rattle.tera_replay.proofs.replay.answer_all.Goals as goal
+
+pub pieces-init : goal.pieces-init
+pieces-init g c =
+    let source = g.S.Source in
+    let sink = g.W.Sink in
+    let first = source.left c.args.input.now in
+    let before = sink.holds c.args.out.now in
+    let P : Place → Type 0 = λ place. Fed first first 0 place before before in
+    record {
+      fed = subst P (sym c.new-feed.ensures) (Fed-none first before);
+      fails = refl;
+      never = refl;
+      room = search rules;
+    }
 
 pub returns-in_err-count : goal.returns-in_err-count
 returns-in_err-count g c =
