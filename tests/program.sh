@@ -68,28 +68,32 @@ tell "a text of a megabyte" $?
 # wrote is a beginning of the answers, or a step did, and the run went on.
 refusals() {
     cc -shared -fPIC -o "$work/refuse.so" tests/refuse.c -ldl || return 1
+    answers=${1%.replay}.answers
     turn=1
-    while [ "$turn" -le 1000 ]; do
-        LD_PRELOAD="$work/refuse.so" REFUSE=$turn "$program" <examples/first.replay >"$work/out" 2>"$work/err"
+    while [ "$turn" -le 2000 ]; do
+        LD_PRELOAD="$work/refuse.so" REFUSE=$turn "$program" <"$1" >"$work/out" 2>"$work/err"
         status=$?
         lines=$(wc -l <"$work/out")
         if [ "$status" -eq 0 ]; then
-            cmp -s "$work/out" examples/first.answers && [ "$turn" -gt 1 ]
+            cmp -s "$work/out" "$answers" && [ "$turn" -gt 1 ]
             return
         fi
         [ "$status" -eq 1 ] || return 1
         if [ -s "$work/err" ]; then
             [ "$(cat "$work/err")" = "error: Out of memory" ] || return 1
-            head -n "$lines" examples/first.answers | cmp -s - "$work/out" || return 1
+            head -n "$lines" "$answers" | cmp -s - "$work/out" || return 1
         else
-            [ "$lines" -eq 7 ] && [ "$(grep -c '^error: Out of memory$' "$work/out")" -eq 1 ] || return 1
+            [ "$lines" -eq "$(wc -l <"$answers")" ] || return 1
+            [ "$(grep -c '^error: Out of memory$' "$work/out")" -eq 1 ] || return 1
         fi
         turn=$((turn + 1))
     done
     return 1
 }
 command -v cc >/dev/null || { apt-get update && apt-get install -y gcc libc6-dev; } >"$work/install" 2>&1
-refusals
-tell "each request for memory refused in turn" $?
+for script in examples/first.replay examples/calls.replay; do
+    refusals "$script"
+    tell "$script with each request for memory refused in turn" $?
+done
 
 echo "program tests: end"
