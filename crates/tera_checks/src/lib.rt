@@ -11,6 +11,8 @@ mod keys;
 #[cfg(test)]
 mod lists;
 #[cfg(test)]
+mod maps;
+#[cfg(test)]
 mod quoted;
 #[cfg(test)]
 mod report;

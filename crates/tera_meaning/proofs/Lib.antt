@@ -1,5 +1,10 @@
 mod AlikeLaws
 mod ApartLaws
+pub mod DecidedLaws
+pub mod DifferenceLaws
+pub mod MapLaws
+pub mod PairLaws
+pub mod UniqueLaws
 mod RunLaws
 mod StepLaws
 mod WellMadeLaws

@@ -17,6 +17,8 @@ pub mod Alike
 pub mod Chained
 pub mod KeyLaws
 pub mod OrderLaws
+pub mod Pairs
+pub mod Decided
 pub mod StateLaws
 pub mod Rows
 pub mod TreeLaws

@@ -37,6 +37,17 @@ module _ {N T K : Type 0} where
   items_in (array xs) = Some (items_list xs)
   items_in (object ps) = None
 
+  -- the pairs that a map holds
+  abbrev pub members_in : Tree N T K → Option (List (K × Tree N T K))
+  members_in undefined = None
+  members_in none = None
+  members_in (truth b) = None
+  members_in (number n) = None
+  members_in (text t) = None
+  members_in (bytes bs) = None
+  members_in (array xs) = None
+  members_in (object ps) = Some (members_list ps)
+
   -- whether a value has parts: the pairs of a map, items, bytes or characters
   abbrev pub iterable_in : Tree N T K → Bool
   iterable_in undefined = false

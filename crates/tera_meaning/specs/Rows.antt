@@ -1,9 +1,12 @@
 -- Small meanings, on which the definitions are tried.
-use Rattle.std.specs.Prelude.{ℕ, Bool, true, false, ◌&&◌, pos, List, [], ◌∷◌}
+use Rattle.std.specs.Prelude.{◌≡◌, ℕ, Bool, true, false, ◌&&◌, pos, List, [], ◌∷◌, None, is_none}
 use Rattle.std.specs.List.{list_all}
 use Rattle.std.specs.Ordering.{is_lt}
+use Rattle.std.specs.declared.cmp.Ordering.{Ordering}
+use Rattle.tera_meaning.specs.Decided.{decided}
 use Rattle.tera_meaning.specs.Form.{Form}
-use Rattle.tera_meaning.specs.KeyMeaning.{KeyMeaning}
+use Rattle.tera_meaning.specs.Integer.{IntegerKind}
+use Rattle.tera_meaning.specs.KeyMeaning.{KeyMeaning, KeyForm, number_key}
 use Rattle.tera_meaning.specs.Meaning.{Meaning}
 use Rattle.tera_meaning.specs.Order.{compare}
 use Rattle.tera_meaning.specs.Tree.{Tree, none, number, text, array, object, items, members}
@@ -32,3 +35,16 @@ normal t = text (record { spelled = t; safe = false })
 
 abbrev pub marked : List ℕ → Form
 marked t = text (record { spelled = t; safe = true })
+
+-- a number as a key holds it
+abbrev pub key_of : IntegerKind → ℕ → KeyForm
+key_of kind n = number_key (record { kind = kind; value = pos n })
+
+-- the two compare so, and are not decided
+abbrev pub ComparesUndecided : Meaning → Meaning → Ordering → Type 0
+ComparesUndecided x y answer = (compare x y ≡ answer) × (decided x y ≡ None)
+
+-- whether no two of these are decided
+abbrev pub undecided : List Meaning → Bool
+undecided [] = true
+undecided (x ∷ xs) = list_all (λ y. is_none (decided x y)) xs && undecided xs

@@ -2,9 +2,11 @@
 #![tactic(auto)]
 
 pub mod alike;
+pub mod decided;
 pub mod keys;
 pub mod marks;
 pub mod order;
+pub mod pairs;
 pub mod rows;
 pub mod runs;
 pub mod scripts;

@@ -1,7 +1,7 @@
 -- What lines say is one thing.
-use Rattle.std.proofs.Common.{◌≡◌, ℕ, ◌+◌, ◌⊎◌, List, [], ◌∷◌, Option, None, Some, inl, inr, sym, ◌∙◌, ap, refl}
+use Rattle.std.proofs.Common.{◌≡◌, ℕ, ◌+◌, List, [], ◌∷◌, Option, inl, inr, sym, ◌∙◌}
 use Rattle.tera_meaning.specs.Step.{Command}
-use Rattle.tera_script.specs.Line.{Says, IsSkipped, IsBad}
+use Rattle.tera_script.specs.Line.{Says, IsSkipped}
 use Rattle.tera_replay.specs.Script.{Script}
 
 module _ (one : (line : List ℕ) (first second : Command) → Says line first → Says line second → first ≡ second) (silent : (line : List ℕ) (command : Command) → IsSkipped line → ¬ Says line command) where

@@ -2,3 +2,8 @@ pub mod Parts
 pub mod QuoteLemmas
 pub mod LossyLemmas
 pub mod PrintLemmas
+pub mod Walks
+pub mod UnlikeLemmas
+pub mod InsertLemmas
+pub mod PrintPairs
+pub mod DecidedParts

@@ -1,19 +1,22 @@
--- The items of arrays: how many, how deep, and the first that differ.
-use Rattle.std.specs.Prelude.{◌≡◌, ◌<◌, ◌≤◌, ℕ, ℤ, Some, zero, suc, min, List, [], ◌∷◌, length, refl}
-use Rattle.std.proofs.Common.{sym, ◌∙◌, ap, subst, arith, get_or, take, drop}
+-- The items of arrays and the pairs of maps: how many, how deep, and the first that differ.
+use Rattle.std.specs.Prelude.{◌≡◌, true, not, nat_eq, ◌<◌, ◌≤◌, ℕ, ℤ, Some, zero, suc, min, List, [], ◌∷◌, length, refl}
+use Rattle.std.proofs.Common.{inl, inr, sym, ◌∙◌, ap, subst, arith, get_or, take, drop}
+use Rattle.std.proofs.lemmas.Grind.{common_steps}
 use Rattle.std.specs.Cmp.{nat_cmp_is, ranks}
 use Rattle.std.specs.Ordering.{MatchOrdering, nat_cmp}
 use Rattle.std.specs.declared.cmp.Ordering.{Ordering}
 use Rattle.std.specs.declared.cmp.Ordering.TheVariants.{Less, Equal, Greater}
 use Rattle.tera_meaning.specs.Chained.{less_nat}
 use Rattle.tera_meaning.specs.Form.{Form}
-use Rattle.tera_meaning.specs.KeyMeaning.{KeyMeaning, key_meaning}
+use Rattle.tera_meaning.specs.KeyMeaning.{KeyForm, KeyMeaning, key_meaning}
 use Rattle.tera_meaning.specs.Meaning.{plain}
 use Rattle.tera_meaning.specs.Order.{compare}
-use Rattle.tera_meaning.specs.Read.{items_in}
-use Rattle.tera_meaning.specs.TreeLaws.{items_of_list}
-use Rattle.tera_meaning.specs.Tree.{Items, undefined, none, truth, number, text, bytes, object, array, items, items_list, relabeled_items, depth, items_depth}
-use Rattle.tera_meaning.specs.WellMade.{IsWellMade, AreWellMade}
+use Rattle.tera_meaning.specs.Read.{items_in, members_in, is_nonempty}
+use Rattle.tera_meaning.specs.TreeLaws.{items_of_list, members_of_list}
+use Rattle.tera_meaning.specs.Tree.{Items, undefined, none, truth, number, text, bytes, object, array, items, items_list, members, members_list, relabeled_items, depth, items_depth}
+use Rattle.tera_values.specs.Print.{plain_pairs}
+use Rattle.tera_meaning.specs.WellMade.{IsWellMade, IsWellMadeKey, AreWellMade, AreWellMadeMembers}
+use Rattle.tera_values.specs.Placing.{In}
 
 -- the items once kinds and flags are forgotten
 abbrev plain_items : List Form → Items ℤ (List ℕ) KeyMeaning
@@ -22,6 +25,26 @@ plain_items xs = relabeled_items (λ n. n.value) (λ t. t.spelled) key_meaning (
 pub plain_length : (xs : List Form) → length (items_list (plain_items xs)) ≡ length xs
 plain_length [] = refl
 plain_length (x ∷ xs) = ap suc (plain_length xs)
+
+pub pairs_length : (ps : List (KeyForm × Form)) → length (members_list (plain_pairs ps)) ≡ length ps
+pairs_length [] = refl
+pairs_length (p ∷ ps) = ap suc (pairs_length ps)
+
+-- a map has pairs where their number is not zero
+pub counted_pairs : (ps : List (KeyForm × Form)) → not (nat_eq (length ps) 0) ≡ is_nonempty (members_list (plain_pairs ps))
+counted_pairs [] = refl
+counted_pairs (p ∷ ps) = let some : not (nat_eq (suc (length ps)) 0) ≡ true = grind (arith, common_steps) in some
+
+-- what holds these pairs is the map of them
+pub map_of_members : (v : Form) (ps : List (KeyForm × Form)) → members_in v ≡ Some ps → object (members ps) ≡ v
+map_of_members (object qs) ps e = let same : ps ≡ members_list qs = cc in ap object (ap members same ∙ members_of_list qs)
+map_of_members undefined ps e = cc
+map_of_members none ps e = cc
+map_of_members (truth b) ps e = cc
+map_of_members (number n) ps e = cc
+map_of_members (text t) ps e = cc
+map_of_members (bytes bs) ps e = cc
+map_of_members (array xs) ps e = cc
 
 -- an item is no deeper than the deepest
 pub depth_at : (xs : List Form) (i : ℕ) (x : Form) → i < length xs → x ≡ get_or xs i x
@@ -53,7 +76,7 @@ one_more m n Less h = omega arith
 one_more m n Equal h = ap suc h
 one_more m n Greater h = omega arith
 
-nat_cmp_suc : (m n : ℕ) → nat_cmp m n ≡ nat_cmp (suc m) (suc n)
+pub nat_cmp_suc : (m n : ℕ) → nat_cmp m n ≡ nat_cmp (suc m) (suc n)
 nat_cmp_suc m n = nat_cmp_is (suc m) (suc n) (nat_cmp m n) (one_more m n (nat_cmp m n) (ranks m n))
 
 -- where one has ended the lengths decide
@@ -73,3 +96,11 @@ pub one_more_well_made : (xs : List Form) (i : ℕ) (x : Form) → i < length xs
 one_more_well_made [] i x h e made next = absurd (omega arith)
 one_more_well_made (y ∷ ys) zero x h e made next = (subst IsWellMade e next, tt)
 one_more_well_made (y ∷ ys) (suc i) x h e made next = (made.0, one_more_well_made ys i x (omega arith) e made.1 next)
+
+-- a pair of which the key and the value are well made
+abbrev pub IsWellMadePair : KeyForm × Form → Type 0
+IsWellMadePair p = IsWellMadeKey p.0 × IsWellMade p.1
+
+pub pairs_well_made : (ps : List (KeyForm × Form)) → ((p : KeyForm × Form) → In p ps → IsWellMadePair p) → AreWellMadeMembers (members ps)
+pairs_well_made [] h = tt
+pairs_well_made (p ∷ ps) h = let first = h p (inl refl) in (first.0, first.1, pairs_well_made ps (λ q i. h q (inr i)))

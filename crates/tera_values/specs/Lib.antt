@@ -1,5 +1,9 @@
 pub mod Key
+pub mod Map
+pub mod Placing
+pub mod MapLaws
 pub mod View
+pub mod Unlike
 pub mod Depth
 pub mod Kind
 pub mod Whole

@@ -1,11 +1,13 @@
 -- From the code's values to forms.
-use Rattle.std.specs.Prelude.{ℕ, pos, ℤ, Bool, List}
+use Rattle.std.specs.HashMap.{IsUnique}
+use Rattle.std.specs.Prelude.{ℕ, pos, ℤ, Bool, List, ⊤}
 use Rattle.std.specs.String.{string_bytes}
 use Rattle.tera_meaning.specs.Form.{Form}
 use Rattle.tera_meaning.specs.Integer.{IntegerKind, u64, i64, u128, i128}
-use Rattle.tera_meaning.specs.Tree.{undefined, none, truth, number, text, bytes, array, items}
+use Rattle.tera_meaning.specs.Tree.{undefined, none, truth, number, text, bytes, array, object, items, members}
+use Rattle.tera_values.specs.Map.{pairs_in, keys_tie}
 use Rattle.tera_values.specs.declared.value.ValueInner.{ValueInner}
-use Rattle.tera_values.specs.declared.value.ValueInner.TheVariants.{Undefined, None, Bool as Truth, U64, I64, U128, I128, String, Array, Bytes}
+use Rattle.tera_values.specs.declared.value.ValueInner.TheVariants.{Undefined, None, Bool as Truth, U64, I64, U128, I128, String, Array, Bytes, Map}
 
 -- a number as a value holds it
 abbrev pub integer : IntegerKind → ℤ → Form
@@ -26,3 +28,18 @@ form_of (I128 z) = integer i128 z
 form_of (String t b) = marked (string_bytes t) b
 form_of (Array xs) = array (items xs.items)
 form_of (Bytes bs) = bytes bs.items
+form_of (Map m) = object (members (pairs_in m))
+
+-- no two keys of a map are equal
+abbrev pub HasDistinctKeys : ValueInner → Type 0
+HasDistinctKeys Undefined = ⊤
+HasDistinctKeys None = ⊤
+HasDistinctKeys (Truth b) = ⊤
+HasDistinctKeys (U64 n) = ⊤
+HasDistinctKeys (I64 z) = ⊤
+HasDistinctKeys (U128 n) = ⊤
+HasDistinctKeys (I128 z) = ⊤
+HasDistinctKeys (String t b) = ⊤
+HasDistinctKeys (Array xs) = ⊤
+HasDistinctKeys (Bytes bs) = ⊤
+HasDistinctKeys (Map m) = IsUnique keys_tie m

@@ -1,17 +1,21 @@
 //! The order of values: that of their meanings, whatever the kind of an integer or the flag of a text.
-ghost use Rattle.std.specs.Prelude.{◌≡◌, ◌↔◌, IsTrue};
+ghost use Rattle.std.specs.Prelude.{◌≡◌, ◌↔◌, IsTrue, Some};
 ghost use Rattle.std.specs.Cmp.{on_total, on_equiv, on_per, on_po};
+ghost use Rattle.std.specs.Option.{option_copied};
 ghost use Rattle.std.specs.Ordering.{on, as_partial_cmp};
 ghost use Rattle.std.proofs.Common.{refl};
 ghost use Rattle.tera_meaning.specs.Meaning.{plain};
 ghost use Rattle.tera_meaning.specs.Order.{rank, compare, same};
 ghost use Rattle.tera_meaning.specs.OrderLaws.{compare_total, compare_partial, same_equivalence, same_partial_equivalence};
-ghost use Rattle.tera_meaning.specs.Tree.{truth, number, text, bytes, array, items};
+ghost use Rattle.tera_meaning.specs.Tree.{truth, number, text, bytes, array, object, items, members};
+ghost use Rattle.tera_values.specs.Map.{pairs_in};
+ghost use Rattle.tera_values.specs.Unlike.{unlike, maps_order};
 ghost use Rattle.tera_values.specs.Whole.{whole_value};
 
-use crate::Value;
+use crate::map::{Unlike, goes_on, least_difference};
 use crate::number::Whole;
 use crate::value::ValueInner;
+use crate::{Map, Value};
 use std::cmp::Ordering;
 
 /// Values are equal exactly where their meanings are: integers by number, texts whatever their flags, arrays item by
@@ -76,6 +80,7 @@ fn order(left: &Value, right: &Value) -> Ordering
         ValueInner::String(text, _) => text_order(text.as_str(), right),
         ValueInner::Array(all) => array_order(all.as_slice(), right),
         ValueInner::Bytes(held) => bytes_order(held.as_slice(), right),
+        ValueInner::Map(all) => map_order(all, right),
     }
 }
 
@@ -102,6 +107,53 @@ fn items_order(left: &[Value], right: &[Value]) -> Ordering
         }
     }
     left.len().cmp(&right.len())
+}
+
+// The order of a map of these pairs and a value.
+#[cycle(order)]
+fn map_order(left: &Map, right: &Value) -> Ordering
+    ensures { result ≡ compare (plain (object (members (pairs_in left.now)))) (plain right.now) }
+{
+    match right.as_map() {
+        Some(all) => pairs_order(left, all),
+        None => 4.cmp(&rank(right)),
+    }
+}
+
+// The order of two maps: as it stands at the least key where they differ.
+#[cycle(order)]
+fn pairs_order(left: &Map, right: &Map) -> Ordering
+    ensures { result ≡ maps_order (pairs_in left.now) (pairs_in right.now) }
+{
+    match least_difference(&*left, &*right) {
+        Some((_, Unlike::Values(order))) => order,
+        Some((key, Unlike::LeftAlone)) => if goes_on(right, key) {
+            Ordering::Less
+        } else {
+            Ordering::Greater
+        },
+        Some((key, Unlike::RightAlone)) => if goes_on(left, key) {
+            Ordering::Greater
+        } else {
+            Ordering::Less
+        },
+        None => Ordering::Equal,
+    }
+}
+
+/// How a value and what another map has at its key differ, where they do.
+#[cycle(order)]
+pub(crate) fn unlike(value: &Value, other: Option<&Value>) -> Option<Unlike>
+    ensures { result ≡ unlike (Some value.now) (option_copied other.entry) }
+{
+    let Some(other) = other else {
+        return Some(Unlike::LeftAlone);
+    };
+    match order(value, other) {
+        Ordering::Equal => None,
+        Ordering::Less => Some(Unlike::Values(Ordering::Less)),
+        Ordering::Greater => Some(Unlike::Values(Ordering::Greater)),
+    }
 }
 
 // The order of a truth value and a value.
@@ -144,8 +196,8 @@ fn bytes_order(left: &[u8], other: &Value) -> Ordering
     }
 }
 
-// The place of its kind in the order of values.
-fn rank(value: &Value) -> u8
+/// The place of its kind in the order of values.
+pub(crate) fn rank(value: &Value) -> u8
     ensures { result ≡ rank (plain value.now) }
 {
     match &value.inner {
@@ -156,6 +208,7 @@ fn rank(value: &Value) -> u8
         ValueInner::I128(_) => 1,
         ValueInner::String(_, _) => 2,
         ValueInner::Array(_) => 3,
+        ValueInner::Map(_) => 4,
         ValueInner::Bytes(_) => 5,
         ValueInner::None => 6,
         ValueInner::Undefined => 7,

@@ -3,6 +3,7 @@ ghost use Rattle.std.specs.Prelude.{◌≡◌, IfOk, IfErr};
 ghost use Rattle.tera_report.specs.Errors.{IsOutOfMemory};
 
 use crate::Value;
+use crate::map::copied_pairs;
 use crate::value::ValueInner;
 use std::alloc::Global;
 use tera_report::TeraResult;
@@ -29,6 +30,7 @@ impl Value {
             }
             ValueInner::Array(all) => ValueInner::Array(copies(alloc, all.as_slice())?),
             ValueInner::Bytes(held) => ValueInner::Bytes(held.as_slice().to_vec(alloc)?),
+            ValueInner::Map(all) => return Ok(Value::of_map(copied_pairs(alloc, all)?)),
         };
         Ok(Value { inner })
     }

@@ -127,7 +127,7 @@ impl<'a> Key<'a> {
     }
 
     // Puts what it prints.
-    fn put<S: Sink>(&self, out: &mut S) -> Result<(), S::Fault>
+    pub(crate) fn put<S: Sink>(&self, out: &mut S) -> Result<(), S::Fault>
         ensures { MatchResult result
             (λ _. S.takes out.old (shown_key (meaning_of_key self.now)) out.new)
             (λ _. S.fails out.old out.new) }

@@ -1,7 +1,7 @@
 //! The kinds of values.
 ghost use Rattle.std.specs.Prelude.{◌≡◌, ◌↔◌, IsTrue};
 ghost use Rattle.tera_meaning.specs.Integer.{u64, i64, u128, i128};
-ghost use Rattle.tera_meaning.specs.Kind.{kind_in, kind_name, undefined_kind, none_kind, truth_kind, number_kind, text_kind, array_kind, bytes_kind};
+ghost use Rattle.tera_meaning.specs.Kind.{kind_in, kind_name, undefined_kind, none_kind, truth_kind, number_kind, text_kind, array_kind, object_kind, bytes_kind};
 ghost use Rattle.tera_values.specs.Kind.{kind_form};
 
 use crate::Value;
@@ -81,6 +81,7 @@ impl Value {
             ValueInner::String(_, _) => ValueKind::String,
             ValueInner::Array(_) => ValueKind::Array,
             ValueInner::Bytes(_) => ValueKind::Bytes,
+            ValueInner::Map(_) => ValueKind::Map,
         }
     }
 
@@ -152,6 +153,13 @@ impl Value {
         ensures { IsTrue result ↔ (kind_in self.now ≡ array_kind) }
     {
         self.is_of(ValueKind::Array)
+    }
+
+    /// Whether it is a map. Mirrors `Value::is_map`. Takes no memory.
+    pub fn is_map(&self) -> bool
+        ensures { IsTrue result ↔ (kind_in self.now ≡ object_kind) }
+    {
+        self.is_of(ValueKind::Map)
     }
 
     /// Whether it is bytes. Mirrors `Value::is_bytes`. Takes no memory.

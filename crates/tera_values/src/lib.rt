@@ -3,10 +3,12 @@
 
 mod compare;
 mod copy;
+mod decided;
 mod from;
 mod key;
 mod kind;
 mod lossy;
+mod map;
 mod number;
 mod print;
 mod quote;
@@ -17,5 +19,5 @@ mod well_made;
 
 pub use key::Key;
 pub use kind::{ValueKind, kinds_equal_where_the_same};
-pub use value::Value;
+pub use value::{Map, Value};
 pub use well_made::is_well_made;

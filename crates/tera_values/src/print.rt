@@ -5,14 +5,17 @@ ghost use Rattle.tera_meaning.specs.Meaning.{plain};
 ghost use Rattle.tera_meaning.specs.Printed.{Prints, PrintsInside, printed_truth};
 ghost use Rattle.tera_report.specs.Errors.{IsOutOfMemory};
 ghost use Rattle.tera_report.specs.Watch.{HasFailed, SameWriter, held};
-ghost use Rattle.tera_values.specs.Print.{PrintsArray, PrintsItems, WritesInside, WritesPrinted, printed_if_exact};
+ghost use Rattle.tera_values.specs.Key.{key_form, meaning_of_key};
+ghost use Rattle.tera_values.specs.Map.{pairs_in};
+ghost use Rattle.tera_values.specs.Print.{PrintsArray, PrintsItems, WritesInside, WritesPrinted, printed_if_exact, PrintsMap, PrintsPairs, PrintsPair, PrintsKey};
 ghost use Rattle.tera_values.specs.Sink.{Puts};
 
-use crate::Value;
 use crate::lossy::put_lossy;
+use crate::map::next_pair;
 use crate::quote::put_quoted;
 use crate::sink::Sink;
 use crate::value::ValueInner;
+use crate::{Key, Map, Value};
 use itoa::{Buffer, Integer};
 use std::alloc::Global;
 use std::io::Write;
@@ -107,6 +110,7 @@ fn put_value<S: Sink>(value: &Value, out: &mut S) -> Result<(), S::Fault>
         ValueInner::String(text, _) => out.put(text.as_str()),
         ValueInner::Array(items) => put_array(items.as_slice(), out),
         ValueInner::Bytes(bytes) => put_lossy(bytes.as_slice(), out),
+        ValueInner::Map(all) => put_map(all, out),
     }
 }
 
@@ -145,6 +149,54 @@ fn put_items<S: Sink>(items: &[Value], out: &mut S) -> Result<(), S::Fault>
         put_inside(item, out)?;
     }
     Ok(())
+}
+
+// Puts pairs between braces.
+#[cycle(print)]
+fn put_map<S: Sink>(map: &Map, out: &mut S) -> Result<(), S::Fault>
+    ensures { Puts S.takes S.fails result (PrintsMap (pairs_in map.now)) out.old out.new }
+{
+    out.put("{")?;
+    put_pairs(map, out)?;
+    out.put("}")
+}
+
+// Puts pairs joined by commas, in the order of their keys: the least, and then the next greater one, again and again.
+#[cycle(print)]
+fn put_pairs<S: Sink>(map: &Map, out: &mut S) -> Result<(), S::Fault>
+    ensures { Puts S.takes S.fails result (PrintsPairs (pairs_in map.now)) out.old out.new }
+{
+    let Some((first, value)) = next_pair(map, None) else {
+        return Ok(());
+    };
+    put_pair(first, value, out)?;
+    let mut last = first;
+    'pairs: while let Some((key, value)) = next_pair(map, Some(last)) {
+        out.put(", ")?;
+        put_pair(key, value, out)?;
+        last = key;
+    }
+    Ok(())
+}
+
+// Puts a key and its value.
+#[cycle(print)]
+fn put_pair<S: Sink>(key: &Key<'static>, value: &Value, out: &mut S) -> Result<(), S::Fault>
+    ensures { Puts S.takes S.fails result (PrintsPair (key_form key.now) value.now) out.old out.new }
+{
+    put_key(key, out)?;
+    out.put(": ")?;
+    put_inside(value, out)
+}
+
+// Puts a key as it stands in a map: a text in debug form.
+fn put_key<S: Sink>(key: &Key<'static>, out: &mut S) -> Result<(), S::Fault>
+    ensures { Puts S.takes S.fails result (PrintsKey (meaning_of_key key.now)) out.old out.new }
+{
+    match key.as_str() {
+        Some(text) => put_quoted(text, out),
+        None => key.put(out),
+    }
 }
 
 // Puts an integer in decimal.

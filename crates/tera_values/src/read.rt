@@ -3,12 +3,14 @@ ghost use Rattle.std.specs.Prelude.{◌≡◌, None, Some, MatchOption, length};
 ghost use Rattle.std.specs.Option.{option_map};
 ghost use Rattle.std.specs.Str.{chars};
 ghost use Rattle.tera_meaning.specs.Meaning.{plain};
-ghost use Rattle.tera_meaning.specs.Read.{truth_in, number_in, text_in, bytes_in, items_in, safe_in, marked_safe, truthy_in, size_in, iterable_in, is_nonempty};
+ghost use Rattle.tera_meaning.specs.Read.{truth_in, number_in, text_in, bytes_in, items_in, members_in, safe_in, marked_safe, truthy_in, size_in, iterable_in, is_nonempty};
+ghost use Rattle.tera_values.specs.Map.{pairs_in};
 ghost use Rattle.tera_values.specs.Whole.{whole_value};
 
-use crate::Value;
+use crate::map::pair_count;
 use crate::number::Whole;
 use crate::value::ValueInner;
+use crate::{Map, Value};
 
 impl Value {
     /// The truth value that it is. Mirrors `Value::as_bool`. Takes no memory.
@@ -26,6 +28,7 @@ impl Value {
             ValueInner::String(_, _) => None,
             ValueInner::Array(_) => None,
             ValueInner::Bytes(_) => None,
+            ValueInner::Map(_) => None,
         }
     }
 
@@ -44,6 +47,7 @@ impl Value {
             ValueInner::I128(_) => None,
             ValueInner::Array(_) => None,
             ValueInner::Bytes(_) => None,
+            ValueInner::Map(_) => None,
         }
     }
 
@@ -63,6 +67,7 @@ impl Value {
             ValueInner::I128(_) => None,
             ValueInner::String(_, _) => None,
             ValueInner::Bytes(_) => None,
+            ValueInner::Map(_) => None,
         }
     }
 
@@ -81,6 +86,7 @@ impl Value {
             ValueInner::I128(_) => None,
             ValueInner::String(_, _) => None,
             ValueInner::Array(_) => None,
+            ValueInner::Map(_) => None,
         }
     }
 
@@ -101,10 +107,51 @@ impl Value {
             ValueInner::I128(_) => None,
             ValueInner::String(_, _) => None,
             ValueInner::Bytes(_) => None,
+            ValueInner::Map(_) => None,
         }
     }
 
-    /// Whether it is shown as it is: a text by its flag, arrays and bytes never, all else always. Mirrors
+    /// The pairs of the map that it is, lent. Mirrors `Value::as_map`. Takes no memory.
+    #[tactic(auto, using(tera_meaning::specs::TreeLaws::list_of_members))]
+    pub fn as_map(&self) -> Option<&Map>
+        ensures { MatchOption result (members_in self.now ≡ None) (λ m. members_in self.now ≡ Some (pairs_in m.now)) }
+    {
+        match &self.inner {
+            ValueInner::Map(all) => Some(all),
+            ValueInner::Undefined => None,
+            ValueInner::None => None,
+            ValueInner::Bool(_) => None,
+            ValueInner::U64(_) => None,
+            ValueInner::I64(_) => None,
+            ValueInner::U128(_) => None,
+            ValueInner::I128(_) => None,
+            ValueInner::String(_, _) => None,
+            ValueInner::Array(_) => None,
+            ValueInner::Bytes(_) => None,
+        }
+    }
+
+    /// The pairs of the map that it is, handed on. Mirrors `Value::into_map`. Takes no memory.
+    #[tactic(auto, using(tera_meaning::specs::TreeLaws::list_of_members))]
+    pub fn into_map(self) -> Option<Map>
+        ensures { MatchOption result (members_in self ≡ None) (λ m. members_in self ≡ Some (pairs_in m)) }
+    {
+        match self.inner {
+            ValueInner::Map(all) => Some(all),
+            ValueInner::Undefined => None,
+            ValueInner::None => None,
+            ValueInner::Bool(_) => None,
+            ValueInner::U64(_) => None,
+            ValueInner::I64(_) => None,
+            ValueInner::U128(_) => None,
+            ValueInner::I128(_) => None,
+            ValueInner::String(_, _) => None,
+            ValueInner::Array(_) => None,
+            ValueInner::Bytes(_) => None,
+        }
+    }
+
+    /// Whether it is shown as it is: a text by its flag, arrays, maps and bytes never, all else always. Mirrors
     /// `Value::is_safe`. Takes no memory.
     pub fn is_safe(&self) -> bool
         ensures { result ≡ safe_in self.now }
@@ -120,6 +167,7 @@ impl Value {
             ValueInner::I64(_) => true,
             ValueInner::U128(_) => true,
             ValueInner::I128(_) => true,
+            ValueInner::Map(_) => false,
         }
     }
 
@@ -138,12 +186,13 @@ impl Value {
             ValueInner::I128(z) => ValueInner::I128(z),
             ValueInner::Array(all) => ValueInner::Array(all),
             ValueInner::Bytes(held) => ValueInner::Bytes(held),
+            ValueInner::Map(all) => return Value::of_map(all),
         };
         Value { inner }
     }
 
     /// Whether a condition holds at it: undefined and none never, a truth value itself, a number unless zero, a text,
-    /// an array or bytes unless empty. Mirrors `Value::is_truthy`. Takes no memory.
+    /// an array, a map or bytes unless empty. Mirrors `Value::is_truthy`. Takes no memory.
     pub fn is_truthy(&self) -> bool
         ensures { result ≡ truthy_in (plain self.now) }
     {
@@ -158,10 +207,11 @@ impl Value {
             ValueInner::String(text, _) => is_nonempty(text.as_bytes()),
             ValueInner::Array(all) => is_nonempty(all.as_slice()),
             ValueInner::Bytes(held) => is_nonempty(held.as_slice()),
+            ValueInner::Map(all) => pair_count(all) != 0,
         }
     }
 
-    /// How many characters the text has, items the array, bytes the bytes; nothing on other kinds. Mirrors
+    /// How many characters the text has, items the array, pairs the map, bytes the bytes; nothing on other kinds. Mirrors
     /// `Value::len`. Takes no memory.
     pub fn len(&self) -> Option<usize>
         ensures { result ≡ size_in (plain self.now) }
@@ -177,10 +227,11 @@ impl Value {
             ValueInner::I64(_) => None,
             ValueInner::U128(_) => None,
             ValueInner::I128(_) => None,
+            ValueInner::Map(all) => Some(pair_count(all)),
         }
     }
 
-    /// Whether it is a text, an array or bytes. Mirrors `Value::can_be_iterated_on`, which is private there. Takes no
+    /// Whether it is a text, an array, a map or bytes. Mirrors `Value::can_be_iterated_on`, which is private there. Takes no
     /// memory.
     pub fn can_be_iterated_on(&self) -> bool
         ensures { result ≡ iterable_in self.now }
@@ -196,6 +247,7 @@ impl Value {
             ValueInner::I64(_) => false,
             ValueInner::U128(_) => false,
             ValueInner::I128(_) => false,
+            ValueInner::Map(_) => true,
         }
     }
 
@@ -214,6 +266,7 @@ impl Value {
             ValueInner::String(_, _) => None,
             ValueInner::Array(_) => None,
             ValueInner::Bytes(_) => None,
+            ValueInner::Map(_) => None,
         }
     }
 }

@@ -1,12 +1,18 @@
 //! The type of values, and what makes one.
 ghost use Rattle.std.specs.Prelude.{◌≡◌, true, false, IfOk, IfErr};
-ghost use Rattle.tera_meaning.specs.Tree.{undefined, none, bytes, array, items};
+ghost use Rattle.tera_meaning.specs.Tree.{undefined, none, bytes, array, object, items, members, no_members};
 ghost use Rattle.tera_report.specs.Errors.{IsOutOfMemory};
+ghost use Rattle.tera_values.specs.Map.{pairs_in};
 ghost use Rattle.tera_values.specs.View.{marked};
 
+use crate::Key;
 use std::alloc::Global;
+use std::collections::HashMap;
 use std::marker::Model;
 use tera_report::TeraResult;
+
+/// The pairs of a map, a key having one value. Mirrors `tera::value::Map`.
+pub type Map = HashMap<Key<'static>, Value>;
 
 /// A value that a template computes with. Mirrors `tera::Value`.
 #[cycle(value)]
@@ -28,6 +34,7 @@ pub(crate) enum ValueInner {
     String(String, bool),
     Array(Vec<Value>),
     Bytes(Vec<u8>),
+    Map(Map),
 }
 
 impl Model for Value {
@@ -39,15 +46,17 @@ impl Model for Value {
 
     ghost coded = { coded_form };
 
-    ghost use Rattle.tera_values.specs.View.{form_of};
+    ghost use Rattle.tera_values.specs.View.{form_of, HasDistinctKeys};
 
     ghost view = { λ v. form_of v.inner };
+
+    ghost invariant = { λ v. HasDistinctKeys v.inner };
 
     ghost size = { depth };
 
     ghost use Rattle.tera_values.specs.Depth.{deep_le-depth};
 
-    ghost size_decreases = { λ v h. deep_le-depth v.inner };
+    ghost size_decreases = { λ v h. deep_le-depth v.inner h };
 }
 
 impl Value {
@@ -109,5 +118,23 @@ impl Value {
         Value {
             inner: ValueInner::Array(all),
         }
+    }
+
+    /// A map of these pairs. Mirrors what `Value::from(Map)` makes. Takes no memory.
+    pub fn of_map(pairs: Map) -> Value
+        ensures { result ≡ object (members (pairs_in pairs.entry)) }
+    {
+        // what the library says of its maps, that no two keys are equal, it says of a length
+        let _count = pairs.len();
+        Value {
+            inner: ValueInner::Map(pairs),
+        }
+    }
+
+    /// A map without pairs. Mirrors `Value::empty_map`, which is private there. Takes no memory.
+    pub fn empty_map(alloc: Global) -> Value
+        ensures { result ≡ object no_members }
+    {
+        Value::of_map(HashMap::new(alloc))
     }
 }

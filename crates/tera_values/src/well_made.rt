@@ -4,6 +4,7 @@ ghost use Rattle.tera_meaning.specs.Tree.{array, items};
 ghost use Rattle.tera_meaning.specs.WellMade.{IsWellMade, IsByte};
 
 use crate::Value;
+use crate::map::pairs_are_well_made;
 use crate::value::ValueInner;
 
 /// Each value that a program holds is well made: each number is one of its kind, each text spells characters in UTF-8,
@@ -34,6 +35,7 @@ pub fn is_well_made(value: &Value)
         }
         ValueInner::Array(all) => items_are_well_made(all.as_slice()),
         ValueInner::Bytes(held) => bytes_are_small(held.as_slice()),
+        ValueInner::Map(all) => pairs_are_well_made(all),
     }
 }
 

@@ -1,0 +1,96 @@
+-- The partial order of meanings answers as the order does, or not at all.
+use Rattle.std.specs.Prelude.{◌≡◌, ◌≢◌, ℕ, ℤ, Bool, true, false, List, [], ◌∷◌, Option, Some, None, ◌==◌, if◌then◌else◌, refl}
+use Rattle.std.proofs.Common.{◌∙◌, ap}
+use Rattle.std.specs.Cmp.{some_flip, unsigned_Decides}
+use Rattle.std.specs.Cmp.Lexicographic.{slice_partial_cmp}
+use Rattle.std.specs.Option.{option_map}
+use Rattle.std.specs.Ordering.{ordering_then, ordering_reverse, partial_ordering_then}
+use Rattle.std.specs.declared.cmp.Ordering.{Ordering}
+use Rattle.std.specs.declared.cmp.Ordering.TheVariants.{Less, Equal, Greater}
+use Rattle.tera_meaning.specs.Decided.{decided, decided_items}
+use Rattle.tera_meaning.specs.KeyMeaning.{KeyMeaning}
+use Rattle.tera_meaning.specs.Meaning.{Meaning}
+use Rattle.tera_meaning.specs.Order.{rank, compare, compare_items}
+use Rattle.tera_meaning.specs.OrderLaws.{compare_reversed}
+use Rattle.tera_meaning.specs.Tree.{Items, undefined, none, truth, number, text, bytes, array, object, no_items, item, items}
+
+none_some : {X : Type 0} (x : X) → None ≡ Some x → ⊥
+none_some x e = cc
+
+inside : (r s : Ordering) → Some r ≡ Some s → r ≡ s
+inside r s e = cc
+
+-- the parts of two answers, one after the other
+then_agrees : (p q : Option Ordering) (r s answer : Ordering) → ((a : Ordering) → p ≡ Some a → r ≡ a) → ((a : Ordering) → q ≡ Some a → s ≡ a)
+    → partial_ordering_then p q ≡ Some answer → ordering_then r s ≡ answer
+then_agrees None q r s answer f g e = absurd (none_some answer e)
+then_agrees (Some Less) q r s answer f g e = ap (λ o. ordering_then o s) (f Less refl) ∙ inside Less answer e
+then_agrees (Some Equal) q r s answer f g e = ap (λ o. ordering_then o s) (f Equal refl) ∙ g answer e
+then_agrees (Some Greater) q r s answer f g e = ap (λ o. ordering_then o s) (f Greater refl) ∙ inside Greater answer e
+
+by_rank : (b : Bool) (r answer : Ordering) → (if b then Some r else None) ≡ Some answer → r ≡ answer
+by_rank true r answer e = inside r answer e
+by_rank false r answer e = absurd (none_some answer e)
+
+mutual
+  pub decided_agrees : (x y : Meaning) (answer : Ordering) → decided x y ≡ Some answer → compare x y ≡ answer
+  decided_agrees (array xs) (array ys) answer e = items_agree xs ys answer e
+  decided_agrees (object ps) (object qs) answer e = absurd (none_some answer e)
+  decided_agrees x y answer e = by_rank (rank x == rank y) (compare x y) answer e
+
+  items_agree : (xs ys : Items ℤ (List ℕ) KeyMeaning) (answer : Ordering) → decided_items xs ys ≡ Some answer → compare_items xs ys ≡ answer
+  items_agree no_items no_items answer e = inside Equal answer e
+  items_agree no_items (item y ys) answer e = inside Less answer e
+  items_agree (item x xs) no_items answer e = inside Greater answer e
+  items_agree (item x xs) (item y ys) answer e =
+      then_agrees (decided x y) (decided_items xs ys) (compare x y) (compare_items xs ys) answer (decided_agrees x y) (items_agree xs ys) e
+
+pub decided_arrays : (xs ys : List Meaning) → decided_items (items xs) (items ys) ≡ slice_partial_cmp decided xs ys
+decided_arrays [] [] = refl
+decided_arrays [] (y ∷ ys) = refl
+decided_arrays (x ∷ xs) [] = refl
+decided_arrays (x ∷ xs) (y ∷ ys) = ap (partial_ordering_then (decided x y)) (decided_arrays xs ys)
+
+mutual
+  pub decided_swapped : (x y : Meaning) → decided x y ≡ option_map ordering_reverse (decided y x)
+  decided_swapped (array xs) (array ys) = items_swapped xs ys
+  decided_swapped (object ps) (object qs) = refl
+  decided_swapped (truth a) (truth b) = ap Some (compare_reversed (truth a) (truth b))
+  decided_swapped (number y) (number z) = ap Some (compare_reversed (number y) (number z))
+  decided_swapped (text s) (text t) = ap Some (compare_reversed (text s) (text t))
+  decided_swapped (bytes s) (bytes t) = ap Some (compare_reversed (bytes s) (bytes t))
+  decided_swapped none none = refl
+  decided_swapped undefined undefined = refl
+  decided_swapped x y = refl
+
+  items_swapped : (xs ys : Items ℤ (List ℕ) KeyMeaning) → decided_items xs ys ≡ option_map ordering_reverse (decided_items ys xs)
+  items_swapped no_items no_items = refl
+  items_swapped no_items (item y ys) = refl
+  items_swapped (item x xs) no_items = refl
+  items_swapped (item x xs) (item y ys) =
+      (λ i. partial_ordering_then (decided_swapped x y i) (items_swapped xs ys i)) ∙ some_flip (decided y x) (decided_items ys xs)
+
+rank_test : (b : Bool) (r : Ordering) → b ≡ false → (if b then Some r else None) ≡ None
+rank_test true r e = cc
+rank_test false r e = refl
+
+same_rank : (b : Bool) (r : Ordering) → b ≡ true → (if b then Some r else None) ≡ Some r
+same_rank true r e = refl
+same_rank false r e = cc
+
+not_same : (m n : ℕ) → m ≢ n → (m == n) ≡ false
+not_same m n h = by (m == n) (λ e. h ((unsigned_Decides m n).0 e))
+  where
+    by : (b : Bool) → (b ≢ true) → b ≡ false
+    by true f = absurd (f refl)
+    by false f = refl
+
+pub kinds_undecided : (x y : Meaning) → rank x ≢ rank y → decided x y ≡ None
+kinds_undecided (array xs) (array ys) h = absurd (h refl)
+kinds_undecided (object ps) (object qs) h = refl
+kinds_undecided x y h = rank_test (rank x == rank y) (compare x y) (not_same (rank x) (rank y) h)
+
+pub others_decided : (x y : Meaning) → rank x ≡ rank y → rank x ≢ 3 → rank x ≢ 4 → decided x y ≡ Some (compare x y)
+others_decided (array xs) (array ys) h a b = absurd (a refl)
+others_decided (object ps) (object qs) h a b = absurd (b refl)
+others_decided x y h a b = same_rank (rank x == rank y) (compare x y) ((unsigned_Decides (rank x) (rank y)).1 h)

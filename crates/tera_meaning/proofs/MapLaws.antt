@@ -1,0 +1,102 @@
+-- What maps mean, and how they compare, by their entries.
+use Rattle.std.specs.Prelude.{◌≡◌, ◌↔◌, true, List, [], ◌∷◌, map, Option, Some, None, refl}
+use Rattle.std.proofs.Common.{sym, ◌∙◌, ap}
+use Rattle.std.specs.BTreeMap.{insert_entry}
+use Rattle.std.specs.Cmp.{on_total}
+use Rattle.std.specs.Cmp.Lexicographic.{slice_cmp}
+use Rattle.std.specs.Option.{option_eq}
+use Rattle.std.specs.Ordering.{ordering_then, on, eq_by_cmp, is_eq, match_ordering}
+use Rattle.std.specs.declared.cmp.Ordering.{Ordering}
+use Rattle.std.specs.declared.cmp.Ordering.TheVariants.{Less, Equal, Greater}
+use Rattle.tera_meaning.specs.Form.{Form}
+use Rattle.tera_meaning.specs.KeyLaws.{key_total}
+use Rattle.tera_meaning.specs.KeyMeaning.{KeyForm, KeyMeaning, key_meaning, key_order}
+use Rattle.tera_meaning.specs.Meaning.{Meaning, plain}
+use Rattle.tera_meaning.specs.Order.{compare}
+use Rattle.tera_meaning.specs.OrderLaws.{members_exact, members_by_first_difference, compare_same, compare_tie}
+use Rattle.tera_meaning.specs.Pairs.{Rises, rising, value_at, entry_order, AgreeEverywhere, IsLeastDifference, order_at, key_form_order, pairs_of, pair_meaning, map_meaning}
+use Rattle.tera_meaning.specs.Tree.{object, members, members_list}
+use Rattle.tera_meaning.specs.TreeLaws.{members_relabeled, list_of_members}
+use Rattle.tera_meaning.proofs.DifferenceLaws.{difference_decides, agreeing_tie, entries_decide, entries_tie}
+
+-- ---- keys and values read through functions
+
+module _ {J K U V : Type 0} (f : J → K) (g : U → V) (order : K → K → Ordering) where
+  read : J × U → K × V
+  read p = (f p.0, g p.1)
+
+  insert_read : (k : J) (v : U) (es : List (J × U)) → map read (insert_entry (on f order) es k v) ≡ insert_entry order (map read es) (f k) (g v)
+  unfolding read
+  insert_read k v [] = refl
+  insert_read k v (e ∷ es) =
+      elim (order (f k) (f e.0)) as (λ r. map read (match_ordering r ((k, v) ∷ e ∷ es) ((e.0, v) ∷ es) (e ∷ insert_entry (on f order) es k v)) ≡ match_ordering r ((f k, g v) ∷ map read (e ∷ es)) ((f e.0, g v) ∷ map read es) (read e ∷ insert_entry order (map read es) (f k) (g v))) [
+        | Less ↦ refl
+        | Equal ↦ refl
+        | Greater ↦ ap (λ ys. (f e.0, g e.1) ∷ ys) (insert_read k v es)
+      ]
+
+  rising_read : (es : List (J × U)) → map (λ p. (f p.0, g p.1)) (rising (on f order) es) ≡ rising order (map (λ p. (f p.0, g p.1)) es)
+  unfolding read
+  rising_read [] = refl
+  rising_read (e ∷ es) = insert_read e.0 e.1 (rising (on f order) es) ∙ ap (λ ys. insert_entry order ys (f e.0) (g e.1)) (rising_read es)
+
+  slice_read : (values : V → V → Ordering) (xs ys : List (J × U)) → slice_cmp (entry_order order values) (map (λ p. (f p.0, g p.1)) xs) (map (λ p. (f p.0, g p.1)) ys) ≡ slice_cmp (entry_order (on f order) (on g values)) xs ys
+  slice_read values [] [] = refl
+  slice_read values [] (y ∷ ys) = refl
+  slice_read values (x ∷ xs) [] = refl
+  slice_read values (x ∷ xs) (y ∷ ys) = ap (ordering_then (entry_order (on f order) (on g values) x y)) (slice_read values xs ys)
+
+-- ---- what maps mean
+
+plain_map : (pairs : List (KeyForm × Form)) → plain (object (members pairs)) ≡ object (members (map pair_meaning pairs))
+plain_map pairs = ap object (members_relabeled (λ n. n.value) (λ t. t.spelled) key_meaning pairs)
+
+pub map_means : (entries : List (KeyForm × Form)) → map_meaning entries ≡ object (members (rising key_order (map pair_meaning entries)))
+map_means entries = plain_map (pairs_of entries) ∙ ap (λ ps. object (members ps)) (rising_read key_meaning plain key_order entries)
+
+-- ---- how maps compare
+
+pub maps_decide : (ps qs : List (KeyMeaning × Meaning)) (k : KeyMeaning) → Rises key_order ps → Rises key_order qs → IsLeastDifference key_order compare ps qs k
+    → compare (object (members ps)) (object (members qs)) ≡ order_at key_order compare ps qs k
+maps_decide ps qs k h g least = members_by_first_difference ps qs ∙ difference_decides key_order key_total compare ps qs k h g least
+
+compare_forms : (xs ys : List (KeyForm × Form)) → compare (plain (object (members xs))) (plain (object (members ys))) ≡ slice_cmp (entry_order key_form_order (on plain compare)) xs ys
+compare_forms xs ys =
+    (λ i. compare (plain_map xs i) (plain_map ys i))
+    ∙ members_by_first_difference (map pair_meaning xs) (map pair_meaning ys)
+    ∙ slice_read key_meaning plain key_order compare xs ys
+
+-- the same of pair lists that rise
+pub rising_forms_decide : (ps qs : List (KeyForm × Form)) (k : KeyForm) → Rises key_form_order ps → Rises key_form_order qs → IsLeastDifference key_form_order (on plain compare) ps qs k
+    → compare (plain (object (members ps))) (plain (object (members qs))) ≡ order_at key_form_order (on plain compare) ps qs k
+rising_forms_decide ps qs k h g least = compare_forms ps qs ∙ difference_decides key_form_order (on_total key_meaning key_total) (on plain compare) ps qs k h g least
+
+pub rising_forms_tie : (ps qs : List (KeyForm × Form)) → Rises key_form_order ps → Rises key_form_order qs → AgreeEverywhere key_form_order (on plain compare) ps qs
+    → compare (plain (object (members ps))) (plain (object (members qs))) ≡ Equal
+rising_forms_tie ps qs h g agree = compare_forms ps qs ∙ agreeing_tie key_form_order (on_total key_meaning key_total) (on plain compare) ps qs h g agree
+
+pub forms_decide : (es fs : List (KeyForm × Form)) (k : KeyForm) → IsLeastDifference key_form_order (on plain compare) es fs k
+    → compare (map_meaning es) (map_meaning fs) ≡ order_at key_form_order (on plain compare) es fs k
+forms_decide es fs k least = compare_forms (pairs_of es) (pairs_of fs) ∙ entries_decide key_form_order (on_total key_meaning key_total) (on plain compare) es fs k least
+
+pub forms_tie : (es fs : List (KeyForm × Form)) → AgreeEverywhere key_form_order (on plain compare) es fs ↔ (compare (map_meaning es) (map_meaning fs) ≡ Equal)
+forms_tie es fs =
+    let tie : AgreeEverywhere key_form_order (on plain compare) es fs ↔ (slice_cmp (entry_order key_form_order (on plain compare)) (pairs_of es) (pairs_of fs) ≡ Equal) = entries_tie key_form_order (on_total key_meaning key_total) (on plain compare) es fs in
+    (λ agree. compare_forms (pairs_of es) (pairs_of fs) ∙ tie.0 agree, λ e. tie.1 (sym (compare_forms (pairs_of es) (pairs_of fs)) ∙ e))
+
+pub forms_equal : (es fs : List (KeyForm × Form)) → AgreeEverywhere key_form_order (on plain compare) es fs ↔ (map_meaning es ≡ map_meaning fs)
+forms_equal es fs =
+    let tie : (compare (map_meaning es) (map_meaning fs) ≡ Equal) ↔ (map_meaning es ≡ map_meaning fs) = compare_tie (map_meaning es) (map_meaning fs) in
+    (λ agree. tie.0 ((forms_tie es fs).0 agree), λ e. (forms_tie es fs).1 (tie.1 e))
+
+-- ---- pair lists that find the same
+
+alike : (o : Option Meaning) → option_eq (eq_by_cmp compare) o o ≡ true
+alike None = refl
+alike (Some x) = ap is_eq (compare_same x)
+
+pub one_pair_list : (ps qs : List (KeyMeaning × Meaning)) → Rises key_order ps → Rises key_order qs → ((k : KeyMeaning) → value_at key_order ps k ≡ value_at key_order qs k) → ps ≡ qs
+one_pair_list ps qs h g same =
+    let agree : AgreeEverywhere key_order compare ps qs = (λ k. ap (λ o. option_eq (eq_by_cmp compare) o (value_at key_order qs k)) (same k) ∙ alike (value_at key_order qs k)) in
+    let tie : compare (object (members ps)) (object (members qs)) ≡ Equal = members_by_first_difference ps qs ∙ agreeing_tie key_order key_total compare ps qs h g agree in
+    sym (list_of_members ps) ∙ ap members_list (members_exact (members ps) (members qs) tie) ∙ list_of_members qs

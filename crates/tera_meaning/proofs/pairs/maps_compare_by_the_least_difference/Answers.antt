@@ -1,0 +1,5 @@
+use Rattle.tera_meaning.proofs.MapLaws.{maps_decide, forms_decide, forms_tie, forms_equal}
+use Rattle.tera_meaning.proofs.pairs.maps_compare_by_the_least_difference.Goals as goal
+
+pub returns : goal.returns
+returns c = record { order = maps_decide; forms = forms_decide; tie = forms_tie; equal = forms_equal }

@@ -1,0 +1,290 @@
+-- The least key at which two maps differ, met on a walk over each.
+use Rattle.std.specs.Prelude.{◌≡◌, ◌≢◌, Bool, true, false, cond, List, [], ◌∷◌, Option, None, Some, IfSome, if◌then◌else◌, refl}
+use Rattle.std.proofs.Common.{sym, ◌∙◌, ap, subst, ◌⊎◌, inl, inr}
+use Rattle.std.specs.Cmp.{tied_itself, eq_by_cmp_equiv}
+use Rattle.std.specs.FinMap.Entries.{find_tied}
+use Rattle.std.specs.Option.{option_eq}
+use Rattle.std.specs.Ordering.{is_lt, is_eq, eq_by_cmp}
+use Rattle.std.specs.declared.cmp.Ordering.{Ordering}
+use Rattle.std.specs.declared.cmp.Ordering.TheVariants.{Less, Equal, Greater}
+use Rattle.tera_meaning.specs.Form.{Form}
+use Rattle.tera_meaning.specs.KeyMeaning.{KeyForm}
+use Rattle.tera_meaning.specs.Pairs.{key_form_order, value_at, goes_on, agree_at, pairs_of, AgreeEverywhere, IsLeastDifference, by_values, order_at}
+use Rattle.tera_meaning.proofs.DifferenceLaws.{agree_rising}
+use Rattle.tera_meaning.proofs.MapLaws.{forms_decide, forms_tie}
+use Rattle.tera_meaning.proofs.PairLaws.{more_rising}
+use Rattle.tera_values.specs.Map.{is_before}
+use Rattle.tera_values.specs.MapLaws.{form_total}
+use Rattle.tera_values.specs.Placing.{In, Apart, value_is, value_of_rising, differs_from_none}
+use Rattle.tera_values.specs.Unlike.{form_values, by_order, unlike, lacking, found_at, met, least_met, maps_order, IsLeastUnlike}
+use Rattle.tera_values.specs.declared.map.Unlike.{Unlike}
+use Rattle.tera_values.specs.declared.map.Unlike.TheVariants.{Values, LeftAlone, RightAlone}
+
+-- how what the first map holds differs from what the second does
+abbrev pub from_left : List (KeyForm × Form) → KeyForm × Form → Option Unlike
+from_left qs e = unlike (Some e.1) (value_at key_form_order qs e.0)
+
+pub met_below : (least : Option (KeyForm × Unlike)) (k : KeyForm) (how : Option Unlike) → is_before key_form_order k least ≡ true → met least k how ≡ found_at how k least
+met_below least k how e = ap (λ b. cond b (found_at how k least) least) e
+
+pub met_not_below : (least : Option (KeyForm × Unlike)) (k : KeyForm) (how : Option Unlike) → is_before key_form_order k least ≡ false → met least k how ≡ least
+met_not_below least k how e = ap (λ b. cond b (found_at how k least) least) e
+
+-- the difference is at the key or at a lesser one
+abbrev pub Reaches : Option (KeyForm × Unlike) → KeyForm → Type 0
+Reaches None k = ⊥
+Reaches (Some d) k = key_form_order k d.0 ≢ Less
+
+not_less : (r : Ordering) → is_lt r ≡ false → r ≢ Less
+not_less Less e h = cc
+not_less Equal e h = cc
+not_less Greater e h = cc
+
+is_less : (r : Ordering) → is_lt r ≡ true → r ≡ Less
+is_less Less e = refl
+is_less Equal e = cc
+is_less Greater e = cc
+
+is_equal : (r : Ordering) → is_eq r ≡ true → r ≡ Equal
+is_equal Equal e = refl
+is_equal Less e = cc
+is_equal Greater e = cc
+
+equal_not_less : (r : Ordering) → r ≡ Equal → r ≢ Less
+equal_not_less r e h = cc
+
+-- what reaches a key reaches those that tie with it
+reaches_tied : (found : Option (KeyForm × Unlike)) (k l : KeyForm) → key_form_order l k ≡ Equal → Reaches found k → Reaches found l
+reaches_tied None k l t r = r
+reaches_tied (Some d) k l t r = λ less. r (sym (form_total.congr l k d.0 t) ∙ less)
+
+found_keeps : (how : Option Unlike) (k : KeyForm) (least : Option (KeyForm × Unlike)) (l : KeyForm) → is_before key_form_order k least ≡ true → Reaches least l → Reaches (found_at how k least) l
+found_keeps None k least l e r = r
+found_keeps (Some h) k None l e r = absurd r
+found_keeps (Some h) k (Some d) l e r = λ less. r (form_total.trans l k d.0 less (is_less _ e))
+
+met_keeps : (least : Option (KeyForm × Unlike)) (k : KeyForm) (how : Option Unlike) (l : KeyForm) → Reaches least l → Reaches (met least k how) l
+met_keeps least k how l r =
+    elim (is_before key_form_order k least) as (λ b. is_before key_form_order k least ≡ b → Reaches (cond b (found_at how k least) least) l) [
+      | true ↦ λ e. found_keeps how k least l e r
+      | false ↦ λ e. r
+    ] refl
+
+least_reaches : (least : Option (KeyForm × Unlike)) (k : KeyForm) → is_before key_form_order k least ≡ false → Reaches least k
+least_reaches None k e = cc
+least_reaches (Some d) k e = not_less _ e
+
+met_reaches : (least : Option (KeyForm × Unlike)) (k : KeyForm) (how : Option Unlike) → (how ≡ None) ⊎ Reaches (met least k how) k
+met_reaches least k None = inl refl
+met_reaches least k (Some h) =
+    inr (elim (is_before key_form_order k least) as (λ b. is_before key_form_order k least ≡ b → Reaches (cond b (Some (k, h)) least) k) [
+      | true ↦ λ e. equal_not_less _ (tied_itself form_total k)
+      | false ↦ λ e. least_reaches least k e
+    ] refl)
+
+found_has : (P : KeyForm × Unlike → Type 0) (how : Option Unlike) (k : KeyForm) (least : Option (KeyForm × Unlike))
+    → IfSome least P → IfSome how (λ h. P (k, h)) → IfSome (found_at how k least) P
+found_has P None k least p q = p
+found_has P (Some h) k least p q = q
+
+met_has : (P : KeyForm × Unlike → Type 0) (least : Option (KeyForm × Unlike)) (k : KeyForm) (how : Option Unlike)
+    → IfSome least P → IfSome how (λ h. P (k, h)) → IfSome (met least k how) P
+met_has P least k how p q = elim (is_before key_form_order k least) as (λ b. IfSome (cond b (found_at how k least) least) P) [ true ↦ found_has P how k least p q | false ↦ p ]
+
+module _ {V : Type 0} (differs : KeyForm × V → Option Unlike) where
+  pub walk_keeps : (least : Option (KeyForm × Unlike)) (es : List (KeyForm × V)) (l : KeyForm) → Reaches least l → Reaches (least_met differs least es) l
+  walk_keeps least [] l r = r
+  walk_keeps least (e ∷ es) l r = walk_keeps (met least e.0 (differs e)) es l (met_keeps least e.0 (differs e) l r)
+
+  -- at each entry there is no difference, or the walk reaches it
+  pub walk_reaches : (least : Option (KeyForm × Unlike)) (es : List (KeyForm × V)) (e : KeyForm × V) → In e es
+      → (differs e ≡ None) ⊎ Reaches (least_met differs least es) e.0
+  walk_reaches least [] e i = absurd i
+  walk_reaches least (f ∷ fs) e i = elim i as (λ _. (differs e ≡ None) ⊎ Reaches (least_met differs least (f ∷ fs)) e.0) [
+    | inl same ↦ subst (λ x. (differs x ≡ None) ⊎ Reaches (least_met differs least (f ∷ fs)) x.0) (sym same)
+        (elim (met_reaches least f.0 (differs f)) as (λ _. (differs f ≡ None) ⊎ Reaches (least_met differs least (f ∷ fs)) f.0) [
+          | inl none ↦ inl none
+          | inr r ↦ inr (walk_keeps (met least f.0 (differs f)) fs f.0 r)
+        ])
+    | inr later ↦ walk_reaches (met least f.0 (differs f)) fs e later
+  ]
+
+  -- what holds of each difference holds of the least
+  pub walk_has : (P : KeyForm × Unlike → Type 0) (least : Option (KeyForm × Unlike)) (es : List (KeyForm × V)) → IfSome least P
+      → ((e : KeyForm × V) → In e es → IfSome (differs e) (λ h. P (e.0, h))) → IfSome (least_met differs least es) P
+  walk_has P least [] p q = p
+  walk_has P least (e ∷ es) p q = walk_has P (met least e.0 (differs e)) es (met_has P least e.0 (differs e) p (q e (inl refl))) (λ f i. q f (inr i))
+
+tie_none : (r : Ordering) → by_order r ≡ None → is_eq r ≡ true
+tie_none Less e = cc
+tie_none Equal e = refl
+tie_none Greater e = cc
+
+tie_some : (r : Ordering) (h : Unlike) → by_order r ≡ Some h → is_eq r ≡ false
+tie_some Less h e = refl
+tie_some Equal h e = cc
+tie_some Greater h e = refl
+
+agrees : (a b : Option Form) → unlike a b ≡ None → option_eq (eq_by_cmp form_values) a b ≡ true
+agrees None None e = refl
+agrees None (Some w) e = cc
+agrees (Some v) None e = cc
+agrees (Some v) (Some w) e = tie_none (form_values v w) e
+
+disagrees : (a b : Option Form) (h : Unlike) → unlike a b ≡ Some h → option_eq (eq_by_cmp form_values) a b ≡ false
+disagrees None None h e = cc
+disagrees None (Some w) h e = refl
+disagrees (Some v) None h e = refl
+disagrees (Some v) (Some w) h e = tie_some (form_values v w) h e
+
+-- an entry that a look-up finds
+found_entry : {V : Type 0} (es : List (KeyForm × V)) (k : KeyForm) (v : V) → value_at key_form_order es k ≡ Some v
+    → (e : KeyForm × V) × In e es × (key_form_order k e.0 ≡ Equal) × (e.1 ≡ v)
+found_entry [] k v h = cc
+found_entry (e ∷ es) k v h =
+    elim (eq_by_cmp key_form_order k e.0) as (λ b. eq_by_cmp key_form_order k e.0 ≡ b → cond b (Some e.1) (value_at key_form_order es k) ≡ Some v
+    → (f : KeyForm × _) × In f (e ∷ es) × (key_form_order k f.0 ≡ Equal) × (f.1 ≡ v)) [
+      | true ↦ λ t is. (e, inl refl, is_equal _ t, some_same e.1 v is)
+      | false ↦ λ t is. let (f, i, tie, same) = found_entry es k v is in (f, inr i, tie, same)
+    ] refl h
+  where
+    some_same : {A : Type 0} (x y : A) → Some x ≡ Some y → x ≡ y
+    some_same x y e = cc
+
+value_tied : {V : Type 0} (es : List (KeyForm × V)) (k l : KeyForm) → key_form_order k l ≡ Equal → value_at key_form_order es k ≡ value_at key_form_order es l
+value_tied es k l t = value_is key_form_order es k ∙ sym (find_tied key_form_order form_total k l t es) ∙ sym (value_is key_form_order es l)
+
+-- an entry is found at its key
+first_found : {V : Type 0} (es : List (KeyForm × V)) → Apart key_form_order es → (e : KeyForm × V) → In e es → value_at key_form_order es e.0 ≡ Some e.1
+first_found [] a e i = absurd i
+first_found (f ∷ fs) a e i = elim i as (λ _. value_at key_form_order (f ∷ fs) e.0 ≡ Some e.1) [
+  | inl same ↦ subst (λ x. value_at key_form_order (f ∷ fs) x.0 ≡ Some x.1) (sym same) (ap (λ r. cond (is_eq r) (Some f.1) (value_at key_form_order fs f.0)) (tied_itself form_total f.0))
+  | inr later ↦ ap (λ b. cond b (Some f.1) (value_at key_form_order fs e.0)) ((eq_by_cmp_equiv form_total).symm e.0 f.0 ∙ differs_from_none key_form_order f.0 fs a.0 e later) ∙ first_found fs a.1 e later
+]
+
+if_some : {A : Type 0} (o : Option A) (Q : A → Type 0) → ((h : A) → o ≡ Some h → Q h) → IfSome o Q
+if_some None Q f = tt
+if_some (Some h) Q f = f h refl
+
+lacking_none : (x : Option Form) → x ≡ None → lacking x ≢ None
+lacking_none None e h = cc
+lacking_none (Some v) e h = cc
+
+lacking_is : (x : Option Form) (w : Form) (h : Unlike) → lacking x ≡ Some h → unlike x (Some w) ≡ Some h
+lacking_is None w h e = e
+lacking_is (Some v) w h e = cc
+
+module _ (es fs : List (KeyForm × Form)) where
+  -- what the walk over the first map meets, and then that over the second
+  abbrev pub left_walk : Option (KeyForm × Unlike)
+  left_walk = least_met (λ e. unlike (Some e.1) (value_at key_form_order (pairs_of fs) e.0)) None es
+
+  abbrev pub both_walks : Option (KeyForm × Unlike)
+  both_walks = least_met (λ e. lacking (value_at key_form_order (pairs_of es) e.0)) left_walk fs
+
+  reaches_unlike : (l : KeyForm) (x y : Option Form) → value_at key_form_order (pairs_of es) l ≡ x → value_at key_form_order (pairs_of fs) l ≡ y
+      → (unlike x y ≡ None) ⊎ Reaches both_walks l
+  reaches_unlike l None None p q = inl refl
+  reaches_unlike l (Some v) y p q =
+      let (e, i, tie, same) = found_entry es l v (sym (value_of_rising key_form_order form_total es l) ∙ p) in
+      let other : value_at key_form_order (pairs_of fs) e.0 ≡ y = sym (value_tied (pairs_of fs) l e.0 tie) ∙ q in
+      elim (walk_reaches (λ d. unlike (Some d.1) (value_at key_form_order (pairs_of fs) d.0)) None es e i) as (λ _. (unlike (Some v) y ≡ None) ⊎ Reaches both_walks l) [
+        | inl none ↦ inl (sym (λ j. unlike (Some (same j)) (other j)) ∙ none)
+        | inr r ↦ inr (walk_keeps _ left_walk fs l (reaches_tied left_walk e.0 l tie r))
+      ]
+  reaches_unlike l None (Some w) p q =
+      let (f, i, tie, same) = found_entry fs l w (sym (value_of_rising key_form_order form_total fs l) ∙ q) in
+      let other : value_at key_form_order (pairs_of es) f.0 ≡ None = sym (value_tied (pairs_of es) l f.0 tie) ∙ p in
+      elim (walk_reaches (λ d. lacking (value_at key_form_order (pairs_of es) d.0)) left_walk fs f i) as (λ _. (unlike None (Some w) ≡ None) ⊎ Reaches both_walks l) [
+        | inl none ↦ absurd (lacking_none _ other none)
+        | inr r ↦ inr (reaches_tied both_walks f.0 l tie r)
+      ]
+
+  agrees_or_reaches : (l : KeyForm) → (agree_at key_form_order form_values (pairs_of es) (pairs_of fs) l ≡ true) ⊎ Reaches both_walks l
+  agrees_or_reaches l = elim (reaches_unlike l _ _ refl refl) as (λ _. (agree_at key_form_order form_values (pairs_of es) (pairs_of fs) l ≡ true) ⊎ Reaches both_walks l) [
+    | inl none ↦ inl (agrees (value_at key_form_order (pairs_of es) l) (value_at key_form_order (pairs_of fs) l) none)
+    | inr r ↦ inr r
+  ]
+
+  abbrev IsUnlike : KeyForm × Unlike → Type 0
+  IsUnlike d = unlike (value_at key_form_order (pairs_of es) d.0) (value_at key_form_order (pairs_of fs) d.0) ≡ Some d.1
+
+  module _ (a : Apart key_form_order es) (b : Apart key_form_order fs) where
+    in_pairs : (gs : List (KeyForm × Form)) → Apart key_form_order gs → (e : KeyForm × Form) → In e gs → value_at key_form_order (pairs_of gs) e.0 ≡ Some e.1
+    in_pairs gs c e i = value_of_rising key_form_order form_total gs e.0 ∙ first_found gs c e i
+
+    walks_have : IfSome both_walks IsUnlike
+    walks_have = walk_has _ IsUnlike left_walk fs
+        (walk_has _ IsUnlike None es tt (λ e i. if_some _ _ (λ h is. ap (λ x. unlike x (value_at key_form_order (pairs_of fs) e.0)) (in_pairs es a e i) ∙ is)))
+        (λ f i. if_some _ _ (λ h is. ap (unlike (value_at key_form_order (pairs_of es) f.0)) (in_pairs fs b f i) ∙ lacking_is _ f.1 h is))
+
+    least_is : (found : Option (KeyForm × Unlike)) → ((l : KeyForm) → (agree_at key_form_order form_values (pairs_of es) (pairs_of fs) l ≡ true) ⊎ Reaches found l)
+        → IfSome found IsUnlike → IsLeastUnlike (pairs_of es) (pairs_of fs) found
+    least_is None r h = λ l. elim (r l) as (λ _. agree_at key_form_order form_values (pairs_of es) (pairs_of fs) l ≡ true) [ inl agree ↦ agree | inr none ↦ absurd none ]
+    least_is (Some d) r h = (
+      (disagrees (value_at key_form_order (pairs_of es) d.0) (value_at key_form_order (pairs_of fs) d.0) d.1 h, λ l less. elim (r l) as (λ _. agree_at key_form_order form_values (pairs_of es) (pairs_of fs) l ≡ true) [ inl agree ↦ agree | inr not ↦ absurd (not less) ]),
+      h,
+    )
+
+    -- two walks meet the least difference
+    pub walks_meet_least : IsLeastUnlike (pairs_of es) (pairs_of fs) both_walks
+    walks_meet_least = least_is both_walks agrees_or_reaches walks_have
+
+  -- the least difference decides
+  pub ordered_at : (k : KeyForm) → IsLeastDifference key_form_order form_values (pairs_of es) (pairs_of fs) k
+      → maps_order (pairs_of es) (pairs_of fs) ≡ order_at key_form_order form_values (pairs_of es) (pairs_of fs) k
+  ordered_at k least =
+      forms_decide es fs k (
+        sym (agree_rising key_form_order form_total form_values es fs k) ∙ least.0,
+        λ l less. sym (agree_rising key_form_order form_total form_values es fs l) ∙ least.1 l less,
+      )
+      ∙ sym (λ j. by_values key_form_order form_values
+      (value_of_rising key_form_order form_total es k j) (value_of_rising key_form_order form_total fs k j)
+      (more_rising key_form_order form_total es k j) (more_rising key_form_order form_total fs k j))
+
+  pub all_tie : AgreeEverywhere key_form_order form_values (pairs_of es) (pairs_of fs) → maps_order (pairs_of es) (pairs_of fs) ≡ Equal
+  all_tie agree = (forms_tie es fs).0 (λ l. sym (agree_rising key_form_order form_total form_values es fs l) ∙ agree l)
+
+same_values : (r o : Ordering) → by_order r ≡ Some (Values o) → r ≡ o
+same_values Less o e = cc
+same_values Equal o e = cc
+same_values Greater o e = cc
+
+pub values_decide : (x y : Option Form) (g h : Bool) (o : Ordering) → unlike x y ≡ Some (Values o) → by_values key_form_order form_values x y g h ≡ o
+values_decide None None g h o e = cc
+values_decide None (Some w) g h o e = cc
+values_decide (Some v) None g h o e = cc
+values_decide (Some v) (Some w) g h o e = same_values (form_values v w) o e
+
+not_alone : (r : Ordering) → (by_order r ≢ Some LeftAlone) × (by_order r ≢ Some RightAlone)
+not_alone Less = (λ e. cc, λ e. cc)
+not_alone Equal = (λ e. cc, λ e. cc)
+not_alone Greater = (λ e. cc, λ e. cc)
+
+pub left_decides : (x y : Option Form) (g h : Bool) → unlike x y ≡ Some LeftAlone → by_values key_form_order form_values x y g h ≡ (if h then Less else Greater)
+left_decides None None g h e = cc
+left_decides None (Some w) g h e = cc
+left_decides (Some v) None g h e = refl
+left_decides (Some v) (Some w) g h e = absurd ((not_alone (form_values v w)).0 e)
+
+pub right_decides : (x y : Option Form) (g h : Bool) → unlike x y ≡ Some RightAlone → by_values key_form_order form_values x y g h ≡ (if g then Greater else Less)
+right_decides None None g h e = cc
+right_decides None (Some w) g h e = refl
+right_decides (Some v) None g h e = cc
+right_decides (Some v) (Some w) g h e = absurd ((not_alone (form_values v w)).1 e)
+
+module _ (es fs : List (KeyForm × Form)) (k : KeyForm) (least : IsLeastDifference key_form_order form_values (pairs_of es) (pairs_of fs) k) where
+  abbrev here : Option Form
+  here = value_at key_form_order (pairs_of es) k
+
+  abbrev there : Option Form
+  there = value_at key_form_order (pairs_of fs) k
+
+  pub by_held : (o : Ordering) → unlike here there ≡ Some (Values o) → o ≡ maps_order (pairs_of es) (pairs_of fs)
+  by_held o e = sym (ordered_at es fs k least ∙ values_decide here there _ _ o e)
+
+  pub by_left : (b : Bool) → unlike here there ≡ Some LeftAlone → goes_on key_form_order (pairs_of fs) k ≡ b → (if b then Less else Greater) ≡ maps_order (pairs_of es) (pairs_of fs)
+  by_left b e g = sym (ordered_at es fs k least ∙ left_decides here there _ _ e ∙ ap (λ c. if c then Less else Greater) g)
+
+  pub by_right : (b : Bool) → unlike here there ≡ Some RightAlone → goes_on key_form_order (pairs_of es) k ≡ b → (if b then Greater else Less) ≡ maps_order (pairs_of es) (pairs_of fs)
+  by_right b e g = sym (ordered_at es fs k least ∙ right_decides here there _ _ e ∙ ap (λ c. if c then Greater else Less) g)

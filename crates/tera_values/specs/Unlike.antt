@@ -1,0 +1,60 @@
+-- How two maps differ at a key.
+use Rattle.std.specs.Prelude.{◌≡◌, cond, List, [], ◌∷◌, Option, None, Some, MatchOption}
+use Rattle.std.specs.Ordering.{on}
+use Rattle.std.specs.declared.cmp.Ordering.{Ordering}
+use Rattle.std.specs.declared.cmp.Ordering.TheVariants.{Less, Equal, Greater}
+use Rattle.tera_meaning.specs.Form.{Form}
+use Rattle.tera_meaning.specs.KeyMeaning.{KeyForm}
+use Rattle.tera_meaning.specs.Meaning.{plain}
+use Rattle.tera_meaning.specs.Order.{compare}
+use Rattle.tera_meaning.specs.Pairs.{key_form_order, value_at, AgreeEverywhere, IsLeastDifference}
+use Rattle.tera_meaning.specs.Tree.{object, members}
+use Rattle.tera_values.specs.Map.{is_before}
+use Rattle.tera_values.specs.declared.map.Unlike.{Unlike}
+use Rattle.tera_values.specs.declared.map.Unlike.TheVariants.{Values, LeftAlone, RightAlone}
+
+-- the order of the meanings of two values
+abbrev pub form_values : Form → Form → Ordering
+form_values = on plain compare
+
+abbrev pub by_order : Ordering → Option Unlike
+by_order Less = Some (Values Less)
+by_order Equal = None
+by_order Greater = Some (Values Greater)
+
+-- how what two maps have at a key differs, where it does
+abbrev pub unlike : Option Form → Option Form → Option Unlike
+unlike None None = None
+unlike None (Some w) = Some RightAlone
+unlike (Some v) None = Some LeftAlone
+unlike (Some v) (Some w) = by_order (form_values v w)
+
+-- what the second map lacks of the first
+abbrev pub lacking : {V : Type 0} → Option V → Option Unlike
+lacking None = Some RightAlone
+lacking (Some v) = None
+
+-- a difference at a key in place of the least so far
+abbrev pub found_at : Option Unlike → KeyForm → Option (KeyForm × Unlike) → Option (KeyForm × Unlike)
+found_at None k least = least
+found_at (Some how) k least = Some (k, how)
+
+-- the lesser of the least difference so far and that at a key
+abbrev pub met : Option (KeyForm × Unlike) → KeyForm → Option Unlike → Option (KeyForm × Unlike)
+met least k how = cond (is_before key_form_order k least) (found_at how k least) least
+
+module _ {V : Type 0} (differs : KeyForm × V → Option Unlike) where
+  -- the least of the difference so far and those at the entries
+  abbrev pub least_met : Option (KeyForm × Unlike) → List (KeyForm × V) → Option (KeyForm × Unlike)
+  least_met least [] = least
+  least_met least (e ∷ es) = least_met (met least e.0 (differs e)) es
+
+-- the order of maps of these pairs
+abbrev pub maps_order : List (KeyForm × Form) → List (KeyForm × Form) → Ordering
+maps_order ps qs = compare (plain (object (members ps))) (plain (object (members qs)))
+
+-- how two maps differ at the least key where they do
+abbrev pub IsLeastUnlike : List (KeyForm × Form) → List (KeyForm × Form) → Option (KeyForm × Unlike) → Type 0
+IsLeastUnlike ps qs found = MatchOption found (AgreeEverywhere key_form_order form_values ps qs)
+    (λ d. IsLeastDifference key_form_order form_values ps qs d.0
+    × (unlike (value_at key_form_order ps d.0) (value_at key_form_order qs d.0) ≡ Some d.1))
