@@ -4,6 +4,7 @@ pub mod DecidedLaws
 pub mod DifferenceLaws
 pub mod MapLaws
 pub mod PairLaws
+mod PrintedLaws
 pub mod UniqueLaws
 mod RunLaws
 mod StepLaws

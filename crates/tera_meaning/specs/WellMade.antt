@@ -6,9 +6,10 @@ use Rattle.std.specs.Str.{IsUtf8}
 use Rattle.tera_meaning.specs.Form.{Form, MarkedText}
 use Rattle.tera_meaning.specs.Integer.{Integer, IsOfKind}
 use Rattle.tera_meaning.specs.KeyMeaning.{KeyForm, truth_key, number_key, text_key, key_text}
+use Rattle.tera_meaning.specs.Pairs.{Rises, key_form_order}
 use Rattle.tera_meaning.specs.State.{State}
 use Rattle.tera_meaning.specs.Step.{Command, Request, set}
-use Rattle.tera_meaning.specs.Tree.{Items, Members, undefined, none, truth, number, text, bytes, array, object, no_items, item, no_members, member}
+use Rattle.tera_meaning.specs.Tree.{Items, Members, undefined, none, truth, number, text, bytes, array, object, no_items, item, no_members, member, members_list}
 
 abbrev pub IsByte : ℕ → Type 0
 IsByte byte = byte < 256
@@ -18,7 +19,8 @@ IsWellMadeKey (truth_key b) = ⊤
 IsWellMadeKey (number_key n) = IsOfKind n.kind n.value
 IsWellMadeKey (text_key t) = IsUtf8 (key_text t)
 
--- each number is one of its kind, each text spells characters in UTF-8, and each byte is below 256
+-- each number is one of its kind, each text spells characters in UTF-8, each byte is below 256, and the keys of each map
+-- rise strictly
 abbrev mutual
   pub IsWellMade : Form → Type 0
   IsWellMade undefined = ⊤
@@ -28,7 +30,7 @@ abbrev mutual
   IsWellMade (text t) = IsUtf8 t.spelled
   IsWellMade (bytes bs) = AllByRecursion IsByte bs
   IsWellMade (array xs) = AreWellMade xs
-  IsWellMade (object ps) = AreWellMadeMembers ps
+  IsWellMade (object ps) = Rises key_form_order (members_list ps) × AreWellMadeMembers ps
 
   pub AreWellMade : Items Integer MarkedText KeyForm → Type 0
   AreWellMade no_items = ⊤

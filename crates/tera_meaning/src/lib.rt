@@ -7,6 +7,7 @@ pub mod keys;
 pub mod marks;
 pub mod order;
 pub mod pairs;
+pub mod printed;
 pub mod rows;
 pub mod runs;
 pub mod scripts;

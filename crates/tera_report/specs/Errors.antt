@@ -1,5 +1,5 @@
 -- What an `Error` holds, and which refusal it is.
-use Rattle.std.specs.Prelude.{◌≡◌, map, Option, None, string_bytes, ◌⊎◌}
+use Rattle.std.specs.Prelude.{◌≡◌, map, Option, None, string_bytes, ◌⊎◌, ⊤}
 use Rattle.anyhow.specs.declared.error.Error.{Error as Cause}
 use Rattle.tera_report.specs.declared.errors.ErrorKind.{ErrorKind}
 use Rattle.tera_report.specs.declared.errors.ErrorKind.TheVariants.{Msg, CircularExtend, CircularInclude, MissingParent, TemplateNotFound, ComponentNotFound, InvalidArgument, MissingArgument, OutOfRangeArgument, Io, Utf8Conversion, OutOfMemory}
@@ -25,6 +25,13 @@ out_of_memory = plain_error OutOfMemory
 -- the error says that memory was refused, and nothing else
 abbrev pub IsOutOfMemory : Error → Type 0
 IsOutOfMemory e = e ≡ out_of_memory
+
+-- the kind holds no text, so a copy of it takes no memory
+abbrev pub HoldsNoText : ErrorKind → Type 0
+HoldsNoText (Io kind) = ⊤
+HoldsNoText Utf8Conversion = ⊤
+HoldsNoText OutOfMemory = ⊤
+HoldsNoText kind = ⊥
 
 -- the refusal that a kind states
 abbrev pub refusal_of : ErrorKind → Refusal.Refusal

@@ -12,10 +12,13 @@ use Rattle.tera_meaning.specs.KeyMeaning.{KeyForm, KeyMeaning, key_meaning}
 use Rattle.tera_meaning.specs.Meaning.{plain}
 use Rattle.tera_meaning.specs.Order.{compare}
 use Rattle.tera_meaning.specs.Read.{items_in, members_in, is_nonempty}
-use Rattle.tera_meaning.specs.TreeLaws.{items_of_list, members_of_list}
+use Rattle.tera_meaning.proofs.PairLaws.{rising_rises}
+use Rattle.tera_meaning.specs.Pairs.{Rises, key_form_order, pairs_of}
+use Rattle.tera_meaning.specs.TreeLaws.{items_of_list, list_of_members, members_of_list}
 use Rattle.tera_meaning.specs.Tree.{Items, undefined, none, truth, number, text, bytes, object, array, items, items_list, members, members_list, relabeled_items, depth, items_depth}
 use Rattle.tera_values.specs.Print.{plain_pairs}
 use Rattle.tera_meaning.specs.WellMade.{IsWellMade, IsWellMadeKey, AreWellMade, AreWellMadeMembers}
+use Rattle.tera_values.specs.MapLaws.{form_total}
 use Rattle.tera_values.specs.Placing.{In}
 
 -- the items once kinds and flags are forgotten
@@ -104,3 +107,10 @@ IsWellMadePair p = IsWellMadeKey p.0 × IsWellMade p.1
 pub pairs_well_made : (ps : List (KeyForm × Form)) → ((p : KeyForm × Form) → In p ps → IsWellMadePair p) → AreWellMadeMembers (members ps)
 pairs_well_made [] h = tt
 pairs_well_made (p ∷ ps) h = let first = h p (inl refl) in (first.0, first.1, pairs_well_made ps (λ q i. h q (inr i)))
+
+-- so a map of which each pair is well made is, since its keys rise
+pub map_well_made : (entries : List (KeyForm × Form)) → ((p : KeyForm × Form) → In p (pairs_of entries) → IsWellMadePair p)
+    → IsWellMade (object (members (pairs_of entries)))
+map_well_made entries h =
+    let rises = rising_rises key_form_order form_total entries in
+    (subst (Rises key_form_order) (sym (list_of_members (pairs_of entries))) rises, pairs_well_made (pairs_of entries) h)

@@ -47,7 +47,7 @@ PrintsMap ps written =
 abbrev pub WritesPrinted : Meaning → Option (List ℕ) → Option (List ℕ) → Type 0
 WritesPrinted x old new = (written : List ℕ) × Prints x written × Appends old new written
 
--- the same of a meaning that stands in an array, where texts are quoted
+-- the same of a meaning that stands in an array or map, where texts are quoted
 abbrev pub WritesInside : Meaning → Option (List ℕ) → Option (List ℕ) → Type 0
 WritesInside x old new = (written : List ℕ) × PrintsInside x written × Appends old new written
 

@@ -19,7 +19,7 @@ use crate::{Map, Value};
 use std::cmp::Ordering;
 
 /// Values are equal exactly where their meanings are: integers by number, texts whatever their flags, arrays item by
-/// item. Mirrors `PartialEq` of `tera::Value`. Takes no memory.
+/// item, maps as sets of pairs. Mirrors `PartialEq` of `tera::Value`. Takes no memory.
 impl PartialEq for Value {
     ghost eq = { on plain same };
 
@@ -48,8 +48,9 @@ impl PartialOrd for Value {
     }
 }
 
-/// By kind (truth values, numbers, texts, arrays, bytes, none, undefined), and inside a kind by value: arrays by the
-/// first items that differ, a proper beginning being less. Mirrors `Ord` of `tera::Value`. Takes no memory.
+/// By kind (truth values, numbers, texts, arrays, maps, bytes, none, undefined), and inside a kind by value: arrays by
+/// the first items that differ, a proper beginning being less, and maps as the lists of their pairs sorted by key, where
+/// a pair goes by its key and then by its value. Mirrors `Ord` of `tera::Value`. Takes no memory.
 impl Ord for Value {
     ghost cmp = { on plain compare };
 

@@ -1,5 +1,6 @@
 //! Copies of values, deep.
-ghost use Rattle.std.specs.Prelude.{◌≡◌, IfOk, IfErr};
+ghost use Rattle.std.specs.Prelude.{◌≡◌, false, IfOk, IfErr, IsOk};
+ghost use Rattle.tera_meaning.specs.Read.{iterable_in};
 ghost use Rattle.tera_report.specs.Errors.{IsOutOfMemory};
 
 use crate::Value;
@@ -9,13 +10,16 @@ use std::alloc::Global;
 use tera_report::TeraResult;
 
 impl Value {
-    /// A value of the same form: kinds of integers and flags of texts are kept at every depth.
+    /// A value of the same form: kinds of integers, keys and flags of texts are kept at every depth. Mirrors `Clone` of
+    /// `tera::Value`.
     ///
-    /// Takes memory for texts, bytes and items; the only refusal is want of it, `Out of memory`.
+    /// Takes memory for texts, bytes, items and pairs, and none for other values; the only refusal is want of it,
+    /// `Out of memory`.
     #[cycle(copy)]
     pub fn clone(&self, alloc: Global) -> TeraResult<Value>
         ensures ok { IfOk result (λ v. v ≡ self.now) }
         ensures err { IfErr result IsOutOfMemory }
+        ensures succeeds { iterable_in self.now ≡ false → IsOk result }
     {
         let inner = match &self.inner {
             ValueInner::Undefined => ValueInner::Undefined,

@@ -78,7 +78,8 @@ pub(crate) fn insert_pair<V: Drop>(
     key: Key<'static>,
     value: V,
 ) -> Result<(), AllocError>
-    ensures ok { OnOk result (pairs_in map.new ≡ insert_entry key_form_order (pairs_in map.old) (key_form key.entry) value) }
+    ensures ok { OnOk result
+        (pairs_in map.new ≡ insert_entry key_form_order (pairs_in map.old) (key_form key.entry) value) }
     ensures err { OnErr result (pairs_in map.new ≡ pairs_in map.old) }
 {
     match map.insert(key, value) {
@@ -101,7 +102,8 @@ pub(crate) fn least_difference<'a>(
     left: &'a Map,
     right: &'a Map,
 ) -> Option<(&'a Key<'static>, Unlike)>
-    ensures { IsLeastUnlike (pairs_in left.now) (pairs_in right.now) (option_map (λ d. (key_form d.0.now, d.1)) result) }
+    ensures { IsLeastUnlike (pairs_in left.now) (pairs_in right.now)
+        (option_map (λ d. (key_form d.0.now, d.1)) result) }
 {
     least_absent(left, right, least_unlike(left, right))
 }
@@ -111,7 +113,8 @@ pub(crate) fn least_difference<'a>(
 fn least_unlike<'a>(left: &'a Map, right: &Map) -> Option<(&'a Key<'static>, Unlike)>
     ensures distinct { IsUnique keys_tie left.now }
     ensures least { option_map (λ d. (key_form d.0.now, d.1)) result
-        ≡ least_met (λ e. unlike (Some e.1) (value_at key_form_order (pairs_in right.now) e.0)) None (forms_of left.now.entries) }
+        ≡ least_met (λ e. unlike (Some e.1) (value_at key_form_order (pairs_in right.now) e.0))
+        None (forms_of left.now.entries) }
 {
     let mut least = None;
     for (key, value) in left {
@@ -130,7 +133,8 @@ fn least_absent<'a, V>(
 ) -> Option<(&'a Key<'static>, Unlike)>
     ensures distinct { IsUnique keys_tie right.now }
     ensures least { option_map (λ d. (key_form d.0.now, d.1)) result
-        ≡ least_met (λ e. lacking (value_at key_form_order (pairs_in left.now) e.0)) (option_map (λ d. (key_form d.0.now, d.1)) found.entry) (forms_of right.now.entries) }
+        ≡ least_met (λ e. lacking (value_at key_form_order (pairs_in left.now) e.0))
+        (option_map (λ d. (key_form d.0.now, d.1)) found.entry) (forms_of right.now.entries) }
 {
     let mut least = found;
     for (key, _) in right {
@@ -221,7 +225,8 @@ fn lacking<V>(other: Option<&V>) -> Option<Unlike>
 
 // Whether the key is below that of the difference, where there is one.
 fn is_below(key: &Key<'static>, least: Option<(&Key<'static>, Unlike)>) -> bool
-    ensures { result ≡ is_before key_form_order (key_form key.now) (option_map (λ d. (key_form d.0.now, d.1)) least.entry) }
+    ensures { result
+        ≡ is_before key_form_order (key_form key.now) (option_map (λ d. (key_form d.0.now, d.1)) least.entry) }
 {
     match least {
         Some((least, _)) => key < least,
@@ -241,10 +246,11 @@ fn is_above(key: &Key<'static>, floor: Option<&Key<'static>>) -> bool
 
 // Whether the key is below that of the pair, where there is one.
 fn is_before<V>(key: &Key<'static>, pair: Option<(&Key<'static>, &V)>) -> bool
-    ensures { result ≡ is_before key_form_order (key_form key.now) (option_map (λ p. (key_form p.0.now, p.1.now)) pair.entry) }
+    ensures { result ≡ is_before key_form_order (key_form key.now)
+        (option_map (λ p. (key_form p.0.now, p.1.now)) pair.entry) }
 {
     match pair {
-        Some((least, _)) => key < least,
+        Some((held, _)) => key < held,
         None => true,
     }
 }

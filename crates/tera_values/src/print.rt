@@ -25,8 +25,8 @@ use tera_report::watch::Watched;
 
 impl Value {
     /// Writes the printed text. Undefined and none print nothing, a text itself, bytes the text that they are, with
-    /// U+FFFD for what is no character, and an array its items between brackets, where texts are quoted. Mirrors
-    /// `Value::format`, which is private there.
+    /// U+FFFD for what is no character, an array its items between brackets, and a map its pairs between braces in the
+    /// order of their keys; texts in arrays and maps are quoted. Mirrors `Value::format`, which is private there.
     ///
     /// Answers an error only where, during the call, a write of the writer answered an error or
     /// took no byte. Takes no memory.
@@ -49,7 +49,8 @@ impl Value {
         put_value(self, out)
     }
 
-    /// Writes what is printed of the value inside an array: a text in debug form, and every other value as `format` does.
+    /// Writes what is printed of the value inside an array or a map: a text in debug form, and every other value as
+    /// `format` does.
     ///
     /// Answers an error only where, during the call, a write of the writer answered an error or
     /// took no byte. Takes no memory.
@@ -72,7 +73,7 @@ impl Value {
         put_inside(self, out)
     }
 
-    /// The printed text as a text of its own.
+    /// The printed text as a text of its own. Mirrors `to_string` of `tera::Value`.
     ///
     /// Takes memory for it; the only refusal is want of it, `Out of memory`.
     pub fn to_text(&self, alloc: Global) -> TeraResult<String>
@@ -114,7 +115,7 @@ fn put_value<S: Sink>(value: &Value, out: &mut S) -> Result<(), S::Fault>
     }
 }
 
-// Puts what a value prints inside an array: a text is quoted there.
+// Puts what a value prints inside an array or a map: a text is quoted there.
 #[cycle(print)]
 fn put_inside<S: Sink>(value: &Value, out: &mut S) -> Result<(), S::Fault>
     ensures { Puts S.takes S.fails result (PrintsInside (plain value.now)) out.old out.new }

@@ -117,7 +117,7 @@ impl Value {
         ensures { MatchOption result (members_in self.now ≡ None) (λ m. members_in self.now ≡ Some (pairs_in m.now)) }
     {
         match &self.inner {
-            ValueInner::Map(all) => Some(all),
+            ValueInner::Map(map) => Some(map),
             ValueInner::Undefined => None,
             ValueInner::None => None,
             ValueInner::Bool(_) => None,
@@ -137,7 +137,7 @@ impl Value {
         ensures { MatchOption result (members_in self ≡ None) (λ m. members_in self ≡ Some (pairs_in m)) }
     {
         match self.inner {
-            ValueInner::Map(all) => Some(all),
+            ValueInner::Map(pairs) => Some(pairs),
             ValueInner::Undefined => None,
             ValueInner::None => None,
             ValueInner::Bool(_) => None,

@@ -1,13 +1,14 @@
 // A constructor for each kind that holds texts, and what other errors become.
-ghost use Rattle.std.specs.Prelude.{◌≡◌, ◌⊎◌, Some, IfOk, IsSome, map, string_bytes};
+ghost use Rattle.anyhow.specs.Error.{IsMadeOf};
+ghost use Rattle.std.specs.Prelude.{◌≡◌, ◌⊎◌, Some, IfOk, IsSomeAnd, map, string_bytes};
 ghost use Rattle.std.specs.IoError.{error_kind as io_kind};
 ghost use Rattle.tera_report.specs.Errors.{kind_of, source_of, refusal_of, Raises, States, IsOutOfMemory};
 ghost use Rattle.tera_report.specs.Refusal.{message, circular_extend, circular_include, missing_parent, template_not_found, component_not_found, invalid_argument, missing_argument, out_of_range, writing_failed, not_utf8};
 
 use super::{Error, ErrorKind};
 use std::alloc::{AllocError, Global};
-use std::io;
 use std::string::FromUtf8Error;
+use std::{fmt, io};
 
 impl Error {
     /// Kind `Msg` with that text. `Out of memory` where the text finds none. Mirrors
@@ -135,7 +136,7 @@ impl Error {
     /// `Error::io_error`.
     pub fn io_error(error: io::Error) -> Error
         ensures kind { refusal_of (kind_of result) ≡ writing_failed (io_kind error) }
-        ensures cause { IsSome (source_of result) }
+        ensures cause { IsSomeAnd (source_of result) (IsMadeOf (⟦<io::Error as fmt::Display>⟧.output error)) }
     {
         Error {
             kind: ErrorKind::Io(error.kind()),
@@ -147,7 +148,7 @@ impl Error {
     /// `Error::invalid_utf8`.
     pub fn invalid_utf8(error: FromUtf8Error) -> Error
         ensures kind { refusal_of (kind_of result) ≡ not_utf8 }
-        ensures cause { IsSome (source_of result) }
+        ensures cause { IsSomeAnd (source_of result) (IsMadeOf (⟦<FromUtf8Error as fmt::Display>⟧.output error)) }
     {
         Error {
             kind: ErrorKind::Utf8Conversion,
@@ -159,7 +160,8 @@ impl Error {
 // What `io_error` answers.
 impl From<io::Error> for Error {
     ghost from_gives = { λ error e.
-        (refusal_of (kind_of e) ≡ writing_failed (io_kind error)) × IsSome (source_of e) };
+        (refusal_of (kind_of e) ≡ writing_failed (io_kind error))
+        × IsSomeAnd (source_of e) (IsMadeOf (⟦<io::Error as fmt::Display>⟧.output error)) };
 
     fn from(error: io::Error) -> Error {
         Error::io_error(error)
@@ -168,7 +170,8 @@ impl From<io::Error> for Error {
 
 // What `invalid_utf8` answers.
 impl From<FromUtf8Error> for Error {
-    ghost from_gives = { λ _ e. (refusal_of (kind_of e) ≡ not_utf8) × IsSome (source_of e) };
+    ghost from_gives = { λ error e. (refusal_of (kind_of e) ≡ not_utf8)
+        × IsSomeAnd (source_of e) (IsMadeOf (⟦<FromUtf8Error as fmt::Display>⟧.output error)) };
 
     fn from(error: FromUtf8Error) -> Error {
         Error::invalid_utf8(error)

@@ -1,6 +1,6 @@
 // Copies of kinds, with texts of their own.
-ghost use Rattle.std.specs.Prelude.{◌≡◌, IfOk, IfErr, map, string_bytes};
-ghost use Rattle.tera_report.specs.Errors.{refusal_of, IsOutOfMemory};
+ghost use Rattle.std.specs.Prelude.{◌≡◌, IfOk, IfErr, IsOk, map, string_bytes};
+ghost use Rattle.tera_report.specs.Errors.{HoldsNoText, refusal_of, IsOutOfMemory};
 
 use super::{ErrorKind, TeraResult};
 use std::alloc::{AllocError, Global};
@@ -11,6 +11,7 @@ impl ErrorKind {
     pub fn clone(&self, alloc: Global) -> TeraResult<ErrorKind>
         ensures same { IfOk result (λ copy. refusal_of copy ≡ refusal_of self.now) }
         ensures refused { IfErr result IsOutOfMemory }
+        ensures succeeds { HoldsNoText self.now → IsOk result }
     {
         Ok(match self {
             ErrorKind::Msg(message) => ErrorKind::Msg(copied(alloc, message)?),

@@ -2,7 +2,7 @@ use Rattle.std.proofs.Common.{◌⊎◌, inl, inr, arith, sym, subst, take}
 use Rattle.std.proofs.Math.Numerals.{suc-eq-add-one}
 use Rattle.tera_meaning.specs.Tree.{items}
 use Rattle.tera_meaning.specs.WellMade.{AreWellMade}
-use Rattle.tera_values.proofs.Parts.{depth_at, one_more_well_made, IsWellMadePair, pairs_well_made}
+use Rattle.tera_values.proofs.Parts.{depth_at, one_more_well_made, IsWellMadePair, map_well_made}
 use Rattle.tera_values.proofs.Walks.{first_left, later_left, less_deep}
 use Rattle.tera_meaning.specs.Form.{Form}
 use Rattle.tera_values.specs.declared.key.Key.{Key}
@@ -52,7 +52,7 @@ pub map::pairs_are_well_made-returns : goal.map::pairs_are_well_made-returns
 map::pairs_are_well_made-returns t c =
     let entries = c.args.all.now.entries in
     let unique = c.into_iter-key-iterator.ensures.into_iter_gives.4 in
-    pairs_well_made _ (λ p i. elim (c.loop-key.invariant.1 p (in_entries entries unique p i)) as (λ _. IsWellMadePair p) [
+    map_well_made (forms_of entries) (λ p i. elim (c.loop-key.invariant.1 p (in_entries entries unique p i)) as (λ _. IsWellMadePair p) [
       | inl made ↦ made
       | inr left ↦ absurd (subst (λ l. In p (forms_of l)) c.in-None.ensures.steps.0 left)
     ])
