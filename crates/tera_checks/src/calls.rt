@@ -33,32 +33,79 @@ fn is_safe(rt: &HostRuntime, context: &mut Context, of: &str) -> Result<bool, Fa
     Ok(matches!(ask(context, Call::IsSafe { of })?, Answer::Truth(true)))
 }
 
-#[test]
-fn marking_is_kept_elsewhere_or_in_place(rt: HostRuntime) -> Result<(), Fail> {
+// Marks what a name holds, in its place or under another name, and says whether that was done.
+fn mark(
+    rt: &HostRuntime,
+    context: &mut Context,
+    of: &str,
+    into: Option<&str>,
+) -> Result<bool, Fail> {
+    let of = name(rt, of)?;
+    let into = match into {
+        Some(into) => Some(name(rt, into)?),
+        None => None,
+    };
+    let answer = step(
+        context,
+        Step {
+            call: Call::MarkSafe { of },
+            into,
+        },
+    )?;
+    Ok(matches!(answer, Answer::Done))
+}
+
+fn are_equal(
+    rt: &HostRuntime,
+    context: &mut Context,
+    left: &str,
+    right: &str,
+) -> Result<bool, Fail> {
+    let left = name(rt, left)?;
+    let right = name(rt, right)?;
+    Ok(matches!(
+        ask(context, Call::Equal { left, right })?,
+        Answer::Truth(true)
+    ))
+}
+
+// A context in which `t` is a text that is not marked.
+fn with_a_text(rt: &HostRuntime, text: &str) -> Result<Context, Fail> {
     let mut context = Context::new(rt.alloc());
     set(
-        &rt,
+        rt,
         &mut context,
         "t",
-        Value::normal_string(rt.alloc(), "<")?,
+        Value::normal_string(rt.alloc(), text)?,
     )?;
-    let of = name(&rt, "t")?;
-    let answer = keep(&rt, &mut context, Call::MarkSafe { of }, "u")?;
-    assert!(rt; matches!(answer, Answer::Done));
-    assert!(rt; !is_safe(&rt, &mut context, "t")? && is_safe(&rt, &mut context, "u")?);
-    let left = name(&rt, "t")?;
-    let right = name(&rt, "u")?;
-    let equal = ask(&mut context, Call::Equal { left, right })?;
-    assert!(rt; matches!(equal, Answer::Truth(true)));
-    let of = name(&rt, "t")?;
-    ask(&mut context, Call::MarkSafe { of })?;
+    Ok(context)
+}
+
+#[test]
+fn a_marked_copy_is_kept_elsewhere(rt: HostRuntime) -> Result<(), Fail> {
+    let mut context = with_a_text(&rt, "<")?;
+    assert!(rt; mark(&rt, &mut context, "t", Some("u"))?);
+    assert!(rt; !is_safe(&rt, &mut context, "t")?);
+    assert!(rt; is_safe(&rt, &mut context, "u")?);
+    assert!(rt; are_equal(&rt, &mut context, "t", "u")?);
+    Ok(())
+}
+
+#[test]
+fn a_text_is_marked_in_its_place(rt: HostRuntime) -> Result<(), Fail> {
+    let mut context = with_a_text(&rt, "<")?;
+    assert!(rt; mark(&rt, &mut context, "t", None)?);
     assert!(rt; is_safe(&rt, &mut context, "t")?);
-    let of = name(&rt, "nope")?;
-    ask(&mut context, Call::MarkSafe { of })?;
+    Ok(())
+}
+
+#[test]
+fn an_absent_name_stays_absent_when_marked(rt: HostRuntime) -> Result<(), Fail> {
+    let mut context = Context::new(rt.alloc());
+    assert!(rt; mark(&rt, &mut context, "nope", None)?);
+    assert!(rt; mark(&rt, &mut context, "nope", Some("v"))?);
     assert!(rt; !has(&rt, &mut context, "nope")?);
-    let of = name(&rt, "nope")?;
-    keep(&rt, &mut context, Call::MarkSafe { of }, "v")?;
-    assert!(rt; has(&rt, &mut context, "v")? && !has(&rt, &mut context, "nope")?);
+    assert!(rt; has(&rt, &mut context, "v")?);
     Ok(())
 }
 
@@ -92,15 +139,25 @@ fn is_text(answer: &Answer, text: &str) -> bool {
     matches!(answer, Answer::Text(t) if t.as_str() == text)
 }
 
+// Whether the name is found to hold that value.
+fn finds(rt: &HostRuntime, context: &mut Context, of: &str, value: &Value) -> Result<bool, Fail> {
+    let found = ask(context, get(rt, of)?)?;
+    Ok(is_found(&found, value))
+}
+
+// Keeps what a name holds under another name, and says whether that was done.
+fn copy(rt: &HostRuntime, context: &mut Context, of: &str, into: &str) -> Result<bool, Fail> {
+    let answer = keep(rt, context, get(rt, of)?, into)?;
+    Ok(matches!(answer, Answer::Done))
+}
+
 #[test]
 fn what_is_found_is_answered_or_kept(rt: HostRuntime) -> Result<(), Fail> {
     let mut context = Context::new(rt.alloc());
     set(&rt, &mut context, "a", Value::from(7u64))?;
-    let found = ask(&mut context, get(&rt, "a")?)?;
-    assert!(rt; is_found(&found, &Value::from(7u64)));
-    let kept = keep(&rt, &mut context, get(&rt, "a")?, "b")?;
-    assert!(rt; matches!(kept, Answer::Done));
-    assert!(rt; has(&rt, &mut context, "b")?);
+    assert!(rt; finds(&rt, &mut context, "a", &Value::from(7u64))?);
+    assert!(rt; copy(&rt, &mut context, "a", "b")?);
+    assert!(rt; finds(&rt, &mut context, "b", &Value::from(7u64))?);
     Ok(())
 }
 
@@ -110,8 +167,14 @@ fn nothing_is_kept_where_nothing_is_found(rt: HostRuntime) -> Result<(), Fail> {
     let absent = keep(&rt, &mut context, get(&rt, "x")?, "c")?;
     assert!(rt; is_nothing(&absent));
     assert!(rt; !has(&rt, &mut context, "c")?);
-    let ignored = keep(&rt, &mut context, len(&rt, "a")?, "c")?;
-    assert!(rt; is_size(&ignored, None));
+    Ok(())
+}
+
+#[test]
+fn a_length_is_kept_nowhere(rt: HostRuntime) -> Result<(), Fail> {
+    let mut context = Context::new(rt.alloc());
+    let size = keep(&rt, &mut context, len(&rt, "a")?, "c")?;
+    assert!(rt; is_size(&size, None));
     assert!(rt; !has(&rt, &mut context, "c")?);
     Ok(())
 }
@@ -128,19 +191,19 @@ fn a_name_is_taken_away_once(rt: HostRuntime) -> Result<(), Fail> {
 }
 
 #[test]
-fn readers_answer_of_values(rt: HostRuntime) -> Result<(), Fail> {
-    let mut context = Context::new(rt.alloc());
-    set(
-        &rt,
-        &mut context,
-        "t",
-        Value::normal_string(rt.alloc(), "é<")?,
-    )?;
+fn lengths_and_truth_of_texts(rt: HostRuntime) -> Result<(), Fail> {
+    let mut context = with_a_text(&rt, "é<")?;
     let size = ask(&mut context, len(&rt, "t")?)?;
     assert!(rt; is_size(&size, Some(2)));
     let of = name(&rt, "t")?;
     let truthy = ask(&mut context, Call::Truthy { of })?;
     assert!(rt; matches!(truthy, Answer::Truth(true)));
+    Ok(())
+}
+
+#[test]
+fn kinds_and_escapes_of_texts(rt: HostRuntime) -> Result<(), Fail> {
+    let mut context = with_a_text(&rt, "é<")?;
     let of = name(&rt, "t")?;
     let kind = ask(&mut context, Call::Kind { of })?;
     assert!(rt; is_kind(&kind, ValueKind::String));

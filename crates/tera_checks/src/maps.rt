@@ -48,6 +48,14 @@ fn list(rt: &HostRuntime, item: Value) -> Result<Value, Fail> {
     Ok(Value::of_array(items))
 }
 
+// An array of a number and a map without pairs.
+fn number_and_map(rt: &HostRuntime, number: u8) -> Result<Value, Fail> {
+    let mut items = Vec::new(rt.alloc());
+    items.push(Value::from(number))?;
+    items.push(empty(rt))?;
+    Ok(Value::of_array(items))
+}
+
 // That many texts as keys, and a number at each.
 fn many(rt: &HostRuntime, count: u32) -> Result<Value, Fail> {
     let mut map = Map::new(rt.alloc());
@@ -142,6 +150,9 @@ fn maps_in_arrays(rt: HostRuntime) -> Result<(), Fail> {
     let left = list(&rt, one(&rt, Key::Str("a"), Value::from(1u8))?)?;
     let right = list(&rt, one(&rt, Key::Str("a"), Value::from(2u8))?)?;
     compare(&rt, &left, &right, Ordering::Less, None);
+    let low = number_and_map(&rt, 1)?;
+    let high = number_and_map(&rt, 2)?;
+    compare(&rt, &low, &high, Ordering::Less, Some(Ordering::Less));
     Ok(())
 }
 
