@@ -1,0 +1,38 @@
+# What the benchmarks share; each sources it first. It needs valgrind, and installs Debian's package where it is missing.
+set -eu
+top=$(cd "$(dirname "$0")/.." && pwd)
+command -v valgrind >/dev/null || { apt-get update && apt-get install -y valgrind; } >&2
+work=$(mktemp -d)
+trap 'rm -rf "$work"' EXIT
+
+# The instructions that a program takes, with its arguments.
+instructions() {
+    valgrind --tool=callgrind --callgrind-out-file=/dev/null "$@" 2>&1 >/dev/null |
+        sed -n 's/.*Collected : \([0-9]*\).*/\1/p'
+}
+
+# Builds the program itself.
+build_replay() {
+    "$top/replay" </dev/null
+    program=$top/crates/tera_replay/out/tera_replay
+}
+
+# Builds bench/NAME/main.rt.in over these libraries, which are proved first, in a folder of its own.
+build_over() {
+    name=bench_$1
+    source=$top/bench/$1/main.rt.in
+    shift
+    mkdir -p "$work/crates/$name/src"
+    git -C "$work" init -q
+    for crate in "$@"; do
+        mkdir "$work/crates/$crate"
+        for part in src specs proofs; do
+            cp -r "$top/crates/$crate/$part" "$work/crates/$crate"
+        done
+        grep "^$crate:" "$top/crates.txt" >>"$work/crates.txt"
+    done
+    echo "$name: $*" >>"$work/crates.txt"
+    cp "$source" "$work/crates/$name/src/main.rt"
+    (cd "$work/crates/$name" && rt run) >&2
+    program=$work/crates/$name/out/$name
+}
