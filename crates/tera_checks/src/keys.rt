@@ -128,30 +128,46 @@ fn printed_keys(rt: HostRuntime) -> Result<(), Fail> {
     Ok(())
 }
 
-// The debug text of the value tells its kind and its flag.
+// The key's value is that one, and so are its kind and its flag, which the debug text tells.
+fn is_value_of(
+    rt: &(impl Abort + AllocGlobal),
+    key: &Key<'_>,
+    expected: &Value,
+) -> Result<(), Fail> {
+    let expected = format!(in rt.alloc(); "{expected:?}")?;
+    let value = key.as_value(rt.alloc())?;
+    shows(rt, &value, expected.as_str())
+}
+
+// The key's copy is equal, and of the same kind.
+fn is_copied(rt: &(impl Abort + AllocGlobal), key: &Key<'_>) -> Result<(), Fail> {
+    let expected = format!(in rt.alloc(); "{key:?}")?;
+    let copy = key.clone(rt.alloc())?;
+    assert!(rt; copy == *key);
+    shows(rt, &copy, expected.as_str())
+}
+
 #[test]
 fn values_of_keys(rt: HostRuntime) -> Result<(), Fail> {
-    for (key, same) in [
-        (Key::Bool(true), Value::from(true)),
-        (Key::U64(1), Value::from(1u64)),
-        (Key::I64(1), Value::from(1i64)),
-        (Key::from(1u128), Value::from(1u128)),
-        (Key::from(1i128), Value::from(1i128)),
-        (Key::from("a"), Value::normal_string(rt.alloc(), "a")?),
-        (
-            owned(rt.alloc(), "a")?,
-            Value::normal_string(rt.alloc(), "a")?,
-        ),
-    ] {
-        let expected = format!(in rt.alloc(); "{same:?}")?;
-        shows(&rt, &key.as_value(rt.alloc())?, expected.as_str())?;
-        let copy = key.clone(rt.alloc())?;
-        assert!(rt; copy == key);
-        let expected = format!(in rt.alloc(); "{key:?}")?;
-        shows(&rt, &copy, expected.as_str())?;
-        assert_eq!(rt; copy.as_str(), same.as_str());
-    }
-    Ok(())
+    is_value_of(&rt, &Key::Bool(true), &Value::from(true))?;
+    is_value_of(&rt, &Key::U64(1), &Value::from(1u64))?;
+    is_value_of(&rt, &Key::I64(1), &Value::from(1i64))?;
+    is_value_of(&rt, &Key::from(1u128), &Value::from(1u128))?;
+    is_value_of(&rt, &Key::from(1i128), &Value::from(1i128))?;
+    let text = Value::normal_string(rt.alloc(), "a")?;
+    is_value_of(&rt, &Key::from("a"), &text)?;
+    is_value_of(&rt, &owned(rt.alloc(), "a")?, &text)
+}
+
+#[test]
+fn copies_of_keys(rt: HostRuntime) -> Result<(), Fail> {
+    is_copied(&rt, &Key::Bool(true))?;
+    is_copied(&rt, &Key::U64(1))?;
+    is_copied(&rt, &Key::I64(1))?;
+    is_copied(&rt, &Key::from(1u128))?;
+    is_copied(&rt, &Key::from(1i128))?;
+    is_copied(&rt, &Key::from("a"))?;
+    is_copied(&rt, &owned(rt.alloc(), "a")?)
 }
 
 // Texts of no character, of one and of 1,000 are copied whole.
