@@ -1,22 +1,32 @@
 -- Answers depend on meanings alone.
-use Rattle.std.specs.Prelude.{◌≡◌, ℕ, Bool, true, false, cond, List, [], ◌∷◌, Option, Some, None, is_some, refl}
+use Rattle.std.specs.Prelude.{◌≡◌, ℕ, Bool, true, false, cond, List, [], ◌∷◌, Option, Some, None, Result, Ok, Err, is_some, refl}
 use Rattle.std.proofs.Common.{sym, ◌∙◌, ap, subst}
 use Rattle.std.specs.Option.{option_map, unwrap_or}
 use Rattle.std.specs.Ordering.{nat_cmp, eq_by_cmp}
 use Rattle.std.specs.Cmp.Lexicographic.{slice_cmp, nat_list_cmp_total}
 use Rattle.std.specs.FinMap.{get as held_at, insert, remove as without, get-insert, get-remove}
 use Rattle.tera_report.specs.Escaping.{Spells}
+use Rattle.tera_report.specs.Refusal.{Refusal, shape as refusal_shape}
 use Rattle.tera_report.proofs.EscapeLemmas.{one_spelling_each}
 use Rattle.tera_meaning.specs.Form.{Form}
 use Rattle.tera_meaning.specs.Meaning.{Meaning, plain}
 use Rattle.tera_meaning.specs.Order.{compare, same}
 use Rattle.tera_meaning.specs.Printed.{printed, IsExact, Prints}
 use Rattle.tera_meaning.specs.Read.{marked_safe, size_in, truthy_in}
-use Rattle.tera_meaning.specs.State.{State, form_at, meaning_at}
-use Rattle.tera_meaning.specs.Step.{Request, set, remove, has, get, len, truthy, kind_of, is_safe, mark_safe, equal, order, print, escape, Command, Outcome, holds, ordered, shown, found, size, found_or_kept, keeping, marking, marking_into, Answers, IsAnswer, leaves, state_after}
-use Rattle.tera_meaning.specs.Run.{AreAnswers, state_after_all}
-use Rattle.tera_meaning.specs.Alike.{meaning_held, MeanTheSame, CallTheSame, AskTheSame, AllAskTheSame, shape, IsSettled, AreAlike}
+use Rattle.tera_meaning.specs.State.{State, read, form_at, meaning_at}
+use Rattle.tera_meaning.specs.Alike.{meaning_held, MeanTheSame, RequestTheSame, AskTheSame, AllAskTheSame, IsSettled, AreAlike}
+use Rattle.tera_meaning.specs.Answer
+use Rattle.tera_meaning.specs.Search
+use Rattle.tera_meaning.specs.Search.{Search, Found, found_at}
+use Rattle.tera_meaning.specs.Outcome.{Outcome, OutcomeOf, shape}
+use Rattle.tera_meaning.specs.Question
+use Rattle.tera_meaning.specs.Question.{Question, IsAnswered, IsSettledAnswer}
+use Rattle.tera_meaning.specs.Request.{Request, set, remove, mark_safe, ask, weigh, find, Command}
+use Rattle.tera_meaning.specs.Run.{AreOutcomes, state_after_all}
+use Rattle.tera_meaning.specs.Step.{found_or_kept, keeping, marking, marking_into, ComesTo, IsOutcome, leaves, state_after}
 use Rattle.tera_meaning.specs.Tree.{undefined, none, truth, number, text, bytes, array, object}
+use Rattle.tera_meaning.specs.Weighing
+use Rattle.tera_meaning.specs.Weighing.{Weighing, weighed}
 
 -- marking changes no meaning
 pub plain_marked : (value : Form) → plain (marked_safe value) ≡ plain value
@@ -29,9 +39,12 @@ plain_marked (bytes bs) = refl
 plain_marked (array xs) = refl
 plain_marked (object ps) = refl
 
-read : (o : Option Form) → plain (unwrap_or o undefined) ≡ unwrap_or (option_map plain o) undefined
-read None = refl
-read (Some value) = refl
+read_plain : (o : Option Form) → plain (read o) ≡ unwrap_or (option_map plain o) undefined
+read_plain None = refl
+read_plain (Some value) = refl
+
+read_alike : (o p : Option Form) → option_map plain o ≡ option_map plain p → plain (read o) ≡ plain (read p)
+read_alike o p e = read_plain o ∙ ap (λ q. unwrap_or q undefined) e ∙ sym (read_plain p)
 
 pub some_one : (v w : Form) → option_map plain (Some v) ≡ option_map plain (Some w) → plain v ≡ plain w
 some_one v w e = ap (λ o. unwrap_or o undefined) e
@@ -43,13 +56,27 @@ is_held (Some value) = refl
 held_alike : (o p : Option Form) → option_map plain o ≡ option_map plain p → is_some o ≡ is_some p
 held_alike o p e = sym (is_held o) ∙ ap is_some e ∙ is_held p
 
-found_alike : (into : Option (List ℕ)) (o p : Option Form) → option_map plain o ≡ option_map plain p
-    → shape (found_or_kept into o) ≡ shape (found_or_kept into p)
-found_alike None o p e = λ i. found (e i)
-found_alike (Some into) None None e = refl
-found_alike (Some into) (Some v) (Some w) e = refl
-found_alike (Some into) None (Some w) e = cc
-found_alike (Some into) (Some v) None e = cc
+-- what is found, by its meaning
+found_shape : Found → Result (Option Meaning) Refusal
+found_shape (Ok value) = Ok (option_map plain value)
+found_shape (Err refusal) = Err (refusal_shape refusal)
+
+same_found : (o p : Option Form) → ◌≡◌ {A = Result (Option Meaning) Refusal} (Ok (option_map plain o)) (Ok (option_map plain p))
+    → option_map plain o ≡ option_map plain p
+same_found o p e = cc
+
+kept_shape : (into : Option (List ℕ)) (found also : Found) → found_shape found ≡ found_shape also
+    → shape (found_or_kept into found) ≡ shape (found_or_kept into also)
+unfolding found_shape
+kept_shape None (Ok o) (Ok p) e = λ i. Ok (Answer.found (same_found o p e i))
+kept_shape (Some into) (Ok None) (Ok None) e = refl
+kept_shape (Some into) (Ok (Some v)) (Ok (Some w)) e = refl
+kept_shape (Some into) (Ok None) (Ok (Some w)) e = cc
+kept_shape (Some into) (Ok (Some v)) (Ok None) e = cc
+kept_shape None (Err r) (Err q) e = let same : refusal_shape r ≡ refusal_shape q = cc in λ i. Err (same i)
+kept_shape (Some into) (Err r) (Err q) e = let same : refusal_shape r ≡ refusal_shape q = cc in λ i. Err (same i)
+kept_shape into (Ok o) (Err q) e = cc
+kept_shape into (Err r) (Ok p) e = cc
 
 text_alike : (x y : Meaning) (s t : List ℕ) → x ≡ y → Prints x s → Prints y t → IsExact x → s ≡ t
 text_alike x y s t e p q exact = p exact ∙ ap printed e ∙ sym (q (subst IsExact e exact))
@@ -61,37 +88,52 @@ word_alike v w s t e p q = one_spelling_each v w t (subst (Spells v) e p) q
 both : {o p a b : Outcome} → o ≡ a → p ≡ b → shape a ≡ shape b → shape o ≡ shape p
 both e f s = ap shape e ∙ s ∙ sym (ap shape f)
 
+-- what is asked of values of one meaning
+asked_alike : (question : Question) (held also : Option Form) (o p : Outcome) → option_map plain held ≡ option_map plain also
+    → IsAnswered question held o → IsAnswered question also p → IsSettledAnswer question (plain (read held))
+    → shape o ≡ shape p
+asked_alike Question.has held also o p h e d s = both e d (λ i. Ok (Answer.truth (held_alike held also h i)))
+asked_alike Question.truthy held also o p h e d s =
+    both e d (λ i. Ok (Answer.truth (truthy_in (read_alike held also h i))))
+asked_alike Question.len held also o p h e d s = both e d (λ i. Ok (Answer.size (size_in (read_alike held also h i))))
+asked_alike Question.print held also o p h (t, prints, e) (u, again, d) s =
+    both e d (λ i. Ok (Answer.text (text_alike (plain (read held)) (plain (read also)) t u (read_alike held also h) prints again s i)))
+asked_alike Question.escape held also o p h (t, v, prints, spells, e) (u, w, again, spelled, d) s =
+    both e d (λ i. Ok (Answer.text (word_alike v w t u (text_alike (plain (read held)) (plain (read also)) t u (read_alike held also h) prints again s) spells spelled i)))
+asked_alike Question.is_safe held also o p h e d s = absurd s
+asked_alike Question.kind held also o p h e d s = absurd s
+
+-- how values of one meaning are weighed
+weighed_alike : (weighing : Weighing) (v w x y : Form) → plain v ≡ plain x → plain w ≡ plain y
+    → shape (weighed weighing v w) ≡ shape (weighed weighing x y)
+weighed_alike Weighing.equal v w x y e d = λ i. Ok (Answer.truth (same (e i) (d i)))
+weighed_alike Weighing.compare v w x y e d = λ i. Ok (Answer.order (Some (compare (e i) (d i))))
+
 module _ (f g : State) (h : MeanTheSame f g) where
   pub meaning_alike : (name : List ℕ) → meaning_at f name ≡ meaning_at g name
-  meaning_alike name = read (held_at f name) ∙ ap (λ o. unwrap_or o undefined) (h name) ∙ sym (read (held_at g name))
+  meaning_alike name = read_alike (held_at f name) (held_at g name) (h name)
 
-  named : (m n : List ℕ) → m ≡ n → meaning_at f m ≡ meaning_at g n
-  named m n e = meaning_alike m ∙ ap (meaning_at g) e
+  -- what is found in states of one meaning
+  found_alike : (search : Search) → found_shape (found_at f search) ≡ found_shape (found_at g search)
+  unfolding found_shape
+  found_alike (Search.get name) = λ i. Ok (h name i)
 
-  held : (m n : List ℕ) → m ≡ n → meaning_held f m ≡ meaning_held g n
-  held m n e = h m ∙ ap (meaning_held g) e
+  outcomes_same : (request : Request) (into : Option (List ℕ)) (o p : Outcome) → ComesTo f request into o
+      → ComesTo g request into p → IsSettled f request → shape o ≡ shape p
+  outcomes_same (set name value) into o p e d s = both e d refl
+  outcomes_same (remove name) into o p e d s = both e d (λ i. Ok (Answer.found (h name i)))
+  outcomes_same (mark_safe name) into o p e d s = both e d refl
+  outcomes_same (ask question name) into o p e d s =
+      asked_alike question (held_at f name) (held_at g name) o p (h name) e d s
+  outcomes_same (weigh weighing left right) into o p e d s =
+      both e d (weighed_alike weighing (form_at f left) (form_at f right) (form_at g left) (form_at g right) (meaning_alike left) (meaning_alike right))
+  outcomes_same (find search) into o p e d s =
+      both e d (kept_shape into (found_at f search) (found_at g search) (found_alike search))
 
-  answers_same : (q r : Request) (into : Option (List ℕ)) (o p : Outcome) → CallTheSame q r → Answers f q into o
-      → Answers g r into p → IsSettled f q → shape o ≡ shape p
-  answers_same (set m v) (set n w) into o p a e d s = both e d refl
-  answers_same (remove m) (remove n) into o p a e d s = both e d (λ i. found (held m n a i))
-  answers_same (has m) (has n) into o p a e d s =
-      both e d (λ i. holds (held_alike (held_at f m) (held_at g n) (held m n a) i))
-  answers_same (get m) (get n) into o p a e d s = both e d (found_alike into (held_at f m) (held_at g n) (held m n a))
-  answers_same (len m) (len n) into o p a e d s = both e d (λ i. size (size_in (named m n a i)))
-  answers_same (truthy m) (truthy n) into o p a e d s = both e d (λ i. holds (truthy_in (named m n a i)))
-  answers_same (mark_safe m) (mark_safe n) into o p a e d s = both e d refl
-  answers_same (equal k l) (equal m n) into o p a e d s =
-      both e d (λ i. holds (same (named k m a.0 i) (named l n a.1 i)))
-  answers_same (order k l) (order m n) into o p a e d s =
-      both e d (λ i. ordered (Some (compare (named k m a.0 i) (named l n a.1 i))))
-  answers_same (print m) (print n) into o p a (t, prints, e) (u, also, d) s =
-      both e d (λ i. shown (text_alike (meaning_at f m) (meaning_at g n) t u (named m n a) prints also s i))
-  answers_same (escape m) (escape n) into o p a (t, v, prints, spells, e) (u, w, also, spelled, d) s =
-      both e d (λ i. shown (word_alike v w t u (text_alike (meaning_at f m) (meaning_at g n) t u (named m n a) prints also s) spells spelled i))
-  answers_same (kind_of m) r into o p a e d s = absurd s
-  answers_same (is_safe m) r into o p a e d s = absurd s
-  answers_same q r into o p a e d s = absurd a
+  outcomes_alike : (q r : Request) (into : Option (List ℕ)) (o p : Outcome) → RequestTheSame q r → ComesTo f q into o
+      → ComesTo g r into p → IsSettled f q → shape o ≡ shape p
+  outcomes_alike (set m v) (set n w) into o p a e d s = both e d refl
+  outcomes_alike q r into o p a e d s = outcomes_same q into o p e (subst (λ k. ComesTo g k into p) (sym a) d) s
 
 chosen_alike : (b : Bool) (o p u w : Option Form) → option_map plain u ≡ option_map plain w
     → option_map plain o ≡ option_map plain p → option_map plain (cond b u o) ≡ option_map plain (cond b w p)
@@ -112,13 +154,18 @@ removed_alike f g name h other =
     ∙ sym (ap (option_map plain) (get-remove nat_list_cmp_total g name other))
 
 module _ (f g : State) (h : MeanTheSame f g) where
-  kept_alike : (into : Option (List ℕ)) (o p : Option Form) → option_map plain o ≡ option_map plain p
-      → MeanTheSame (keeping f into o) (keeping g into p)
-  kept_alike None o p e = h
-  kept_alike (Some into) None None e = h
-  kept_alike (Some into) (Some v) (Some w) e = set_alike f g into v w h (some_one v w e)
-  kept_alike (Some into) None (Some w) e = cc
-  kept_alike (Some into) (Some v) None e = cc
+  kept_alike : (into : Option (List ℕ)) (found also : Found) → found_shape found ≡ found_shape also
+      → MeanTheSame (keeping f into found) (keeping g into also)
+  unfolding found_shape
+  kept_alike None (Ok o) (Ok p) e = h
+  kept_alike (Some into) (Ok None) (Ok None) e = h
+  kept_alike (Some into) (Ok (Some v)) (Ok (Some w)) e = set_alike f g into v w h (some_one v w (same_found (Some v) (Some w) e))
+  kept_alike (Some into) (Ok None) (Ok (Some w)) e = cc
+  kept_alike (Some into) (Ok (Some v)) (Ok None) e = cc
+  kept_alike None (Err r) (Err q) e = h
+  kept_alike (Some into) (Err r) (Err q) e = h
+  kept_alike into (Ok o) (Err q) e = cc
+  kept_alike into (Err r) (Ok p) e = cc
 
   marked_held_alike : (name : List ℕ) (o p : Option Form) → option_map plain o ≡ option_map plain p
       → MeanTheSame (marking f name o) (marking g name p)
@@ -135,46 +182,53 @@ module _ (f g : State) (h : MeanTheSame f g) where
       set_alike f g into (marked_safe (form_at f name)) (marked_safe (form_at g name)) h
       (plain_marked (form_at f name) ∙ meaning_alike f g h name ∙ sym (plain_marked (form_at g name)))
 
-  states_same : (q r : Request) (into : Option (List ℕ)) → CallTheSame q r
-      → MeanTheSame (leaves f q into) (leaves g r into)
-  states_same (set m v) (set n w) into a =
-      subst (λ k. MeanTheSame (insert f m v) (insert g k w)) a.0 (set_alike f g m v w h a.1)
-  states_same (remove m) (remove n) into a =
-      subst (λ k. MeanTheSame (without f m) (without g k)) a (removed_alike f g m h)
-  states_same (get m) (get n) into a = kept_alike into (held_at f m) (held_at g n) (held f g h m n a)
-  states_same (mark_safe m) (mark_safe n) into a =
-      subst (λ k. MeanTheSame (marking_into f m into) (marking_into g k into)) a (marked_alike m into)
-  states_same (has m) (has n) into a = h
-  states_same (len m) (len n) into a = h
-  states_same (truthy m) (truthy n) into a = h
-  states_same (kind_of m) (kind_of n) into a = h
-  states_same (is_safe m) (is_safe n) into a = h
-  states_same (equal k l) (equal m n) into a = h
-  states_same (order k l) (order m n) into a = h
-  states_same (print m) (print n) into a = h
-  states_same (escape m) (escape n) into a = h
-  states_same q r into a = absurd a
+  states_same : (request : Request) (into : Option (List ℕ)) → MeanTheSame (leaves f request into) (leaves g request into)
+  states_same (set name value) into = set_alike f g name value value h refl
+  states_same (remove name) into = removed_alike f g name h
+  states_same (mark_safe name) into = marked_alike name into
+  states_same (ask question name) into = h
+  states_same (weigh weighing left right) into = h
+  states_same (find search) into = kept_alike into (found_at f search) (found_at g search) (found_alike f g h search)
 
-  pub answer_alike : (c d : Command) (o p : Outcome) → AskTheSame c d → IsAnswer f c o → IsAnswer g d p
+  states_left_alike : (q r : Request) (into : Option (List ℕ)) → RequestTheSame q r
+      → MeanTheSame (leaves f q into) (leaves g r into)
+  states_left_alike (set m v) (set n w) into a =
+      subst (λ k. MeanTheSame (insert f m v) (insert g k w)) a.0 (set_alike f g m v w h a.1)
+  states_left_alike q r into a = subst (λ k. MeanTheSame (leaves f q into) (leaves g k into)) a (states_same q into)
+
+  pub outcome_alike : (c d : Command) (o p : Outcome) → AskTheSame c d → IsOutcome f c o → IsOutcome g d p
       → IsSettled f c.request → shape o ≡ shape p
-  answer_alike c d o p a e i s =
-      answers_same f g h c.request d.request c.into o p a.0 e (subst (λ into. Answers g d.request into p) (sym a.1) i) s
+  outcome_alike c d o p a e i s =
+      outcomes_alike f g h c.request d.request c.into o p a.0 e (subst (λ into. ComesTo g d.request into p) (sym a.1) i) s
 
   pub state_alike : (c d : Command) → AskTheSame c d → MeanTheSame (state_after f c) (state_after g d)
   state_alike c d a =
-      subst (λ into. MeanTheSame (leaves f c.request c.into) (leaves g d.request into)) a.1 (states_same c.request d.request c.into a.0)
+      subst (λ into. MeanTheSame (leaves f c.request c.into) (leaves g d.request into)) a.1 (states_left_alike c.request d.request c.into a.0)
 
-pub answers_alike : (f g : State) (cs ds : List Command) (os ps : List Outcome) → MeanTheSame f g
-    → AllAskTheSame cs ds → AreAnswers f cs os → AreAnswers g ds ps → AreAlike f cs os ps
-answers_alike f g [] [] [] [] h a e i = tt
-answers_alike f g (c ∷ cs) (d ∷ ds) (o ∷ os) (p ∷ ps) h a e i =
-    (answer_alike f g h c d o p a.0 e.0 i.0, answers_alike (state_after f c) (state_after g d) cs ds os ps (state_alike f g h c d a.0) a.1 e.1 i.1)
-answers_alike f g [] [] (o ∷ os) ps h a e i = absurd e
-answers_alike f g [] [] [] (p ∷ ps) h a e i = absurd i
-answers_alike f g (c ∷ cs) (d ∷ ds) [] ps h a e i = absurd e
-answers_alike f g (c ∷ cs) (d ∷ ds) (o ∷ os) [] h a e i = absurd i
-answers_alike f g [] (d ∷ ds) os ps h a e i = absurd a
-answers_alike f g (c ∷ cs) [] os ps h a e i = absurd a
+-- each command asks the same as itself
+request_same : (request : Request) → RequestTheSame request request
+request_same (set name value) = (refl, refl)
+request_same (remove name) = refl
+request_same request = refl
+
+pub asks_the_same : (command : Command) → AskTheSame command command
+asks_the_same command = (request_same command.request, refl)
+
+pub all_ask_the_same : (commands : List Command) → AllAskTheSame commands commands
+all_ask_the_same [] = tt
+all_ask_the_same (command ∷ commands) = (asks_the_same command, all_ask_the_same commands)
+
+pub all_outcomes_alike : (f g : State) (cs ds : List Command) (os ps : List Outcome) → MeanTheSame f g
+    → AllAskTheSame cs ds → AreOutcomes f cs os → AreOutcomes g ds ps → AreAlike f cs os ps
+all_outcomes_alike f g [] [] [] [] h a e i = tt
+all_outcomes_alike f g (c ∷ cs) (d ∷ ds) (o ∷ os) (p ∷ ps) h a e i =
+    (outcome_alike f g h c d o p a.0 e.0 i.0, all_outcomes_alike (state_after f c) (state_after g d) cs ds os ps (state_alike f g h c d a.0) a.1 e.1 i.1)
+all_outcomes_alike f g [] [] (o ∷ os) ps h a e i = absurd e
+all_outcomes_alike f g [] [] [] (p ∷ ps) h a e i = absurd i
+all_outcomes_alike f g (c ∷ cs) (d ∷ ds) [] ps h a e i = absurd e
+all_outcomes_alike f g (c ∷ cs) (d ∷ ds) (o ∷ os) [] h a e i = absurd i
+all_outcomes_alike f g [] (d ∷ ds) os ps h a e i = absurd a
+all_outcomes_alike f g (c ∷ cs) [] os ps h a e i = absurd a
 
 pub states_alike : (f g : State) (cs ds : List Command) → MeanTheSame f g → AllAskTheSame cs ds
     → MeanTheSame (state_after_all f cs) (state_after_all g ds)

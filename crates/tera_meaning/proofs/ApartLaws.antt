@@ -1,5 +1,5 @@
 -- States answer alike exactly where they mean the same, and others are told apart.
-use Rattle.std.specs.Prelude.{◌≡◌, ◌≢◌, ◌↔◌, ◌⊎◌, ℕ, suc, length, Bool, true, false, ◌||◌, List, [], ◌∷◌, Option, Some, None, is_some, refl}
+use Rattle.std.specs.Prelude.{◌≡◌, ◌≢◌, ◌↔◌, ◌⊎◌, ℕ, suc, length, Bool, true, false, ◌||◌, List, [], ◌∷◌, Option, Some, None, Ok, is_some, refl}
 use Rattle.std.proofs.Common.{sym, ◌∙◌, ap, subst, arith, inl, inr}
 use Rattle.std.specs.List.{AllByRecursion, list_any}
 use Rattle.std.specs.Option.{option_map, unwrap_or}
@@ -11,19 +11,21 @@ use Rattle.tera_meaning.specs.Form.{Form}
 use Rattle.tera_meaning.specs.Meaning.{Meaning, plain}
 use Rattle.tera_meaning.specs.Order.{same}
 use Rattle.tera_meaning.specs.State.{State, form_at, meaning_at}
-use Rattle.tera_meaning.specs.Step.{Command, OutcomeOf, Outcome, done, holds}
-use Rattle.tera_meaning.specs.Run.{AreAnswers}
+use Rattle.tera_meaning.specs.Answer
+use Rattle.tera_meaning.specs.Outcome.{OutcomeOf, Outcome, shape}
+use Rattle.tera_meaning.specs.Request.{Command}
+use Rattle.tera_meaning.specs.Run.{AreOutcomes}
 use Rattle.tera_meaning.specs.OrderLaws.{same_is, same_equivalence}
 use Rattle.tera_meaning.specs.StateLaws.{meaning_set, meaning_other, name_exact}
-use Rattle.tera_meaning.specs.Alike.{meaning_held, MeanTheSame, shape, AreAlike, AnswerAlike, AreToldApartBy, probe}
-use Rattle.tera_meaning.proofs.AlikeLaws.{some_one, answers_alike}
+use Rattle.tera_meaning.specs.Alike.{meaning_held, MeanTheSame, AreAlike, AnswerAlike, AreToldApartBy, probe}
+use Rattle.tera_meaning.proofs.AlikeLaws.{some_one, all_outcomes_alike, all_ask_the_same}
 use Rattle.tera_meaning.specs.Tree.{undefined}
 
 truth_of : OutcomeOf Meaning → Bool
-truth_of (holds b) = b
+truth_of (Ok (Answer.truth b)) = b
 truth_of _ = false
 
-same_truth : (a b : Bool) (o p : Outcome) → o ≡ holds a → p ≡ holds b → shape o ≡ shape p → a ≡ b
+same_truth : (a b : Bool) (o p : Outcome) → o ≡ Ok (Answer.truth a) → p ≡ Ok (Answer.truth b) → shape o ≡ shape p → a ≡ b
 unfolding truth_of
 same_truth a b o p e i s = sym (ap (λ q. truth_of (shape q)) e) ∙ ap truth_of s ∙ ap (λ q. truth_of (shape q)) i
 
@@ -57,8 +59,8 @@ module _ (f g : State) (name : List ℕ) where
       held_one (held_at f name) (held_at g name) s (sym ((same_is (meaning_at g name) (meaning_at f name)).0 is))
 
   -- states that answer the probe with a name's own value alike hold the same meaning at the name
-  pub by_answers : (os ps : List Outcome) → AreAnswers f (probe name (form_at f name)) os
-      → AreAnswers g (probe name (form_at f name)) ps → AreAlike f (probe name (form_at f name)) os ps
+  pub by_answers : (os ps : List Outcome) → AreOutcomes f (probe name (form_at f name)) os
+      → AreOutcomes g (probe name (form_at f name)) ps → AreAlike f (probe name (form_at f name)) os ps
       → meaning_held f name ≡ meaning_held g name
   unfolding probe_equal
   by_answers (a ∷ b ∷ c ∷ []) (k ∷ l ∷ m ∷ []) e i s =
@@ -76,21 +78,21 @@ module _ (f g : State) (name : List ℕ) where
 
   probe_answers : (state : State) → List Outcome
   probe_answers state =
-      holds (is_some (held_at state name)) ∷ done ∷ holds (probe_equal state name (form_at f name)) ∷ []
+      Ok (Answer.truth (is_some (held_at state name))) ∷ Ok Answer.done ∷ Ok (Answer.truth (probe_equal state name (form_at f name))) ∷ []
 
-  probe_answered : (state : State) → AreAnswers state (probe name (form_at f name)) (probe_answers state)
+  probe_answered : (state : State) → AreOutcomes state (probe name (form_at f name)) (probe_answers state)
   unfolding probe_answers probe_equal
   probe_answered state = (refl, (refl, (refl, tt)))
 
   pub by_alike : AnswerAlike f g → meaning_held f name ≡ meaning_held g name
   by_alike alike =
       by_answers (probe_answers f) (probe_answers g) (probe_answered f) (probe_answered g)
-      (alike (probe name (form_at f name)) (probe name (form_at f name)) (probe_answers f) (probe_answers g) ((refl, refl), (((refl, refl), refl), (((refl, refl), refl), tt))) (probe_answered f) (probe_answered g))
+      (alike (probe name (form_at f name)) (probe name (form_at f name)) (probe_answers f) (probe_answers g) (all_ask_the_same (probe name (form_at f name))) (probe_answered f) (probe_answered g))
 
 -- states answer alike exactly where they mean the same
 pub alike_exactly : (f g : State) → MeanTheSame f g ↔ AnswerAlike f g
 alike_exactly f g =
-    (λ h cs ds os ps a e i. answers_alike f g cs ds os ps h a e i, λ alike name. by_alike f g name alike)
+    (λ h cs ds os ps a e i. all_outcomes_alike f g cs ds os ps h a e i, λ alike name. by_alike f g name alike)
 
 -- at a name where they mean different things
 pub apart_at : (f g : State) (name : List ℕ) → meaning_held f name ≢ meaning_held g name

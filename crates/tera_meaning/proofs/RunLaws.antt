@@ -1,151 +1,179 @@
--- The answers of runs, in which some steps may want memory.
-use Rattle.std.specs.Prelude.{◌≡◌, ◌≢◌, ℕ, List, [], ◌∷◌, Option, Some, None, refl}
+-- The outcomes of runs, in which some steps may want memory.
+use Rattle.std.specs.Prelude.{◌≡◌, ◌≢◌, ℕ, Bool, true, false, List, [], ◌∷◌, Option, Some, None, Ok, Err, refl}
 use Rattle.std.proofs.Common.{sym, ◌∙◌, ap, subst, inl, inr}
 use Rattle.tera_report.specs.Escaping.{escaped}
+use Rattle.tera_report.specs.Refusal.{Refusal, memory_refused}
 use Rattle.tera_report.proofs.EscapeLemmas.{Spells-escaped}
+use Rattle.tera_meaning.specs.Answer
+use Rattle.tera_meaning.specs.Search
+use Rattle.tera_meaning.specs.Search.{Search, Found, found_at}
 use Rattle.tera_meaning.specs.Form.{Form}
+use Rattle.tera_meaning.specs.Meaning.{plain}
+use Rattle.tera_meaning.specs.Outcome.{Outcome, out_of_memory, is_want}
 use Rattle.tera_meaning.specs.Printed.{printed}
-use Rattle.tera_meaning.specs.State.{State, meaning_at}
-use Rattle.tera_meaning.specs.Step.{Request, set, remove, has, get, len, truthy, kind_of, is_safe, mark_safe, equal, order, print, escape, Command, Outcome, done, holds, ordered, shown, found, size, of_kind, out_of_memory, found_or_kept, Answers, IsAnswer, IsFixed, IsStep, state_after}
-use Rattle.tera_meaning.specs.Run.{IsRun, AreAnswers, AreFixed, state_after_all, answered, answers, NoneWantsMemory, IsAmpleRun}
+use Rattle.tera_meaning.specs.Question
+use Rattle.tera_meaning.specs.Question.{Question, IsAnswered, IsFixedAnswer}
+use Rattle.tera_meaning.specs.Request.{Request, set, remove, mark_safe, ask, weigh, find, Command}
+use Rattle.tera_meaning.specs.State.{State, read, form_at}
+use Rattle.tera_meaning.specs.Step.{found_or_kept, ComesTo, IsOutcome, IsFixed, IsStep, state_after}
+use Rattle.tera_meaning.specs.Run.{IsRun, AreOutcomes, AreFixed, state_after_all, commands_with_memory, outcomes_with_memory, NoneWantsMemory, IsAmpleRun}
 use Rattle.tera_meaning.specs.Alike.{MeanTheSame, AllAskTheSame, AreAlike, meaning_held}
-use Rattle.tera_meaning.proofs.AlikeLaws.{word_alike, answers_alike, states_alike}
+use Rattle.tera_meaning.specs.Weighing
+use Rattle.tera_meaning.specs.Weighing.{Weighing, weighed}
+use Rattle.tera_meaning.proofs.AlikeLaws.{word_alike, all_outcomes_alike, states_alike}
 
-not_found : (into : Option (List ℕ)) (value : Option Form) → out_of_memory ≡ found_or_kept into value → ⊥
-not_found None value e = cc
-not_found (Some into) None e = cc
-not_found (Some into) (Some value) e = cc
+-- no request comes to want of memory
+never_asked : (question : Question) (held : Option Form) → IsAnswered question held out_of_memory → ⊥
+never_asked Question.print held (t, prints, e) = cc
+never_asked Question.escape held (t, w, prints, spells, e) = cc
+never_asked question held e = cc
 
--- want of memory is no call's answer
-pub answer_is_given : (state : State) (request : Request) (into : Option (List ℕ))
-    → Answers state request into out_of_memory → ⊥
-answer_is_given state (set name value) into e = cc
-answer_is_given state (remove name) into e = cc
-answer_is_given state (has name) into e = cc
-answer_is_given state (get name) into e = not_found into _ e
-answer_is_given state (len name) into e = cc
-answer_is_given state (truthy name) into e = cc
-answer_is_given state (kind_of name) into e = cc
-answer_is_given state (is_safe name) into e = cc
-answer_is_given state (mark_safe name) into e = cc
-answer_is_given state (equal left right) into e = cc
-answer_is_given state (order left right) into e = cc
-answer_is_given state (print name) into (t, prints, e) = cc
-answer_is_given state (escape name) into (t, w, prints, spells, e) = cc
+never_weighed : (weighing : Weighing) (v w : Form) → out_of_memory ≡ weighed weighing v w → ⊥
+never_weighed Weighing.equal v w e = cc
+never_weighed weighing v w e = cc
 
--- each call has an answer
-pub some_answer : (state : State) (request : Request) (into : Option (List ℕ))
-    → (outcome : Outcome) × Answers state request into outcome
-some_answer state (set name value) into = (_, refl)
-some_answer state (remove name) into = (_, refl)
-some_answer state (has name) into = (_, refl)
-some_answer state (get name) into = (_, refl)
-some_answer state (len name) into = (_, refl)
-some_answer state (truthy name) into = (_, refl)
-some_answer state (kind_of name) into = (_, refl)
-some_answer state (is_safe name) into = (_, refl)
-some_answer state (mark_safe name) into = (_, refl)
-some_answer state (equal left right) into = (_, refl)
-some_answer state (order left right) into = (_, refl)
-some_answer state (print name) into =
-    let t : List ℕ = printed (meaning_at state name) in (shown t, (t, (λ exact. refl), refl))
-some_answer state (escape name) into =
-    let t : List ℕ = printed (meaning_at state name) in (shown (escaped t), (t, escaped t, (λ exact. refl), Spells-escaped t, refl))
+never_searched : (state : State) (search : Search) → found_at state search ≡ Err memory_refused → ⊥
+never_searched state (Search.get name) e = cc
 
--- and one alone, where what is printed is exact
-pub one_answer : (state : State) (request : Request) (into : Option (List ℕ)) (o p : Outcome) → IsFixed state request
-    → Answers state request into o → Answers state request into p → o ≡ p
-one_answer state (set name value) into o p f e d = e ∙ sym d
-one_answer state (remove name) into o p f e d = e ∙ sym d
-one_answer state (has name) into o p f e d = e ∙ sym d
-one_answer state (get name) into o p f e d = e ∙ sym d
-one_answer state (len name) into o p f e d = e ∙ sym d
-one_answer state (truthy name) into o p f e d = e ∙ sym d
-one_answer state (kind_of name) into o p f e d = e ∙ sym d
-one_answer state (is_safe name) into o p f e d = e ∙ sym d
-one_answer state (mark_safe name) into o p f e d = e ∙ sym d
-one_answer state (equal left right) into o p f e d = e ∙ sym d
-one_answer state (order left right) into o p f e d = e ∙ sym d
-one_answer state (print name) into o p f (t, prints, e) (u, also, d) = e ∙ ap shown (prints f ∙ sym (also f)) ∙ sym d
-one_answer state (escape name) into o p f (t, v, prints, spells, e) (u, w, also, spelled, d) =
-    e ∙ ap shown (word_alike v w t u (prints f ∙ sym (also f)) spells spelled) ∙ sym d
+passed_on : (into : Option (List ℕ)) (refusal : Refusal) → found_or_kept into (Err refusal) ≡ Err refusal
+passed_on None refusal = refl
+passed_on (Some into) refusal = refl
 
-pub some_answers : (state : State) (commands : List Command)
-    → (outcomes : List Outcome) × AreAnswers state commands outcomes
-some_answers state [] = ([], tt)
-some_answers state (command ∷ commands) =
-    let first : (outcome : Outcome) × IsAnswer state command outcome = some_answer state command.request command.into in
-    let rest : (outcomes : List Outcome) × AreAnswers (state_after state command) commands outcomes = some_answers (state_after state command) commands in
+want_is : (refusal : Refusal) → ◌≡◌ {A = Outcome} (Err memory_refused) (Err refusal) → refusal ≡ memory_refused
+want_is refusal e = cc
+
+never_found : (into : Option (List ℕ)) (found : Found) → (found ≡ Err memory_refused → ⊥)
+    → out_of_memory ≡ found_or_kept into found → ⊥
+never_found into (Err refusal) n e = n (λ i. Err (want_is refusal (e ∙ passed_on into refusal) i))
+never_found None (Ok value) n e = cc
+never_found (Some into) (Ok None) n e = cc
+never_found (Some into) (Ok (Some value)) n e = cc
+
+pub never_wanted : (state : State) (request : Request) (into : Option (List ℕ))
+    → ComesTo state request into out_of_memory → ⊥
+never_wanted state (set name value) into e = cc
+never_wanted state (remove name) into e = cc
+never_wanted state (mark_safe name) into e = cc
+never_wanted state (ask question name) into e = never_asked question _ e
+never_wanted state (weigh weighing left right) into e = never_weighed weighing (form_at state left) (form_at state right) e
+never_wanted state (find search) into e = never_found into (found_at state search) (never_searched state search) e
+
+-- each request comes to some outcome
+some_answer : (question : Question) (held : Option Form) → (outcome : Outcome) × IsAnswered question held outcome
+some_answer Question.print held =
+    let t : List ℕ = printed (plain (read held)) in (Ok (Answer.text t), (t, (λ exact. refl), refl))
+some_answer Question.escape held =
+    let t : List ℕ = printed (plain (read held)) in
+    (Ok (Answer.text (escaped t)), (t, escaped t, (λ exact. refl), Spells-escaped t, refl))
+some_answer question held = (_, refl)
+
+pub some_outcome : (state : State) (request : Request) (into : Option (List ℕ))
+    → (outcome : Outcome) × ComesTo state request into outcome
+some_outcome state (ask question name) into = some_answer question _
+some_outcome state (set name value) into = (_, refl)
+some_outcome state (remove name) into = (_, refl)
+some_outcome state (mark_safe name) into = (_, refl)
+some_outcome state (weigh weighing left right) into = (_, refl)
+some_outcome state (find search) into = (_, refl)
+
+-- and to one alone, where what is printed is exact
+one_answer : (question : Question) (held : Option Form) (o p : Outcome) → IsFixedAnswer question (plain (read held))
+    → IsAnswered question held o → IsAnswered question held p → o ≡ p
+one_answer Question.print held o p f (t, prints, e) (u, also, d) =
+    e ∙ ap (λ s. Ok (Answer.text s)) (prints f ∙ sym (also f)) ∙ sym d
+one_answer Question.escape held o p f (t, v, prints, spells, e) (u, w, also, spelled, d) =
+    e ∙ ap (λ s. Ok (Answer.text s)) (word_alike v w t u (prints f ∙ sym (also f)) spells spelled) ∙ sym d
+one_answer question held o p f e d = e ∙ sym d
+
+pub one_outcome : (state : State) (request : Request) (into : Option (List ℕ)) (o p : Outcome) → IsFixed state request
+    → ComesTo state request into o → ComesTo state request into p → o ≡ p
+one_outcome state (ask question name) into o p f e d = one_answer question _ o p f e d
+one_outcome state (set name value) into o p f e d = e ∙ sym d
+one_outcome state (remove name) into o p f e d = e ∙ sym d
+one_outcome state (mark_safe name) into o p f e d = e ∙ sym d
+one_outcome state (weigh weighing left right) into o p f e d = e ∙ sym d
+one_outcome state (find search) into o p f e d = e ∙ sym d
+
+pub some_outcomes : (state : State) (commands : List Command)
+    → (outcomes : List Outcome) × AreOutcomes state commands outcomes
+some_outcomes state [] = ([], tt)
+some_outcomes state (command ∷ commands) =
+    let first : (outcome : Outcome) × IsOutcome state command outcome = some_outcome state command.request command.into in
+    let rest : (outcomes : List Outcome) × AreOutcomes (state_after state command) commands outcomes = some_outcomes (state_after state command) commands in
     (first.0 ∷ rest.0, (first.1, rest.1))
 
-pub one_answers : (state : State) (commands : List Command) (os ps : List Outcome) → AreFixed state commands
-    → AreAnswers state commands os → AreAnswers state commands ps → os ≡ ps
-one_answers state [] [] [] f e d = refl
-one_answers state (command ∷ commands) (o ∷ os) (p ∷ ps) f e d =
-    λ i. one_answer state command.request command.into o p f.0 e.0 d.0 i ∷ one_answers (state_after state command) commands os ps f.1 e.1 d.1 i
-one_answers state [] (o ∷ os) ps f e d = absurd e
-one_answers state [] [] (p ∷ ps) f e d = absurd d
-one_answers state (command ∷ commands) [] ps f e d = absurd e
-one_answers state (command ∷ commands) (o ∷ os) [] f e d = absurd d
+pub one_outcomes : (state : State) (commands : List Command) (os ps : List Outcome) → AreFixed state commands
+    → AreOutcomes state commands os → AreOutcomes state commands ps → os ≡ ps
+one_outcomes state [] [] [] f e d = refl
+one_outcomes state (command ∷ commands) (o ∷ os) (p ∷ ps) f e d =
+    λ i. one_outcome state command.request command.into o p f.0 e.0 d.0 i ∷ one_outcomes (state_after state command) commands os ps f.1 e.1 d.1 i
+one_outcomes state [] (o ∷ os) ps f e d = absurd e
+one_outcomes state [] [] (p ∷ ps) f e d = absurd d
+one_outcomes state (command ∷ commands) [] ps f e d = absurd e
+one_outcomes state (command ∷ commands) (o ∷ os) [] f e d = absurd d
 
--- a step that wants memory changes nothing, and any other gives its answer
+-- a step that wants memory changes nothing, and any other is the command's outcome
 pub want_changes_nothing : (old : State) (command : Command) (new : State) → IsStep old command out_of_memory new
     → new ≡ old
-want_changes_nothing old command new (inl given) = absurd (answer_is_given old command.request command.into given.0)
+want_changes_nothing old command new (inl given) = absurd (never_wanted old command.request command.into given.0)
 want_changes_nothing old command new (inr wanted) = wanted.2
 
 pub given_step : (old : State) (command : Command) (outcome : Outcome) (new : State) → IsStep old command outcome new
-    → outcome ≢ out_of_memory → IsAnswer old command outcome × (new ≡ state_after old command)
+    → outcome ≢ out_of_memory → IsOutcome old command outcome × (new ≡ state_after old command)
 given_step old command outcome new (inl given) n = given
 given_step old command outcome new (inr wanted) n = absurd (n wanted.1)
 
+-- an outcome is want of memory or not
+is_out_of_memory : (outcome : Outcome) → is_want outcome ≡ true → outcome ≡ out_of_memory
+is_out_of_memory (Err memory_refused) h = refl
+is_out_of_memory (Ok answer) h = cc
+is_out_of_memory (Err refusal) h = cc
+
+no_want : (outcome : Outcome) → is_want outcome ≡ false → outcome ≢ out_of_memory
+no_want outcome h e = let yes : is_want outcome ≡ true = ap is_want e in cc
+
 -- the steps that want memory can be left out
+left_first : (old : State) (command : Command) (commands : List Command) (outcome : Outcome) (outcomes : List Outcome)
+    (mid new : State) (b : Bool) → is_want outcome ≡ b → IsStep old command outcome mid
+    → IsRun mid (commands_with_memory commands outcomes) (outcomes_with_memory outcomes) new
+    → IsRun old (commands_with_memory (command ∷ commands) (outcome ∷ outcomes)) (outcomes_with_memory (outcome ∷ outcomes)) new
+left_first old command commands outcome outcomes mid new true h step rest =
+    rw h (subst (λ state. IsRun state (commands_with_memory commands outcomes) (outcomes_with_memory outcomes) new)
+    (want_changes_nothing old command mid (subst (λ o. IsStep old command o mid) (is_out_of_memory outcome h) step)) rest)
+left_first old command commands outcome outcomes mid new false h step rest = rw h (mid, step, rest)
+
 pub left_out : (old : State) (commands : List Command) (outcomes : List Outcome) (new : State)
-    → IsRun old commands outcomes new → IsRun old (answered commands outcomes) (answers outcomes) new
+    → IsRun old commands outcomes new
+    → IsRun old (commands_with_memory commands outcomes) (outcomes_with_memory outcomes) new
 left_out old [] [] new run = run
-left_out old (command ∷ commands) (out_of_memory ∷ outcomes) new (mid, step, run) =
-    subst (λ state. IsRun state (answered commands outcomes) (answers outcomes) new) (want_changes_nothing old command mid step) (left_out mid commands outcomes new run)
-left_out old (command ∷ commands) (done ∷ outcomes) new (mid, step, run) =
-    (mid, step, left_out mid commands outcomes new run)
-left_out old (command ∷ commands) (holds b ∷ outcomes) new (mid, step, run) =
-    (mid, step, left_out mid commands outcomes new run)
-left_out old (command ∷ commands) (ordered o ∷ outcomes) new (mid, step, run) =
-    (mid, step, left_out mid commands outcomes new run)
-left_out old (command ∷ commands) (shown t ∷ outcomes) new (mid, step, run) =
-    (mid, step, left_out mid commands outcomes new run)
-left_out old (command ∷ commands) (found v ∷ outcomes) new (mid, step, run) =
-    (mid, step, left_out mid commands outcomes new run)
-left_out old (command ∷ commands) (size n ∷ outcomes) new (mid, step, run) =
-    (mid, step, left_out mid commands outcomes new run)
-left_out old (command ∷ commands) (of_kind k ∷ outcomes) new (mid, step, run) =
-    (mid, step, left_out mid commands outcomes new run)
+left_out old (command ∷ commands) (outcome ∷ outcomes) new (mid, step, run) =
+    left_first old command commands outcome outcomes mid new (is_want outcome) refl step (left_out mid commands outcomes new run)
 left_out old [] (outcome ∷ outcomes) new run = absurd run
 left_out old (command ∷ commands) [] new run = absurd run
 
-pub none_left : (outcomes : List Outcome) → NoneWantsMemory (answers outcomes)
+none_first : (outcome : Outcome) (outcomes : List Outcome) (b : Bool) → is_want outcome ≡ b
+    → NoneWantsMemory (outcomes_with_memory outcomes) → NoneWantsMemory (outcomes_with_memory (outcome ∷ outcomes))
+none_first outcome outcomes true h none = rw h none
+none_first outcome outcomes false h none = rw h (no_want outcome h, none)
+
+pub none_left : (outcomes : List Outcome) → NoneWantsMemory (outcomes_with_memory outcomes)
 none_left [] = tt
-none_left (done ∷ outcomes) = (λ e. cc, none_left outcomes)
-none_left (holds b ∷ outcomes) = (λ e. cc, none_left outcomes)
-none_left (ordered o ∷ outcomes) = (λ e. cc, none_left outcomes)
-none_left (shown t ∷ outcomes) = (λ e. cc, none_left outcomes)
-none_left (found v ∷ outcomes) = (λ e. cc, none_left outcomes)
-none_left (size n ∷ outcomes) = (λ e. cc, none_left outcomes)
-none_left (of_kind k ∷ outcomes) = (λ e. cc, none_left outcomes)
-none_left (out_of_memory ∷ outcomes) = none_left outcomes
+none_left (outcome ∷ outcomes) = none_first outcome outcomes (is_want outcome) refl (none_left outcomes)
 
 pub ample_left : (old : State) (commands : List Command) (outcomes : List Outcome) (new : State)
-    → IsRun old commands outcomes new → IsAmpleRun old (answered commands outcomes) (answers outcomes) new
+    → IsRun old commands outcomes new
+    → IsAmpleRun old (commands_with_memory commands outcomes) (outcomes_with_memory outcomes) new
 ample_left old commands outcomes new run = (left_out old commands outcomes new run, none_left outcomes)
 
--- a run in which no step wants memory gives answers of its commands, and the state that they leave
-pub ample_answers : (old : State) (commands : List Command) (outcomes : List Outcome) (new : State)
-    → IsAmpleRun old commands outcomes new → AreAnswers old commands outcomes
-ample_answers old [] [] new ample = tt
-ample_answers old (command ∷ commands) (outcome ∷ outcomes) new ((mid, step, run), none) =
+-- a run in which no step wants memory gives outcomes of its commands, and the state that they leave
+pub ample_outcomes : (old : State) (commands : List Command) (outcomes : List Outcome) (new : State)
+    → IsAmpleRun old commands outcomes new → AreOutcomes old commands outcomes
+ample_outcomes old [] [] new ample = tt
+ample_outcomes old (command ∷ commands) (outcome ∷ outcomes) new ((mid, step, run), none) =
     let given = given_step old command outcome mid step none.0 in
-    (given.0, subst (λ state. AreAnswers state commands outcomes) given.1 (ample_answers mid commands outcomes new (run, none.1)))
-ample_answers old [] (outcome ∷ outcomes) new ample = absurd ample.0
-ample_answers old (command ∷ commands) [] new ample = absurd ample.0
+    (given.0, subst (λ state. AreOutcomes state commands outcomes) given.1 (ample_outcomes mid commands outcomes new (run, none.1)))
+ample_outcomes old [] (outcome ∷ outcomes) new ample = absurd ample.0
+ample_outcomes old (command ∷ commands) [] new ample = absurd ample.0
 
 pub ample_state : (old : State) (commands : List Command) (outcomes : List Outcome) (new : State)
     → IsAmpleRun old commands outcomes new → new ≡ state_after_all old commands
@@ -156,39 +184,39 @@ ample_state old (command ∷ commands) (outcome ∷ outcomes) new ((mid, step, r
 ample_state old [] (outcome ∷ outcomes) new ample = absurd ample.0
 ample_state old (command ∷ commands) [] new ample = absurd ample.0
 
-answers_run : (old : State) (commands : List Command) (outcomes : List Outcome) → AreAnswers old commands outcomes
+outcomes_run : (old : State) (commands : List Command) (outcomes : List Outcome) → AreOutcomes old commands outcomes
     → IsRun old commands outcomes (state_after_all old commands)
-answers_run old [] [] are = refl
-answers_run old (command ∷ commands) (outcome ∷ outcomes) are =
-    (state_after old command, inl (are.0, refl), answers_run (state_after old command) commands outcomes are.1)
-answers_run old [] (outcome ∷ outcomes) are = absurd are
-answers_run old (command ∷ commands) [] are = absurd are
+outcomes_run old [] [] are = refl
+outcomes_run old (command ∷ commands) (outcome ∷ outcomes) are =
+    (state_after old command, inl (are.0, refl), outcomes_run (state_after old command) commands outcomes are.1)
+outcomes_run old [] (outcome ∷ outcomes) are = absurd are
+outcomes_run old (command ∷ commands) [] are = absurd are
 
-answers_given : (old : State) (commands : List Command) (outcomes : List Outcome) → AreAnswers old commands outcomes
+outcomes_given : (old : State) (commands : List Command) (outcomes : List Outcome) → AreOutcomes old commands outcomes
     → NoneWantsMemory outcomes
-answers_given old [] [] are = tt
-answers_given old (command ∷ commands) (outcome ∷ outcomes) are =
-    ((λ e. answer_is_given old command.request command.into (subst (IsAnswer old command) e are.0)), answers_given (state_after old command) commands outcomes are.1)
-answers_given old [] (outcome ∷ outcomes) are = absurd are
-answers_given old (command ∷ commands) [] are = absurd are
+outcomes_given old [] [] are = tt
+outcomes_given old (command ∷ commands) (outcome ∷ outcomes) are =
+    ((λ e. never_wanted old command.request command.into (subst (IsOutcome old command) e are.0)), outcomes_given (state_after old command) commands outcomes are.1)
+outcomes_given old [] (outcome ∷ outcomes) are = absurd are
+outcomes_given old (command ∷ commands) [] are = absurd are
 
--- and each list of answers is that of such a run
-pub ample_from_answers : (old : State) (commands : List Command) (outcomes : List Outcome)
-    → AreAnswers old commands outcomes → IsAmpleRun old commands outcomes (state_after_all old commands)
-ample_from_answers old commands outcomes are =
-    (answers_run old commands outcomes are, answers_given old commands outcomes are)
+-- and each list of outcomes is that of such a run
+pub ample_from_outcomes : (old : State) (commands : List Command) (outcomes : List Outcome)
+    → AreOutcomes old commands outcomes → IsAmpleRun old commands outcomes (state_after_all old commands)
+ample_from_outcomes old commands outcomes are =
+    (outcomes_run old commands outcomes are, outcomes_given old commands outcomes are)
 
 pub ample_one : (old : State) (commands : List Command) (outcomes others : List Outcome) (new also : State)
     → AreFixed old commands → IsAmpleRun old commands outcomes new → IsAmpleRun old commands others also
     → outcomes ≡ others
 ample_one old commands outcomes others new also fixed run other =
-    one_answers old commands outcomes others fixed (ample_answers old commands outcomes new run) (ample_answers old commands others also other)
+    one_outcomes old commands outcomes others fixed (ample_outcomes old commands outcomes new run) (ample_outcomes old commands others also other)
 
 -- two runs of commands of equal meaning from states of equal meaning, in which no step wants memory
 module _ (f g : State) (commands also : List Command) (outcomes others : List Outcome) (f' g' : State) (means : MeanTheSame f g) (asks : AllAskTheSame commands also) (run : IsAmpleRun f commands outcomes f') (other : IsAmpleRun g also others g') where
-  pub run_answers_alike : AreAlike f commands outcomes others
-  run_answers_alike =
-      answers_alike f g commands also outcomes others means asks (ample_answers f commands outcomes f' run) (ample_answers g also others g' other)
+  pub run_outcomes_alike : AreAlike f commands outcomes others
+  run_outcomes_alike =
+      all_outcomes_alike f g commands also outcomes others means asks (ample_outcomes f commands outcomes f' run) (ample_outcomes g also others g' other)
 
   pub run_states_alike : MeanTheSame f' g'
   run_states_alike name =

@@ -1,5 +1,5 @@
 -- What single steps answer and leave.
-use Rattle.std.specs.Prelude.{◌≡◌, ◌≢◌, ℕ, Bool, true, false, cond, List, Option, Some, None, refl}
+use Rattle.std.specs.Prelude.{◌≡◌, ◌≢◌, ℕ, Bool, true, false, cond, List, Option, Some, None, Ok, Err, refl}
 use Rattle.std.proofs.Common.{sym, ◌∙◌, ap, subst}
 use Rattle.std.specs.Option.{option_map, unwrap_or}
 use Rattle.std.specs.Ordering.{nat_cmp, eq_by_cmp}
@@ -7,6 +7,7 @@ use Rattle.std.specs.Cmp.{Equal-is}
 use Rattle.std.specs.Cmp.Lexicographic.{slice_cmp, nat_list_cmp_total}
 use Rattle.std.specs.FinMap.{get as held_at, insert, get-insert}
 use Rattle.tera_report.specs.Escaping.{escaped}
+use Rattle.tera_report.specs.Refusal.{Refusal}
 use Rattle.tera_report.proofs.EscapeLemmas.{escaped_from_spelling}
 use Rattle.tera_meaning.specs.Form.{Form}
 use Rattle.tera_meaning.specs.Meaning.{plain}
@@ -17,26 +18,32 @@ use Rattle.tera_meaning.specs.State.{State, form_at, meaning_at}
 use Rattle.tera_meaning.specs.StateLaws.{get_set, meaning_set, meaning_other, name_exact}
 use Rattle.tera_meaning.specs.Alike.{MeanTheSame, meaning_held}
 use Rattle.tera_meaning.proofs.AlikeLaws.{plain_marked}
-use Rattle.tera_meaning.specs.Step.{mark_safe, equal, order, escape, holds, ordered, shown, marking, AnswersOnly, asking, asking_into, state_after}
+use Rattle.tera_meaning.specs.Answer
+use Rattle.tera_meaning.specs.Search.{Search, Found, found_at}
+use Rattle.tera_meaning.specs.Outcome.{Outcome}
+use Rattle.tera_meaning.specs.Question
+use Rattle.tera_meaning.specs.Request.{mark_safe, ask, weigh, find, asking, asking_into}
+use Rattle.tera_meaning.specs.Step.{marking, found_or_kept, keeping, ComesTo, ComesOnlyTo, IsOutcome, leaves, state_after}
+use Rattle.tera_meaning.specs.Weighing
 use Rattle.tera_meaning.specs.Tree.{undefined}
 
 -- what is escaped of a name that holds this form
 pub escapes : (state : State) (name : List ℕ) (o : Option Form) → held_at state name ≡ o
     → IsExact (plain (unwrap_or o undefined))
-    → AnswersOnly state (escape name) (shown (escaped (printed (plain (unwrap_or o undefined)))))
+    → ComesOnlyTo state (ask Question.escape name) (Ok (Answer.text (escaped (printed (plain (unwrap_or o undefined))))))
 escapes state name o e exact given (t, w, is, spells, d) =
     let at : meaning_at state name ≡ plain (unwrap_or o undefined) = ap (λ p. plain (unwrap_or p undefined)) e in
-    d ∙ ap shown (sym (escaped_from_spelling w t spells) ∙ ap escaped (is (subst IsExact (sym at) exact) ∙ ap printed at))
+    d ∙ ap (λ s. Ok (Answer.text s)) (sym (escaped_from_spelling w t spells) ∙ ap escaped (is (subst IsExact (sym at) exact) ∙ ap printed at))
 
 -- after a value is set, the other side of a comparison means what it meant
 module _ (state : State) (name : List ℕ) (value : Form) (other : List ℕ) (n : other ≢ name) where
-  pub equal_after_set : AnswersOnly (insert state name value) (equal name other) (holds (same (plain value) (meaning_at state other)))
+  pub equal_after_set : ComesOnlyTo (insert state name value) (weigh Weighing.equal name other) (Ok (Answer.truth (same (plain value) (meaning_at state other))))
   equal_after_set given d =
-      d ∙ (λ i. holds (same (meaning_set state name value i) (meaning_other state name value other n i)))
+      d ∙ (λ i. Ok (Answer.truth (same (meaning_set state name value i) (meaning_other state name value other n i))))
 
-  pub ordered_after_set : AnswersOnly (insert state name value) (order name other) (ordered (Some (compare (plain value) (meaning_at state other))))
-  ordered_after_set given d =
-      d ∙ (λ i. ordered (Some (compare (meaning_set state name value i) (meaning_other state name value other n i))))
+  pub compared_after_set : ComesOnlyTo (insert state name value) (weigh Weighing.compare name other) (Ok (Answer.order (Some (compare (plain value) (meaning_at state other)))))
+  compared_after_set given d =
+      d ∙ (λ i. Ok (Answer.order (Some (compare (meaning_set state name value i) (meaning_other state name value other n i)))))
 
 -- what is marked safe
 module _ (state : State) (name : List ℕ) where
@@ -67,3 +74,44 @@ module _ (state : State) (name : List ℕ) where
   -- marked in its place, no meaning changes
   pub marked_alike : MeanTheSame (state_after state (asking (mark_safe name))) state
   marked_alike = marked_held (held_at state name) refl
+
+-- what is found is kept or answered, by what is found alone
+module _ (state : State) (search : Search) where
+  pub kept_done : (into : List ℕ) (value : Form) (outcome : Outcome) → found_at state search ≡ Ok (Some value)
+      → IsOutcome state (asking_into (find search) into) outcome → outcome ≡ Ok Answer.done
+  kept_done into value outcome e o = o ∙ ap (found_or_kept (Some into)) e
+
+  pub kept_there : (into : List ℕ) (value : Form) → found_at state search ≡ Ok (Some value)
+      → state_after state (asking_into (find search) into) ≡ insert state into value
+  kept_there into value e = ap (keeping state (Some into)) e
+
+  nothing_answered : (into : Option (List ℕ)) → found_or_kept into (Ok None) ≡ Ok (Answer.found None)
+  nothing_answered None = refl
+  nothing_answered (Some into) = refl
+
+  pub nothing_found : (into : Option (List ℕ)) (outcome : Outcome) → found_at state search ≡ Ok None
+      → ComesTo state (find search) into outcome → outcome ≡ Ok (Answer.found None)
+  nothing_found into outcome e o = o ∙ ap (found_or_kept into) e ∙ nothing_answered into
+
+  nothing_left : (into : Option (List ℕ)) → keeping state into (Ok None) ≡ state
+  nothing_left None = refl
+  nothing_left (Some into) = refl
+
+  pub nothing_kept : (into : Option (List ℕ)) → found_at state search ≡ Ok None → leaves state (find search) into ≡ state
+  nothing_kept into e = ap (keeping state into) e ∙ nothing_left into
+
+  refused_answer : (into : Option (List ℕ)) (refusal : Refusal) → found_or_kept into (Err refusal) ≡ Err refusal
+  refused_answer None refusal = refl
+  refused_answer (Some into) refusal = refl
+
+  pub refusal_passed : (into : Option (List ℕ)) (refusal : Refusal) (outcome : Outcome)
+      → found_at state search ≡ Err refusal → ComesTo state (find search) into outcome → outcome ≡ Err refusal
+  refusal_passed into refusal outcome e o = o ∙ ap (found_or_kept into) e ∙ refused_answer into refusal
+
+  refused_left : (into : Option (List ℕ)) (refusal : Refusal) → keeping state into (Err refusal) ≡ state
+  refused_left None refusal = refl
+  refused_left (Some into) refusal = refl
+
+  pub refusal_keeps : (into : Option (List ℕ)) (refusal : Refusal) → found_at state search ≡ Err refusal
+      → leaves state (find search) into ≡ state
+  refusal_keeps into refusal e = ap (keeping state into) e ∙ refused_left into refusal

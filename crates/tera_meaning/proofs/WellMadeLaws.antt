@@ -1,5 +1,5 @@
 -- What is held stays well made.
-use Rattle.std.specs.Prelude.{ℕ, Bool, true, false, cond, IfSome, List, [], ◌∷◌, Option, Some, None}
+use Rattle.std.specs.Prelude.{ℕ, Bool, true, false, cond, IfSome, List, [], ◌∷◌, Option, Some, None, Ok, Err, IfOk}
 use Rattle.std.proofs.Common.{sym, subst}
 use Rattle.std.specs.Option.{unwrap_or}
 use Rattle.std.specs.Ordering.{nat_cmp, eq_by_cmp}
@@ -10,7 +10,10 @@ use Rattle.tera_meaning.specs.Read.{marked_safe}
 use Rattle.tera_meaning.specs.Run.{state_after_all}
 use Rattle.tera_meaning.specs.State.{State, form_at}
 use Rattle.tera_meaning.specs.StateLaws.{held_empty}
-use Rattle.tera_meaning.specs.Step.{Command, Request, set, remove, has, get, len, truthy, kind_of, is_safe, mark_safe, equal, order, print, escape, keeping, marking, marking_into, leaves, state_after}
+use Rattle.tera_meaning.specs.Search
+use Rattle.tera_meaning.specs.Search.{Search, Found, found_at}
+use Rattle.tera_meaning.specs.Request.{Command, Request, set, remove, mark_safe, ask, weigh, find}
+use Rattle.tera_meaning.specs.Step.{keeping, marking, marking_into, leaves, state_after}
 use Rattle.tera_meaning.specs.Tree.{undefined, none, truth, number, text, bytes, array, object}
 use Rattle.tera_meaning.specs.WellMade.{IsWellMade, IsWellMadeState, BringsWellMade, AllBringWellMade}
 
@@ -47,10 +50,15 @@ module _ (state : State) (h : IsWellMadeState state) where
       subst (λ o. IfSome o IsWellMade) (sym (get-remove nat_list_cmp_total state name other))
       (chosen_well (eq_by_cmp (slice_cmp nat_cmp) other name) None (held_at state other) tt (h other))
 
-  kept_well : (into : Option (List ℕ)) (o : Option Form) → IfSome o IsWellMade → IsWellMadeState (keeping state into o)
-  kept_well None o well = h
-  kept_well (Some into) None well = h
-  kept_well (Some into) (Some value) well = set_well into value well
+  kept_well : (into : Option (List ℕ)) (found : Found) → IfOk found (λ o. IfSome o IsWellMade)
+      → IsWellMadeState (keeping state into found)
+  kept_well None found well = h
+  kept_well (Some into) (Ok None) well = h
+  kept_well (Some into) (Ok (Some value)) well = set_well into value well
+  kept_well (Some into) (Err refusal) well = h
+
+  found_well : (search : Search) → IfOk (found_at state search) (λ o. IfSome o IsWellMade)
+  found_well (Search.get name) = h name
 
   marked_place_well : (name : List ℕ) (o : Option Form) → IfSome o IsWellMade → IsWellMadeState (marking state name o)
   marked_place_well name None well = h
@@ -65,17 +73,10 @@ module _ (state : State) (h : IsWellMadeState state) where
       → IsWellMadeState (leaves state request into)
   left_well (set name value) into well = set_well name value well
   left_well (remove name) into well = removed_well name
-  left_well (get name) into well = kept_well into (held_at state name) (h name)
   left_well (mark_safe name) into well = marked_into_well name into
-  left_well (has name) into well = h
-  left_well (len name) into well = h
-  left_well (truthy name) into well = h
-  left_well (kind_of name) into well = h
-  left_well (is_safe name) into well = h
-  left_well (equal left right) into well = h
-  left_well (order left right) into well = h
-  left_well (print name) into well = h
-  left_well (escape name) into well = h
+  left_well (ask question name) into well = h
+  left_well (weigh weighing left right) into well = h
+  left_well (find search) into well = kept_well into (found_at state search) (found_well search)
 
 pub all_left_well : (state : State) (commands : List Command) → IsWellMadeState state → AllBringWellMade commands
     → IsWellMadeState (state_after_all state commands)

@@ -9,6 +9,12 @@ pub mod Kind
 pub mod Read
 pub mod Stored
 pub mod State
+pub mod Answer
+pub mod Outcome
+pub mod Question
+pub mod Weighing
+pub mod Search
+pub mod Request
 pub mod Step
 pub mod Steps
 pub mod WellMade

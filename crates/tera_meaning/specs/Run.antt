@@ -1,10 +1,12 @@
 -- Whole runs.
-use Rattle.std.specs.Prelude.{◌≡◌, ◌≢◌, Bool, true, false, ⊤, List, [], ◌∷◌, map}
+use Rattle.std.specs.Prelude.{◌≡◌, ◌≢◌, not, ⊤, List, [], ◌∷◌, map}
 use Rattle.std.specs.List.{AllByRecursion, filter, fold, zip}
 use Rattle.tera_meaning.specs.State.{State}
-use Rattle.tera_meaning.specs.Step.{Command, Outcome, done, holds, ordered, shown, found, size, of_kind, out_of_memory, IsAnswer, IsFixed, IsStep, state_after}
+use Rattle.tera_meaning.specs.Outcome.{Outcome, out_of_memory, is_want}
+use Rattle.tera_meaning.specs.Request.{Command}
+use Rattle.tera_meaning.specs.Step.{IsOutcome, IsFixed, IsStep, state_after}
 
--- from old the commands answer these outcomes, one each, one step after another, and leave new
+-- from old the commands come to these outcomes, one each, one step after another, and leave new
 abbrev pub IsRun : State → List Command → List Outcome → State → Type 0
 IsRun old [] [] new = new ≡ old
 IsRun old (command ∷ commands) (outcome ∷ outcomes) new =
@@ -12,15 +14,15 @@ IsRun old (command ∷ commands) (outcome ∷ outcomes) new =
 IsRun old [] (outcome ∷ outcomes) new = ⊥
 IsRun old (command ∷ commands) [] new = ⊥
 
--- these answer the commands, one after another, where none wants memory
-abbrev pub AreAnswers : State → List Command → List Outcome → Type 0
-AreAnswers state [] [] = ⊤
-AreAnswers state (command ∷ commands) (outcome ∷ outcomes) =
-    IsAnswer state command outcome × AreAnswers (state_after state command) commands outcomes
-AreAnswers state [] (outcome ∷ outcomes) = ⊥
-AreAnswers state (command ∷ commands) [] = ⊥
+-- the commands come to these, one after another, where none wants memory
+abbrev pub AreOutcomes : State → List Command → List Outcome → Type 0
+AreOutcomes state [] [] = ⊤
+AreOutcomes state (command ∷ commands) (outcome ∷ outcomes) =
+    IsOutcome state command outcome × AreOutcomes (state_after state command) commands outcomes
+AreOutcomes state [] (outcome ∷ outcomes) = ⊥
+AreOutcomes state (command ∷ commands) [] = ⊥
 
--- each of these answers is one
+-- each of these outcomes is one
 abbrev pub AreFixed : State → List Command → Type 0
 AreFixed state [] = ⊤
 AreFixed state (command ∷ commands) = IsFixed state command.request × AreFixed (state_after state command) commands
@@ -29,23 +31,12 @@ AreFixed state (command ∷ commands) = IsFixed state command.request × AreFixe
 abbrev pub state_after_all : State → List Command → State
 state_after_all state commands = fold state_after state commands
 
--- whether an outcome is the call's answer, and not want of memory
-abbrev pub is_answer : Outcome → Bool
-is_answer done = true
-is_answer (holds b) = true
-is_answer (ordered o) = true
-is_answer (shown t) = true
-is_answer (found value) = true
-is_answer (size n) = true
-is_answer (of_kind k) = true
-is_answer out_of_memory = false
+-- the commands that found memory, and what these came to
+abbrev pub commands_with_memory : List Command → List Outcome → List Command
+commands_with_memory commands outcomes = map (λ p. p.0) (filter (λ p. not (is_want p.1)) (zip commands outcomes))
 
--- the commands that did not want memory, and what these answered
-abbrev pub answered : List Command → List Outcome → List Command
-answered commands outcomes = map (λ p. p.0) (filter (λ p. is_answer p.1) (zip commands outcomes))
-
-abbrev pub answers : List Outcome → List Outcome
-answers outcomes = filter is_answer outcomes
+abbrev pub outcomes_with_memory : List Outcome → List Outcome
+outcomes_with_memory outcomes = filter (λ outcome. not (is_want outcome)) outcomes
 
 abbrev pub NoneWantsMemory : List Outcome → Type 0
 NoneWantsMemory outcomes = AllByRecursion (λ outcome. outcome ≢ out_of_memory) outcomes

@@ -1,39 +1,52 @@
--- What the laws of steps say of a call.
-use Rattle.std.specs.Prelude.{◌≡◌, ℕ, List, Option, Some, None}
+-- What the laws of steps say of a request.
+use Rattle.std.specs.Prelude.{◌≡◌, ℕ, List, Option, Some, None, Ok}
 use Rattle.std.specs.FinMap.{get as held_at}
+use Rattle.tera_meaning.specs.Answer.{AnswerOf}
 use Rattle.tera_meaning.specs.Form.{Form}
 use Rattle.tera_meaning.specs.Meaning.{plain}
+use Rattle.tera_meaning.specs.Outcome.{Outcome}
 use Rattle.tera_meaning.specs.Printed.{IsExact}
+use Rattle.tera_meaning.specs.Request.{Request}
 use Rattle.tera_meaning.specs.State.{State}
-use Rattle.tera_meaning.specs.Step.{Request, Outcome, AnswersOnly, IsStep}
+use Rattle.tera_meaning.specs.Step.{ComesOnlyTo, IsStep}
 
--- of a name that holds a value the call has this answer, and no other
-abbrev pub HeldAnswers : (List ℕ → Request) → (Form → Outcome) → Type 0
-HeldAnswers call answer =
+-- of a name that holds a value the request has this answer, and no other
+abbrev pub HeldAnswers : (List ℕ → Request) → (Form → AnswerOf Form) → Type 0
+HeldAnswers request answer =
     (state : State) (name : List ℕ) (value : Form) → held_at state name ≡ Some value
-    → AnswersOnly state (call name) (answer value)
+    → ComesOnlyTo state (request name) (Ok (answer value))
 
 -- the same where the value's meaning is exact
-abbrev pub ExactAnswers : (List ℕ → Request) → (Form → Outcome) → Type 0
-ExactAnswers call answer =
+abbrev pub ExactAnswers : (List ℕ → Request) → (Form → AnswerOf Form) → Type 0
+ExactAnswers request answer =
     (state : State) (name : List ℕ) (value : Form) → held_at state name ≡ Some value → IsExact (plain value)
-    → AnswersOnly state (call name) (answer value)
+    → ComesOnlyTo state (request name) (Ok (answer value))
 
--- of a name that is not held the call has this answer, and no other
-abbrev pub AbsentAnswers : (List ℕ → Request) → Outcome → Type 0
-AbsentAnswers call answer =
-    (state : State) (name : List ℕ) → held_at state name ≡ None → AnswersOnly state (call name) answer
+-- of a name that is not held the request has this answer, and no other
+abbrev pub AbsentAnswers : (List ℕ → Request) → AnswerOf Form → Type 0
+AbsentAnswers request answer =
+    (state : State) (name : List ℕ) → held_at state name ≡ None → ComesOnlyTo state (request name) (Ok answer)
 
--- each step of the call, whatever name is given for what it finds, has this outcome and leaves this state
-abbrev pub HasOneStep : (List ℕ → Request) → (State → List ℕ → Outcome) → (State → List ℕ → State) → Type 0
-HasOneStep call answer after =
+-- the same of two names that are not held
+abbrev pub BothAbsentAnswer : (List ℕ → List ℕ → Request) → AnswerOf Form → Type 0
+BothAbsentAnswer request answer =
+    (state : State) (left right : List ℕ) → held_at state left ≡ None → held_at state right ≡ None
+    → ComesOnlyTo state (request left right) (Ok answer)
+
+-- each step of the request, whatever name is given for what it finds, has this answer and leaves this state
+abbrev pub HasOneStep : (List ℕ → Request) → (State → List ℕ → AnswerOf Form) → (State → List ℕ → State) → Type 0
+HasOneStep request answer after =
     (old new : State) (name : List ℕ) (into : Option (List ℕ)) (outcome : Outcome)
-    → IsStep old (record { request = call name; into = into }) outcome new
-    → (outcome ≡ answer old name) × (new ≡ after old name)
+    → IsStep old (record { request = request name; into = into }) outcome new
+    → (outcome ≡ Ok (answer old name)) × (new ≡ after old name)
 
--- the same of a call of two names, which leaves the state as it was
-abbrev pub HasOneAnswer : (List ℕ → List ℕ → Request) → (State → List ℕ → List ℕ → Outcome) → Type 0
-HasOneAnswer call answer =
+-- the same of a request that leaves the state as it was
+abbrev pub HasOneAnswer : (List ℕ → Request) → (State → List ℕ → AnswerOf Form) → Type 0
+HasOneAnswer request answer = HasOneStep request answer (λ old name. old)
+
+-- the same of a request of two names
+abbrev pub WeighsToOneAnswer : (List ℕ → List ℕ → Request) → (State → List ℕ → List ℕ → AnswerOf Form) → Type 0
+WeighsToOneAnswer request answer =
     (old new : State) (left right : List ℕ) (into : Option (List ℕ)) (outcome : Outcome)
-    → IsStep old (record { request = call left right; into = into }) outcome new
-    → (outcome ≡ answer old left right) × (new ≡ old)
+    → IsStep old (record { request = request left right; into = into }) outcome new
+    → (outcome ≡ Ok (answer old left right)) × (new ≡ old)

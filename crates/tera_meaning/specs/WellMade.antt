@@ -7,8 +7,8 @@ use Rattle.tera_meaning.specs.Form.{Form, MarkedText}
 use Rattle.tera_meaning.specs.Integer.{Integer, IsOfKind}
 use Rattle.tera_meaning.specs.KeyMeaning.{KeyForm, truth_key, number_key, text_key, key_text}
 use Rattle.tera_meaning.specs.Pairs.{Rises, key_form_order}
+use Rattle.tera_meaning.specs.Request.{Command, Request, set, remove, mark_safe, ask, weigh, find}
 use Rattle.tera_meaning.specs.State.{State}
-use Rattle.tera_meaning.specs.Step.{Command, Request, set}
 use Rattle.tera_meaning.specs.Tree.{Items, Members, undefined, none, truth, number, text, bytes, array, object, no_items, item, no_members, member, members_list}
 
 abbrev pub IsByte : ℕ → Type 0
@@ -44,10 +44,14 @@ abbrev mutual
 abbrev pub IsWellMadeState : State → Type 0
 IsWellMadeState state = (name : List ℕ) → IfSome (held_at state name) IsWellMade
 
--- a value that the call brings is well made
+-- a value that the request brings is well made
 abbrev pub BringsWellMade : Request → Type 0
 BringsWellMade (set name value) = IsWellMade value
-BringsWellMade _ = ⊤
+BringsWellMade (remove name) = ⊤
+BringsWellMade (mark_safe name) = ⊤
+BringsWellMade (ask question name) = ⊤
+BringsWellMade (weigh weighing left right) = ⊤
+BringsWellMade (find search) = ⊤
 
 abbrev pub AllBringWellMade : List Command → Type 0
 AllBringWellMade commands = AllByRecursion (λ command. BringsWellMade command.request) commands

@@ -1,16 +1,24 @@
 //! Answers depend on meanings alone: not on the kind of an integer, the safe flag of a text, or how a key holds its
 //! text. Each function here does nothing: its clauses are the law.
 ghost use Rattle.std.specs.Prelude.{◌≡◌, ◌≢◌, ◌↔◌, ℕ, List};
-ghost use Rattle.tera_meaning.specs.Alike.{meaning_held, MeanTheSame, AskTheSame, AllAskTheSame, AnswerAlike, AreAlike, AreToldApartBy, IsSettled, probe, shape};
-ghost use Rattle.tera_meaning.specs.Run.{AreAnswers, state_after_all};
+ghost use Rattle.tera_meaning.specs.Alike.{meaning_held, MeanTheSame, AskTheSame, AllAskTheSame, AnswerAlike, AreAlike, AreToldApartBy, IsSettled, probe};
+ghost use Rattle.tera_meaning.specs.Outcome.{Outcome, shape};
+ghost use Rattle.tera_meaning.specs.Request.{Command};
+ghost use Rattle.tera_meaning.specs.Run.{AreOutcomes, state_after_all};
 ghost use Rattle.tera_meaning.specs.State.{State, form_at};
-ghost use Rattle.tera_meaning.specs.Step.{Command, Outcome, IsAnswer, state_after};
+ghost use Rattle.tera_meaning.specs.Step.{IsOutcome, state_after};
 
-/// From states of equal meaning, commands of equal meaning have answers of equal shapes, where meanings settle them,
-/// and leave states of equal meaning. Takes no memory.
+/// Each command asks the same as itself, and so do lists of them. Takes no memory.
+pub fn commands_ask_the_same_as_themselves()
+    ensures one { (command : Command) → AskTheSame command command }
+    ensures all { (commands : List Command) → AllAskTheSame commands commands }
+{}
+
+/// From states of equal meaning, commands of equal meaning come to outcomes of equal shapes, where meanings settle
+/// them, and leave states of equal meaning. Takes no memory.
 pub fn answers_depend_on_meaning()
     ensures answer { (f g : State) (command also : Command) (outcome other : Outcome) → MeanTheSame f g
-        → AskTheSame command also → IsAnswer f command outcome → IsAnswer g also other → IsSettled f command.request
+        → AskTheSame command also → IsOutcome f command outcome → IsOutcome g also other → IsSettled f command.request
         → shape outcome ≡ shape other }
     ensures state { (f g : State) (command also : Command) → MeanTheSame f g → AskTheSame command also
         → MeanTheSame (state_after f command) (state_after g also) }
@@ -19,7 +27,7 @@ pub fn answers_depend_on_meaning()
 /// The same of whole lists of commands, however long. Takes no memory.
 pub fn all_answers_depend_on_meaning()
     ensures answers { (f g : State) (commands also : List Command) (outcomes others : List Outcome) → MeanTheSame f g
-        → AllAskTheSame commands also → AreAnswers f commands outcomes → AreAnswers g also others
+        → AllAskTheSame commands also → AreOutcomes f commands outcomes → AreOutcomes g also others
         → AreAlike f commands outcomes others }
     ensures state { (f g : State) (commands also : List Command) → MeanTheSame f g → AllAskTheSame commands also
         → MeanTheSame (state_after_all f commands) (state_after_all g also) }

@@ -5,7 +5,8 @@ ghost use Rattle.tera_meaning.specs.Form.{Form, MarkedText};
 ghost use Rattle.tera_meaning.specs.Meaning.{plain};
 ghost use Rattle.tera_meaning.specs.Read.{marked_safe, safe_in};
 ghost use Rattle.tera_meaning.specs.State.{State, meaning_at};
-ghost use Rattle.tera_meaning.specs.Step.{mark_safe, asking, asking_into, state_after};
+ghost use Rattle.tera_meaning.specs.Request.{mark_safe, asking, asking_into};
+ghost use Rattle.tera_meaning.specs.Step.{state_after};
 ghost use Rattle.tera_meaning.specs.Tree.{text};
 ghost use Rattle.tera_meaning.specs.WellMade.{IsWellMade};
 

@@ -1,83 +1,97 @@
 //! The laws of single steps. Each function here does nothing: its clauses are the law.
-ghost use Rattle.std.specs.Prelude.{◌≡◌, ◌≢◌, ℕ, true, false, [], List, Option};
+ghost use Rattle.std.specs.Prelude.{◌≡◌, ◌≢◌, ℕ, true, false, [], List, Option, Some, None, Ok, Err};
 ghost use Rattle.std.specs.FinMap.{contains_key, get as held_at, insert, remove as without};
 ghost use Rattle.tera_report.specs.Escaping.{escaped};
+ghost use Rattle.tera_report.specs.Refusal.{Refusal};
+ghost use Rattle.tera_meaning.specs.Answer;
+ghost use Rattle.tera_meaning.specs.Search;
+ghost use Rattle.tera_meaning.specs.Search.{Search, found_at};
 ghost use Rattle.tera_meaning.specs.Form.{Form};
 ghost use Rattle.tera_meaning.specs.Kind.{kind_in, undefined_kind};
 ghost use Rattle.tera_meaning.specs.Meaning.{plain};
 ghost use Rattle.tera_meaning.specs.Order.{compare, same};
+ghost use Rattle.tera_meaning.specs.Outcome.{Outcome, out_of_memory};
 ghost use Rattle.tera_meaning.specs.Printed.{printed};
 ghost use Rattle.tera_meaning.specs.Read.{marked_safe, safe_in, size_in, truthy_in};
+ghost use Rattle.tera_meaning.specs.Question;
+ghost use Rattle.tera_meaning.specs.Request.{Request, Command, set, remove, mark_safe, ask, weigh, find, heeds_into, asking, asking_into};
 ghost use Rattle.tera_meaning.specs.State.{State, form_at, meaning_at};
-ghost use Rattle.tera_meaning.specs.Step.{Request, Command, Outcome, set, remove, has, get, len, truthy, kind_of, is_safe, mark_safe, equal, order, print, escape, done, holds, ordered, shown, found, size, of_kind, out_of_memory, heeds_into, marking, Answers, AnswersOnly, IsAnswer, IsStep, TakesMemory, asking, asking_into, leaves, state_after};
-ghost use Rattle.tera_meaning.specs.Steps.{AbsentAnswers, ExactAnswers, HasOneAnswer, HasOneStep, HeldAnswers};
+ghost use Rattle.tera_meaning.specs.Step.{ComesTo, ComesOnlyTo, IsOutcome, IsStep, MayWantMemory, leaves, marking, state_after};
+ghost use Rattle.tera_meaning.specs.Steps.{AbsentAnswers, BothAbsentAnswer, ExactAnswers, HasOneAnswer, HasOneStep, HeldAnswers, WeighsToOneAnswer};
 ghost use Rattle.tera_meaning.specs.Tree.{undefined};
+ghost use Rattle.tera_meaning.specs.Weighing;
 
 use std::cmp::Ordering;
 
 /// What a name holds is what is found, removed, counted, judged, printed and escaped there. Takes no memory.
 pub fn what_is_held_is_read()
-    ensures get { HeldAnswers get (λ value. found (Some value)) }
-    ensures remove { HeldAnswers remove (λ value. found (Some value)) }
-    ensures has { HeldAnswers has (λ value. holds true) }
-    ensures len { HeldAnswers len (λ value. size (size_in (plain value))) }
-    ensures truthy { HeldAnswers truthy (λ value. holds (truthy_in (plain value))) }
-    ensures kind { HeldAnswers kind_of (λ value. of_kind (kind_in value)) }
-    ensures safe { HeldAnswers is_safe (λ value. holds (safe_in value)) }
-    ensures print { ExactAnswers print (λ value. shown (printed (plain value))) }
-    ensures escape { ExactAnswers escape (λ value. shown (escaped (printed (plain value)))) }
+    ensures get { HeldAnswers (λ name. find (Search.get name)) (λ value. Answer.found (Some value)) }
+    ensures remove { HeldAnswers remove (λ value. Answer.found (Some value)) }
+    ensures has { HeldAnswers (ask Question.has) (λ value. Answer.truth true) }
+    ensures len { HeldAnswers (ask Question.len) (λ value. Answer.size (size_in (plain value))) }
+    ensures truthy { HeldAnswers (ask Question.truthy) (λ value. Answer.truth (truthy_in (plain value))) }
+    ensures kind { HeldAnswers (ask Question.kind) (λ value. Answer.kind (kind_in value)) }
+    ensures safe { HeldAnswers (ask Question.is_safe) (λ value. Answer.truth (safe_in value)) }
+    ensures print { ExactAnswers (ask Question.print) (λ value. Answer.text (printed (plain value))) }
+    ensures escape { ExactAnswers (ask Question.escape) (λ value. Answer.text (escaped (printed (plain value)))) }
 {}
 
 /// What is set is what is compared from then on; the other side of a comparison means what it meant. Takes no memory.
 pub fn what_is_set_is_compared()
     ensures equal { (state : State) (name : List ℕ) (value : Form) (other : List ℕ) → other ≢ name
-        → AnswersOnly (state_after state (asking (set name value))) (equal name other)
-        (holds (same (plain value) (meaning_at state other))) }
-    ensures order { (state : State) (name : List ℕ) (value : Form) (other : List ℕ) → other ≢ name
-        → AnswersOnly (state_after state (asking (set name value))) (order name other)
-        (ordered (Some (compare (plain value) (meaning_at state other)))) }
+        → ComesOnlyTo (state_after state (asking (set name value))) (weigh Weighing.equal name other)
+        (Ok (Answer.truth (same (plain value) (meaning_at state other)))) }
+    ensures compare { (state : State) (name : List ℕ) (value : Form) (other : List ℕ) → other ≢ name
+        → ComesOnlyTo (state_after state (asking (set name value))) (weigh Weighing.compare name other)
+        (Ok (Answer.order (Some (compare (plain value) (meaning_at state other))))) }
 {}
 
 /// A name that is not held reads as undefined: nothing is found or printed there, and it stays absent. Takes no memory.
 pub fn absent_names_read_as_undefined()
-    ensures get { AbsentAnswers get (found None) }
-    ensures remove { AbsentAnswers remove (found None) }
-    ensures has { AbsentAnswers has (holds false) }
-    ensures len { AbsentAnswers len (size None) }
-    ensures truthy { AbsentAnswers truthy (holds false) }
-    ensures kind { AbsentAnswers kind_of (of_kind undefined_kind) }
-    ensures safe { AbsentAnswers is_safe (holds true) }
-    ensures print { AbsentAnswers print (shown []) }
-    ensures escape { AbsentAnswers escape (shown []) }
-    ensures equal { (state : State) (left right : List ℕ) → held_at state left ≡ None → held_at state right ≡ None
-        → AnswersOnly state (equal left right) (holds true) }
-    ensures order { (state : State) (left right : List ℕ) → held_at state left ≡ None → held_at state right ≡ None
-        → AnswersOnly state (order left right) (ordered (Some Ordering.Equal)) }
+    ensures get { AbsentAnswers (λ name. find (Search.get name)) (Answer.found None) }
+    ensures remove { AbsentAnswers remove (Answer.found None) }
+    ensures has { AbsentAnswers (ask Question.has) (Answer.truth false) }
+    ensures len { AbsentAnswers (ask Question.len) (Answer.size None) }
+    ensures truthy { AbsentAnswers (ask Question.truthy) (Answer.truth false) }
+    ensures kind { AbsentAnswers (ask Question.kind) (Answer.kind undefined_kind) }
+    ensures safe { AbsentAnswers (ask Question.is_safe) (Answer.truth true) }
+    ensures print { AbsentAnswers (ask Question.print) (Answer.text []) }
+    ensures escape { AbsentAnswers (ask Question.escape) (Answer.text []) }
+    ensures equal { BothAbsentAnswer (weigh Weighing.equal) (Answer.truth true) }
+    ensures compare { BothAbsentAnswer (weigh Weighing.compare) (Answer.order (Some Ordering.Equal)) }
     ensures removed { (state : State) (name : List ℕ) → held_at state name ≡ None
         → state_after state (asking (remove name)) ≡ state }
 {}
 
-/// Only `get` and `mark_safe` heed the name under which what they find is to be kept. Takes no memory.
-pub fn other_calls_heed_no_name_for_what_they_find()
-    ensures answer { (state : State) (request : Request) (into other : Option (List ℕ)) (outcome : Outcome)
-        → heeds_into request ≡ false → Answers state request into outcome → Answers state request other outcome }
+/// Only what finds something, and `mark_safe`, heed the name under which it is to be kept. Takes no memory.
+pub fn other_requests_heed_no_name_for_what_they_find()
+    ensures outcome { (state : State) (request : Request) (into other : Option (List ℕ)) (outcome : Outcome)
+        → heeds_into request ≡ false → ComesTo state request into outcome → ComesTo state request other outcome }
     ensures state { (state : State) (request : Request) (into other : Option (List ℕ)) → heeds_into request ≡ false
         → leaves state request into ≡ leaves state request other }
 {}
 
-/// With a name for it, the form that `get` finds is kept there, and the answer says just that it was done. Where
-/// nothing is found nothing is kept, and the answer says that nothing was found; and without such a name nothing
-/// changes. Takes no memory.
+/// With a name for it, the form that is found is kept there, and the answer says just that it was done. Where nothing is
+/// found nothing is kept, and the answer says that nothing was found; a refusal is passed on and keeps nothing; and
+/// without such a name nothing changes. What `get` finds is what is held. Takes no memory.
 pub fn what_is_found_is_kept()
-    ensures done { (state : State) (name into : List ℕ) (value : Form) (outcome : Outcome)
-        → held_at state name ≡ Some value → IsAnswer state (asking_into (get name) into) outcome → outcome ≡ done }
-    ensures kept { (state : State) (name into : List ℕ) (value : Form) → held_at state name ≡ Some value
-        → state_after state (asking_into (get name) into) ≡ insert state into value }
-    ensures nothing { (state : State) (name into : List ℕ) (outcome : Outcome) → held_at state name ≡ None
-        → IsAnswer state (asking_into (get name) into) outcome → outcome ≡ found None }
-    ensures absent { (state : State) (name into : List ℕ) → held_at state name ≡ None
-        → state_after state (asking_into (get name) into) ≡ state }
-    ensures alone { (state : State) (name : List ℕ) → state_after state (asking (get name)) ≡ state }
+    ensures get { (state : State) (name : List ℕ) → found_at state (Search.get name) ≡ Ok (held_at state name) }
+    ensures done { (state : State) (search : Search) (into : List ℕ) (value : Form) (outcome : Outcome)
+        → found_at state search ≡ Ok (Some value) → IsOutcome state (asking_into (find search) into) outcome
+        → outcome ≡ Ok Answer.done }
+    ensures kept { (state : State) (search : Search) (into : List ℕ) (value : Form)
+        → found_at state search ≡ Ok (Some value)
+        → state_after state (asking_into (find search) into) ≡ insert state into value }
+    ensures nothing { (state : State) (search : Search) (into : Option (List ℕ)) (outcome : Outcome)
+        → found_at state search ≡ Ok None → ComesTo state (find search) into outcome
+        → outcome ≡ Ok (Answer.found None) }
+    ensures absent { (state : State) (search : Search) (into : Option (List ℕ)) → found_at state search ≡ Ok None
+        → leaves state (find search) into ≡ state }
+    ensures refused { (state : State) (search : Search) (into : Option (List ℕ)) (refusal : Refusal) (outcome : Outcome)
+        → found_at state search ≡ Err refusal → ComesTo state (find search) into outcome → outcome ≡ Err refusal }
+    ensures unchanged { (state : State) (search : Search) (into : Option (List ℕ)) (refusal : Refusal)
+        → found_at state search ≡ Err refusal → leaves state (find search) into ≡ state }
+    ensures alone { (state : State) (search : Search) → state_after state (asking (find search)) ≡ state }
 {}
 
 /// Marking is always done. Without a name for it the form is marked in its place, and a name that is not held stays
@@ -85,7 +99,7 @@ pub fn what_is_found_is_kept()
 /// from holds what it held. Takes no memory.
 pub fn what_is_marked_is_kept()
     ensures done { (state : State) (name : List ℕ) (into : Option (List ℕ)) (outcome : Outcome)
-        → Answers state (mark_safe name) into outcome → outcome ≡ done }
+        → ComesTo state (mark_safe name) into outcome → outcome ≡ Ok Answer.done }
     ensures place { (state : State) (name : List ℕ) (value : Form) → held_at state name ≡ Some value
         → state_after state (asking (mark_safe name)) ≡ insert state name (marked_safe value) }
     ensures absent { (state : State) (name : List ℕ) → held_at state name ≡ None
@@ -99,25 +113,26 @@ pub fn what_is_marked_is_kept()
         → held_at (state_after state (asking_into (mark_safe name) into)) other ≡ held_at state other }
 {}
 
-/// Want of memory changes nothing, and only a call that takes memory answers it. Takes no memory.
+/// Want of memory changes nothing, and only a command that may want it comes to it. Takes no memory.
 pub fn wants_of_memory_change_nothing()
     ensures { (old new : State) (command : Command) → IsStep old command out_of_memory new
-        → TakesMemory command × (new ≡ old) }
+        → MayWantMemory old command × (new ≡ old) }
 {}
 
-/// These calls never want memory, whatever name is given for what they find: each has one outcome and leaves one state.
-/// Takes no memory.
-pub fn these_calls_never_want_memory()
-    ensures remove { HasOneStep remove (λ old name. found (held_at old name)) (λ old name. without old name) }
-    ensures has { HasOneStep has (λ old name. holds (contains_key old name)) (λ old name. old) }
-    ensures len { HasOneStep len (λ old name. size (size_in (meaning_at old name))) (λ old name. old) }
-    ensures truthy { HasOneStep truthy (λ old name. holds (truthy_in (meaning_at old name))) (λ old name. old) }
-    ensures kind { HasOneStep kind_of (λ old name. of_kind (kind_in (form_at old name))) (λ old name. old) }
-    ensures safe { HasOneStep is_safe (λ old name. holds (safe_in (form_at old name))) (λ old name. old) }
-    ensures equal { HasOneAnswer equal (λ old left right. holds (same (meaning_at old left) (meaning_at old right))) }
-    ensures order { HasOneAnswer order
-        (λ old left right. ordered (Some (compare (meaning_at old left) (meaning_at old right)))) }
+/// These never want memory, whatever name is given for what they find: each has one answer and leaves one state. Takes
+/// no memory.
+pub fn these_requests_never_want_memory()
+    ensures remove { HasOneStep remove (λ old name. Answer.found (held_at old name)) (λ old name. without old name) }
+    ensures has { HasOneAnswer (ask Question.has) (λ old name. Answer.truth (contains_key old name)) }
+    ensures len { HasOneAnswer (ask Question.len) (λ old name. Answer.size (size_in (meaning_at old name))) }
+    ensures truthy { HasOneAnswer (ask Question.truthy) (λ old name. Answer.truth (truthy_in (meaning_at old name))) }
+    ensures kind { HasOneAnswer (ask Question.kind) (λ old name. Answer.kind (kind_in (form_at old name))) }
+    ensures safe { HasOneAnswer (ask Question.is_safe) (λ old name. Answer.truth (safe_in (form_at old name))) }
+    ensures equal { WeighsToOneAnswer (weigh Weighing.equal)
+        (λ old left right. Answer.truth (same (meaning_at old left) (meaning_at old right))) }
+    ensures compare { WeighsToOneAnswer (weigh Weighing.compare)
+        (λ old left right. Answer.order (Some (compare (meaning_at old left) (meaning_at old right)))) }
     ensures mark { (old new : State) (name : List ℕ) (outcome : Outcome)
         → IsStep old (asking (mark_safe name)) outcome new
-        → (outcome ≡ done) × (new ≡ marking old name (held_at old name)) }
+        → (outcome ≡ Ok Answer.done) × (new ≡ marking old name (held_at old name)) }
 {}

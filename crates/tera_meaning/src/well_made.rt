@@ -3,7 +3,7 @@ ghost use Rattle.std.specs.Prelude.{List};
 ghost use Rattle.std.specs.FinMap.{empty};
 ghost use Rattle.tera_meaning.specs.Run.{state_after_all};
 ghost use Rattle.tera_meaning.specs.State.{State};
-ghost use Rattle.tera_meaning.specs.Step.{Command};
+ghost use Rattle.tera_meaning.specs.Request.{Command};
 ghost use Rattle.tera_meaning.specs.WellMade.{IsWellMadeState, AllBringWellMade};
 
 /// Commands that bring well-made values leave well-made values, and nothing held is well made. Takes no memory.

@@ -60,7 +60,7 @@ number_of (missing_argument a) = 7
 number_of (out_of_range a b) = 8
 number_of (writing_failed a) = 9
 number_of not_utf8 = 10
-number_of memory_refused = 11
+number_of refusal = 11
 
 pub other_number : {P : Type 0} (m n : ℕ) → (m == n) ≡ false → m ≡ n → P
 other_number m n h e = let same : (m == n) ≡ true = eq-eqb m n e in absurd (cc)

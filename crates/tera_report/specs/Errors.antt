@@ -56,3 +56,7 @@ pub record States (refusal : Refusal.Refusal) (cause : Option Cause) (e : Error)
 -- the error of this refusal without a cause; or want of memory, where its texts found none
 abbrev pub Raises : Refusal.Refusal → Error → Type 0
 Raises refusal e = States refusal None e ⊎ IsOutOfMemory e
+
+-- the error states just this refusal, without a cause. Want of memory is shown by its own kind alone
+abbrev pub Shows : Refusal.Refusal → Error → Type 0
+Shows refusal e = States (Refusal.stated refusal) None e

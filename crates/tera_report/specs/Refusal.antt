@@ -1,10 +1,38 @@
 -- Refusals as data, their texts, and what of them depends on no type's name.
-use Rattle.std.specs.Prelude.{ℕ, List, [], ◌++◌, codes, Option, Some, None}
-use Rattle.std.specs.Fmt.{◌++?◌, debug_str, debug_list}
+use Rattle.std.specs.Prelude.{ℕ, ℤ, List, [], ◌++◌, codes, Option, Some, None, unwrap_or}
+use Rattle.std.specs.Fmt.{◌++?◌, debug_str, debug_list, signed_decimal}
 use Rattle.std.specs.declared.io.ErrorKind.{ErrorKind}
 
--- One constructor for each refusal. Texts and names stand as their bytes.
+-- The operators of arithmetic, and how each is written
+pub data Operator : Type 0 where
+  plus : Operator
+  minus : Operator
+  times : Operator
+  remainder : Operator
+  floor_division : Operator
+  power : Operator
+
+abbrev pub operator_text : Operator → List ℕ
+operator_text plus = codes "+"
+operator_text minus = codes "-"
+operator_text times = codes "*"
+operator_text remainder = codes "%"
+operator_text floor_division = codes "//"
+operator_text power = codes "**"
+
+-- What an index goes into, and the word for it
+pub data Container : Type 0 where
+  in_array : Container
+  in_text : Container
+
+abbrev pub container_word : Container → List ℕ
+container_word in_array = codes "Array"
+container_word in_text = codes "String"
+
+-- One constructor for each refusal. Texts and names stand as their bytes; `actual` is the name of the kind that the
+-- refused value really has.
 pub data Refusal : Type 0 where
+  -- what the kinds of errors state in words of the caller's own
   message : (text : List ℕ) → Refusal
   circular_extend : (template : List ℕ) (chain : List (List ℕ)) → Refusal
   circular_include : (template : List ℕ) (chain : List (List ℕ)) → Refusal
@@ -17,6 +45,26 @@ pub data Refusal : Type 0 where
   writing_failed : (kind : ErrorKind) → Refusal
   not_utf8 : Refusal
   memory_refused : Refusal
+  -- arithmetic
+  not_a_number : (actual : List ℕ) → Refusal
+  operand_outside_i128 : (operand : ℤ) → Refusal
+  not_exact : (left : ℤ) (operator : Operator) (right : ℤ) → Refusal
+  divided_by_zero : Refusal
+  exponent_outside_u32 : (exponent : ℤ) → Refusal
+  negation_outside_i128 : (operand : ℤ) → Refusal
+  negated_no_number : (actual : List ℕ) → Refusal
+  -- look-ups
+  not_a_key : Refusal
+  not_a_map_key : (actual : List ℕ) → Refusal
+  not_an_index : (container : Container) (actual : List ℕ) → Refusal
+  -- slices, reversal, `in`
+  step_of_zero : Refusal
+  not_sliceable : (actual : List ℕ) → Refusal
+  not_reversible : (actual : List ℕ) → Refusal
+  not_a_container : (actual : List ℕ) → Refusal
+  -- conversions: a number outside the type that is wanted, and one that no i128 holds
+  number_out_of_range : (number : ℤ) (target : List ℕ) → Refusal
+  number_outside_i128 : (number : ℤ) → Refusal
 
 -- What is written for a refusal. It says nothing of the debug form of a name past ASCII, nor of the name
 -- of a kind of io errors.
@@ -40,18 +88,63 @@ text_of (out_of_range value target) =
 text_of (writing_failed kind) = None
 text_of not_utf8 = Some (codes "Invalid UTF-8 characters found while rendering.")
 text_of memory_refused = Some (codes "Out of memory")
+text_of (not_a_number actual) =
+    Some (codes "Only numbers can be used in arithmetic. This is a `" ++ (actual ++ codes "`"))
+text_of (operand_outside_i128 operand) =
+    Some (codes "Operand `" ++ (signed_decimal operand
+    ++ codes "` is out of range for integer arithmetic (must fit in i128)"))
+text_of (not_exact left operator right) =
+    Some (codes "Unable to perform " ++ (signed_decimal left ++ (codes " " ++ (operator_text operator
+    ++ (codes " " ++ signed_decimal right)))))
+text_of divided_by_zero = Some (codes "Cannot divide by 0")
+text_of (exponent_outside_u32 exponent) =
+    Some (codes "Exponent " ++ (signed_decimal exponent ++ codes " is out of range for integer ** (must fit in u32)"))
+text_of (negation_outside_i128 operand) =
+    Some (codes "Cannot negate " ++ (signed_decimal operand ++ codes ": result would overflow i128"))
+text_of (negated_no_number actual) = Some (codes "Only numbers can be negated. This is a `" ++ (actual ++ codes "`"))
+text_of not_a_key = Some (codes "Not a valid key type")
+text_of (not_a_map_key actual) =
+    Some (codes "Map keys must be strings, integers, or bools, got `" ++ (actual ++ codes "`."))
+text_of (not_an_index container actual) =
+    Some (container_word container ++ (codes " index must be an integer, got `" ++ (actual ++ codes "`.")))
+text_of step_of_zero = Some (codes "Slicing step cannot be 0")
+text_of (not_sliceable actual) =
+    Some (codes "Slicing can only be used on arrays or strings, not on `" ++ (actual ++ codes "`."))
+text_of (not_reversible actual) = Some (codes "Value of type " ++ (actual ++ codes " cannot be reversed"))
+text_of (not_a_container actual) =
+    Some (codes "`in` cannot be used on a container of type `" ++ (actual
+    ++ codes "`. It can only be used on arrays, strings and map/structs"))
+text_of (number_out_of_range number target) =
+    Some (codes "Value `" ++ (signed_decimal number ++ (codes "` is out of range for `" ++ (target ++ codes "`"))))
+text_of (number_outside_i128 number) =
+    Some (codes "Number `" ++ (signed_decimal number ++ codes "` is out of range for i128"))
+
+-- what the error of a refusal states. What a kind states in words of its own is itself; a number outside a type is
+-- stated by its digits; and every other refusal is a message of its whole text
+abbrev pub stated : Refusal → Refusal
+stated (message words) = message words
+stated (circular_extend template chain) = circular_extend template chain
+stated (circular_include template chain) = circular_include template chain
+stated (missing_parent current parent) = missing_parent current parent
+stated (template_not_found name) = template_not_found name
+stated (component_not_found name) = component_not_found name
+stated (invalid_argument expected actual) = invalid_argument expected actual
+stated (missing_argument name) = missing_argument name
+stated (out_of_range value target) = out_of_range value target
+stated (writing_failed kind) = writing_failed kind
+stated not_utf8 = not_utf8
+stated memory_refused = memory_refused
+stated (number_out_of_range number target) = out_of_range (signed_decimal number) target
+stated refusal = message (unwrap_or (text_of refusal) [])
 
 -- the refusal without the name of the type that a value really has
 abbrev pub shape : Refusal → Refusal
 shape (invalid_argument expected actual) = invalid_argument expected []
-shape (message text) = message text
-shape (circular_extend template chain) = circular_extend template chain
-shape (circular_include template chain) = circular_include template chain
-shape (missing_parent current parent) = missing_parent current parent
-shape (template_not_found name) = template_not_found name
-shape (component_not_found name) = component_not_found name
-shape (missing_argument name) = missing_argument name
-shape (out_of_range value target) = out_of_range value target
-shape (writing_failed kind) = writing_failed kind
-shape not_utf8 = not_utf8
-shape memory_refused = memory_refused
+shape (not_a_number actual) = not_a_number []
+shape (negated_no_number actual) = negated_no_number []
+shape (not_a_map_key actual) = not_a_map_key []
+shape (not_an_index container actual) = not_an_index container []
+shape (not_sliceable actual) = not_sliceable []
+shape (not_reversible actual) = not_reversible []
+shape (not_a_container actual) = not_a_container []
+shape refusal = refusal

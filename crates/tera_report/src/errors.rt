@@ -9,6 +9,13 @@ use std::{fmt, io};
 
 mod constructors;
 mod copies;
+mod refusals;
+
+pub use refusals::{
+    errors_say_the_text_of_their_refusal, refusals_of_arithmetic_have_these_texts,
+    refusals_of_conversions_have_these_texts, refusals_of_look_ups_have_these_texts,
+    shapes_forget_the_kind_alone,
+};
 
 /// The answer of a call that can refuse.
 pub type TeraResult<T> = Result<T, Error>;

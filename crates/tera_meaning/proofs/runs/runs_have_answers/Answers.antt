@@ -1,8 +1,0 @@
-use Rattle.tera_meaning.proofs.RunLaws.{ample_one, some_answers}
-use Rattle.tera_meaning.proofs.runs.runs_have_answers.Goals as goal
-
-pub returns-clause-some : goal.returns-clause-some
-returns-clause-some c = some_answers
-
-pub returns-clause-one : goal.returns-clause-one
-returns-clause-one c = ample_one

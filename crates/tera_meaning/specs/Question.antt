@@ -1,0 +1,63 @@
+-- What is asked of one value.
+use Rattle.std.specs.Prelude.{◌≡◌, ⊤, ℕ, List, Option, Ok, is_some}
+use Rattle.tera_report.specs.Escaping.{Spells}
+use Rattle.tera_meaning.specs.Answer
+use Rattle.tera_meaning.specs.Form.{Form}
+use Rattle.tera_meaning.specs.Kind.{kind_in}
+use Rattle.tera_meaning.specs.Meaning.{Meaning, plain}
+use Rattle.tera_meaning.specs.Outcome.{Outcome}
+use Rattle.tera_meaning.specs.Printed.{IsExact, Prints}
+use Rattle.tera_meaning.specs.Read.{safe_in, size_in, truthy_in}
+use Rattle.tera_meaning.specs.State.{read}
+
+pub data Question : Type 0 where
+  has : Question
+  truthy : Question
+  is_safe : Question
+  len : Question
+  kind : Question
+  print : Question
+  escape : Question
+
+-- what is answered of what a name holds, which reads as undefined where it holds nothing. What is printed is some text,
+-- and one text alone where the meaning is exact
+abbrev pub IsAnswered : Question → Option Form → Outcome → Type 0
+IsAnswered has held outcome = outcome ≡ Ok (Answer.truth (is_some held))
+IsAnswered truthy held outcome = outcome ≡ Ok (Answer.truth (truthy_in (plain (read held))))
+IsAnswered is_safe held outcome = outcome ≡ Ok (Answer.truth (safe_in (read held)))
+IsAnswered len held outcome = outcome ≡ Ok (Answer.size (size_in (plain (read held))))
+IsAnswered kind held outcome = outcome ≡ Ok (Answer.kind (kind_in (read held)))
+IsAnswered print held outcome =
+    (text : List ℕ) × Prints (plain (read held)) text × (outcome ≡ Ok (Answer.text text))
+IsAnswered escape held outcome =
+    (text word : List ℕ) × Prints (plain (read held)) text × Spells word text × (outcome ≡ Ok (Answer.text word))
+
+-- the answer is one: what is printed for it, if anything, is exact
+abbrev pub IsFixedAnswer : Question → Meaning → Type 0
+IsFixedAnswer has x = ⊤
+IsFixedAnswer truthy x = ⊤
+IsFixedAnswer is_safe x = ⊤
+IsFixedAnswer len x = ⊤
+IsFixedAnswer kind x = ⊤
+IsFixedAnswer print x = IsExact x
+IsFixedAnswer escape x = IsExact x
+
+-- the meaning alone settles the answer, where it is one: not those that read the form
+abbrev pub IsSettledAnswer : Question → Meaning → Type 0
+IsSettledAnswer is_safe x = ⊥
+IsSettledAnswer kind x = ⊥
+IsSettledAnswer has x = ⊤
+IsSettledAnswer truthy x = ⊤
+IsSettledAnswer len x = ⊤
+IsSettledAnswer print x = IsExact x
+IsSettledAnswer escape x = IsExact x
+
+-- the questions whose answers take memory
+abbrev pub TakesMemory : Question → Type 0
+TakesMemory has = ⊥
+TakesMemory truthy = ⊥
+TakesMemory is_safe = ⊥
+TakesMemory len = ⊥
+TakesMemory kind = ⊥
+TakesMemory print = ⊤
+TakesMemory escape = ⊤

@@ -1,0 +1,86 @@
+// The texts of refusals, tried on numbers and names from outside. Each function here does nothing: its clauses are the
+// rows.
+ghost use Rattle.std.specs.Prelude.{◌≡◌, ◌^◌, ◌-◌, ◌++◌, ℕ, ℤ, List, [], codes, pos, negsuc, Some};
+ghost use Rattle.tera_report.specs.Refusal.{not_a_number, operand_outside_i128, not_exact, divided_by_zero, exponent_outside_u32};
+ghost use Rattle.tera_report.specs.Refusal.{negation_outside_i128, negated_no_number, not_a_key, not_a_map_key, not_an_index};
+ghost use Rattle.tera_report.specs.Refusal.{step_of_zero, not_sliceable, not_reversible, not_a_container};
+ghost use Rattle.tera_report.specs.Refusal.{invalid_argument, missing_argument, number_out_of_range, number_outside_i128};
+ghost use Rattle.tera_report.specs.Refusal.{memory_refused, message, out_of_range, stated, shape, text_of};
+ghost use Rattle.tera_report.specs.Refusal.{plus, minus, times, remainder, floor_division, power};
+ghost use Rattle.tera_report.specs.Refusal.{Refusal, in_array, in_text};
+
+/// What arithmetic refuses is told by the operand or by both and their operator. Takes no memory.
+pub fn refusals_of_arithmetic_have_these_texts()
+    ensures kind { text_of (not_a_number (codes "string"))
+        ≡ Some (codes "Only numbers can be used in arithmetic. This is a `string`") }
+    ensures operand { text_of (operand_outside_i128 (pos (2 ^ 128 - 1)))
+        ≡ Some (codes "Operand `340282366920938463463374607431768211455` is out of range for integer "
+        ++ codes "arithmetic (must fit in i128)") }
+    ensures sum { text_of (not_exact (pos (2 ^ 127 - 1)) plus (pos 1))
+        ≡ Some (codes "Unable to perform 170141183460469231731687303715884105727 + 1") }
+    ensures difference { text_of (not_exact (negsuc (2 ^ 127 - 1)) minus (pos 1))
+        ≡ Some (codes "Unable to perform -170141183460469231731687303715884105728 - 1") }
+    ensures product { text_of (not_exact (pos (2 ^ 126)) times (negsuc 2))
+        ≡ Some (codes "Unable to perform 85070591730234615865843651857942052864 * -3") }
+    ensures remainder { text_of (not_exact (negsuc (2 ^ 127 - 1)) remainder (negsuc 0))
+        ≡ Some (codes "Unable to perform -170141183460469231731687303715884105728 % -1") }
+    ensures quotient { text_of (not_exact (negsuc (2 ^ 127 - 1)) floor_division (negsuc 0))
+        ≡ Some (codes "Unable to perform -170141183460469231731687303715884105728 // -1") }
+    ensures power { text_of (not_exact (pos 2) power (pos 4294967295))
+        ≡ Some (codes "Unable to perform 2 ** 4294967295") }
+    ensures zero { text_of divided_by_zero ≡ Some (codes "Cannot divide by 0") }
+    ensures exponent { text_of (exponent_outside_u32 (negsuc 0))
+        ≡ Some (codes "Exponent -1 is out of range for integer ** (must fit in u32)") }
+    ensures negation { text_of (negation_outside_i128 (pos (2 ^ 127)))
+        ≡ Some (codes "Cannot negate 170141183460469231731687303715884105728: result would overflow i128") }
+    ensures negated { text_of (negated_no_number (codes "string"))
+        ≡ Some (codes "Only numbers can be negated. This is a `string`") }
+{}
+
+/// What look-ups, slices, reversal and `in` refuse is told by the kind of the value. Takes no memory.
+pub fn refusals_of_look_ups_have_these_texts()
+    ensures key { text_of not_a_key ≡ Some (codes "Not a valid key type") }
+    ensures map_key { text_of (not_a_map_key (codes "array"))
+        ≡ Some (codes "Map keys must be strings, integers, or bools, got `array`.") }
+    ensures array_index { text_of (not_an_index in_array (codes "bool"))
+        ≡ Some (codes "Array index must be an integer, got `bool`.") }
+    ensures text_index { text_of (not_an_index in_text (codes "none"))
+        ≡ Some (codes "String index must be an integer, got `none`.") }
+    ensures step { text_of step_of_zero ≡ Some (codes "Slicing step cannot be 0") }
+    ensures slice { text_of (not_sliceable (codes "undefined"))
+        ≡ Some (codes "Slicing can only be used on arrays or strings, not on `undefined`.") }
+    ensures reversed { text_of (not_reversible (codes "bool")) ≡ Some (codes "Value of type bool cannot be reversed") }
+    ensures container { text_of (not_a_container (codes "i64"))
+        ≡ Some (codes "`in` cannot be used on a container of type `i64`. It can only be used on arrays, strings "
+        ++ codes "and map/structs") }
+{}
+
+/// What conversions and arguments refuse is told by the type that is wanted. Takes no memory.
+pub fn refusals_of_conversions_have_these_texts()
+    ensures kind { text_of (invalid_argument (codes "u8") (codes "string"))
+        ≡ Some (codes "Invalid type for the value, expected `u8` but got `string`") }
+    ensures range { text_of (number_out_of_range (pos 300) (codes "u8"))
+        ≡ Some (codes "Value `300` is out of range for `u8`") }
+    ensures sign { text_of (number_out_of_range (negsuc 0) (codes "usize"))
+        ≡ Some (codes "Value `-1` is out of range for `usize`") }
+    ensures number { text_of (number_outside_i128 (pos (2 ^ 128 - 1)))
+        ≡ Some (codes "Number `340282366920938463463374607431768211455` is out of range for i128") }
+    ensures missing { text_of (missing_argument (codes "n")) ≡ Some (codes "Missing keyword argument `n`") }
+    ensures memory { text_of memory_refused ≡ Some (codes "Out of memory") }
+{}
+
+/// The error of a refusal says its whole text, most of them as a message. Takes no memory.
+pub fn errors_say_the_text_of_their_refusal()
+    ensures text { (refusal : Refusal) → text_of (stated refusal) ≡ text_of refusal }
+    ensures message { stated (not_a_number (codes "none"))
+        ≡ message (codes "Only numbers can be used in arithmetic. This is a `none`") }
+    ensures range { stated (number_out_of_range (pos 300) (codes "u8")) ≡ out_of_range (codes "300") (codes "u8") }
+{}
+
+/// The shape of a refusal forgets the name of the kind that a value really has, and nothing else. Takes no memory.
+pub fn shapes_forget_the_kind_alone()
+    ensures twice { (refusal : Refusal) → shape (shape refusal) ≡ shape refusal }
+    ensures kind { (actual other : List ℕ) → shape (not_a_number actual) ≡ shape (not_a_number other) }
+    ensures wanted { (expected actual : List ℕ) → shape (invalid_argument expected actual) ≡ invalid_argument expected [] }
+    ensures number { (left right : ℤ) → shape (not_exact left plus right) ≡ not_exact left plus right }
+{}
