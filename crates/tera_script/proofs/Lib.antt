@@ -17,7 +17,7 @@ pub mod Shapes
 pub mod Literals
 pub mod Arrays
 pub mod Verbs
-pub mod Calls
+pub mod Operands
 pub mod Commands
 pub mod Lines
 pub mod WorkedLines

@@ -3,9 +3,10 @@ use Rattle.std.proofs.Common.{◌≡◌, ℕ, Bool, true, false, List, [], ◌�
 use Rattle.std.specs.List.{list_all}
 use Rattle.std.specs.Str.{IsUtf8}
 use Rattle.std.proofs.lemmas.Bool.Decides.{nat_tests}
-use Rattle.tera_meaning.specs.Step.{Command}
+use Rattle.tera_meaning.specs.Request.{Command}
 use Rattle.tera_script.specs.Word.{is_blank, AreBlanks, IsName}
-use Rattle.tera_script.specs.Line.{word_of, Says, IsSkipped, IsBad}
+use Rattle.tera_script.specs.Verb.{word_of}
+use Rattle.tera_script.specs.Line.{Says, IsSkipped, IsBad}
 use Rattle.tera_script.specs.Readers.{Stops, front, past, EndsInCommand, IsCommandAt, is_end_or_comment}
 use Rattle.tera_script.proofs.Fronts.{both_pass, front-past, front_all, past_is}
 use Rattle.tera_script.proofs.Names.{name_is_not_blank}
@@ -13,26 +14,26 @@ use Rattle.tera_script.proofs.Verbs.{word_is_name}
 use Rattle.tera_script.proofs.Commands.{one_command_at}
 use Rattle.tera_script.proofs.Utf8Fronts.{utf8_past_blanks}
 
-call_begins : (line : List ℕ) (command : Command) (h : Says line command) → h.call ++ h.after ≡ word_of command.request ++ (h.spelled.0 ++ h.after)
-call_begins line command h = ap (λ c. c ++ h.after) h.spelled.2 ∙ append_assoc (word_of command.request) h.spelled.0 h.after
+call_begins : (line : List ℕ) (command : Command) (h : Says line command) → h.call ++ h.after ≡ word_of h.spelled.0 ++ (h.spelled.1 ++ h.after)
+call_begins line command h = ap (λ c. c ++ h.after) h.spelled.3 ∙ append_assoc (word_of h.spelled.0) h.spelled.1 h.after
 
 says_past : (line : List ℕ) (command : Command) (h : Says line command) → past is_blank line ≡ h.call ++ h.after
 says_past line command h =
-    let stops = subst (Stops is_blank) (sym (call_begins line command h)) (name_is_not_blank (word_of command.request) (h.spelled.0 ++ h.after) (word_is_name command.request)) in
+    let stops = subst (Stops is_blank) (sym (call_begins line command h)) (name_is_not_blank (word_of h.spelled.0) (h.spelled.1 ++ h.after) (word_is_name h.spelled.0)) in
     ap (past is_blank) (h.whole ∙ append_assoc h.before h.call h.after) ∙ past_is is_blank h.before (h.call ++ h.after) h.padded.0 stops
 
 pub says_command : (line : List ℕ) (command : Command) → Says line command → EndsInCommand (past is_blank line) command
-says_command line command h = record { call = h.call; after = h.after; spells = h.spelled; blanks = h.padded.1; spelled = says_past line command h }
+says_command line command h = record { part = h.call; after = h.after; spells = h.spelled; blanks = h.padded.1; spelled = says_past line command h }
 
 pub line_says : (line : List ℕ) (command : Command) → IsUtf8 line → EndsInCommand (past is_blank line) command → Says line command
 line_says line command u h = record {
   utf8 = u;
   before = front is_blank line;
-  call = h.call;
+  call = h.part;
   after = h.after;
   padded = (front_all is_blank line, h.blanks);
   spelled = h.spells;
-  whole = sym (front-past is_blank line) ∙ ap (λ xs. front is_blank line ++ xs) h.spelled ∙ sym (append_assoc (front is_blank line) h.call h.after);
+  whole = sym (front-past is_blank line) ∙ ap (λ xs. front is_blank line ++ xs) h.spelled ∙ sym (append_assoc (front is_blank line) h.part h.after);
 }
 
 pub one_command : (line : List ℕ) (a b : Command) → Says line a → Says line b → a ≡ b
@@ -63,7 +64,7 @@ name_is_no_comment (b ∷ name) rest n = grind (arith, nat_tests, n.0)
 pub skipped_says_nothing : (line : List ℕ) (command : Command) → IsSkipped line → ¬ Says line command
 skipped_says_nothing line command s h =
     let yes = skipped_past line s in
-    let no = ap is_end_or_comment (says_past line command h ∙ call_begins line command h) ∙ name_is_no_comment (word_of command.request) (h.spelled.0 ++ h.after) (word_is_name command.request) in
+    let no = ap is_end_or_comment (says_past line command h ∙ call_begins line command h) ∙ name_is_no_comment (word_of h.spelled.0) (h.spelled.1 ++ h.after) (word_is_name h.spelled.0) in
     cc
 
 -- bad lines

@@ -12,45 +12,45 @@ use Rattle.tera_meaning.specs.Tree.{Items, none, number, no_items, item, depth}
 use Rattle.tera_script.specs.declared.verb.Verb.TheVariants.{Set, Two, One, Keeping}
 use Rattle.tera_script.specs.declared.verb.TwoNames.TheVariants.{Equal}
 use Rattle.tera_script.specs.declared.verb.OneName.TheVariants.{Has, Print}
-use Rattle.tera_script.specs.declared.verb.Kept.TheVariants.{Get}
+use Rattle.tera_script.specs.declared.verb.KeepingName.TheVariants.{Get}
 use Rattle.tera_script.specs.Text.{SpellsText}
 use Rattle.tera_script.specs.Word.{is_blank}
 use Rattle.tera_script.specs.Line.{levels, IsBad}
 use Rattle.tera_script.specs.Nested.{in_brackets, in_arrays}
-use Rattle.tera_script.specs.Readers.{Stops, past, gap_at, name_at, operand_at, two_in, one_in, arrow_at, into_in, keeping_in, is_word_byte, plain_at, value_in, number_in, unsigned_in, digits_at, suffix_in, integer_of, hex_at, verb_in, BeginsWithLiteral, ItemsAt, MoreAt, IsLiteralAt, AreOperandsOf}
+use Rattle.tera_script.specs.Readers.{Stops, past, gap_at, name_at, operand_at, two_in, one_in, arrow_at, into_in, keeping_in, is_word_byte, plain_at, value_in, number_in, unsigned_in, digits_at, suffix_in, integer_of, hex_at, likely_verb, BeginsWithLiteral, ItemsAt, MoreAt, IsLiteralAt, AreOperandsOf}
 use Rattle.tera_script.proofs.Literals.{head, tail, more, less, only_at, plain_found, quoted_found, bytes_found, array_found, no_literal, no_first_comma, stops_end, more_stops}
 use Rattle.tera_script.proofs.Commands.{one_answer_none, two_answer_none, kept_answer_none, set_none_name, set_none_value, set_none_end, command_answer, command_none_verb}
 use Rattle.tera_script.proofs.Lines.{bad_command, bad_utf8}
+use Rattle.tera_script.proofs.Verbs.{no_verb}
 use Rattle.tera_script.proofs.WorkedTexts.{unknown_escape}
 use Rattle.tera_script.proofs.WorkedLines.{nested_spelled, nested_depth, one_spelled}
 
 pub bad_word : IsBad (codes "frob")
-unfolding name_at verb_in
-bad_word = bad_command (codes "frob") refl (command_none_verb (codes "frob") (codes "frob") [] refl refl)
+unfolding name_at likely_verb
+bad_word = bad_command (codes "frob") refl (command_none_verb (codes "frob") (codes "frob") [] refl (no_verb (codes "frob") refl))
 
 pub bad_longer_word : IsBad (codes "eqa b c")
-unfolding name_at verb_in
-bad_longer_word = bad_command (codes "eqa b c") refl (command_none_verb (codes "eqa b c") (codes "eqa") (codes " b c") refl refl)
+unfolding name_at likely_verb
+bad_longer_word = bad_command (codes "eqa b c") refl (command_none_verb (codes "eqa b c") (codes "eqa") (codes " b c") refl (no_verb (codes "eqa") refl))
 
 pub bad_one_operand : IsBad (codes "eq a")
-unfolding name_at verb_in two_in operand_at gap_at
+unfolding name_at two_in operand_at gap_at
 bad_one_operand = bad_command (codes "eq a") refl (command_answer (codes "eq a") (codes "eq") (codes " a") refl (Two Equal) refl None (two_answer_none Equal (codes " a") refl))
 
 pub bad_name : IsBad (codes "set 1a none")
-unfolding name_at verb_in operand_at gap_at
+unfolding name_at operand_at gap_at
 bad_name = bad_command (codes "set 1a none") refl (command_answer (codes "set 1a none") (codes "set") (codes " 1a none") refl Set refl None (set_none_name (codes " 1a none") refl))
 
 -- names for what is found
 pub bad_has_into : IsBad (codes "has a -> b")
-unfolding name_at verb_in one_in operand_at gap_at
+unfolding name_at one_in operand_at gap_at
 bad_has_into = bad_command (codes "has a -> b") refl (command_answer (codes "has a -> b") (codes "has") (codes " a -> b") refl (One Has) refl None (one_answer_none Has (codes " a -> b") refl))
 
 pub bad_print_into : IsBad (codes "print a -> b")
-unfolding name_at verb_in one_in operand_at gap_at
+unfolding name_at one_in operand_at gap_at
 bad_print_into = bad_command (codes "print a -> b") refl (command_answer (codes "print a -> b") (codes "print") (codes " a -> b") refl (One Print) refl None (one_answer_none Print (codes " a -> b") refl))
 
 bad_get : (behind : List ℕ) → name_at (codes "get" ++ behind) ≡ Some (codes "get", behind) → keeping_in behind ≡ None → IsBad (codes "get" ++ behind)
-unfolding verb_in
 bad_get behind n e = bad_command (codes "get" ++ behind) refl (command_answer (codes "get" ++ behind) (codes "get") behind n (Keeping Get) refl None (kept_answer_none Get behind e))
 
 pub bad_into_nothing : IsBad (codes "get a ->")
@@ -71,7 +71,7 @@ bad_into_two = bad_get (codes " a -> b c") refl refl
 
 -- a value that is none
 at_value : (literal : List ℕ) → gap_at (32 ∷ literal) ≡ Some literal → AreOperandsOf Set (codes " a " ++ literal) None → IsBad (codes "set a " ++ literal)
-unfolding name_at verb_in
+unfolding name_at
 at_value literal g h = bad_command (codes "set a " ++ literal) refl (command_answer (codes "set a " ++ literal) (codes "set") (codes " a " ++ literal) refl Set refl None h)
 
 bad_value : (literal : List ℕ) → gap_at (32 ∷ literal) ≡ Some literal → IsLiteralAt levels literal None → IsBad (codes "set a " ++ literal)

@@ -8,7 +8,17 @@ use Rattle.std.proofs.lemmas.Str.Ascii.{IsAscii-nil, IsAscii-cons}
 use Rattle.tera_meaning.specs.Form.{Form}
 use Rattle.tera_meaning.specs.Integer.{IntegerKind, Integer, i64, u64}
 use Rattle.tera_meaning.specs.Tree.{none, number, text, bytes, array, items, depth}
-use Rattle.tera_meaning.specs.Step.{Command, Request, set, remove, has, get, len, truthy, kind_of, is_safe, mark_safe, escape, print, equal, order}
+use Rattle.tera_meaning.specs.Question
+use Rattle.tera_meaning.specs.Request.{Command, set, remove, mark_safe, ask, weigh, find, asking, asking_into}
+use Rattle.tera_meaning.specs.Search
+use Rattle.tera_meaning.specs.Weighing
+use Rattle.tera_script.specs.declared.verb.Verb.TheVariants as verb
+use Rattle.tera_script.specs.declared.verb.OneName.{OneName}
+use Rattle.tera_script.specs.declared.verb.OneName.TheVariants as one
+use Rattle.tera_script.specs.declared.verb.TwoNames.{TwoNames}
+use Rattle.tera_script.specs.declared.verb.TwoNames.TheVariants as two
+use Rattle.tera_script.specs.declared.verb.KeepingName.TheVariants as keep
+use Rattle.tera_script.specs.Verb.{of_one, of_two}
 use Rattle.tera_script.specs.Number.{SpellsNumber}
 use Rattle.tera_script.specs.Text.{SpellsText, itself, character, line_feed}
 use Rattle.tera_script.specs.Word.{IsGap, IsName}
@@ -16,12 +26,6 @@ use Rattle.tera_script.specs.Literal.{SpellsLiteral}
 use Rattle.tera_script.specs.Line.{levels, SpellsOperand, SpellsCommand, Says, IsSkipped}
 use Rattle.tera_script.specs.Nested.{in_brackets, in_arrays}
 use Rattle.tera_script.proofs.Literals.{less}
-
-abbrev pub command : Request → Command
-command request = record { request = request; into = None }
-
-abbrev pub keeping : Request → List ℕ → Command
-keeping request name = record { request = request; into = Some name }
 
 pub one_blank : IsGap (codes " ")
 one_blank = (lit< tt, refl)
@@ -39,15 +43,27 @@ operand_a = blank_then (codes "a") (refl, refl)
 operand_b : SpellsOperand (codes " b") (codes "b")
 operand_b = blank_then (codes "b") (refl, refl)
 
-pub says_eq : Says (codes "eq a b") (command (equal (codes "a") (codes "b")))
-unfolding encode
-says_eq = says (codes "eq a b") (command (equal (codes "a") (codes "b"))) (codes "eq a b", (refl, refl)) (codes " a b", (refl, (codes " a", codes " b", operand_a, operand_b, refl)), refl)
+-- a call of one name, and of two
+says_one : (o : OneName) → IsUtf8 ((of_one o).0 ++ codes " a") → Says ((of_one o).0 ++ codes " a") (asking ((of_one o).1 (codes "a")))
+says_one o u =
+    says ((of_one o).0 ++ codes " a") (asking ((of_one o).1 (codes "a"))) u
+    (verb.One o, codes " a", (codes "a", operand_a, refl), refl)
 
-pub says_cmp : Says (codes "cmp a b") (command (order (codes "a") (codes "b")))
-unfolding encode
-says_cmp = says (codes "cmp a b") (command (order (codes "a") (codes "b"))) (codes "cmp a b", (refl, refl)) (codes " a b", (refl, (codes " a", codes " b", operand_a, operand_b, refl)), refl)
+says_two : (o : TwoNames) → IsUtf8 ((of_two o).0 ++ codes " a b")
+    → Says ((of_two o).0 ++ codes " a b") (asking ((of_two o).1 (codes "a") (codes "b")))
+says_two o u =
+    says ((of_two o).0 ++ codes " a b") (asking ((of_two o).1 (codes "a") (codes "b"))) u
+    (verb.Two o, codes " a b", (codes "a", codes "b", (codes " a", codes " b", operand_a, operand_b, refl), refl), refl)
 
-pub says_print : Says (codes "\tprint _x9 ") (command (print (codes "_x9")))
+pub says_eq : Says (codes "eq a b") (asking (weigh Weighing.equal (codes "a") (codes "b")))
+unfolding encode
+says_eq = says_two two.Equal (codes "eq a b", (refl, refl))
+
+pub says_cmp : Says (codes "cmp a b") (asking (weigh Weighing.compare (codes "a") (codes "b")))
+unfolding encode
+says_cmp = says_two two.Compare (codes "cmp a b", (refl, refl))
+
+pub says_print : Says (codes "\tprint _x9 ") (asking (ask Question.print (codes "_x9")))
 unfolding encode
 says_print = record {
   utf8 = (codes "\tprint _x9 ", (refl, refl));
@@ -55,52 +71,67 @@ says_print = record {
   call = codes "print _x9";
   after = codes " ";
   padded = (refl, refl);
-  spelled = (codes " _x9", (refl, blank_then (codes "_x9") (refl, refl)), refl);
+  spelled = (verb.One one.Print, codes " _x9", (codes "_x9", blank_then (codes "_x9") (refl, refl), refl), refl);
   whole = refl;
 }
 
-pub says_remove : Says (codes "remove a") (command (remove (codes "a")))
+pub says_remove : Says (codes "remove a") (asking (remove (codes "a")))
 unfolding encode
-says_remove = says (codes "remove a") (command (remove (codes "a"))) (codes "remove a", (refl, refl)) (codes " a", (refl, operand_a), refl)
+says_remove = says_one one.Remove (codes "remove a", (refl, refl))
 
-pub says_has : Says (codes "has a") (command (has (codes "a")))
+pub says_has : Says (codes "has a") (asking (ask Question.has (codes "a")))
 unfolding encode
-says_has = says (codes "has a") (command (has (codes "a"))) (codes "has a", (refl, refl)) (codes " a", (refl, operand_a), refl)
+says_has = says_one one.Has (codes "has a", (refl, refl))
 
-pub says_len : Says (codes "len a") (command (len (codes "a")))
+pub says_len : Says (codes "len a") (asking (ask Question.len (codes "a")))
 unfolding encode
-says_len = says (codes "len a") (command (len (codes "a"))) (codes "len a", (refl, refl)) (codes " a", (refl, operand_a), refl)
+says_len = says_one one.Len (codes "len a", (refl, refl))
 
-pub says_truthy : Says (codes "truthy a") (command (truthy (codes "a")))
+pub says_truthy : Says (codes "truthy a") (asking (ask Question.truthy (codes "a")))
 unfolding encode
-says_truthy = says (codes "truthy a") (command (truthy (codes "a"))) (codes "truthy a", (refl, refl)) (codes " a", (refl, operand_a), refl)
+says_truthy = says_one one.Truthy (codes "truthy a", (refl, refl))
 
-pub says_kind : Says (codes "kind a") (command (kind_of (codes "a")))
+pub says_kind : Says (codes "kind a") (asking (ask Question.kind (codes "a")))
 unfolding encode
-says_kind = says (codes "kind a") (command (kind_of (codes "a"))) (codes "kind a", (refl, refl)) (codes " a", (refl, operand_a), refl)
+says_kind = says_one one.Kind (codes "kind a", (refl, refl))
 
-pub says_is_safe : Says (codes "is_safe a") (command (is_safe (codes "a")))
+pub says_is_safe : Says (codes "is_safe a") (asking (ask Question.is_safe (codes "a")))
 unfolding encode
-says_is_safe = says (codes "is_safe a") (command (is_safe (codes "a"))) (codes "is_safe a", (refl, refl)) (codes " a", (refl, operand_a), refl)
+says_is_safe = says_one one.IsSafe (codes "is_safe a", (refl, refl))
 
-pub says_escape : Says (codes "escape a") (command (escape (codes "a")))
+pub says_escape : Says (codes "escape a") (asking (ask Question.escape (codes "a")))
 unfolding encode
-says_escape = says (codes "escape a") (command (escape (codes "a"))) (codes "escape a", (refl, refl)) (codes " a", (refl, operand_a), refl)
+says_escape = says_one one.Escape (codes "escape a", (refl, refl))
 
-pub says_get : Says (codes "get a") (command (get (codes "a")))
+pub says_get : Says (codes "get a") (asking (find (Search.get (codes "a"))))
 unfolding encode
-says_get = says (codes "get a") (command (get (codes "a"))) (codes "get a", (refl, refl)) (codes " a", (codes " a", [], operand_a, refl, refl), refl)
+says_get =
+    says (codes "get a") (asking (find (Search.get (codes "a")))) (codes "get a", (refl, refl))
+    (verb.Keeping keep.Get, codes " a", (codes "a", None, (codes " a", [], operand_a, refl, refl), refl), refl)
 
-pub says_mark_safe : Says (codes "mark_safe a") (command (mark_safe (codes "a")))
+pub says_mark_safe : Says (codes "mark_safe a") (asking (mark_safe (codes "a")))
 unfolding encode
-says_mark_safe = says (codes "mark_safe a") (command (mark_safe (codes "a"))) (codes "mark_safe a", (refl, refl)) (codes " a", (codes " a", [], operand_a, refl, refl), refl)
+says_mark_safe =
+    says (codes "mark_safe a") (asking (mark_safe (codes "a"))) (codes "mark_safe a", (refl, refl))
+    (verb.Keeping keep.MarkSafe, codes " a", (codes "a", None, (codes " a", [], operand_a, refl, refl), refl), refl)
 
 -- with a name for what is found
-pub says_get_into : Says (codes "get a -> b") (keeping (get (codes "a")) (codes "b"))
+pub says_get_into : Says (codes "get a -> b") (asking_into (find (Search.get (codes "a"))) (codes "b"))
 unfolding encode
-says_get_into = says (codes "get a -> b") (keeping (get (codes "a")) (codes "b")) (codes "get a -> b", (refl, refl)) (codes " a -> b", (codes " a", codes " -> b", operand_a, (codes " ", codes " b", one_blank, operand_b, refl), refl), refl)
+says_get_into =
+    says (codes "get a -> b") (asking_into (find (Search.get (codes "a"))) (codes "b")) (codes "get a -> b", (refl, refl)) (
+      verb.Keeping keep.Get,
+      codes " a -> b",
+      (
+        codes "a",
+        Some (codes "b"),
+        (codes " a", codes " -> b", operand_a, (codes " ", codes " b", one_blank, operand_b, refl), refl),
+        refl,
+      ),
+      refl,
+    )
 
-pub says_mark_safe_into : Says (codes "mark_safe a\t->  a ") (keeping (mark_safe (codes "a")) (codes "a"))
+pub says_mark_safe_into : Says (codes "mark_safe a\t->  a ") (asking_into (mark_safe (codes "a")) (codes "a"))
 unfolding encode
 says_mark_safe_into = record {
   utf8 = (codes "mark_safe a\t->  a ", (refl, refl));
@@ -108,7 +139,7 @@ says_mark_safe_into = record {
   call = codes "mark_safe a\t->  a";
   after = codes " ";
   padded = (refl, refl);
-  spelled = (codes " a\t->  a", (codes " a", codes "\t->  a", operand_a, (codes "\t", codes "  a", (lit< tt, refl), (codes "  ", (lit< tt, refl), (refl, refl), refl), refl), refl), refl);
+  spelled = (verb.Keeping keep.MarkSafe, codes " a\t->  a", (codes "a", Some (codes "a"), (codes " a", codes "\t->  a", operand_a, (codes "\t", codes "  a", (lit< tt, refl), (codes "  ", (lit< tt, refl), (refl, refl), refl), refl), refl), refl), refl);
   whole = refl;
 }
 
@@ -116,7 +147,7 @@ says_mark_safe_into = record {
 zero_spelled : SpellsNumber (codes "-0") (record { kind = i64; value = pos 0 })
 zero_spelled = record { minus = true; digits = codes "0"; suffix = None; numeral = (lit< tt, (lit< tt, tt)); spelled = refl; value = refl; kind = lit< tt }
 
-pub says_set_zero : Says (codes "  set a_1   -0  ") (command (set (codes "a_1") (number (record { kind = i64; value = pos 0 }))))
+pub says_set_zero : Says (codes "  set a_1   -0  ") (asking (set (codes "a_1") (number (record { kind = i64; value = pos 0 }))))
 unfolding encode
 says_set_zero = record {
   utf8 = (codes "  set a_1   -0  ", (refl, refl));
@@ -124,25 +155,25 @@ says_set_zero = record {
   call = codes "set a_1   -0";
   after = codes "  ";
   padded = (refl, refl);
-  spelled = (codes " a_1   -0", (refl, codes " a_1", codes "   -0", blank_then (codes "a_1") (refl, refl), (codes "   ", codes "-0", (lit< tt, refl), zero_spelled, lit≤ tt, refl), refl), refl);
+  spelled = (verb.Set, codes " a_1   -0", (codes "a_1", number (record { kind = i64; value = pos 0 }), (codes " a_1", codes "   -0", blank_then (codes "a_1") (refl, refl), (codes "   ", codes "-0", (lit< tt, refl), zero_spelled, lit≤ tt, refl), refl), refl), refl);
   whole = refl;
 }
 
 -- a line that sets a
-sets : (literal : List ℕ) (value : Form) → IsUtf8 (codes "set a " ++ literal) → SpellsLiteral literal value → depth value ≤ levels → Says (codes "set a " ++ literal) (command (set (codes "a") value))
-sets literal value u s d = says (codes "set a " ++ literal) (command (set (codes "a") value)) u (codes " a " ++ literal, (refl, codes " a", codes " " ++ literal, operand_a, (codes " ", literal, one_blank, s, d, refl), refl), refl)
+sets : (literal : List ℕ) (value : Form) → IsUtf8 (codes "set a " ++ literal) → SpellsLiteral literal value → depth value ≤ levels → Says (codes "set a " ++ literal) (asking (set (codes "a") value))
+sets literal value u s d = says (codes "set a " ++ literal) (asking (set (codes "a") value)) u (verb.Set, codes " a " ++ literal, (codes "a", value, (codes " a", codes " " ++ literal, operand_a, (codes " ", literal, one_blank, s, d, refl), refl), refl), refl)
 
 abbrev one_in : IntegerKind → Integer
 one_in kind = record { kind = kind; value = pos 1 }
 
-pub says_set_u64 : Says (codes "set a 1u64") (command (set (codes "a") (number (one_in u64))))
+pub says_set_u64 : Says (codes "set a 1u64") (asking (set (codes "a") (number (one_in u64))))
 unfolding encode
 says_set_u64 = sets (codes "1u64") (number (one_in u64)) (codes "set a 1u64", (refl, refl)) (record { minus = false; digits = codes "1"; suffix = Some u64; numeral = (lit< tt, (lit< tt, tt)); spelled = refl; value = refl; kind = (tt, refl, lit< tt) }) (lit≤ tt)
 
 pub one_spelled : SpellsNumber (codes "1") (one_in i64)
 one_spelled = record { minus = false; digits = codes "1"; suffix = None; numeral = (lit< tt, (lit< tt, tt)); spelled = refl; value = refl; kind = lit< tt }
 
-pub says_set_plain : Says (codes "set a 1") (command (set (codes "a") (number (one_in i64))))
+pub says_set_plain : Says (codes "set a 1") (asking (set (codes "a") (number (one_in i64))))
 unfolding encode
 says_set_plain = sets (codes "1") (number (one_in i64)) (codes "set a 1", (refl, refl)) one_spelled (lit≤ tt)
 
@@ -150,24 +181,24 @@ safe_text : SpellsText (codes "a\\u{e9}\\n") (97 ∷ 195 ∷ 169 ∷ 10 ∷ [])
 unfolding encode
 safe_text = (itself 97 ∷ character (codes "e9") ∷ line_feed ∷ [], ((less 97 34 (lit< tt), less 97 92 (lit< tt)), (((lit< tt, (lit< tt, tt)), lit< tt, lit≤ tt, refl), (tt, tt))), refl, refl)
 
-pub says_set_text : Says (codes "set t s\"a\\u{e9}\\n\"") (command (set (codes "t") (text (record { spelled = 97 ∷ 195 ∷ 169 ∷ 10 ∷ []; safe = true }))))
+pub says_set_text : Says (codes "set t s\"a\\u{e9}\\n\"") (asking (set (codes "t") (text (record { spelled = 97 ∷ 195 ∷ 169 ∷ 10 ∷ []; safe = true }))))
 unfolding encode
-says_set_text = says (codes "set t s\"a\\u{e9}\\n\"") (command (set (codes "t") (text (record { spelled = 97 ∷ 195 ∷ 169 ∷ 10 ∷ []; safe = true })))) (codes "set t s\"a\\u{e9}\\n\"", (refl, refl))
-    (codes " t s\"a\\u{e9}\\n\"", (refl, codes " t", codes " s\"a\\u{e9}\\n\"", blank_then (codes "t") (refl, refl), (codes " ", codes "s\"a\\u{e9}\\n\"", one_blank, (codes "a\\u{e9}\\n", safe_text, refl), lit≤ tt, refl), refl), refl)
+says_set_text = says (codes "set t s\"a\\u{e9}\\n\"") (asking (set (codes "t") (text (record { spelled = 97 ∷ 195 ∷ 169 ∷ 10 ∷ []; safe = true })))) (codes "set t s\"a\\u{e9}\\n\"", (refl, refl))
+    (verb.Set, codes " t s\"a\\u{e9}\\n\"", (codes "t", text (record { spelled = 97 ∷ 195 ∷ 169 ∷ 10 ∷ []; safe = true }), (codes " t", codes " s\"a\\u{e9}\\n\"", blank_then (codes "t") (refl, refl), (codes " ", codes "s\"a\\u{e9}\\n\"", one_blank, (codes "a\\u{e9}\\n", safe_text, refl), lit≤ tt, refl), refl), refl), refl)
 
-pub says_set_bytes : Says (codes "set a x\"6aFF\"") (command (set (codes "a") (bytes (106 ∷ 255 ∷ []))))
+pub says_set_bytes : Says (codes "set a x\"6aFF\"") (asking (set (codes "a") (bytes (106 ∷ 255 ∷ []))))
 unfolding encode
 says_set_bytes = sets (codes "x\"6aFF\"") (bytes (106 ∷ 255 ∷ [])) (codes "set a x\"6aFF\"", (refl, refl)) (codes "6aFF", (54, 97, codes "FF", lit< tt, lit< tt, refl, (70, 70, [], lit< tt, lit< tt, refl, refl, refl), refl), refl) (lit≤ tt)
 
-pub says_set_no_bytes : Says (codes "set a x\"\"") (command (set (codes "a") (bytes [])))
+pub says_set_no_bytes : Says (codes "set a x\"\"") (asking (set (codes "a") (bytes [])))
 unfolding encode
 says_set_no_bytes = sets (codes "x\"\"") (bytes []) (codes "set a x\"\"", (refl, refl)) ([], refl, refl) (lit≤ tt)
 
-pub says_set_no_items : Says (codes "set a []") (command (set (codes "a") (array (items []))))
+pub says_set_no_items : Says (codes "set a []") (asking (set (codes "a") (array (items []))))
 unfolding encode
 says_set_no_items = sets (codes "[]") (array (items [])) (codes "set a []", (refl, refl)) ([], refl, refl) (lit≤ tt)
 
-pub says_set_blanks : Says (codes "set a [ none\t,[ ] ]") (command (set (codes "a") (array (items (none ∷ array (items []) ∷ [])))))
+pub says_set_blanks : Says (codes "set a [ none\t,[ ] ]") (asking (set (codes "a") (array (items (none ∷ array (items []) ∷ [])))))
 unfolding encode
 says_set_blanks = sets (codes "[ none\t,[ ] ]") (array (items (none ∷ array (items []) ∷ []))) (codes "set a [ none\t,[ ] ]", (refl, refl))
     (codes " none\t,[ ] ", (codes " none\t", codes ",[ ] ", (codes " ", codes "none", codes "\t", refl, refl, refl, refl), (codes "[ ] ", [], ([], codes "[ ]", codes " ", refl, (codes " ", refl, refl), refl, refl), refl, refl), refl), refl) (lit≤ tt)
@@ -193,12 +224,12 @@ none_ascii = IsAscii-cons 110 (codes "one") (lit< tt) (IsAscii-cons 111 (codes "
 set_ascii : IsAscii (codes "set a ")
 set_ascii = IsAscii-cons 115 (codes "et a ") (lit< tt) (IsAscii-cons 101 (codes "t a ") (lit< tt) (IsAscii-cons 116 (codes " a ") (lit< tt) (IsAscii-cons 32 (codes "a ") (lit< tt) (IsAscii-cons 97 (codes " ") (lit< tt) (IsAscii-cons 32 [] (lit< tt) IsAscii-nil)))))
 
-nested_says : (n : ℕ) → n ≤ levels → Says (codes "set a " ++ in_brackets n (codes "none")) (command (set (codes "a") (in_arrays n none)))
+nested_says : (n : ℕ) → n ≤ levels → Says (codes "set a " ++ in_brackets n (codes "none")) (asking (set (codes "a") (in_arrays n none)))
 nested_says n h =
     let literal = in_brackets n (codes "none") in
     sets literal (in_arrays n none) (IsUtf8-from_ascii (codes "set a " ++ literal) (IsAscii-append (codes "set a ") literal set_ascii (nested_ascii n (codes "none") none_ascii))) (nested_spelled n (codes "none") none refl) (omega (arith, nested_depth n none, h))
 
-pub says_deepest : Says (codes "set a " ++ in_brackets 64 (codes "none")) (command (set (codes "a") (in_arrays 64 none)))
+pub says_deepest : Says (codes "set a " ++ in_brackets 64 (codes "none")) (asking (set (codes "a") (in_arrays 64 none)))
 says_deepest = nested_says 64 (lit≤ tt)
 
 pub skips_nothing : IsSkipped []

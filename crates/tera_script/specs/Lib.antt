@@ -3,6 +3,7 @@ pub mod Text
 pub mod TextParts
 pub mod Number
 pub mod Literal
+pub mod Verb
 pub mod Line
 pub mod Readers
 pub mod Nested

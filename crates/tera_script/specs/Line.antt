@@ -2,9 +2,12 @@
 use Rattle.std.specs.Prelude.{◌≡◌, ◌≤◌, ℕ, ◌⊎◌, List, [], ◌∷◌, ◌++◌, Option, Some, None, codes}
 use Rattle.std.specs.Str.{IsUtf8}
 use Rattle.tera_meaning.specs.Form.{Form}
-use Rattle.tera_meaning.specs.Step.{Command, Request, set, remove, has, get, len, truthy, kind_of, is_safe, mark_safe, escape, print, equal, order}
+use Rattle.tera_meaning.specs.Request.{Command, set, asking}
 use Rattle.tera_meaning.specs.Tree.{depth}
+use Rattle.tera_script.specs.declared.verb.Verb.{Verb}
+use Rattle.tera_script.specs.declared.verb.Verb.TheVariants as verb
 use Rattle.tera_script.specs.Literal.{SpellsLiteral}
+use Rattle.tera_script.specs.Verb.{of_one, of_two, of_keeping, word_of}
 use Rattle.tera_script.specs.Word.{AreBlanks, IsGap, IsName}
 
 -- a gap and a name
@@ -17,55 +20,49 @@ levels = 64
 
 -- a gap and a literal
 abbrev pub SpellsValue : List ℕ → Form → Type 0
-SpellsValue bytes value = (gap : List ℕ) × (literal : List ℕ) × IsGap gap × SpellsLiteral literal value × (depth value ≤ levels) × (bytes ≡ gap ++ literal)
+SpellsValue bytes value =
+    (gap : List ℕ) × (literal : List ℕ) × IsGap gap × SpellsLiteral literal value × (depth value ≤ levels)
+    × (bytes ≡ gap ++ literal)
+
+-- an operand and a value
+abbrev pub SpellsNamed : List ℕ → List ℕ → Form → Type 0
+SpellsNamed bytes name value =
+    (first : List ℕ) × (second : List ℕ) × SpellsOperand first name × SpellsValue second value × (bytes ≡ first ++ second)
 
 -- two operands, one behind the other
 abbrev pub SpellsTwo : List ℕ → List ℕ → List ℕ → Type 0
-SpellsTwo bytes left right = (first : List ℕ) × (second : List ℕ) × SpellsOperand first left × SpellsOperand second right × (bytes ≡ first ++ second)
+SpellsTwo bytes left right =
+    (first : List ℕ) × (second : List ℕ) × SpellsOperand first left × SpellsOperand second right
+    × (bytes ≡ first ++ second)
 
 -- nothing; or a gap, an arrow, a gap and the name under which is kept what is found
 abbrev pub SpellsInto : List ℕ → Option (List ℕ) → Type 0
 SpellsInto bytes None = bytes ≡ []
-SpellsInto bytes (Some into) = (gap : List ℕ) × (operand : List ℕ) × IsGap gap × SpellsOperand operand into × (bytes ≡ gap ++ (codes "->" ++ operand))
+SpellsInto bytes (Some into) =
+    (gap : List ℕ) × (operand : List ℕ) × IsGap gap × SpellsOperand operand into
+    × (bytes ≡ gap ++ (codes "->" ++ operand))
 
 -- an operand, and then the name for what is found, if one is given
 abbrev pub SpellsKeeping : List ℕ → List ℕ → Option (List ℕ) → Type 0
-SpellsKeeping bytes name into = (first : List ℕ) × (second : List ℕ) × SpellsOperand first name × SpellsInto second into × (bytes ≡ first ++ second)
+SpellsKeeping bytes name into =
+    (first : List ℕ) × (second : List ℕ) × SpellsOperand first name × SpellsInto second into × (bytes ≡ first ++ second)
 
--- the word of a call
-abbrev pub word_of : Request → List ℕ
-word_of (set name value) = codes "set"
-word_of (remove name) = codes "remove"
-word_of (has name) = codes "has"
-word_of (get name) = codes "get"
-word_of (len name) = codes "len"
-word_of (truthy name) = codes "truthy"
-word_of (kind_of name) = codes "kind"
-word_of (is_safe name) = codes "is_safe"
-word_of (mark_safe name) = codes "mark_safe"
-word_of (escape name) = codes "escape"
-word_of (print name) = codes "print"
-word_of (equal left right) = codes "eq"
-word_of (order left right) = codes "cmp"
+-- what stands behind the word of a call, and the command that it gives. Only some may have a name for what they find
+abbrev pub SpellsOperands : Verb → List ℕ → Command → Type 0
+SpellsOperands verb.Set bytes command =
+    (name : List ℕ) × (value : Form) × SpellsNamed bytes name value × (command ≡ asking (set name value))
+SpellsOperands (verb.One o) bytes command =
+    (name : List ℕ) × SpellsOperand bytes name × (command ≡ asking ((of_one o).1 name))
+SpellsOperands (verb.Two o) bytes command =
+    (left : List ℕ) × (right : List ℕ) × SpellsTwo bytes left right × (command ≡ asking ((of_two o).1 left right))
+SpellsOperands (verb.Keeping o) bytes command =
+    (name : List ℕ) × (into : Option (List ℕ)) × SpellsKeeping bytes name into
+    × (command ≡ record { request = (of_keeping o).1 name; into = into })
 
--- what stands behind the word of a call. Only `get` and `mark_safe` may have a name for what they find
-abbrev pub SpellsOperands : List ℕ → Request → Option (List ℕ) → Type 0
-SpellsOperands bytes (get name) into = SpellsKeeping bytes name into
-SpellsOperands bytes (mark_safe name) into = SpellsKeeping bytes name into
-SpellsOperands bytes (set name value) into = (into ≡ None) × (first : List ℕ) × (second : List ℕ) × SpellsOperand first name × SpellsValue second value × (bytes ≡ first ++ second)
-SpellsOperands bytes (equal left right) into = (into ≡ None) × SpellsTwo bytes left right
-SpellsOperands bytes (order left right) into = (into ≡ None) × SpellsTwo bytes left right
-SpellsOperands bytes (remove name) into = (into ≡ None) × SpellsOperand bytes name
-SpellsOperands bytes (has name) into = (into ≡ None) × SpellsOperand bytes name
-SpellsOperands bytes (len name) into = (into ≡ None) × SpellsOperand bytes name
-SpellsOperands bytes (truthy name) into = (into ≡ None) × SpellsOperand bytes name
-SpellsOperands bytes (kind_of name) into = (into ≡ None) × SpellsOperand bytes name
-SpellsOperands bytes (is_safe name) into = (into ≡ None) × SpellsOperand bytes name
-SpellsOperands bytes (escape name) into = (into ≡ None) × SpellsOperand bytes name
-SpellsOperands bytes (print name) into = (into ≡ None) × SpellsOperand bytes name
-
+-- the word of a call and its operands
 abbrev pub SpellsCommand : List ℕ → Command → Type 0
-SpellsCommand bytes command = (operands : List ℕ) × SpellsOperands operands command.request command.into × (bytes ≡ word_of command.request ++ operands)
+SpellsCommand bytes command =
+    (verb : Verb) × (operands : List ℕ) × SpellsOperands verb operands command × (bytes ≡ word_of verb ++ operands)
 
 -- a command with blanks before and after it, or with none, all of it UTF-8
 pub record Says (line : List ℕ) (command : Command) : Type 0 where
@@ -79,7 +76,9 @@ pub record Says (line : List ℕ) (command : Command) : Type 0 where
 
 -- blanks alone, or blanks and then a # (35) with any bytes behind it
 abbrev pub IsSkipped : List ℕ → Type 0
-IsSkipped line = AreBlanks line ⊎ ((blanks : List ℕ) × (comment : List ℕ) × AreBlanks blanks × (line ≡ blanks ++ 35 ∷ comment))
+IsSkipped line =
+    AreBlanks line
+    ⊎ ((blanks : List ℕ) × (comment : List ℕ) × AreBlanks blanks × (line ≡ blanks ++ 35 ∷ comment))
 
 -- any other line that says no command
 abbrev pub IsBad : List ℕ → Type 0

@@ -10,18 +10,16 @@ use Rattle.tera_meaning.specs.Integer.{IntegerKind, u64, i64, u128, i128, Intege
 use Rattle.tera_meaning.specs.Form.{Form, MarkedText}
 use Rattle.tera_meaning.specs.KeyMeaning.{KeyForm}
 use Rattle.tera_meaning.specs.Tree.{Items, undefined, none, truth, number, text as text_value, bytes as bytes_value, array, no_items, item, depth}
-use Rattle.tera_meaning.specs.Step.{Request, Command, set, remove, has, get, len, truthy, kind_of, is_safe, mark_safe, escape, print, equal, order}
+use Rattle.tera_meaning.specs.Request.{Command}
 use Rattle.tera_script.specs.Number.{kind_word, signed}
 use Rattle.tera_script.specs.declared.number.Suffix.{Suffix}
 use Rattle.tera_script.specs.declared.number.Suffix.TheVariants.{U64, I64, U128, I128}
 use Rattle.tera_script.specs.declared.verb.Verb.{Verb}
-use Rattle.tera_script.specs.declared.verb.Verb.TheVariants.{Set, Two, One, Keeping}
-use Rattle.tera_script.specs.declared.verb.TwoNames.{TwoNames}
-use Rattle.tera_script.specs.declared.verb.TwoNames.TheVariants.{Equal, Compare}
-use Rattle.tera_script.specs.declared.verb.OneName.{OneName}
-use Rattle.tera_script.specs.declared.verb.OneName.TheVariants.{Remove, Has, Len, Truthy, Kind, IsSafe, Escape, Print}
-use Rattle.tera_script.specs.declared.verb.Kept.{Kept}
-use Rattle.tera_script.specs.declared.verb.Kept.TheVariants.{Get, MarkSafe}
+use Rattle.tera_script.specs.declared.verb.Verb.TheVariants as verb
+use Rattle.tera_script.specs.declared.verb.OneName.TheVariants as one
+use Rattle.tera_script.specs.declared.verb.TwoNames.TheVariants as two
+use Rattle.tera_script.specs.declared.verb.KeepingName.TheVariants as keeping
+use Rattle.tera_script.specs.Verb.{word_of}
 use Rattle.tera_script.specs.Word.{is_blank, AreBlanks, is_name_start, is_name_byte}
 use Rattle.tera_script.specs.Line.{SpellsOperands, SpellsCommand}
 use Rattle.tera_script.specs.Literal.{SpellsLiteral}
@@ -239,81 +237,53 @@ keeping_in bytes = do
 abbrev pub name_into : Bor (List ℕ) × Option (Bor (List ℕ)) → List ℕ × Option (List ℕ)
 name_into pair = (pair.0.now, option_map (λ name. name.now) pair.1)
 
--- what is called
-abbrev pub two_request : TwoNames → List ℕ → List ℕ → Request
-two_request Equal left right = equal left right
-two_request Compare left right = order left right
+-- the verb, if a word is of this length and this first byte, and else what is given
+abbrev pub if_like : ℕ → ℕ → ℕ → ℕ → Verb → Option Verb → Option Verb
+if_like len word_len first word_first verb otherwise =
+    cond ((len == word_len) && (first == word_first)) (Some verb) otherwise
 
-abbrev pub one_request : OneName → List ℕ → Request
-one_request Remove name = remove name
-one_request Has name = has name
-one_request Len name = len name
-one_request Truthy name = truthy name
-one_request Kind name = kind_of name
-one_request IsSafe name = is_safe name
-one_request Escape name = escape name
-one_request Print name = print name
+-- the one verb whose word may have this length and this first byte
+unfoldable pub likely_verb : ℕ → ℕ → Option Verb
+likely_verb len first =
+    if_like len 2 first 101 (verb.Two two.Equal)
+    (if_like len 3 first 99 (verb.Two two.Compare)
+    (if_like len 3 first 103 (verb.Keeping keeping.Get)
+    (if_like len 3 first 104 (verb.One one.Has)
+    (if_like len 3 first 108 (verb.One one.Len)
+    (if_like len 3 first 115 verb.Set
+    (if_like len 4 first 107 (verb.One one.Kind)
+    (if_like len 5 first 112 (verb.One one.Print)
+    (if_like len 6 first 101 (verb.One one.Escape)
+    (if_like len 6 first 114 (verb.One one.Remove)
+    (if_like len 6 first 116 (verb.One one.Truthy)
+    (if_like len 7 first 105 (verb.One one.IsSafe)
+    (if_like len 9 first 109 (verb.Keeping keeping.MarkSafe) None))))))))))))
 
-abbrev pub kept_request : Kept → List ℕ → Request
-kept_request Get name = get name
-kept_request MarkSafe name = mark_safe name
+-- what a look-up of a word answers: the verb of that word, or nothing where it is no verb's
+abbrev pub IsVerbOf : List ℕ → Option Verb → Type 0
+IsVerbOf word (Some verb) = word_of verb ≡ word
+IsVerbOf word None = (verb : Verb) → word_of verb ≢ word
 
-abbrev pub verb_of : Request → Verb
-verb_of (set name value) = Set
-verb_of (equal left right) = Two Equal
-verb_of (order left right) = Two Compare
-verb_of (remove name) = One Remove
-verb_of (has name) = One Has
-verb_of (len name) = One Len
-verb_of (truthy name) = One Truthy
-verb_of (kind_of name) = One Kind
-verb_of (is_safe name) = One IsSafe
-verb_of (escape name) = One Escape
-verb_of (print name) = One Print
-verb_of (get name) = Keeping Get
-verb_of (mark_safe name) = Keeping MarkSafe
-
--- the verb, if the word is this text, and else what is given
-abbrev pub if_verb : List ℕ → List ℕ → Verb → Option Verb → Option Verb
-if_verb word text verb otherwise = cond (bytes_eq word text) (Some verb) otherwise
-
--- the verb that a word names
-unfoldable pub verb_in : List ℕ → Option Verb
-verb_in word =
-    if_verb word (codes "set") Set
-    (if_verb word (codes "eq") (Two Equal)
-    (if_verb word (codes "cmp") (Two Compare)
-    (if_verb word (codes "remove") (One Remove)
-    (if_verb word (codes "has") (One Has)
-    (if_verb word (codes "len") (One Len)
-    (if_verb word (codes "truthy") (One Truthy)
-    (if_verb word (codes "kind") (One Kind)
-    (if_verb word (codes "is_safe") (One IsSafe)
-    (if_verb word (codes "escape") (One Escape)
-    (if_verb word (codes "print") (One Print)
-    (if_verb word (codes "get") (Keeping Get)
-    (if_verb word (codes "mark_safe") (Keeping MarkSafe) None))))))))))))
-
--- the operands of the command stand before blanks
-pub record EndsInOperands (bytes : List ℕ) (command : Command) : Type 0 where
-  pub operands : List ℕ
+-- a part of which this holds stands before blanks
+pub record Before (P : List ℕ → Type 0) (bytes : List ℕ) : Type 0 where
+  pub part : List ℕ
   pub after : List ℕ
-  pub spells : SpellsOperands operands command.request command.into
+  pub spells : P part
   pub blanks : AreBlanks after
-  pub spelled : bytes ≡ operands ++ after
+  pub spelled : bytes ≡ part ++ after
+
+-- the operands of a verb that give the command stand before blanks
+abbrev pub EndsInOperands : Verb → List ℕ → Command → Type 0
+EndsInOperands verb bytes command = Before (λ operands. SpellsOperands verb operands command) bytes
 
 -- what a reader of operands answers behind a call's word: the one command that stands there, or nothing where none does
 abbrev pub AreOperandsOf : Verb → List ℕ → Option Command → Type 0
-AreOperandsOf verb bytes (Some command) = (verb_of command.request ≡ verb) × EndsInOperands bytes command
-AreOperandsOf verb bytes None = IsUtf8 bytes → (command : Command) → verb_of command.request ≡ verb → ¬ EndsInOperands bytes command
+AreOperandsOf verb bytes (Some command) = EndsInOperands verb bytes command
+AreOperandsOf verb bytes None = IsUtf8 bytes → (command : Command) → ¬ EndsInOperands verb bytes command
 
 -- a command stands before blanks
-pub record EndsInCommand (bytes : List ℕ) (command : Command) : Type 0 where
-  pub call : List ℕ
-  pub after : List ℕ
-  pub spells : SpellsCommand call command
-  pub blanks : AreBlanks after
-  pub spelled : bytes ≡ call ++ after
+abbrev pub EndsInCommand : List ℕ → Command → Type 0
+EndsInCommand bytes command = Before (λ call. SpellsCommand call command) bytes
 
 -- what a reader of commands answers: the command that stands there, or nothing where none does
 abbrev pub IsCommandAt : List ℕ → Option Command → Type 0

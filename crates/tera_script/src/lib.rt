@@ -1,7 +1,7 @@
 //! The grammar of scripts: from the bytes of one line to what it says.
 #![tactic(auto)]
 
-mod call;
+mod command;
 mod escape;
 mod hex;
 mod laws;

@@ -3,7 +3,7 @@ ghost use Rattle.std.specs.Prelude.{◌≡◌, IfOk};
 ghost use Rattle.tera_script.specs.Readers.{is_end_or_comment};
 ghost use Rattle.tera_script.specs.Said.{IsReadingOf};
 
-use crate::call::read_step;
+use crate::command::read_step;
 use crate::word::past_blanks;
 use std::alloc::{AllocError, Global};
 use std::str;

@@ -1,28 +1,23 @@
-//! The words of calls.
-ghost use Rattle.std.specs.Prelude.{◌≡◌};
+//! The words of the calls.
+ghost use Rattle.std.specs.Prelude.{◌≡◌, IfSome, option_map};
 ghost use Rattle.std.specs.String.{string_bytes};
 ghost use Rattle.tera_context.specs.Call.{request_of};
-ghost use Rattle.tera_script.specs.Readers.{verb_in, two_request, one_request, kept_request};
+ghost use Rattle.tera_script.specs.Readers.{likely_verb, IsVerbOf};
+ghost use Rattle.tera_script.specs.Verb.{of_one, of_two, of_keeping, word_of};
 
 use tera_context::Call;
 
-// What a call's word says, by the operands that stand behind it.
+// A call's word, by what stands behind it.
 #[derive(Clone, Copy)]
 pub(crate) enum Verb {
-    // A name and a value.
+    // A name and a literal.
     Set,
-    Two(TwoNames),
     One(OneName),
-    // One name, and maybe a name for what is found.
-    Keeping(Kept),
+    Two(TwoNames),
+    Keeping(KeepingName),
 }
 
-#[derive(Clone, Copy)]
-pub(crate) enum TwoNames {
-    Equal,
-    Compare,
-}
-
+// A name.
 #[derive(Clone, Copy)]
 pub(crate) enum OneName {
     Remove,
@@ -31,65 +26,60 @@ pub(crate) enum OneName {
     Truthy,
     Kind,
     IsSafe,
-    Escape,
     Print,
+    Escape,
 }
 
+// Two names.
 #[derive(Clone, Copy)]
-pub(crate) enum Kept {
+pub(crate) enum TwoNames {
+    Equal,
+    Compare,
+}
+
+// A name, and maybe one for what is found.
+#[derive(Clone, Copy)]
+pub(crate) enum KeepingName {
     Get,
     MarkSafe,
 }
 
-/// The verb that a word names. `None` for any other word. Takes no memory.
-#[tactic(auto, unfolding(crate::specs::Readers::verb_in))]
+/// The verb of a word. `None` for any other word. Takes no memory.
 pub(crate) fn verb_in(word: &[u8]) -> Option<Verb>
-    ensures { result ≡ verb_in word.now }
+    ensures { IsVerbOf word.now result }
 {
-    if word == b"set".as_slice() {
-        Some(Verb::Set)
-    } else if word == b"eq".as_slice() {
-        Some(Verb::Two(TwoNames::Equal))
-    } else if word == b"cmp".as_slice() {
-        Some(Verb::Two(TwoNames::Compare))
-    } else if word == b"remove".as_slice() {
-        Some(Verb::One(OneName::Remove))
-    } else if word == b"has".as_slice() {
-        Some(Verb::One(OneName::Has))
-    } else if word == b"len".as_slice() {
-        Some(Verb::One(OneName::Len))
-    } else if word == b"truthy".as_slice() {
-        Some(Verb::One(OneName::Truthy))
-    } else if word == b"kind".as_slice() {
-        Some(Verb::One(OneName::Kind))
-    } else if word == b"is_safe".as_slice() {
-        Some(Verb::One(OneName::IsSafe))
-    } else if word == b"escape".as_slice() {
-        Some(Verb::One(OneName::Escape))
-    } else if word == b"print".as_slice() {
-        Some(Verb::One(OneName::Print))
-    } else if word == b"get".as_slice() {
-        Some(Verb::Keeping(Kept::Get))
-    } else if word == b"mark_safe".as_slice() {
-        Some(Verb::Keeping(Kept::MarkSafe))
-    } else {
-        None
-    }
+    let (first, _) = word.split_first()?;
+    let (verb, spelled) = likely_verb(word.len(), *first)?;
+    if spelled == word { Some(verb) } else { None }
 }
 
-/// The call of two names. Takes no memory.
-pub(crate) fn two_call(verb: TwoNames, left: String, right: String) -> Call
-    ensures { request_of result ≡ two_request verb (string_bytes left) (string_bytes right) }
+// The one verb whose word may have that length and that first byte, and its word.
+#[tactic(auto, unfolding(crate::specs::Readers::likely_verb))]
+fn likely_verb(len: usize, first: u8) -> Option<(Verb, &'static [u8])>
+    ensures verb { option_map (λ likely. likely.0) result ≡ likely_verb len first }
+    ensures word { IfSome result (λ likely. word_of likely.0 ≡ likely.1.now) }
 {
-    match verb {
-        TwoNames::Equal => Call::Equal { left, right },
-        TwoNames::Compare => Call::Compare { left, right },
+    match (len, first) {
+        (2, b'e') => Some((Verb::Two(TwoNames::Equal), b"eq")),
+        (3, b'c') => Some((Verb::Two(TwoNames::Compare), b"cmp")),
+        (3, b'g') => Some((Verb::Keeping(KeepingName::Get), b"get")),
+        (3, b'h') => Some((Verb::One(OneName::Has), b"has")),
+        (3, b'l') => Some((Verb::One(OneName::Len), b"len")),
+        (3, b's') => Some((Verb::Set, b"set")),
+        (4, b'k') => Some((Verb::One(OneName::Kind), b"kind")),
+        (5, b'p') => Some((Verb::One(OneName::Print), b"print")),
+        (6, b'e') => Some((Verb::One(OneName::Escape), b"escape")),
+        (6, b'r') => Some((Verb::One(OneName::Remove), b"remove")),
+        (6, b't') => Some((Verb::One(OneName::Truthy), b"truthy")),
+        (7, b'i') => Some((Verb::One(OneName::IsSafe), b"is_safe")),
+        (9, b'm') => Some((Verb::Keeping(KeepingName::MarkSafe), b"mark_safe")),
+        _ => None,
     }
 }
 
 /// The call of one name. Takes no memory.
 pub(crate) fn one_call(verb: OneName, name: String) -> Call
-    ensures { request_of result ≡ one_request verb (string_bytes name) }
+    ensures { request_of result ≡ (of_one verb).1 (string_bytes name) }
 {
     match verb {
         OneName::Remove => Call::Remove { name },
@@ -98,17 +88,27 @@ pub(crate) fn one_call(verb: OneName, name: String) -> Call
         OneName::Truthy => Call::Truthy { of: name },
         OneName::Kind => Call::Kind { of: name },
         OneName::IsSafe => Call::IsSafe { of: name },
-        OneName::Escape => Call::Escape { of: name },
         OneName::Print => Call::Print { of: name },
+        OneName::Escape => Call::Escape { of: name },
+    }
+}
+
+/// The call of two names. Takes no memory.
+pub(crate) fn two_call(verb: TwoNames, left: String, right: String) -> Call
+    ensures { request_of result ≡ (of_two verb).1 (string_bytes left) (string_bytes right) }
+{
+    match verb {
+        TwoNames::Equal => Call::Equal { left, right },
+        TwoNames::Compare => Call::Compare { left, right },
     }
 }
 
 /// The call of one name that may keep what it finds. Takes no memory.
-pub(crate) fn kept_call(verb: Kept, name: String) -> Call
-    ensures { request_of result ≡ kept_request verb (string_bytes name) }
+pub(crate) fn keeping_call(verb: KeepingName, name: String) -> Call
+    ensures { request_of result ≡ (of_keeping verb).1 (string_bytes name) }
 {
     match verb {
-        Kept::Get => Call::Get { name },
-        Kept::MarkSafe => Call::MarkSafe { of: name },
+        KeepingName::Get => Call::Get { name },
+        KeepingName::MarkSafe => Call::MarkSafe { of: name },
     }
 }

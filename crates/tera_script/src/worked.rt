@@ -1,33 +1,35 @@
 //! Worked lines. Each function does nothing, and its contract says what some lines say.
 ghost use Rattle.std.specs.Prelude.{[], ◌∷◌, ◌++◌, Some, None, true, codes, pos};
 ghost use Rattle.tera_meaning.specs.Integer.{i64 as kind_i64, u64 as kind_u64};
-ghost use Rattle.tera_meaning.specs.Step.{set, remove, has, get, len, truthy, kind_of, is_safe, mark_safe, escape};
-ghost use Rattle.tera_meaning.specs.Step.{print, equal, order};
+ghost use Rattle.tera_meaning.specs.Question;
+ghost use Rattle.tera_meaning.specs.Request.{set, remove, mark_safe, ask, weigh, find, asking, asking_into};
+ghost use Rattle.tera_meaning.specs.Search;
 ghost use Rattle.tera_meaning.specs.Tree.{none, number, text, bytes, array, items};
+ghost use Rattle.tera_meaning.specs.Weighing;
 ghost use Rattle.tera_script.specs.Line.{Says, IsSkipped, IsBad};
 ghost use Rattle.tera_script.specs.Nested.{in_brackets, in_arrays};
 
 /// Lines that say a call.
 pub fn worked_calls()
-    ensures eq { Says (codes "eq a b") (record { request = equal (codes "a") (codes "b"); into = None }) }
-    ensures cmp { Says (codes "cmp a b") (record { request = order (codes "a") (codes "b"); into = None }) }
-    ensures print { Says (codes "\tprint _x9 ") (record { request = print (codes "_x9"); into = None }) }
-    ensures remove { Says (codes "remove a") (record { request = remove (codes "a"); into = None }) }
-    ensures has { Says (codes "has a") (record { request = has (codes "a"); into = None }) }
-    ensures get { Says (codes "get a") (record { request = get (codes "a"); into = None }) }
-    ensures len { Says (codes "len a") (record { request = len (codes "a"); into = None }) }
-    ensures truthy { Says (codes "truthy a") (record { request = truthy (codes "a"); into = None }) }
-    ensures kind { Says (codes "kind a") (record { request = kind_of (codes "a"); into = None }) }
-    ensures is_safe { Says (codes "is_safe a") (record { request = is_safe (codes "a"); into = None }) }
-    ensures mark_safe { Says (codes "mark_safe a") (record { request = mark_safe (codes "a"); into = None }) }
-    ensures escape { Says (codes "escape a") (record { request = escape (codes "a"); into = None }) }
+    ensures eq { Says (codes "eq a b") (asking (weigh Weighing.equal (codes "a") (codes "b"))) }
+    ensures cmp { Says (codes "cmp a b") (asking (weigh Weighing.compare (codes "a") (codes "b"))) }
+    ensures print { Says (codes "\tprint _x9 ") (asking (ask Question.print (codes "_x9"))) }
+    ensures remove { Says (codes "remove a") (asking (remove (codes "a"))) }
+    ensures has { Says (codes "has a") (asking (ask Question.has (codes "a"))) }
+    ensures get { Says (codes "get a") (asking (find (Search.get (codes "a")))) }
+    ensures len { Says (codes "len a") (asking (ask Question.len (codes "a"))) }
+    ensures truthy { Says (codes "truthy a") (asking (ask Question.truthy (codes "a"))) }
+    ensures kind { Says (codes "kind a") (asking (ask Question.kind (codes "a"))) }
+    ensures is_safe { Says (codes "is_safe a") (asking (ask Question.is_safe (codes "a"))) }
+    ensures mark_safe { Says (codes "mark_safe a") (asking (mark_safe (codes "a"))) }
+    ensures escape { Says (codes "escape a") (asking (ask Question.escape (codes "a"))) }
 {}
 
 /// Lines that name where what is found is to be kept.
 pub fn worked_names()
-    ensures get { Says (codes "get a -> b") (record { request = get (codes "a"); into = Some (codes "b") }) }
+    ensures get { Says (codes "get a -> b") (asking_into (find (Search.get (codes "a"))) (codes "b")) }
     ensures mark_safe { Says (codes "mark_safe a\t->  a ")
-        (record { request = mark_safe (codes "a"); into = Some (codes "a") }) }
+        (asking_into (mark_safe (codes "a")) (codes "a")) }
     ensures has { IsBad (codes "has a -> b") }
     ensures print { IsBad (codes "print a -> b") }
     ensures set { IsBad (codes "set a 1 -> b") }
@@ -40,21 +42,21 @@ pub fn worked_names()
 /// Values.
 pub fn worked_values()
     ensures zero { Says (codes "  set a_1   -0  ")
-        (record { request = set (codes "a_1") (number (record { kind = kind_i64; value = pos 0 })); into = None }) }
+        (asking (set (codes "a_1") (number (record { kind = kind_i64; value = pos 0 })))) }
     ensures suffix { Says (codes "set a 1u64")
-        (record { request = set (codes "a") (number (record { kind = kind_u64; value = pos 1 })); into = None }) }
+        (asking (set (codes "a") (number (record { kind = kind_u64; value = pos 1 })))) }
     ensures no_suffix { Says (codes "set a 1")
-        (record { request = set (codes "a") (number (record { kind = kind_i64; value = pos 1 })); into = None }) }
+        (asking (set (codes "a") (number (record { kind = kind_i64; value = pos 1 })))) }
     ensures safe_text { Says (codes "set t s\"a\\u{e9}\\n\"")
-        (record { request = set (codes "t") (text (record { spelled = 97 ∷ 195 ∷ 169 ∷ 10 ∷ []; safe = true })); into = None }) }
+        (asking (set (codes "t") (text (record { spelled = 97 ∷ 195 ∷ 169 ∷ 10 ∷ []; safe = true })))) }
     ensures byte_string { Says (codes "set a x\"6aFF\"")
-        (record { request = set (codes "a") (bytes (106 ∷ 255 ∷ [])); into = None }) }
-    ensures no_bytes { Says (codes "set a x\"\"") (record { request = set (codes "a") (bytes []); into = None }) }
-    ensures no_items { Says (codes "set a []") (record { request = set (codes "a") (array (items [])); into = None }) }
+        (asking (set (codes "a") (bytes (106 ∷ 255 ∷ [])))) }
+    ensures no_bytes { Says (codes "set a x\"\"") (asking (set (codes "a") (bytes []))) }
+    ensures no_items { Says (codes "set a []") (asking (set (codes "a") (array (items [])))) }
     ensures blanks { Says (codes "set a [ none\t,[ ] ]")
-        (record { request = set (codes "a") (array (items (none ∷ array (items []) ∷ []))); into = None }) }
+        (asking (set (codes "a") (array (items (none ∷ array (items []) ∷ []))))) }
     ensures deepest { Says (codes "set a " ++ in_brackets 64 (codes "none"))
-        (record { request = set (codes "a") (in_arrays 64 none); into = None }) }
+        (asking (set (codes "a") (in_arrays 64 none))) }
 {}
 
 /// Lines that are skipped.

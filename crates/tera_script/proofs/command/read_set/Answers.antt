@@ -1,10 +1,8 @@
-use Rattle.std.proofs.Common.{Some, None, sym, ◌∙◌, subst}
-use Rattle.tera_meaning.specs.Step.{set}
-use Rattle.tera_script.specs.declared.verb.Verb.TheVariants.{Set}
-use Rattle.tera_script.specs.Readers.{AreOperandsOf}
+use Rattle.std.proofs.Common.{ap, sym, ◌∙◌}
+use Rattle.tera_meaning.specs.Request.{set, asking}
 use Rattle.tera_script.proofs.Lines.{no_blanks}
 use Rattle.tera_script.proofs.Commands.{operand_name, set_none_name, set_none_gap, set_none_value, set_none_end, set_answer_found}
-use Rattle.tera_script.proofs.call.read_set.Goals as goal
+use Rattle.tera_script.proofs.command.read_set.Goals as goal
 
 pub returns-in_default : goal.returns-in_default
 returns-in_default c = set_none_name c.args.bytes.now (sym c.in_default.ensures)
@@ -27,6 +25,5 @@ name_text-requires c = operand_name c.args.bytes.now c.in-Some.name.now c.in-Som
 pub returns : goal.returns
 returns c =
     let found = rw (c.in-Some-2.is) at c.in_ok-value.ensures in
-    subst (λ name. AreOperandsOf Set c.args.bytes.now (Some (record { request = set name c.in-Some-2.value; into = None }))) (sym c.in_ok-name.ensures)
-    (set_answer_found c.args.bytes.now c.in-Some.name.now c.in-Some.behind.now (sym c.in-Some.ensures) c.in-Some-past_gap.literal.now (sym c.in-Some-past_gap.ensures) c.in-Some-2.value c.in-Some-2.rest.now found.0 found.2
-    (sym c.are_blanks.ensures ∙ c.if-not-are_blanks.false))
+    set_answer_found c.args.bytes.now c.in-Some.name.now c.in-Some.behind.now (sym c.in-Some.ensures) c.in-Some-past_gap.literal.now (sym c.in-Some-past_gap.ensures) c.in-Some-2.value c.in-Some-2.rest.now found.0 _ found.2
+    (sym c.are_blanks.ensures ∙ c.if-not-are_blanks.false) (ap (λ name. asking (set name c.in-Some-2.value)) c.in_ok-name.ensures)

@@ -10,7 +10,9 @@ ghost use Rattle.tera_script.specs.Readers.{AreOperandsOf, IsCommandAt};
 ghost use Rattle.tera_script.specs.declared.verb.Verb.TheVariants.{Set, Two, One, Keeping};
 
 use crate::literal::{LEVELS, take_literal};
-use crate::verb::{Kept, OneName, TwoNames, Verb, kept_call, one_call, two_call, verb_in};
+use crate::verb::{
+    KeepingName, OneName, TwoNames, Verb, keeping_call, one_call, two_call, verb_in,
+};
 use crate::word::{are_blanks, past_gap, take_name, take_operand};
 use std::alloc::{AllocError, Global};
 use std::str;
@@ -38,7 +40,7 @@ fn read_operands(alloc: Global, verb: Verb, bytes: &[u8]) -> Result<Option<Step>
         Verb::Set => read_set(alloc, bytes),
         Verb::Two(two) => read_two(alloc, two, bytes),
         Verb::One(one) => read_one(alloc, one, bytes),
-        Verb::Keeping(kept) => read_keeping(alloc, kept, bytes),
+        Verb::Keeping(keeping) => read_keeping(alloc, keeping, bytes),
     }
 }
 
@@ -95,7 +97,7 @@ fn read_one(alloc: Global, verb: OneName, bytes: &[u8]) -> Result<Option<Step>, 
 }
 
 // One name, and maybe a name for what is found.
-fn read_keeping(alloc: Global, verb: Kept, bytes: &[u8]) -> Result<Option<Step>, AllocError>
+fn read_keeping(alloc: Global, verb: KeepingName, bytes: &[u8]) -> Result<Option<Step>, AllocError>
     ensures { IfOk result (λ answer. AreOperandsOf (Keeping verb) bytes.now (option_map command_of answer)) }
 {
     let Some((name, into)) = keeping_in(bytes) else {
@@ -104,7 +106,7 @@ fn read_keeping(alloc: Global, verb: Kept, bytes: &[u8]) -> Result<Option<Step>,
     let name = name_text(alloc, name)?;
     let into = into_text(alloc, into)?;
     Ok(Some(Step {
-        call: kept_call(verb, name),
+        call: keeping_call(verb, name),
         into,
     }))
 }

@@ -7,8 +7,8 @@ use Rattle.std.proofs.lemmas.Option.{option_and_then_some}
 use Rattle.tera_meaning.specs.Form.{Form}
 use Rattle.tera_meaning.specs.Tree.{depth}
 use Rattle.tera_script.specs.Word.{is_blank, AreBlanks, IsGap, is_name_byte}
-use Rattle.tera_script.specs.Line.{levels, SpellsOperand, SpellsValue, SpellsTwo, SpellsInto, SpellsKeeping}
-use Rattle.tera_script.specs.Readers.{Stops, gap_at, operand_at, two_in, one_in, arrow_at, into_in, keeping_in, is_word_byte, BeginsWithLiteral}
+use Rattle.tera_script.specs.Line.{levels, SpellsOperand, SpellsValue, SpellsTwo, SpellsInto, SpellsKeeping, SpellsNamed}
+use Rattle.tera_script.specs.Readers.{Stops, gap_at, operand_at, two_in, one_in, arrow_at, into_in, keeping_in, is_word_byte, BeginsWithLiteral, Before}
 use Rattle.tera_script.proofs.Fronts.{both_pass}
 use Rattle.tera_script.proofs.Names.{gap_only, gap_found, operand_found, operand_only}
 use Rattle.tera_script.proofs.Words.{chosen}
@@ -41,14 +41,6 @@ some_if : {A : Type 0} (b : Bool) (x y : A) → cond b (Some x) None ≡ Some y 
 some_if true x y e = (refl, cc)
 some_if false x y e = cc
 
--- these operands stand before blanks
-pub record Before (P : List ℕ → Type 0) (bytes : List ℕ) : Type 0 where
-  pub operands : List ℕ
-  pub after : List ℕ
-  pub spells : P operands
-  pub blanks : AreBlanks after
-  pub spelled : bytes ≡ operands ++ after
-
 -- one operand
 abbrev pub HasOne : List ℕ → List ℕ → Type 0
 HasOne bytes name = Before (λ operands. SpellsOperand operands name) bytes
@@ -58,11 +50,11 @@ unfolding one_in
 one_found bytes name e = option_and_then_some (λ (n : List ℕ × List ℕ). cond (list_all is_blank n.1) (Some n.0) None) (operand_at bytes) name e (λ n at_n e'.
     let h = some_if (list_all is_blank n.1) n.0 name e' in
     let operand = operand_found bytes n.0 n.1 at_n in
-    record { operands = operand.operand; after = n.1; spells = subst (SpellsOperand operand.operand) h.1 operand.spells; blanks = h.0; spelled = operand.spelled })
+    record { part = operand.operand; after = n.1; spells = subst (SpellsOperand operand.operand) h.1 operand.spells; blanks = h.0; spelled = operand.spelled })
 
 pub one_only : (bytes name : List ℕ) → HasOne bytes name → one_in bytes ≡ Some name
 unfolding one_in
-one_only bytes name h = rw (h.spelled, operand_only h.operands name h.after h.spells (blanks_end_name h.after h.blanks), h.blanks)
+one_only bytes name h = rw (h.spelled, operand_only h.part name h.after h.spells (blanks_end_name h.after h.blanks), h.blanks)
 
 -- two operands
 abbrev pub HasTwo : List ℕ → List ℕ → List ℕ → Type 0
@@ -80,7 +72,7 @@ two_found bytes left right e = option_and_then_some (λ (l : List ℕ × List �
     let same_left : l.0 ≡ left = ap (λ (p : List ℕ × List ℕ). p.0) h.1 in
     let same_right : r.0 ≡ right = ap (λ (p : List ℕ × List ℕ). p.1) h.1 in
     record {
-      operands = first.operand ++ second.operand;
+      part = first.operand ++ second.operand;
       after = r.1;
       spells = (first.operand, second.operand, subst (SpellsOperand first.operand) same_left first.spells, subst (SpellsOperand second.operand) same_right second.spells, refl);
       blanks = h.0;
@@ -119,11 +111,11 @@ named_into bytes name e = option_and_then_some one_in (option_and_then arrow_at 
     let gap = gap_found bytes arrow at_gap in
     let one = one_found behind name at_name in
     record {
-      operands = gap.gap ++ (45 ∷ 62 ∷ one.operands);
+      part = gap.gap ++ (45 ∷ 62 ∷ one.part);
       after = one.after;
-      spells = (gap.gap, one.operands, gap.blanks, one.spells, refl);
+      spells = (gap.gap, one.part, gap.blanks, one.spells, refl);
       blanks = one.blanks;
-      spelled = gap.spelled ∙ ap (λ xs. gap.gap ++ xs) (arrow_found arrow behind is_arrow ∙ ap (λ xs. 45 ∷ 62 ∷ xs) one.spelled) ∙ sym (append_assoc gap.gap (45 ∷ 62 ∷ one.operands) one.after);
+      spelled = gap.spelled ∙ ap (λ xs. gap.gap ++ xs) (arrow_found arrow behind is_arrow ∙ ap (λ xs. 45 ∷ 62 ∷ xs) one.spelled) ∙ sym (append_assoc gap.gap (45 ∷ 62 ∷ one.part) one.after);
     }))
 
 some_mapped : (o : Option (List ℕ)) (into : Option (List ℕ)) → option_map Some o ≡ Some into → (name : List ℕ) × (o ≡ Some name) × (into ≡ Some name)
@@ -133,7 +125,7 @@ some_mapped (Some name) into e = (name, refl, cc)
 pub into_found : (bytes : List ℕ) (into : Option (List ℕ)) → into_in bytes ≡ Some into → HasInto bytes into
 unfolding into_in
 into_found bytes into e = elim (chosen {A = Option (Option (List ℕ))} (list_all is_blank bytes) (Some None) (option_map Some (option_and_then one_in (option_and_then arrow_at (gap_at bytes)))) (Some into) e) [
-  | inl h ↦ let nothing : None ≡ into = cc in subst (HasInto bytes) nothing (record { operands = []; after = bytes; spells = refl; blanks = h.0; spelled = refl })
+  | inl h ↦ let nothing : None ≡ into = cc in subst (HasInto bytes) nothing (record { part = []; after = bytes; spells = refl; blanks = h.0; spelled = refl })
   | inr h ↦ let name = some_mapped (option_and_then one_in (option_and_then arrow_at (gap_at bytes))) into h.1 in subst (HasInto bytes) (sym name.2) (named_into bytes name.0 name.1)
 ]
 
@@ -153,7 +145,7 @@ into_only bytes (Some name) h =
     let behind = h.spells.1 ++ h.after in
     let spelled : bytes ≡ gap ++ 45 ∷ 62 ∷ behind = h.spelled ∙ ap (λ xs. xs ++ h.after) h.spells.4 ∙ append_assoc gap (45 ∷ 62 ∷ h.spells.1) h.after in
     let at_gap = gap_only gap (45 ∷ 62 ∷ behind) h.spells.2 refl in
-    let at_name = one_only behind name (record { operands = h.spells.1; after = h.after; spells = h.spells.3; blanks = h.blanks; spelled = refl }) in
+    let at_name = one_only behind name (record { part = h.spells.1; after = h.after; spells = h.spells.3; blanks = h.blanks; spelled = refl }) in
     rw (spelled, not_all_blanks gap (62 ∷ behind), at_gap, arrow_only behind, at_name)
 
 into_ends_name : (bytes : List ℕ) (into : Option (List ℕ)) → HasInto bytes into → Stops is_name_byte bytes
@@ -177,11 +169,11 @@ kept_found bytes name into e = option_and_then_some (λ (n : List ℕ × List �
     let first = operand_found bytes n.0 n.1 at_n in
     let second = into_found n.1 i at_i in
     subst (λ (p : List ℕ × Option (List ℕ)). HasKept bytes p.0 p.1) same (record {
-      operands = first.operand ++ second.operands;
+      part = first.operand ++ second.part;
       after = second.after;
-      spells = (first.operand, second.operands, first.spells, second.spells, refl);
+      spells = (first.operand, second.part, first.spells, second.spells, refl);
       blanks = second.blanks;
-      spelled = first.spelled ∙ ap (λ xs. first.operand ++ xs) second.spelled ∙ sym (append_assoc first.operand second.operands second.after);
+      spelled = first.spelled ∙ ap (λ xs. first.operand ++ xs) second.spelled ∙ sym (append_assoc first.operand second.part second.after);
     })))
 
 pub kept_only : (bytes name : List ℕ) (into : Option (List ℕ)) → HasKept bytes name into → keeping_in bytes ≡ Some (name, into)
@@ -189,13 +181,13 @@ unfolding keeping_in
 kept_only bytes name into h =
     let first = h.spells.0 in
     let second = h.spells.1 in
-    let has : HasInto (second ++ h.after) into = record { operands = second; after = h.after; spells = h.spells.3; blanks = h.blanks; spelled = refl } in
+    let has : HasInto (second ++ h.after) into = record { part = second; after = h.after; spells = h.spells.3; blanks = h.blanks; spelled = refl } in
     let at_name : operand_at bytes ≡ Some (name, second ++ h.after) = rw (h.spelled, h.spells.4, append_assoc first second h.after) (operand_only first name (second ++ h.after) h.spells.2 (into_ends_name (second ++ h.after) into has)) in
     rw (at_name, into_only (second ++ h.after) into has)
 
 -- a name and a value
 abbrev pub HasValue : List ℕ → List ℕ → Form → Type 0
-HasValue bytes name value = Before (λ operands. (first : List ℕ) × (second : List ℕ) × SpellsOperand first name × SpellsValue second value × (operands ≡ first ++ second)) bytes
+HasValue bytes name value = Before (λ operands. SpellsNamed operands name value) bytes
 
 pub record SetParts (bytes name : List ℕ) (value : Form) : Type 0 where
   pub behind_name : List ℕ
@@ -228,7 +220,7 @@ set_found bytes name behind_name at_value after value n g l d b =
     let first = operand_found bytes name behind_name n in
     let gap = gap_found behind_name at_value g in
     record {
-      operands = first.operand ++ (gap.gap ++ l.literal);
+      part = first.operand ++ (gap.gap ++ l.literal);
       after = after;
       spells = (first.operand, gap.gap ++ l.literal, first.spells, (gap.gap, l.literal, gap.blanks, l.spells, d, refl), refl);
       blanks = b;
