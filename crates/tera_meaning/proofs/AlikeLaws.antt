@@ -106,8 +106,8 @@ asked_alike Question.kind held also o p h e d s = absurd s
 -- how values of one meaning are weighed
 weighed_alike : (weighing : Weighing) (v w x y : Form) → plain v ≡ plain x → plain w ≡ plain y
     → shape (weighed weighing v w) ≡ shape (weighed weighing x y)
-weighed_alike Weighing.equal v w x y e d = λ i. Ok (Answer.truth (same (e i) (d i)))
-weighed_alike Weighing.compare v w x y e d = λ i. Ok (Answer.order (Some (compare (e i) (d i))))
+weighed_alike Weighing.equal v w x y e d = rw (e, d) refl
+weighed_alike weighing v w x y e d = rw (e, d) refl
 
 module _ (f g : State) (h : MeanTheSame f g) where
   pub meaning_alike : (name : List ℕ) → meaning_at f name ≡ meaning_at g name

@@ -7,8 +7,8 @@ use Rattle.tera_script.specs.declared.verb.OneName.TheVariants as one
 use Rattle.tera_script.specs.declared.verb.TwoNames.TheVariants as two
 use Rattle.tera_script.specs.declared.verb.KeepingName.TheVariants as keeping
 use Rattle.tera_script.specs.Word.{IsName}
-use Rattle.tera_script.specs.Verb.{word_of}
-use Rattle.tera_script.specs.Readers.{likely_verb, IsVerbOf}
+use Rattle.tera_script.specs.Verb.{likely_verb, word_of}
+use Rattle.tera_script.specs.Readers.{IsVerbOf}
 
 -- the one verb whose word a word may be
 abbrev pub likely_of : List ℕ → Option Verb

@@ -16,8 +16,9 @@ use Rattle.tera_script.specs.declared.verb.KeepingName.TheVariants.{Get}
 use Rattle.tera_script.specs.Text.{SpellsText}
 use Rattle.tera_script.specs.Word.{is_blank}
 use Rattle.tera_script.specs.Line.{levels, IsBad}
+use Rattle.tera_script.specs.Verb.{likely_verb}
 use Rattle.tera_script.specs.Nested.{in_brackets, in_arrays}
-use Rattle.tera_script.specs.Readers.{Stops, past, gap_at, name_at, operand_at, two_in, one_in, arrow_at, into_in, keeping_in, is_word_byte, plain_at, value_in, number_in, unsigned_in, digits_at, suffix_in, integer_of, hex_at, likely_verb, BeginsWithLiteral, ItemsAt, MoreAt, IsLiteralAt, AreOperandsOf}
+use Rattle.tera_script.specs.Readers.{Stops, past, gap_at, name_at, operand_at, two_in, one_in, arrow_at, into_in, keeping_in, is_word_byte, plain_at, value_in, number_in, unsigned_in, digits_at, suffix_in, integer_of, hex_at, BeginsWithLiteral, ItemsAt, MoreAt, IsLiteralAt, AreOperandsOf}
 use Rattle.tera_script.proofs.Literals.{head, tail, more, less, only_at, plain_found, quoted_found, bytes_found, array_found, no_literal, no_first_comma, stops_end, more_stops}
 use Rattle.tera_script.proofs.Commands.{one_answer_none, two_answer_none, kept_answer_none, set_none_name, set_none_value, set_none_end, command_answer, command_none_verb}
 use Rattle.tera_script.proofs.Lines.{bad_command, bad_utf8}

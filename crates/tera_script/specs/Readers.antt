@@ -15,10 +15,6 @@ use Rattle.tera_script.specs.Number.{kind_word, signed}
 use Rattle.tera_script.specs.declared.number.Suffix.{Suffix}
 use Rattle.tera_script.specs.declared.number.Suffix.TheVariants.{U64, I64, U128, I128}
 use Rattle.tera_script.specs.declared.verb.Verb.{Verb}
-use Rattle.tera_script.specs.declared.verb.Verb.TheVariants as verb
-use Rattle.tera_script.specs.declared.verb.OneName.TheVariants as one
-use Rattle.tera_script.specs.declared.verb.TwoNames.TheVariants as two
-use Rattle.tera_script.specs.declared.verb.KeepingName.TheVariants as keeping
 use Rattle.tera_script.specs.Verb.{word_of}
 use Rattle.tera_script.specs.Word.{is_blank, AreBlanks, is_name_start, is_name_byte}
 use Rattle.tera_script.specs.Line.{SpellsOperands, SpellsCommand}
@@ -236,28 +232,6 @@ keeping_in bytes = do
 -- a name and a name that may be there, by what they hold
 abbrev pub name_into : Bor (List ℕ) × Option (Bor (List ℕ)) → List ℕ × Option (List ℕ)
 name_into pair = (pair.0.now, option_map (λ name. name.now) pair.1)
-
--- the verb, if a word is of this length and this first byte, and else what is given
-abbrev pub if_like : ℕ → ℕ → ℕ → ℕ → Verb → Option Verb → Option Verb
-if_like len word_len first word_first verb otherwise =
-    cond ((len == word_len) && (first == word_first)) (Some verb) otherwise
-
--- the one verb whose word may have this length and this first byte
-unfoldable pub likely_verb : ℕ → ℕ → Option Verb
-likely_verb len first =
-    if_like len 2 first 101 (verb.Two two.Equal)
-    (if_like len 3 first 99 (verb.Two two.Compare)
-    (if_like len 3 first 103 (verb.Keeping keeping.Get)
-    (if_like len 3 first 104 (verb.One one.Has)
-    (if_like len 3 first 108 (verb.One one.Len)
-    (if_like len 3 first 115 verb.Set
-    (if_like len 4 first 107 (verb.One one.Kind)
-    (if_like len 5 first 112 (verb.One one.Print)
-    (if_like len 6 first 101 (verb.One one.Escape)
-    (if_like len 6 first 114 (verb.One one.Remove)
-    (if_like len 6 first 116 (verb.One one.Truthy)
-    (if_like len 7 first 105 (verb.One one.IsSafe)
-    (if_like len 9 first 109 (verb.Keeping keeping.MarkSafe) None))))))))))))
 
 -- what a look-up of a word answers: the verb of that word, or nothing where it is no verb's
 abbrev pub IsVerbOf : List ℕ → Option Verb → Type 0

@@ -1,5 +1,5 @@
 -- The words of the calls, by the shape of what stands behind them, and the request that each makes of its operands.
-use Rattle.std.specs.Prelude.{ℕ, List, codes}
+use Rattle.std.specs.Prelude.{ℕ, List, codes, cond, ◌&&◌, ◌==◌, Option, Some, None}
 use Rattle.tera_meaning.specs.Question
 use Rattle.tera_meaning.specs.Request.{Request, remove, mark_safe, ask, weigh, find}
 use Rattle.tera_meaning.specs.Search
@@ -40,3 +40,25 @@ word_of verb.Set = codes "set"
 word_of (verb.One o) = (of_one o).0
 word_of (verb.Two o) = (of_two o).0
 word_of (verb.Keeping o) = (of_keeping o).0
+
+-- the verb, if a word is of this length and this first byte, and else what is given
+abbrev pub if_like : ℕ → ℕ → ℕ → ℕ → Verb → Option Verb → Option Verb
+if_like len word_len first word_first verb otherwise =
+    cond ((len == word_len) && (first == word_first)) (Some verb) otherwise
+
+-- the one verb whose word may have this length and this first byte
+unfoldable pub likely_verb : ℕ → ℕ → Option Verb
+likely_verb len first =
+    if_like len 2 first 101 (verb.Two two.Equal)
+    (if_like len 3 first 99 (verb.Two two.Compare)
+    (if_like len 3 first 103 (verb.Keeping keeping.Get)
+    (if_like len 3 first 104 (verb.One one.Has)
+    (if_like len 3 first 108 (verb.One one.Len)
+    (if_like len 3 first 115 verb.Set
+    (if_like len 4 first 107 (verb.One one.Kind)
+    (if_like len 5 first 112 (verb.One one.Print)
+    (if_like len 6 first 101 (verb.One one.Escape)
+    (if_like len 6 first 114 (verb.One one.Remove)
+    (if_like len 6 first 116 (verb.One one.Truthy)
+    (if_like len 7 first 105 (verb.One one.IsSafe)
+    (if_like len 9 first 109 (verb.Keeping keeping.MarkSafe) None))))))))))))

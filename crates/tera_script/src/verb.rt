@@ -2,8 +2,8 @@
 ghost use Rattle.std.specs.Prelude.{◌≡◌, IfSome, option_map};
 ghost use Rattle.std.specs.String.{string_bytes};
 ghost use Rattle.tera_context.specs.Call.{request_of};
-ghost use Rattle.tera_script.specs.Readers.{likely_verb, IsVerbOf};
-ghost use Rattle.tera_script.specs.Verb.{of_one, of_two, of_keeping, word_of};
+ghost use Rattle.tera_script.specs.Readers.{IsVerbOf};
+ghost use Rattle.tera_script.specs.Verb.{likely_verb, of_one, of_two, of_keeping, word_of};
 
 use tera_context::Call;
 
@@ -54,7 +54,7 @@ pub(crate) fn verb_in(word: &[u8]) -> Option<Verb>
 }
 
 // The one verb whose word may have that length and that first byte, and its word.
-#[tactic(auto, unfolding(crate::specs::Readers::likely_verb))]
+#[tactic(auto, unfolding(crate::specs::Verb::likely_verb))]
 fn likely_verb(len: usize, first: u8) -> Option<(Verb, &'static [u8])>
     ensures verb { option_map (λ likely. likely.0) result ≡ likely_verb len first }
     ensures word { IfSome result (λ likely. word_of likely.0 ≡ likely.1.now) }
