@@ -28,6 +28,7 @@ request_of (call.IsSafe name) = ask Question.is_safe (string_bytes name)
 request_of (call.MarkSafe name) = mark_safe (string_bytes name)
 request_of (call.Equal left right) = weigh Weighing.equal (string_bytes left) (string_bytes right)
 request_of (call.Compare left right) = weigh Weighing.compare (string_bytes left) (string_bytes right)
+request_of (call.TryCompare left right) = weigh Weighing.try_compare (string_bytes left) (string_bytes right)
 request_of (call.Print name) = ask Question.print (string_bytes name)
 request_of (call.Escape name) = ask Question.escape (string_bytes name)
 

@@ -51,6 +51,10 @@ pub fn step(context: &mut Context, step: Step) -> TeraResult<Answer>
             let order = left.cmp(value_at(context, &right, &absent));
             Ok(Answer::Order(Some(order)))
         }
+        Call::TryCompare { left, right } => {
+            let left = value_at(context, &left, &absent);
+            Ok(Answer::Order(left.try_compare(value_at(context, &right, &absent))))
+        }
         Call::Get { name } => {
             let found = copy(context, &name);
             keep_or_answer(context, found, into)

@@ -1,6 +1,7 @@
 -- How two values are weighed.
 use Rattle.std.specs.Prelude.{Ok, Some}
 use Rattle.tera_meaning.specs.Answer
+use Rattle.tera_meaning.specs.Decided.{decided}
 use Rattle.tera_meaning.specs.Form.{Form}
 use Rattle.tera_meaning.specs.Meaning.{plain}
 use Rattle.tera_meaning.specs.Order
@@ -9,8 +10,10 @@ use Rattle.tera_meaning.specs.Outcome.{Outcome}
 pub data Weighing : Type 0 where
   equal : Weighing
   compare : Weighing
+  try_compare : Weighing
 
 -- what is answered of two values
 abbrev pub weighed : Weighing → Form → Form → Outcome
 weighed equal v w = Ok (Answer.truth (Order.same (plain v) (plain w)))
 weighed compare v w = Ok (Answer.order (Some (Order.compare (plain v) (plain w))))
+weighed try_compare v w = Ok (Answer.order (decided (plain v) (plain w)))

@@ -61,6 +61,7 @@ pub fn absent_names_read_as_undefined()
     ensures escape { AbsentAnswers (ask Question.escape) (Answer.text []) }
     ensures equal { BothAbsentAnswer (weigh Weighing.equal) (Answer.truth true) }
     ensures compare { BothAbsentAnswer (weigh Weighing.compare) (Answer.order (Some Ordering.Equal)) }
+    ensures try_compare { BothAbsentAnswer (weigh Weighing.try_compare) (Answer.order (Some Ordering.Equal)) }
     ensures removed { (state : State) (name : List ℕ) → held_at state name ≡ None
         → state_after state (asking (remove name)) ≡ state }
 {}

@@ -63,6 +63,10 @@ pub says_cmp : Says (codes "cmp a b") (asking (weigh Weighing.compare (codes "a"
 unfolding encode
 says_cmp = says_two two.Compare (codes "cmp a b", (refl, refl))
 
+pub says_try_cmp : Says (codes "try_cmp a b") (asking (weigh Weighing.try_compare (codes "a") (codes "b")))
+unfolding encode
+says_try_cmp = says_two two.TryCompare (codes "try_cmp a b", (refl, refl))
+
 pub says_print : Says (codes "\tprint _x9 ") (asking (ask Question.print (codes "_x9")))
 unfolding encode
 says_print = record {

@@ -28,6 +28,7 @@ of_one one.Escape = (codes "escape", ask Question.escape)
 abbrev pub of_two : TwoNames → List ℕ × (List ℕ → List ℕ → Request)
 of_two two.Equal = (codes "eq", weigh Weighing.equal)
 of_two two.Compare = (codes "cmp", weigh Weighing.compare)
+of_two two.TryCompare = (codes "try_cmp", weigh Weighing.try_compare)
 
 -- a name, and maybe one for what is found
 abbrev pub of_keeping : KeepingName → List ℕ × (List ℕ → Request)
@@ -60,5 +61,6 @@ likely_verb len first =
     (if_like len 6 first 101 (verb.One one.Escape)
     (if_like len 6 first 114 (verb.One one.Remove)
     (if_like len 6 first 116 (verb.One one.Truthy)
+    (if_like len 7 first 116 (verb.Two two.TryCompare)
     (if_like len 7 first 105 (verb.One one.IsSafe)
-    (if_like len 9 first 109 (verb.Keeping keeping.MarkSafe) None))))))))))))
+    (if_like len 9 first 109 (verb.Keeping keeping.MarkSafe) None)))))))))))))

@@ -35,6 +35,7 @@ pub(crate) enum OneName {
 pub(crate) enum TwoNames {
     Equal,
     Compare,
+    TryCompare,
 }
 
 // A name, and maybe one for what is found.
@@ -71,6 +72,7 @@ fn likely_verb(len: usize, first: u8) -> Option<(Verb, &'static [u8])>
         (6, b'e') => Some((Verb::One(OneName::Escape), b"escape")),
         (6, b'r') => Some((Verb::One(OneName::Remove), b"remove")),
         (6, b't') => Some((Verb::One(OneName::Truthy), b"truthy")),
+        (7, b't') => Some((Verb::Two(TwoNames::TryCompare), b"try_cmp")),
         (7, b'i') => Some((Verb::One(OneName::IsSafe), b"is_safe")),
         (9, b'm') => Some((Verb::Keeping(KeepingName::MarkSafe), b"mark_safe")),
         _ => None,
@@ -100,6 +102,7 @@ pub(crate) fn two_call(verb: TwoNames, left: String, right: String) -> Call
     match verb {
         TwoNames::Equal => Call::Equal { left, right },
         TwoNames::Compare => Call::Compare { left, right },
+        TwoNames::TryCompare => Call::TryCompare { left, right },
     }
 }
 

@@ -13,6 +13,7 @@ ghost use Rattle.tera_script.specs.Nested.{in_brackets, in_arrays};
 pub fn worked_calls()
     ensures eq { Says (codes "eq a b") (asking (weigh Weighing.equal (codes "a") (codes "b"))) }
     ensures cmp { Says (codes "cmp a b") (asking (weigh Weighing.compare (codes "a") (codes "b"))) }
+    ensures try_cmp { Says (codes "try_cmp a b") (asking (weigh Weighing.try_compare (codes "a") (codes "b"))) }
     ensures print { Says (codes "\tprint _x9 ") (asking (ask Question.print (codes "_x9"))) }
     ensures remove { Says (codes "remove a") (asking (remove (codes "a"))) }
     ensures has { Says (codes "has a") (asking (ask Question.has (codes "a"))) }
