@@ -14,12 +14,12 @@ ghost use Rattle.tera_meaning.specs.Tree.{none, undefined, truth, text, bytes, a
 
 use std::cmp::Ordering;
 
-/// Nothing is decided of two maps, even of two empty ones, nor of meanings of two kinds. Two arrays are decided as the
+/// Nothing is decided of two maps, even of two empty ones, nor of meanings of two ranks. Two arrays are decided as the
 /// first pair of their items that does not tie is, which may be not at all; without such a pair the lengths decide. All
 /// else is decided as it compares. Takes no memory.
-pub fn maps_and_kinds_are_not_decided()
+pub fn maps_and_ranks_are_not_decided()
     ensures maps { (ps qs : List (KeyMeaning × Meaning)) → decided (object (members ps)) (object (members qs)) ≡ None }
-    ensures kinds { (x y : Meaning) → rank x ≢ rank y → decided x y ≡ None }
+    ensures ranks { (x y : Meaning) → rank x ≢ rank y → decided x y ≡ None }
     ensures arrays { (xs ys : List Meaning)
         → decided (array (items xs)) (array (items ys)) ≡ slice_partial_cmp decided xs ys }
     ensures others { (x y : Meaning) → rank x ≡ rank y → rank x ≢ 3 → rank x ≢ 4 → decided x y ≡ Some (compare x y) }
@@ -37,7 +37,7 @@ pub fn maps_are_ordered_undecided()
         (map_meaning ((key_of i64 1, marked (codes "a")) ∷ [])) Ordering.Equal }
     ensures empty { ComparesUndecided (map_of []) (map_of []) Ordering.Equal }
     ensures beginning { ComparesUndecided (map_of []) (map_of ((text_key (codes "a"), none) ∷ [])) Ordering.Less }
-    ensures kinds { ComparesUndecided (map_of ((truth_key true, count 1) ∷ []))
+    ensures ranks { ComparesUndecided (map_of ((truth_key true, count 1) ∷ []))
         (map_of ((number_key (pos 1), count 0) ∷ [])) Ordering.Less }
     ensures later { ComparesUndecided (map_of ((number_key (pos 1), count 0) ∷ (number_key (pos 3), count 0) ∷ []))
         (map_of ((number_key (pos 1), count 0) ∷ (number_key (pos 2), count 9) ∷ [])) Ordering.Greater }
@@ -69,7 +69,7 @@ pub fn arrays_are_decided_by_their_first_difference()
 {}
 
 /// No two of these are decided. Takes no memory.
-pub fn kinds_are_not_decided()
+pub fn ranks_are_not_decided()
     ensures { IsTrue (undecided (truth true ∷ count 1 ∷ text (codes "a") ∷ list_of [] ∷ map_of [] ∷ bytes (0 ∷ [])
         ∷ none ∷ undefined ∷ [])) }
 {}

@@ -36,10 +36,10 @@ pub fn first_difference_decides()
     ensures maps { (ps qs : List (KeyMeaning × Meaning)) → compare (object (members ps)) (object (members qs)) ≡ slice_cmp pair_order ps qs }
 {}
 
-/// Meanings of two kinds compare by their kinds, and those of one kind by value: numbers whatever kind of integer held
-/// them, and texts and bytes by the first byte where they differ. Takes no memory.
-pub fn kinds_decide_before_values()
-    ensures kinds { (x y : Meaning) → rank x < rank y → compare x y ≡ Ordering.Less }
+/// Meanings of two ranks compare by their ranks, and those of one rank by value: numbers whatever kind
+/// of integer held them, and texts and bytes by the first byte where they differ. Takes no memory.
+pub fn ranks_decide_before_values()
+    ensures ranks { (x y : Meaning) → rank x < rank y → compare x y ≡ Ordering.Less }
     ensures truths { (a b : Bool) → compare (truth a) (truth b) ≡ bool_cmp a b }
     ensures numbers { (y z : ℤ) → compare (number y) (number z) ≡ int_cmp y z }
     ensures texts { (s t : List ℕ) → compare (text s) (text t) ≡ slice_cmp nat_cmp s t }

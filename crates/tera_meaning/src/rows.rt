@@ -15,8 +15,8 @@ ghost use Rattle.tera_meaning.specs.Tree.{undefined, none, truth, number, text, 
 use std::cmp::Ordering;
 
 /// Each of these is less than every later one. Takes no memory.
-pub fn kinds_rise()
-    ensures kinds { IsTrue (rises (truth true ∷ count 1 ∷ text (codes "a") ∷ list_of [] ∷ map_of [] ∷ bytes (0 ∷ []) ∷ none ∷ undefined ∷ [])) }
+pub fn ranks_rise()
+    ensures ranks { IsTrue (rises (truth true ∷ count 1 ∷ text (codes "a") ∷ list_of [] ∷ map_of [] ∷ bytes (0 ∷ []) ∷ none ∷ undefined ∷ [])) }
     ensures numbers { IsTrue (rises (truth false ∷ truth true ∷ number (negsuc (2 ^ 127 - 1)) ∷ number (negsuc 0) ∷ count 0 ∷ count (2 ^ 128 - 1) ∷ [])) }
     ensures texts { IsTrue (rises (text [] ∷ text (codes "a") ∷ text (codes "aa") ∷ text (codes "b") ∷ text (195 ∷ 169 ∷ []) ∷ [])) }
     ensures lists { IsTrue (rises (list_of [] ∷ list_of (count 1 ∷ []) ∷ list_of (count 1 ∷ list_of [] ∷ []) ∷ list_of (count 2 ∷ []) ∷ [])) }
