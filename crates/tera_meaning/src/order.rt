@@ -11,8 +11,8 @@ ghost use Rattle.tera_meaning.specs.Tree.{truth, number, text, bytes, array, obj
 
 use std::cmp::Ordering;
 
-/// The order of meanings is total: it reads the other way round when its sides are swapped, chains, and treats meanings
-/// that it ties alike. Takes no memory.
+/// The order of meanings is total: it reads the other way round when its sides are swapped, chains,
+/// and treats meanings that it ties alike. Takes no memory.
 pub fn meanings_are_ordered()
     ensures total { IsTotalOrder compare }
     ensures partial { IsPartialOrder same (as_partial_cmp compare) }
@@ -23,21 +23,26 @@ pub fn meanings_tie_themselves()
     ensures { (x y : Meaning) → (compare x y ≡ Ordering.Equal) ↔ (x ≡ y) }
 {}
 
-/// Two meanings are equal exactly where they are one and the same, so equality is an equivalence. Takes no memory.
+/// Two meanings are equal exactly where they are one and the same, so equality is an equivalence.
+/// Takes no memory.
 pub fn equality_is_identity()
     ensures identity { (x y : Meaning) → IsTrue (same x y) ↔ (x ≡ y) }
     ensures equivalence { IsEquivalence same }
 {}
 
-/// Arrays and maps compare as the lists of their items and pairs do: the first place where they differ decides, and a
-/// proper beginning is less; a pair is compared by its key and then by its value. Takes no memory.
+/// Arrays and maps compare as the lists of their items and pairs do: the first place where they
+/// differ decides, and a proper beginning is less; a pair is compared by its key and then by its
+/// value. Takes no memory.
 pub fn first_difference_decides()
-    ensures arrays { (xs ys : List Meaning) → compare (array (items xs)) (array (items ys)) ≡ slice_cmp compare xs ys }
-    ensures maps { (ps qs : List (KeyMeaning × Meaning)) → compare (object (members ps)) (object (members qs)) ≡ slice_cmp pair_order ps qs }
+    ensures arrays { (xs ys : List Meaning) → compare (array (items xs)) (array (items ys))
+        ≡ slice_cmp compare xs ys }
+    ensures maps { (ps qs : List (KeyMeaning × Meaning))
+        → compare (object (members ps)) (object (members qs)) ≡ slice_cmp pair_order ps qs }
 {}
 
-/// Meanings of two ranks compare by their ranks, and those of one rank by value: numbers whatever kind
-/// of integer held them, and texts and bytes by the first byte where they differ. Takes no memory.
+/// Meanings of two ranks compare by their ranks, and those of one rank by value: numbers whatever
+/// kind of integer held them, and texts and bytes by the first byte where they differ. Takes no
+/// memory.
 pub fn ranks_decide_before_values()
     ensures ranks { (x y : Meaning) → rank x < rank y → compare x y ≡ Ordering.Less }
     ensures truths { (a b : Bool) → compare (truth a) (truth b) ≡ bool_cmp a b }
