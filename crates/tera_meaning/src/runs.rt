@@ -54,8 +54,8 @@ pub fn runs_have_outcomes()
 pub fn runs_depend_on_meaning()
     ensures outcomes { (f g : State) (commands also : List Command) (outcomes others : List Outcome)
         (f' g' : State) → MeanTheSame f g → AllAskTheSame commands also
-        → IsAmpleRun f commands outcomes f' → IsAmpleRun g also others g'
-        → AreAlike f commands outcomes others }
+        → IsAmpleRun f commands outcomes f'
+        → IsAmpleRun g also others g' → AreAlike f commands outcomes others }
     ensures state { (f g : State) (commands also : List Command) (outcomes others : List Outcome)
         (f' g' : State) → MeanTheSame f g → AllAskTheSame commands also
         → IsAmpleRun f commands outcomes f' → IsAmpleRun g also others g' → MeanTheSame f' g' }
