@@ -41,7 +41,8 @@ pub shown_on : (old : State) (commands : List Command) (answers : List (Result A
     → ShowsOneOf answer (λ outcome. IsStep mid command outcome new)
     → ShowsRun old (commands ++ command ∷ []) (answers ++ answer ∷ []) new
 shown_on old commands answers mid command answer new (outcomes, all, run) shown =
-    let next = shown_outcome answer (λ outcome. IsStep mid command outcome new) shown in
-    (outcomes ++ next.0 ∷ [],
-     all_shown answers outcomes answer next.0 all next.1,
-     run_on old commands outcomes mid command next.0 new run next.2)
+    let next = shown_outcome answer (λ outcome. IsStep mid command outcome new) shown in (
+      outcomes ++ next.0 ∷ [],
+      all_shown answers outcomes answer next.0 all next.1,
+      run_on old commands outcomes mid command next.0 new run next.2,
+    )

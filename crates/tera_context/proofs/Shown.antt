@@ -48,6 +48,7 @@ pub search_refused : (r : Result Answer Error) (e : Error) (state : State) (sear
 search_refused r e state search into passed (inl (refusal, shows, found)) =
     refusal_shown r e _ passed refusal shows (inl (
       sym (ap (found_or_kept into) found ∙ refused_outcome into refusal),
-      sym (ap (keeping state into) found ∙ refused_state state into refusal)))
+      sym (ap (keeping state into) found ∙ refused_state state into refusal),
+    ))
 search_refused r e state search into passed (inr (is, why)) =
     want_shown r e _ passed is (inr (inr why, refl, refl))

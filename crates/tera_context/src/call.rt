@@ -30,7 +30,8 @@ pub enum Call {
     Kind { of: String },
     /// Whether the value is shown as it is. Answers `Truth`.
     IsSafe { of: String },
-    /// Marks the value safe in its place, or keeps a clone that is marked under `into`. Answers `Done`.
+    /// Marks the value safe in its place, or keeps a clone that is marked under `into`. Answers
+    /// `Done`.
     MarkSafe { of: String },
     /// Whether the two values are equal. Answers `Truth`.
     Equal { left: String, right: String },

@@ -47,7 +47,8 @@ impl Context {
 
     /// The value of a name, lent. Mirrors `Context::get`. Takes no memory.
     pub fn get(&self, name: &str) -> Option<&Value>
-        ensures { MatchOption result (get self.now name.now ≡ None) (λ v. get self.now name.now ≡ Some v.now) }
+        ensures { MatchOption result
+            (get self.now name.now ≡ None) (λ v. get self.now name.now ≡ Some v.now) }
     {
         self.values.get(name)
     }

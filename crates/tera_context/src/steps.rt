@@ -22,12 +22,14 @@ use crate::context::Context;
 use tera_report::{TeraResult, escape_text};
 use tera_values::Value;
 
-/// One step: its answer, with what it changes of the context; or its refusal, and then nothing has changed.
+/// One step: its answer, with what it changes of the context; or its refusal, and then nothing has
+/// changed.
 ///
-/// `Out of memory` may be answered by `Set`, `Get`, `Print`, `Escape`, and `MarkSafe` where `into` is given; the other
-/// calls take no memory.
+/// `Out of memory` may be answered by `Set`, `Get`, `Print`, `Escape`, and `MarkSafe` where `into`
+/// is given; the other calls take no memory.
 pub fn step(context: &mut Context, step: Step) -> TeraResult<Answer>
-    ensures { ShowsOneOf result (λ outcome. IsStep context.old (command_of step) outcome context.new) }
+    ensures { ShowsOneOf result (λ outcome.
+        IsStep context.old (command_of step) outcome context.new) }
 {
     let Step { call, into } = step;
     let absent = Value::undefined();
@@ -71,17 +73,19 @@ fn value_at<'a>(context: &'a Context, name: &str, absent: &'a Value) -> &'a Valu
 
 // Keeps the value under the name.
 fn set(context: &mut Context, name: String, value: Value) -> TeraResult<Answer>
-    ensures { ShowsOneOf result
-        (λ outcome. IsStep context.old (asking (set (string_bytes name) value)) outcome context.new) }
+    ensures { ShowsOneOf result (λ outcome.
+        IsStep context.old (asking (set (string_bytes name) value)) outcome context.new) }
 {
     context.keep(name, value)?;
     Ok(Answer::Done)
 }
 
-// Marks the value of a name safe in its place; or keeps a marked clone under `into`, if that is given.
+// Marks the value of a name safe in its place; or keeps a marked clone under `into`, if that is
+// given.
 fn mark_safe(context: &mut Context, name: &str, into: Option<String>) -> TeraResult<Answer>
     ensures { ShowsOneOf result (λ outcome. IsStep context.old
-        (record { request = mark_safe name.now; into = option_map string_bytes into }) outcome context.new) }
+        (record { request = mark_safe name.now; into = option_map string_bytes into })
+        outcome context.new) }
 {
     match into {
         Some(into) => {
@@ -99,8 +103,8 @@ fn mark_safe(context: &mut Context, name: &str, into: Option<String>) -> TeraRes
 
 // The printed text of the value of a name.
 fn print(context: &Context, name: &str) -> TeraResult<Answer>
-    ensures { ShowsOneOf result
-        (λ outcome. IsStep context.now (asking (ask Question.print name.now)) outcome context.now) }
+    ensures { ShowsOneOf result (λ outcome.
+        IsStep context.now (asking (ask Question.print name.now)) outcome context.now) }
 {
     let absent = Value::undefined();
     let value = value_at(context, name, &absent);
@@ -109,8 +113,8 @@ fn print(context: &Context, name: &str) -> TeraResult<Answer>
 
 // The same, escaped.
 fn escape(context: &Context, name: &str) -> TeraResult<Answer>
-    ensures { ShowsOneOf result
-        (λ outcome. IsStep context.now (asking (ask Question.escape name.now)) outcome context.now) }
+    ensures { ShowsOneOf result (λ outcome.
+        IsStep context.now (asking (ask Question.escape name.now)) outcome context.now) }
 {
     let absent = Value::undefined();
     let text = value_at(context, name, &absent).to_text(context.allocator())?;
@@ -133,8 +137,10 @@ fn keep_or_answer(
     found: TeraResult<Option<Value>>,
     into: Option<String>,
 ) -> TeraResult<Answer>
-    ensures { (search : Search) → ShowsFound found context.old search → ShowsOneOf result (λ outcome.
-        IsStep context.old (record { request = find search; into = option_map string_bytes into }) outcome context.new) }
+    ensures { (search : Search) → ShowsFound found context.old search
+        → ShowsOneOf result (λ outcome. IsStep context.old
+        (record { request = find search; into = option_map string_bytes into })
+        outcome context.new) }
 {
     match (found?, into) {
         (Some(value), Some(into)) => {
@@ -147,10 +153,11 @@ fn keep_or_answer(
 
 /// Runs the steps in order, one answer a step, and goes on after a step that was refused.
 ///
-/// The list of answers takes its memory first: where that is refused, `Out of memory` is the answer to the whole run and
-/// nothing was done. A step that finds no memory answers so in its place.
+/// The list of answers takes its memory first: where that is refused, `Out of memory` is the answer
+/// to the whole run and nothing was done. A step that finds no memory answers so in its place.
 pub fn run(context: &mut Context, steps: Vec<Step>) -> TeraResult<Vec<TeraResult<Answer>>>
-    ensures run { IfOk result (λ answers. (outcomes : List Outcome) × AllZip ShowsOutcome answers.items outcomes
+    ensures run { IfOk result (λ answers. (outcomes : List Outcome)
+        × AllZip ShowsOutcome answers.items outcomes
         × IsRun context.old (map command_of steps.items) outcomes context.new) }
     ensures err { IfErr result IsOutOfMemory }
     ensures unchanged { OnErr result (context.new ≡ context.old) }

@@ -85,10 +85,10 @@ not_same m n h = by (m == n) (λ e. h ((unsigned_Decides m n).0 e))
     by true f = absurd (f refl)
     by false f = refl
 
-pub kinds_undecided : (x y : Meaning) → rank x ≢ rank y → decided x y ≡ None
-kinds_undecided (array xs) (array ys) h = absurd (h refl)
-kinds_undecided (object ps) (object qs) h = refl
-kinds_undecided x y h = rank_test (rank x == rank y) (compare x y) (not_same (rank x) (rank y) h)
+pub ranks_undecided : (x y : Meaning) → rank x ≢ rank y → decided x y ≡ None
+ranks_undecided (array xs) (array ys) h = absurd (h refl)
+ranks_undecided (object ps) (object qs) h = refl
+ranks_undecided x y h = rank_test (rank x == rank y) (compare x y) (not_same (rank x) (rank y) h)
 
 pub others_decided : (x y : Meaning) → rank x ≡ rank y → rank x ≢ 3 → rank x ≢ 4 → decided x y ≡ Some (compare x y)
 others_decided (array xs) (array ys) h a b = absurd (a refl)

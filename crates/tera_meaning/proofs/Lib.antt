@@ -2,7 +2,7 @@ mod AlikeLaws
 mod ApartLaws
 pub mod DecidedLaws
 pub mod DifferenceLaws
-pub mod MapLaws
+pub mod EntryLaws
 pub mod PairLaws
 mod PrintedLaws
 pub mod UniqueLaws

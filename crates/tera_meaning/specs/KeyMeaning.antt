@@ -39,7 +39,7 @@ key_rank (truth_key b) = 0
 key_rank (number_key z) = 1
 key_rank (text_key t) = 2
 
--- by kind; false before true, the lesser number, the lesser bytes
+-- by rank; false before true, the lesser number, the lesser bytes
 abbrev pub key_order : KeyMeaning → KeyMeaning → Ordering
 key_order (truth_key a) (truth_key b) = bool_cmp a b
 key_order (number_key y) (number_key z) = int_cmp y z

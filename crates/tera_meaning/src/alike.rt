@@ -1,5 +1,5 @@
-//! Answers depend on meanings alone: not on the kind of an integer, the safe flag of a text, or how a key holds its
-//! text. Each function here does nothing: its clauses are the law.
+//! Answers depend on meanings alone: not on the kind of an integer, the safe flag of a text, or how
+//! a key holds its text. Each function here does nothing: its clauses are the law.
 ghost use Rattle.std.specs.Prelude.{◌≡◌, ◌≢◌, ◌↔◌, ℕ, List};
 ghost use Rattle.tera_meaning.specs.Alike.{meaning_held, MeanTheSame, AskTheSame, AllAskTheSame, AnswerAlike, AreAlike, AreToldApartBy, IsSettled, probe};
 ghost use Rattle.tera_meaning.specs.Outcome.{Outcome, shape};
@@ -14,35 +14,38 @@ pub fn commands_ask_the_same_as_themselves()
     ensures all { (commands : List Command) → AllAskTheSame commands commands }
 {}
 
-/// From states of equal meaning, commands of equal meaning come to outcomes of equal shapes, where meanings settle
-/// them, and leave states of equal meaning. Takes no memory.
+/// From states of equal meaning, commands of equal meaning come to outcomes of equal shapes, where
+/// meanings settle them, and leave states of equal meaning. Takes no memory.
 pub fn answers_depend_on_meaning()
-    ensures answer { (f g : State) (command also : Command) (outcome other : Outcome) → MeanTheSame f g
-        → AskTheSame command also → IsOutcome f command outcome → IsOutcome g also other → IsSettled f command.request
-        → shape outcome ≡ shape other }
-    ensures state { (f g : State) (command also : Command) → MeanTheSame f g → AskTheSame command also
-        → MeanTheSame (state_after f command) (state_after g also) }
+    ensures answer { (f g : State) (command also : Command) (outcome other : Outcome)
+        → MeanTheSame f g → AskTheSame command also → IsOutcome f command outcome
+        → IsOutcome g also other → IsSettled f command.request → shape outcome ≡ shape other }
+    ensures state { (f g : State) (command also : Command) → MeanTheSame f g
+        → AskTheSame command also → MeanTheSame (state_after f command) (state_after g also) }
 {}
 
 /// The same of whole lists of commands, however long. Takes no memory.
 pub fn all_answers_depend_on_meaning()
-    ensures answers { (f g : State) (commands also : List Command) (outcomes others : List Outcome) → MeanTheSame f g
-        → AllAskTheSame commands also → AreOutcomes f commands outcomes → AreOutcomes g also others
-        → AreAlike f commands outcomes others }
-    ensures state { (f g : State) (commands also : List Command) → MeanTheSame f g → AllAskTheSame commands also
+    ensures answers { (f g : State) (commands also : List Command) (outcomes others : List Outcome)
+        → MeanTheSame f g → AllAskTheSame commands also → AreOutcomes f commands outcomes
+        → AreOutcomes g also others → AreAlike f commands outcomes others }
+    ensures state { (f g : State) (commands also : List Command) → MeanTheSame f g
+        → AllAskTheSame commands also
         → MeanTheSame (state_after_all f commands) (state_after_all g also) }
 {}
 
-/// States answer alike exactly where they mean the same: the same names are held, and each means the same. Takes no
-/// memory.
+/// States answer alike exactly where they mean the same: the same names are held, and each means
+/// the same. Takes no memory.
 pub fn states_answer_alike_where_they_mean_the_same()
     ensures { (f g : State) → MeanTheSame f g ↔ AnswerAlike f g }
 {}
 
-/// States of unequal meaning are told apart by some list of commands; and those that mean different things at a name by
-/// whether they hold it, or by setting one value under another name and comparing the two. Takes no memory.
+/// States of unequal meaning are told apart by some list of commands; and those that mean different
+/// things at a name by whether they hold it, or by setting one value under another name and
+/// comparing the two. Takes no memory.
 pub fn unequal_meanings_are_told_apart()
     ensures name { (f g : State) (name : List ℕ) → meaning_held f name ≢ meaning_held g name
         → AreToldApartBy (probe name (form_at f name)) f g }
-    ensures states { (f g : State) → (MeanTheSame f g → ⊥) → (commands : List Command) × AreToldApartBy commands f g }
+    ensures states { (f g : State) → (MeanTheSame f g → ⊥)
+        → (commands : List Command) × AreToldApartBy commands f g }
 {}

@@ -10,8 +10,9 @@ ghost use Rattle.tera_meaning.specs.Step.{state_after};
 ghost use Rattle.tera_meaning.specs.Tree.{text};
 ghost use Rattle.tera_meaning.specs.WellMade.{IsWellMade};
 
-/// A value that is marked means what it meant: it equals the same values and prints the same text. A text that is
-/// marked is safe, and marking twice is marking once. What is well made stays so. Takes no memory.
+/// A value that is marked means what it meant: it equals the same values and prints the same text.
+/// A text that is marked is safe, and marking twice is marking once. What is well made stays so.
+/// Takes no memory.
 pub fn marks_change_no_meaning()
     ensures meaning { (value : Form) → plain (marked_safe value) ≡ plain value }
     ensures text { (t : MarkedText) → safe_in (marked_safe (text t)) ≡ true }
@@ -19,10 +20,12 @@ pub fn marks_change_no_meaning()
     ensures well_made { (value : Form) → IsWellMade value → IsWellMade (marked_safe value) }
 {}
 
-/// Marked in its place no name changes its meaning; and what is kept under another name means what it was made from.
-/// Takes no memory.
+/// Marked in its place no name changes its meaning; and what is kept under another name means what
+/// it was made from. Takes no memory.
 pub fn marked_names_mean_the_same()
-    ensures place { (state : State) (name : List ℕ) → MeanTheSame (state_after state (asking (mark_safe name))) state }
+    ensures place { (state : State) (name : List ℕ)
+        → MeanTheSame (state_after state (asking (mark_safe name))) state }
     ensures kept { (state : State) (name into : List ℕ)
-        → meaning_at (state_after state (asking_into (mark_safe name) into)) into ≡ meaning_at state name }
+        → meaning_at (state_after state (asking_into (mark_safe name) into)) into
+        ≡ meaning_at state name }
 {}

@@ -1,5 +1,5 @@
-//! The laws of the pairs of maps, and of the least key at which two differ. Each function here does nothing: its
-//! clauses are the law.
+//! The laws of the pairs of maps, and of the least key at which two differ. Each function here does
+//! nothing: its clauses are the law.
 ghost use Rattle.std.specs.Prelude.{◌≡◌, ◌↔◌, ◌⊎◌, ℕ, true, false, codes, pos, if◌then◌else◌, Some, None, List, [], ◌∷◌, map};
 ghost use Rattle.std.specs.List.{All, Contains};
 ghost use Rattle.std.specs.List.Sorted.{IsPermutation};
@@ -16,8 +16,9 @@ ghost use Rattle.tera_meaning.specs.Tree.{object, members};
 
 use std::cmp::Ordering;
 
-/// The pair list of a map has strictly rising keys, and a look-up in it is a look-up in the entries, in whatever order
-/// they stand. Where no two entries have one key it has just the entries. Takes no memory.
+/// The pair list of a map has strictly rising keys, and a look-up in it is a look-up in the
+/// entries, in whatever order they stand. Where no two entries have one key it has just the
+/// entries. Takes no memory.
 pub fn pair_lists_hold_the_entries()
     ensures rises { (entries : List (KeyForm × Form)) → Rises key_form_order (pairs_of entries) }
     ensures found { (entries : List (KeyForm × Form)) (k : KeyForm)
@@ -28,51 +29,59 @@ pub fn pair_lists_hold_the_entries()
         → IsPermutation entries (pairs_of entries) }
 {}
 
-/// The pair list of a map is the only list with strictly rising keys that has just the map's entries, so it is the same
-/// in whatever order these stand. Takes no memory.
+/// The pair list of a map is the only list with strictly rising keys that has just the map's
+/// entries, so it is the same in whatever order these stand. Takes no memory.
 pub fn only_one_pair_list_holds_the_entries()
     ensures only { (entries pairs : List (KeyForm × Form)) → HasDistinctKeys key_form_order entries
-        → Rises key_form_order pairs → ((pair : KeyForm × Form) → Contains pairs pair ↔ Contains entries pair)
+        → Rises key_form_order pairs
+        → ((pair : KeyForm × Form) → Contains pairs pair ↔ Contains entries pair)
         → pairs ≡ pairs_of entries }
-    ensures order { (entries others : List (KeyForm × Form)) → HasDistinctKeys key_form_order entries
-        → IsPermutation entries others → pairs_of entries ≡ pairs_of others }
+    ensures order { (entries others : List (KeyForm × Form))
+        → HasDistinctKeys key_form_order entries → IsPermutation entries others
+        → pairs_of entries ≡ pairs_of others }
 {}
 
-/// What a map means is the pair list of what its entries mean; and two pair lists of meanings in which each key finds
-/// the same are one. Takes no memory.
+/// What a map means is the pair list of what its entries mean; and two pair lists of meanings in
+/// which each key finds the same are one. Takes no memory.
 pub fn pair_lists_mean_what_their_entries_mean()
     ensures meaning { (entries : List (KeyForm × Form))
-        → plain (object (members (pairs_of entries))) ≡ object (members (rising key_order (map pair_meaning entries))) }
-    ensures same { (pairs others : List (KeyMeaning × Meaning)) → Rises key_order pairs → Rises key_order others
-        → ((k : KeyMeaning) → value_at key_order pairs k ≡ value_at key_order others k) → pairs ≡ others }
+        → plain (object (members (pairs_of entries)))
+        ≡ object (members (rising key_order (map pair_meaning entries))) }
+    ensures same { (pairs others : List (KeyMeaning × Meaning)) → Rises key_order pairs
+        → Rises key_order others
+        → ((k : KeyMeaning) → value_at key_order pairs k ≡ value_at key_order others k)
+        → pairs ≡ others }
 {}
 
-/// Two lists with strictly rising keys, compared by the first place where they differ and there by key and then by
-/// value, are ordered as they stand at the least key at which they differ: by their values there where both have it.
-/// The one that alone has it is less where the other has a greater key, and greater where the other has ended. They tie
-/// exactly where no key differs, and else there is such a least key. This holds of any keys and values with total
-/// orders. Takes no memory.
+/// Two lists with strictly rising keys, compared by the first place where they differ and there by
+/// key and then by value, are ordered as they stand at the least key at which they differ: by their
+/// values there where both have it. The one that alone has it is less where the other has a greater
+/// key, and greater where the other has ended. They tie exactly where no key differs, and else
+/// there is such a least key. This holds of any keys and values with total orders. Takes no memory.
 pub fn least_difference_decides<K: Ord, V: Ord>()
     ensures order { (ps qs : List (K × V)) (k : K) → Rises K.cmp ps → Rises K.cmp qs
         → IsLeastDifference K.cmp V.cmp ps qs k
         → slice_cmp (entry_order K.cmp V.cmp) ps qs ≡ order_at K.cmp V.cmp ps qs k }
     ensures tie { (ps qs : List (K × V)) → Rises K.cmp ps → Rises K.cmp qs
-        → (AgreeEverywhere K.cmp V.cmp ps qs ↔ (slice_cmp (entry_order K.cmp V.cmp) ps qs ≡ Ordering.Equal)) }
+        → (AgreeEverywhere K.cmp V.cmp ps qs
+        ↔ (slice_cmp (entry_order K.cmp V.cmp) ps qs ≡ Ordering.Equal)) }
     ensures exists { (ps qs : List (K × V)) → Rises K.cmp ps → Rises K.cmp qs
         → AgreeEverywhere K.cmp V.cmp ps qs ⊎ ((k : K) × IsLeastDifference K.cmp V.cmp ps qs k) }
     ensures both { (ps qs : List (K × V)) (k : K) (x y : V) → value_at K.cmp ps k ≡ Some x
         → value_at K.cmp qs k ≡ Some y → order_at K.cmp V.cmp ps qs k ≡ V.cmp x y }
-    ensures left { (ps qs : List (K × V)) (k : K) (x : V) → value_at K.cmp ps k ≡ Some x → value_at K.cmp qs k ≡ None
-        → order_at K.cmp V.cmp ps qs k ≡ if goes_on K.cmp qs k then Ordering.Less else Ordering.Greater }
-    ensures right { (ps qs : List (K × V)) (k : K) (y : V) → value_at K.cmp ps k ≡ None → value_at K.cmp qs k ≡ Some y
-        → order_at K.cmp V.cmp ps qs k ≡ if goes_on K.cmp ps k then Ordering.Greater else Ordering.Less }
+    ensures left { (ps qs : List (K × V)) (k : K) (x : V) → value_at K.cmp ps k ≡ Some x
+        → value_at K.cmp qs k ≡ None → order_at K.cmp V.cmp ps qs k
+        ≡ if goes_on K.cmp qs k then Ordering.Less else Ordering.Greater }
+    ensures right { (ps qs : List (K × V)) (k : K) (y : V) → value_at K.cmp ps k ≡ None
+        → value_at K.cmp qs k ≡ Some y → order_at K.cmp V.cmp ps qs k
+        ≡ if goes_on K.cmp ps k then Ordering.Greater else Ordering.Less }
 {}
 
-/// Two maps compare by the least key at which their entries differ, in whatever order these stand. They tie, and mean
-/// the same, exactly where they differ at no key. Takes no memory.
+/// Two maps compare by the least key at which their entries differ, in whatever order these stand.
+/// They tie, and mean the same, exactly where they differ at no key. Takes no memory.
 pub fn maps_compare_by_the_least_difference()
-    ensures order { (ps qs : List (KeyMeaning × Meaning)) (k : KeyMeaning) → Rises key_order ps → Rises key_order qs
-        → IsLeastDifference key_order compare ps qs k
+    ensures order { (ps qs : List (KeyMeaning × Meaning)) (k : KeyMeaning) → Rises key_order ps
+        → Rises key_order qs → IsLeastDifference key_order compare ps qs k
         → compare (object (members ps)) (object (members qs)) ≡ order_at key_order compare ps qs k }
     ensures forms { (entries others : List (KeyForm × Form)) (k : KeyForm)
         → IsLeastDifference key_form_order (on plain compare) entries others k
@@ -86,9 +95,9 @@ pub fn maps_compare_by_the_least_difference()
         ↔ (map_meaning entries ≡ map_meaning others)) }
 {}
 
-/// A key at which two lists of entries differ is the least one where each lesser key of either is no difference; and
-/// they differ nowhere where they do at no key of either. So a walk over each finds the least difference. Takes no
-/// memory.
+/// A key at which two lists of entries differ is the least one where each lesser key of either is
+/// no difference; and they differ nowhere where they do at no key of either. So a walk over each
+/// finds the least difference. Takes no memory.
 pub fn walks_find_the_least_difference<K: Ord, V: Ord>()
     ensures least { (es fs : List (K × V)) (k : K) → agree_at K.cmp V.cmp es fs k ≡ false
         → All (λ e. K.cmp e.0 k ≡ Ordering.Less → agree_at K.cmp V.cmp es fs e.0 ≡ true) es
@@ -98,28 +107,35 @@ pub fn walks_find_the_least_difference<K: Ord, V: Ord>()
         → All (λ f. agree_at K.cmp V.cmp es fs f.0 ≡ true) fs → AgreeEverywhere K.cmp V.cmp es fs }
 {}
 
-/// Entries stand in the order of their keys, whatever order they came in; of entries with one key the first gives the
-/// value. Takes no memory.
+/// Entries stand in the order of their keys, whatever order they came in; of entries with one key
+/// the first gives the value. Takes no memory.
 pub fn entries_take_their_places()
     ensures places { pairs_of {V = ℕ}
-        ((text_key (owned (codes "a")), 1) ∷ (key_of i128 2, 2) ∷ (truth_key true, 3) ∷ (key_of u64 1, 4) ∷ [])
-        ≡ (truth_key true, 3) ∷ (key_of u64 1, 4) ∷ (key_of i128 2, 2) ∷ (text_key (owned (codes "a")), 1) ∷ [] }
-    ensures tie { pairs_of {V = ℕ} ((key_of u64 1, 1) ∷ (key_of i64 1, 2) ∷ []) ≡ (key_of i64 1, 1) ∷ [] }
-    ensures text { pairs_of {V = ℕ} ((text_key (owned (codes "a")), 1) ∷ (text_key (borrowed (codes "a")), 2) ∷ [])
+        ((text_key (owned (codes "a")), 1) ∷ (key_of i128 2, 2) ∷ (truth_key true, 3)
+        ∷ (key_of u64 1, 4) ∷ [])
+        ≡ (truth_key true, 3) ∷ (key_of u64 1, 4) ∷ (key_of i128 2, 2)
+        ∷ (text_key (owned (codes "a")), 1) ∷ [] }
+    ensures tie { pairs_of {V = ℕ} ((key_of u64 1, 1) ∷ (key_of i64 1, 2) ∷ [])
+        ≡ (key_of i64 1, 1) ∷ [] }
+    ensures text { pairs_of {V = ℕ}
+        ((text_key (owned (codes "a")), 1) ∷ (text_key (borrowed (codes "a")), 2) ∷ [])
         ≡ (text_key (borrowed (codes "a")), 1) ∷ [] }
 {}
 
-/// Where one of two maps alone has the least key at which they differ, it is less if the other goes on above it, and
-/// greater if the other has ended. Takes no memory.
+/// Where one of two maps alone has the least key at which they differ, it is less if the other goes
+/// on above it, and greater if the other has ended. Takes no memory.
 pub fn what_goes_on_is_greater()
-    ensures goes_on { order_at key_order compare ((number_key (pos 2), count 0) ∷ (number_key (pos 1), count 0) ∷ [])
-        ((number_key (pos 3), count 0) ∷ (number_key (pos 1), count 0) ∷ []) (number_key (pos 2)) ≡ Ordering.Less }
-    ensures ended { order_at key_order compare ((number_key (pos 2), count 0) ∷ (number_key (pos 1), count 0) ∷ [])
+    ensures goes_on { order_at key_order compare
+        ((number_key (pos 2), count 0) ∷ (number_key (pos 1), count 0) ∷ [])
+        ((number_key (pos 3), count 0) ∷ (number_key (pos 1), count 0) ∷ []) (number_key (pos 2))
+        ≡ Ordering.Less }
+    ensures ended { order_at key_order compare
+        ((number_key (pos 2), count 0) ∷ (number_key (pos 1), count 0) ∷ [])
         ((number_key (pos 1), count 0) ∷ []) (number_key (pos 2)) ≡ Ordering.Greater }
     ensures other_goes_on { order_at key_order compare ((number_key (pos 3), count 0) ∷ [])
         ((number_key (pos 2), count 0) ∷ []) (number_key (pos 2)) ≡ Ordering.Greater }
-    ensures other_ended { order_at key_order compare [] ((number_key (pos 2), count 0) ∷ []) (number_key (pos 2))
-        ≡ Ordering.Less }
+    ensures other_ended { order_at key_order compare [] ((number_key (pos 2), count 0) ∷ [])
+        (number_key (pos 2)) ≡ Ordering.Less }
     ensures values { order_at key_order compare ((number_key (pos 2), count 0) ∷ [])
         ((number_key (pos 2), count 1) ∷ []) (number_key (pos 2)) ≡ Ordering.Less }
 {}

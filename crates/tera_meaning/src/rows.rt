@@ -1,4 +1,5 @@
-//! The definitions at work on small meanings. Each function here does nothing: its clauses are the rows.
+//! The definitions at work on small meanings. Each function here does nothing: its clauses are the
+//! rows.
 ghost use Rattle.std.specs.Prelude.{◌≡◌, ℕ, ℤ, Bool, ◌-◌, ◌^◌, codes, true, false, pos, negsuc, List, [], ◌∷◌, IsTrue};
 ghost use Rattle.tera_report.specs.Escaping.{escaped};
 ghost use Rattle.tera_meaning.specs.Form.{Form, MarkedText};
@@ -15,34 +16,51 @@ ghost use Rattle.tera_meaning.specs.Tree.{undefined, none, truth, number, text, 
 use std::cmp::Ordering;
 
 /// Each of these is less than every later one. Takes no memory.
-pub fn kinds_rise()
-    ensures kinds { IsTrue (rises (truth true ∷ count 1 ∷ text (codes "a") ∷ list_of [] ∷ map_of [] ∷ bytes (0 ∷ []) ∷ none ∷ undefined ∷ [])) }
-    ensures numbers { IsTrue (rises (truth false ∷ truth true ∷ number (negsuc (2 ^ 127 - 1)) ∷ number (negsuc 0) ∷ count 0 ∷ count (2 ^ 128 - 1) ∷ [])) }
-    ensures texts { IsTrue (rises (text [] ∷ text (codes "a") ∷ text (codes "aa") ∷ text (codes "b") ∷ text (195 ∷ 169 ∷ []) ∷ [])) }
-    ensures lists { IsTrue (rises (list_of [] ∷ list_of (count 1 ∷ []) ∷ list_of (count 1 ∷ list_of [] ∷ []) ∷ list_of (count 2 ∷ []) ∷ [])) }
-    ensures keys { IsTrue (rises (map_at (truth_key false) ∷ map_at (truth_key true) ∷ map_at (number_key (negsuc 0)) ∷ map_at (number_key (pos 1)) ∷ map_at (text_key []) ∷ map_at (text_key (codes "1")) ∷ map_at (text_key (codes "a")) ∷ [])) }
+pub fn ranks_rise()
+    ensures ranks { IsTrue (rises (truth true ∷ count 1 ∷ text (codes "a") ∷ list_of [] ∷ map_of []
+        ∷ bytes (0 ∷ []) ∷ none ∷ undefined ∷ [])) }
+    ensures numbers { IsTrue (rises (truth false ∷ truth true ∷ number (negsuc (2 ^ 127 - 1))
+        ∷ number (negsuc 0) ∷ count 0 ∷ count (2 ^ 128 - 1) ∷ [])) }
+    ensures texts { IsTrue (rises (text [] ∷ text (codes "a") ∷ text (codes "aa") ∷ text (codes "b")
+        ∷ text (195 ∷ 169 ∷ []) ∷ [])) }
+    ensures lists { IsTrue (rises (list_of [] ∷ list_of (count 1 ∷ [])
+        ∷ list_of (count 1 ∷ list_of [] ∷ []) ∷ list_of (count 2 ∷ []) ∷ [])) }
+    ensures keys { IsTrue (rises (map_at (truth_key false) ∷ map_at (truth_key true)
+        ∷ map_at (number_key (negsuc 0)) ∷ map_at (number_key (pos 1)) ∷ map_at (text_key [])
+        ∷ map_at (text_key (codes "1")) ∷ map_at (text_key (codes "a")) ∷ [])) }
 {}
 
-/// Maps compare along their pairs, by key and then by value; one that is a beginning of the other is less. Takes no
-/// memory.
+/// Maps compare along their pairs, by key and then by value; one that is a beginning of the other
+/// is less. Takes no memory.
 pub fn maps_compare_along_their_pairs()
-    ensures value { compare (map_of ((text_key (codes "a"), count 1) ∷ [])) (map_of ((text_key (codes "a"), count 2) ∷ [])) ≡ Ordering.Less }
-    ensures longer { compare (map_of ((text_key (codes "a"), count 1) ∷ (text_key (codes "b"), count 2) ∷ [])) (map_of ((text_key (codes "a"), count 1) ∷ [])) ≡ Ordering.Greater }
-    ensures later { compare (map_of ((text_key (codes "a"), count 1) ∷ (text_key (codes "b"), count 2) ∷ [])) (map_of ((text_key (codes "a"), count 1) ∷ (text_key (codes "c"), count 0) ∷ [])) ≡ Ordering.Less }
-    ensures first { compare (map_of ((text_key (codes "a"), count 1) ∷ (text_key (codes "c"), count 1) ∷ [])) (map_of ((text_key (codes "b"), count 0) ∷ [])) ≡ Ordering.Less }
-    ensures nested { compare (list_of (map_of ((text_key (codes "a"), count 1) ∷ []) ∷ [])) (list_of (map_of ((text_key (codes "a"), count 2) ∷ []) ∷ [])) ≡ Ordering.Less }
+    ensures value { compare (map_of ((text_key (codes "a"), count 1) ∷ []))
+        (map_of ((text_key (codes "a"), count 2) ∷ [])) ≡ Ordering.Less }
+    ensures longer { compare
+        (map_of ((text_key (codes "a"), count 1) ∷ (text_key (codes "b"), count 2) ∷ []))
+        (map_of ((text_key (codes "a"), count 1) ∷ [])) ≡ Ordering.Greater }
+    ensures later { compare
+        (map_of ((text_key (codes "a"), count 1) ∷ (text_key (codes "b"), count 2) ∷ []))
+        (map_of ((text_key (codes "a"), count 1) ∷ (text_key (codes "c"), count 0) ∷ []))
+        ≡ Ordering.Less }
+    ensures first { compare
+        (map_of ((text_key (codes "a"), count 1) ∷ (text_key (codes "c"), count 1) ∷ []))
+        (map_of ((text_key (codes "b"), count 0) ∷ [])) ≡ Ordering.Less }
+    ensures nested { compare (list_of (map_of ((text_key (codes "a"), count 1) ∷ []) ∷ []))
+        (list_of (map_of ((text_key (codes "a"), count 2) ∷ []) ∷ [])) ≡ Ordering.Less }
 {}
 
-/// Undefined and none print nothing, integers print in decimal, a text by itself as it is, and bytes with U+FFFD for each
-/// invalid sequence. Takes no memory.
+/// Undefined and none print nothing, integers print in decimal, a text by itself as it is, and
+/// bytes with U+FFFD for each invalid sequence. Takes no memory.
 pub fn single_values_print()
     ensures undefined { printed undefined ≡ [] }
     ensures none { printed none ≡ [] }
     ensures yes { printed (truth true) ≡ codes "true" }
     ensures no { printed (truth false) ≡ codes "false" }
     ensures zero { printed (count 0) ≡ codes "0" }
-    ensures least { printed (number (negsuc (2 ^ 127 - 1))) ≡ codes "-170141183460469231731687303715884105728" }
-    ensures greatest { printed (count (2 ^ 128 - 1)) ≡ codes "340282366920938463463374607431768211455" }
+    ensures least { printed (number (negsuc (2 ^ 127 - 1)))
+        ≡ codes "-170141183460469231731687303715884105728" }
+    ensures greatest { printed (count (2 ^ 128 - 1))
+        ≡ codes "340282366920938463463374607431768211455" }
     ensures text { printed (text (34 ∷ 195 ∷ 169 ∷ [])) ≡ 34 ∷ 195 ∷ 169 ∷ [] }
     ensures bytes { printed (bytes (97 ∷ 255 ∷ 98 ∷ [])) ≡ 97 ∷ 239 ∷ 191 ∷ 189 ∷ 98 ∷ [] }
 {}
@@ -53,31 +71,41 @@ pub fn nested_values_print()
     ensures empty_map { printed (map_of []) ≡ codes "{}" }
     ensures none { printed (list_of (none ∷ [])) ≡ codes "[]" }
     ensures hole { printed (list_of (count 1 ∷ none ∷ count 2 ∷ [])) ≡ codes "[1, , 2]" }
-    ensures escapes { printed (list_of (text (97 ∷ 34 ∷ 31 ∷ 127 ∷ 39 ∷ []) ∷ [])) ≡ codes "[\"a\\\"\\u{1f}\\u{7f}'\"]" }
-    ensures map { printed (map_of ((text_key (codes "hello"), text (codes "world")) ∷ (text_key (codes "other"), count 2) ∷ [])) ≡ codes "{\"hello\": \"world\", \"other\": 2}" }
-    ensures keys { printed (map_of ((truth_key true, count 1) ∷ (number_key (pos 1), count 2) ∷ (text_key (codes "1"), count 3) ∷ [])) ≡ codes "{true: 1, 1: 2, \"1\": 3}" }
+    ensures escapes { printed (list_of (text (97 ∷ 34 ∷ 31 ∷ 127 ∷ 39 ∷ []) ∷ []))
+        ≡ codes "[\"a\\\"\\u{1f}\\u{7f}'\"]" }
+    ensures map { printed (map_of ((text_key (codes "hello"), text (codes "world"))
+        ∷ (text_key (codes "other"), count 2) ∷ []))
+        ≡ codes "{\"hello\": \"world\", \"other\": 2}" }
+    ensures keys { printed (map_of ((truth_key true, count 1) ∷ (number_key (pos 1), count 2)
+        ∷ (text_key (codes "1"), count 3) ∷ [])) ≡ codes "{true: 1, 1: 2, \"1\": 3}" }
 {}
 
-/// The texts of bytes are quoted in no array, those of safe texts are, and where no character stands next in bytes the
-/// longest beginning of one is one U+FFFD. Takes no memory.
+/// The texts of bytes are quoted in no array, those of safe texts are, and where no character
+/// stands next in bytes the longest beginning of one is one U+FFFD. Takes no memory.
 pub fn texts_and_bytes_print_in_arrays()
-    ensures safe { printed (plain (array (items (text (record { spelled = codes "a"; safe = true }) ∷ bytes (104 ∷ 105 ∷ []) ∷ array (items []) ∷ [])))) ≡ codes "[\"a\", hi, []]" }
-    ensures lossy { printed (list_of (bytes (226 ∷ 130 ∷ 65 ∷ 240 ∷ 128 ∷ 128 ∷ []) ∷ [])) ≡ 91 ∷ 239 ∷ 191 ∷ 189 ∷ 65 ∷ 239 ∷ 191 ∷ 189 ∷ 239 ∷ 191 ∷ 189 ∷ 239 ∷ 191 ∷ 189 ∷ 93 ∷ [] }
-    ensures escaped { escaped (printed (list_of (text (codes "<") ∷ []))) ≡ codes "[&quot;&lt;&quot;]" }
+    ensures safe { printed (plain (array (items (text (record { spelled = codes "a"; safe = true })
+        ∷ bytes (104 ∷ 105 ∷ []) ∷ array (items []) ∷ [])))) ≡ codes "[\"a\", hi, []]" }
+    ensures lossy { printed (list_of (bytes (226 ∷ 130 ∷ 65 ∷ 240 ∷ 128 ∷ 128 ∷ []) ∷ []))
+        ≡ 91 ∷ 239 ∷ 191 ∷ 189 ∷ 65 ∷ 239 ∷ 191 ∷ 189 ∷ 239 ∷ 191 ∷ 189 ∷ 239 ∷ 191 ∷ 189 ∷ 93
+        ∷ [] }
+    ensures escaped { escaped (printed (list_of (text (codes "<") ∷ [])))
+        ≡ codes "[&quot;&lt;&quot;]" }
 {}
 
-/// A text by itself may be any text; inside arrays and maps, and as keys, texts are to be ASCII. Takes no memory.
+/// A text by itself may be any text; inside arrays and maps, and as keys, texts are to be ASCII.
+/// Takes no memory.
 pub fn quoted_texts_are_to_be_ascii()
     ensures alone { is_exact (text (195 ∷ 169 ∷ [])) ≡ true }
     ensures item { is_exact (list_of (text (195 ∷ 169 ∷ []) ∷ [])) ≡ false }
     ensures value { is_exact (map_of ((text_key (codes "a"), text (195 ∷ 169 ∷ [])) ∷ [])) ≡ false }
     ensures key { is_exact (map_of ((text_key (195 ∷ 169 ∷ []), none) ∷ [])) ≡ false }
-    ensures nested { is_exact (list_of (count 1 ∷ list_of (text (195 ∷ 169 ∷ []) ∷ []) ∷ [])) ≡ false }
+    ensures nested { is_exact (list_of (count 1 ∷ list_of (text (195 ∷ 169 ∷ []) ∷ []) ∷ []))
+        ≡ false }
     ensures bytes { is_exact (list_of (bytes (255 ∷ []) ∷ text (codes "a") ∷ [])) ≡ true }
 {}
 
-/// A text is as long as its characters, whatever bytes spell them, an accent that combines being one; bytes, arrays and
-/// maps have a length, and nothing else has. Takes no memory.
+/// A text is as long as its characters, whatever bytes spell them, an accent that combines being
+/// one; bytes, arrays and maps have a length, and nothing else has. Takes no memory.
 pub fn sizes_count_characters()
     ensures accent { size_in (text (101 ∷ 204 ∷ 129 ∷ 99 ∷ 111 ∷ 108 ∷ 101 ∷ [])) ≡ Some 6 }
     ensures euro { size_in (text (226 ∷ 130 ∷ 172 ∷ [])) ≡ Some 1 }
@@ -105,7 +133,8 @@ pub fn what_is_empty_is_false()
     ensures maps { truthy_in (map_of []) ≡ false × (truthy_in (map_at (truth_key false)) ≡ true) }
 {}
 
-/// A text is safe by its flag; arrays, maps and bytes are not safe, and all else is. Takes no memory.
+/// A text is safe by its flag; arrays, maps and bytes are not safe, and all else is. Takes no
+/// memory.
 pub fn texts_are_safe_by_their_flags()
     ensures text { (t : List ℕ) (b : Bool) → safe_in (text (record { spelled = t; safe = b })) ≡ b }
     ensures array { (xs : List Form) → safe_in (array (items xs)) ≡ false }
@@ -122,22 +151,32 @@ pub fn kinds_have_names()
     ensures undefined { kind_name (kind_in undefined) ≡ codes "undefined" }
     ensures none { kind_name (kind_in none) ≡ codes "none" }
     ensures truth { (b : Bool) → kind_name (kind_in (truth b)) ≡ codes "bool" }
-    ensures u64 { (z : ℤ) → kind_name (kind_in (number (record { kind = u64; value = z }))) ≡ codes "u64" }
-    ensures i64 { (z : ℤ) → kind_name (kind_in (number (record { kind = i64; value = z }))) ≡ codes "i64" }
-    ensures u128 { (z : ℤ) → kind_name (kind_in (number (record { kind = u128; value = z }))) ≡ codes "u128" }
-    ensures i128 { (z : ℤ) → kind_name (kind_in (number (record { kind = i128; value = z }))) ≡ codes "i128" }
+    ensures u64 { (z : ℤ)
+        → kind_name (kind_in (number (record { kind = u64; value = z }))) ≡ codes "u64" }
+    ensures i64 { (z : ℤ)
+        → kind_name (kind_in (number (record { kind = i64; value = z }))) ≡ codes "i64" }
+    ensures u128 { (z : ℤ)
+        → kind_name (kind_in (number (record { kind = u128; value = z }))) ≡ codes "u128" }
+    ensures i128 { (z : ℤ)
+        → kind_name (kind_in (number (record { kind = i128; value = z }))) ≡ codes "i128" }
     ensures text { (t : MarkedText) → kind_name (kind_in (text t)) ≡ codes "string" }
     ensures array { (xs : List Form) → kind_name (kind_in (array (items xs))) ≡ codes "array" }
-    ensures map { (ps : List (KeyForm × Form)) → kind_name (kind_in (object (members ps))) ≡ codes "map/struct" }
+    ensures map { (ps : List (KeyForm × Form))
+        → kind_name (kind_in (object (members ps))) ≡ codes "map/struct" }
     ensures bytes { (bs : List ℕ) → kind_name (kind_in (bytes bs)) ≡ codes "bytes" }
 {}
 
-/// A form means what it holds: the kind of an integer, the safe flag of a text and how a key is held are forgotten. Takes
-/// no memory.
+/// A form means what it holds: the kind of an integer, the safe flag of a text and how a key is
+/// held are forgotten. Takes no memory.
 pub fn kinds_and_flags_are_forgotten()
-    ensures number { plain (number (record { kind = u64; value = pos 1 })) ≡ plain (number (record { kind = i128; value = pos 1 })) }
-    ensures text { plain (text (record { spelled = codes "a"; safe = true })) ≡ plain (text (record { spelled = codes "a"; safe = false })) }
-    ensures key { plain (map_at (text_key (owned (codes "a")))) ≡ plain (map_at (text_key (borrowed (codes "a")))) }
-    ensures key_number { plain (map_at (number_key (record { kind = u64; value = pos 1 }))) ≡ plain (map_at (number_key (record { kind = i128; value = pos 1 }))) }
-    ensures told_apart { same (plain (number (record { kind = u64; value = pos 1 }))) (plain (text (record { spelled = codes "1"; safe = true }))) ≡ false }
+    ensures number { plain (number (record { kind = u64; value = pos 1 }))
+        ≡ plain (number (record { kind = i128; value = pos 1 })) }
+    ensures text { plain (text (record { spelled = codes "a"; safe = true }))
+        ≡ plain (text (record { spelled = codes "a"; safe = false })) }
+    ensures key { plain (map_at (text_key (owned (codes "a"))))
+        ≡ plain (map_at (text_key (borrowed (codes "a")))) }
+    ensures key_number { plain (map_at (number_key (record { kind = u64; value = pos 1 })))
+        ≡ plain (map_at (number_key (record { kind = i128; value = pos 1 }))) }
+    ensures told_apart { same (plain (number (record { kind = u64; value = pos 1 })))
+        (plain (text (record { spelled = codes "1"; safe = true }))) ≡ false }
 {}

@@ -7,49 +7,56 @@ ghost use Rattle.tera_meaning.specs.Run.{IsRun, IsAmpleRun, AreOutcomes, AreFixe
 ghost use Rattle.tera_meaning.specs.State.{State};
 ghost use Rattle.tera_meaning.specs.Step.{IsOutcome, IsFixed};
 
-/// Each command comes to some outcome, whatever the context holds, and where what it prints is exact to one alone. Takes
-/// no memory.
+/// Each command comes to some outcome, whatever the context holds, and where what it prints is
+/// exact to one alone. Takes no memory.
 pub fn commands_have_outcomes()
-    ensures some { (state : State) (command : Command) → (outcome : Outcome) × IsOutcome state command outcome }
-    ensures one { (state : State) (command : Command) (outcome other : Outcome) → IsFixed state command.request
-        → IsOutcome state command outcome → IsOutcome state command other → outcome ≡ other }
+    ensures some { (state : State) (command : Command)
+        → (outcome : Outcome) × IsOutcome state command outcome }
+    ensures one { (state : State) (command : Command) (outcome other : Outcome)
+        → IsFixed state command.request → IsOutcome state command outcome
+        → IsOutcome state command other → outcome ≡ other }
 {}
 
-/// A run with the steps that want memory left out is a run in which no step does, to the same state; the other
-/// outcomes are unchanged. Takes no memory.
+/// A run with the steps that want memory left out is a run in which no step does, to the same
+/// state; the other outcomes are unchanged. Takes no memory.
 pub fn wants_of_memory_can_be_left_out()
     ensures { (old : State) (commands : List Command) (outcomes : List Outcome) (new : State)
-        → IsRun old commands outcomes new → IsAmpleRun old (commands_with_memory commands outcomes) (outcomes_with_memory outcomes) new }
+        → IsRun old commands outcomes new
+        → IsAmpleRun old
+        (commands_with_memory commands outcomes) (outcomes_with_memory outcomes) new }
 {}
 
-/// A run in which no step wants memory gives outcomes of its commands, one after another, and leaves the state after
-/// them; and whatever they come to is given by such a run. Takes no memory.
+/// A run in which no step wants memory gives outcomes of its commands, one after another, and
+/// leaves the state after them; and whatever they come to is given by such a run. Takes no memory.
 pub fn runs_give_their_outcomes()
-    ensures outcomes { (old : State) (commands : List Command) (outcomes : List Outcome) (new : State)
-        → IsAmpleRun old commands outcomes new → AreOutcomes old commands outcomes }
+    ensures outcomes { (old : State) (commands : List Command) (outcomes : List Outcome)
+        (new : State) → IsAmpleRun old commands outcomes new → AreOutcomes old commands outcomes }
     ensures state { (old : State) (commands : List Command) (outcomes : List Outcome) (new : State)
         → IsAmpleRun old commands outcomes new → new ≡ state_after_all old commands }
     ensures given { (old : State) (commands : List Command) (outcomes : List Outcome)
-        → AreOutcomes old commands outcomes → IsAmpleRun old commands outcomes (state_after_all old commands) }
+        → AreOutcomes old commands outcomes
+        → IsAmpleRun old commands outcomes (state_after_all old commands) }
 {}
 
-/// Each list of commands comes to some outcomes, and to one list alone where all that they print is exact: nothing else
-/// is left open. Takes no memory.
+/// Each list of commands comes to some outcomes, and to one list alone where all that they print is
+/// exact: nothing else is left open. Takes no memory.
 pub fn runs_have_outcomes()
     ensures some { (state : State) (commands : List Command)
         → (outcomes : List Outcome) × AreOutcomes state commands outcomes }
-    ensures one { (old : State) (commands : List Command) (outcomes others : List Outcome) (new also : State)
-        → AreFixed old commands → IsAmpleRun old commands outcomes new → IsAmpleRun old commands others also
-        → outcomes ≡ others }
+    ensures one { (old : State) (commands : List Command) (outcomes others : List Outcome)
+        (new also : State) → AreFixed old commands → IsAmpleRun old commands outcomes new
+        → IsAmpleRun old commands others also → outcomes ≡ others }
 {}
 
-/// Two runs of commands of equal meaning, from states of equal meaning, in which no step wants memory, come to outcomes
-/// of equal shapes wherever meanings settle them, and end in states of equal meaning. Takes no memory.
+/// Two runs of commands of equal meaning, from states of equal meaning, in which no step wants
+/// memory, come to outcomes of equal shapes wherever meanings settle them, and end in states of
+/// equal meaning. Takes no memory.
 pub fn runs_depend_on_meaning()
-    ensures outcomes { (f g : State) (commands also : List Command) (outcomes others : List Outcome) (f' g' : State)
-        → MeanTheSame f g → AllAskTheSame commands also → IsAmpleRun f commands outcomes f'
+    ensures outcomes { (f g : State) (commands also : List Command) (outcomes others : List Outcome)
+        (f' g' : State) → MeanTheSame f g → AllAskTheSame commands also
+        → IsAmpleRun f commands outcomes f'
         → IsAmpleRun g also others g' → AreAlike f commands outcomes others }
-    ensures state { (f g : State) (commands also : List Command) (outcomes others : List Outcome) (f' g' : State)
-        → MeanTheSame f g → AllAskTheSame commands also → IsAmpleRun f commands outcomes f'
-        → IsAmpleRun g also others g' → MeanTheSame f' g' }
+    ensures state { (f g : State) (commands also : List Command) (outcomes others : List Outcome)
+        (f' g' : State) → MeanTheSame f g → AllAskTheSame commands also
+        → IsAmpleRun f commands outcomes f' → IsAmpleRun g also others g' → MeanTheSame f' g' }
 {}

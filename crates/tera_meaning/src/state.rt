@@ -10,22 +10,24 @@ ghost use Rattle.tera_meaning.specs.Tree.{undefined};
 
 /// After a value is set the name holds it, and each other name what it held. Takes no memory.
 pub fn setting_keeps_other_names()
-    ensures set { (state : State) (name : List ℕ) (value : Form) → get (insert state name value) name ≡ Some value }
+    ensures set { (state : State) (name : List ℕ) (value : Form)
+        → get (insert state name value) name ≡ Some value }
     ensures others { (state : State) (name : List ℕ) (value : Form) (other : List ℕ)
         → other ≢ name → get (insert state name value) other ≡ get state other }
 {}
 
-/// After a name is removed it is held no more, and each other name holds what it held. To remove one that is not held
-/// changes nothing. Takes no memory.
+/// After a name is removed it is held no more, and each other name holds what it held. To remove
+/// one that is not held changes nothing. Takes no memory.
 pub fn removing_keeps_other_names()
     ensures removed { (state : State) (name : List ℕ) → get (remove state name) name ≡ None }
     ensures others { (state : State) (name : List ℕ) (other : List ℕ) → other ≢ name
         → get (remove state name) other ≡ get state other }
-    ensures absent { (state : State) (name : List ℕ) → get state name ≡ None → remove state name ≡ state }
+    ensures absent { (state : State) (name : List ℕ) → get state name ≡ None
+        → remove state name ≡ state }
 {}
 
-/// After a value is set the name means what the value means, and each other name what it meant. Where nothing is held
-/// each name reads as undefined. Takes no memory.
+/// After a value is set the name means what the value means, and each other name what it meant.
+/// Where nothing is held each name reads as undefined. Takes no memory.
 pub fn setting_gives_the_meaning()
     ensures set { (state : State) (name : List ℕ) (value : Form)
         → meaning_at (insert state name value) name ≡ plain value }
@@ -37,5 +39,6 @@ pub fn setting_gives_the_meaning()
 
 /// Two states that hold the same at each name are one state. Takes no memory.
 pub fn states_that_answer_alike_are_equal()
-    ensures { (left right : State) → ((name : List ℕ) → get left name ≡ get right name) → left ≡ right }
+    ensures { (left right : State) → ((name : List ℕ) → get left name ≡ get right name)
+        → left ≡ right }
 {}

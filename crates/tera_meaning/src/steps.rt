@@ -25,30 +25,39 @@ ghost use Rattle.tera_meaning.specs.Weighing.{Weighing, weighed};
 
 use std::cmp::Ordering;
 
-/// What a name holds is what is found, removed, counted, judged, printed and escaped there. Takes no memory.
+/// What a name holds is what is found, removed, counted, judged, printed and escaped there. Takes
+/// no memory.
 pub fn what_is_held_is_read()
-    ensures get { HeldAnswers (λ name. find (Search.get name)) (λ value. Answer.found (Some value)) }
+    ensures get { HeldAnswers (λ name. find (Search.get name))
+        (λ value. Answer.found (Some value)) }
     ensures remove { HeldAnswers remove (λ value. Answer.found (Some value)) }
     ensures has { HeldAnswers (ask Question.has) (λ value. Answer.truth true) }
     ensures len { HeldAnswers (ask Question.len) (λ value. Answer.size (size_in (plain value))) }
-    ensures truthy { HeldAnswers (ask Question.truthy) (λ value. Answer.truth (truthy_in (plain value))) }
+    ensures truthy { HeldAnswers (ask Question.truthy)
+        (λ value. Answer.truth (truthy_in (plain value))) }
     ensures kind { HeldAnswers (ask Question.kind) (λ value. Answer.kind (kind_in value)) }
     ensures safe { HeldAnswers (ask Question.is_safe) (λ value. Answer.truth (safe_in value)) }
-    ensures print { ExactAnswers (ask Question.print) (λ value. Answer.text (printed (plain value))) }
-    ensures escape { ExactAnswers (ask Question.escape) (λ value. Answer.text (escaped (printed (plain value)))) }
+    ensures print { ExactAnswers (ask Question.print)
+        (λ value. Answer.text (printed (plain value))) }
+    ensures escape { ExactAnswers (ask Question.escape)
+        (λ value. Answer.text (escaped (printed (plain value)))) }
 {}
 
-/// What is set is what is compared from then on; the other side of a comparison means what it meant. Takes no memory.
+/// What is set is what is compared from then on; the other side of a comparison means what it
+/// meant. Takes no memory.
 pub fn what_is_set_is_compared()
     ensures equal { (state : State) (name : List ℕ) (value : Form) (other : List ℕ) → other ≢ name
-        → ComesOnlyTo (state_after state (asking (set name value))) (weigh Weighing.equal name other)
+        → ComesOnlyTo (state_after state (asking (set name value)))
+        (weigh Weighing.equal name other)
         (Ok (Answer.truth (same (plain value) (meaning_at state other)))) }
     ensures compare { (state : State) (name : List ℕ) (value : Form) (other : List ℕ) → other ≢ name
-        → ComesOnlyTo (state_after state (asking (set name value))) (weigh Weighing.compare name other)
+        → ComesOnlyTo (state_after state (asking (set name value)))
+        (weigh Weighing.compare name other)
         (Ok (Answer.order (Some (compare (plain value) (meaning_at state other))))) }
 {}
 
-/// A name that is not held reads as undefined: nothing is found or printed there, and it stays absent. Takes no memory.
+/// A name that is not held reads as undefined: nothing is found or printed there, and it stays
+/// absent. Takes no memory.
 pub fn absent_names_read_as_undefined()
     ensures get { AbsentAnswers (λ name. find (Search.get name)) (Answer.found None) }
     ensures remove { AbsentAnswers remove (Answer.found None) }
@@ -60,46 +69,55 @@ pub fn absent_names_read_as_undefined()
     ensures print { AbsentAnswers (ask Question.print) (Answer.text []) }
     ensures escape { AbsentAnswers (ask Question.escape) (Answer.text []) }
     ensures equal { BothAbsentAnswer (weigh Weighing.equal) (Answer.truth true) }
-    ensures compare { BothAbsentAnswer (weigh Weighing.compare) (Answer.order (Some Ordering.Equal)) }
-    ensures try_compare { BothAbsentAnswer (weigh Weighing.try_compare) (Answer.order (Some Ordering.Equal)) }
+    ensures compare { BothAbsentAnswer (weigh Weighing.compare)
+        (Answer.order (Some Ordering.Equal)) }
+    ensures try_compare { BothAbsentAnswer (weigh Weighing.try_compare)
+        (Answer.order (Some Ordering.Equal)) }
     ensures removed { (state : State) (name : List ℕ) → held_at state name ≡ None
         → state_after state (asking (remove name)) ≡ state }
 {}
 
-/// Only what finds something, and `mark_safe`, heed the name under which it is to be kept. Takes no memory.
+/// Only what finds something, and `mark_safe`, heed the name under which it is to be kept. Takes no
+/// memory.
 pub fn other_requests_heed_no_name_for_what_they_find()
-    ensures outcome { (state : State) (request : Request) (into other : Option (List ℕ)) (outcome : Outcome)
-        → heeds_into request ≡ false → ComesTo state request into outcome → ComesTo state request other outcome }
-    ensures state { (state : State) (request : Request) (into other : Option (List ℕ)) → heeds_into request ≡ false
-        → leaves state request into ≡ leaves state request other }
+    ensures outcome { (state : State) (request : Request) (into other : Option (List ℕ))
+        (outcome : Outcome) → heeds_into request ≡ false → ComesTo state request into outcome
+        → ComesTo state request other outcome }
+    ensures state { (state : State) (request : Request) (into other : Option (List ℕ))
+        → heeds_into request ≡ false → leaves state request into ≡ leaves state request other }
 {}
 
-/// With a name for it, the form that is found is kept there, and the answer says just that it was done. Where nothing is
-/// found nothing is kept, and the answer says that nothing was found; a refusal is passed on and keeps nothing; and
-/// without such a name nothing changes. What `get` finds is what is held. Takes no memory.
+/// With a name for it, the form that is found is kept there, and the answer says just that it was
+/// done. Where nothing is found nothing is kept, and the answer says that nothing was found; a
+/// refusal is passed on and keeps nothing; and without such a name nothing changes. What `get`
+/// finds is what is held. Takes no memory.
 pub fn what_is_found_is_kept()
-    ensures get { (state : State) (name : List ℕ) → found_at state (Search.get name) ≡ Ok (held_at state name) }
-    ensures done { (state : State) (search : Search) (into : List ℕ) (value : Form) (outcome : Outcome)
-        → found_at state search ≡ Ok (Some value) → IsOutcome state (asking_into (find search) into) outcome
-        → outcome ≡ Ok Answer.done }
+    ensures get { (state : State) (name : List ℕ)
+        → found_at state (Search.get name) ≡ Ok (held_at state name) }
+    ensures done { (state : State) (search : Search) (into : List ℕ) (value : Form)
+        (outcome : Outcome) → found_at state search ≡ Ok (Some value)
+        → IsOutcome state (asking_into (find search) into) outcome → outcome ≡ Ok Answer.done }
     ensures kept { (state : State) (search : Search) (into : List ℕ) (value : Form)
         → found_at state search ≡ Ok (Some value)
         → state_after state (asking_into (find search) into) ≡ insert state into value }
     ensures nothing { (state : State) (search : Search) (into : Option (List ℕ)) (outcome : Outcome)
         → found_at state search ≡ Ok None → ComesTo state (find search) into outcome
         → outcome ≡ Ok (Answer.found None) }
-    ensures absent { (state : State) (search : Search) (into : Option (List ℕ)) → found_at state search ≡ Ok None
+    ensures absent { (state : State) (search : Search) (into : Option (List ℕ))
+        → found_at state search ≡ Ok None → leaves state (find search) into ≡ state }
+    ensures refused { (state : State) (search : Search) (into : Option (List ℕ)) (refusal : Refusal)
+        (outcome : Outcome) → found_at state search ≡ Err refusal
+        → ComesTo state (find search) into outcome → outcome ≡ Err refusal }
+    ensures unchanged { (state : State) (search : Search) (into : Option (List ℕ))
+        (refusal : Refusal) → found_at state search ≡ Err refusal
         → leaves state (find search) into ≡ state }
-    ensures refused { (state : State) (search : Search) (into : Option (List ℕ)) (refusal : Refusal) (outcome : Outcome)
-        → found_at state search ≡ Err refusal → ComesTo state (find search) into outcome → outcome ≡ Err refusal }
-    ensures unchanged { (state : State) (search : Search) (into : Option (List ℕ)) (refusal : Refusal)
-        → found_at state search ≡ Err refusal → leaves state (find search) into ≡ state }
-    ensures alone { (state : State) (search : Search) → state_after state (asking (find search)) ≡ state }
+    ensures alone { (state : State) (search : Search)
+        → state_after state (asking (find search)) ≡ state }
 {}
 
-/// Marking is always done. Without a name for it the form is marked in its place, and a name that is not held stays
-/// absent; with one the marked form is kept there, undefined for a name that is not held, and the name that it was made
-/// from holds what it held. Takes no memory.
+/// Marking is always done. Without a name for it the form is marked in its place, and a name that
+/// is not held stays absent; with one the marked form is kept there, undefined for a name that is
+/// not held, and the name that it was made from holds what it held. Takes no memory.
 pub fn what_is_marked_is_kept()
     ensures done { (state : State) (name : List ℕ) (into : Option (List ℕ)) (outcome : Outcome)
         → ComesTo state (mark_safe name) into outcome → outcome ≡ Ok Answer.done }
@@ -113,30 +131,39 @@ pub fn what_is_marked_is_kept()
     ensures undefined { (state : State) (name into : List ℕ) → held_at state name ≡ None
         → held_at (state_after state (asking_into (mark_safe name) into)) into ≡ Some undefined }
     ensures source { (state : State) (name into other : List ℕ) → other ≢ into
-        → held_at (state_after state (asking_into (mark_safe name) into)) other ≡ held_at state other }
+        → held_at (state_after state (asking_into (mark_safe name) into)) other
+        ≡ held_at state other }
 {}
 
-/// Want of memory changes nothing, and only a command that may want it comes to it. Takes no memory.
+/// Want of memory changes nothing, and only a command that may want it comes to it. Takes no
+/// memory.
 pub fn wants_of_memory_change_nothing()
     ensures { (old new : State) (command : Command) → IsStep old command out_of_memory new
         → MayWantMemory old command × (new ≡ old) }
 {}
 
-/// These never want memory, whatever name is given for what they find: each has one answer and leaves one state. Takes
-/// no memory.
+/// These never want memory, whatever name is given for what they find: each has one answer and
+/// leaves one state. Takes no memory.
 pub fn these_requests_never_want_memory()
-    ensures remove { HasOneStep remove (λ old name. Answer.found (held_at old name)) (λ old name. without old name) }
-    ensures has { HasOneAnswer (ask Question.has) (λ old name. Answer.truth (contains_key old name)) }
-    ensures len { HasOneAnswer (ask Question.len) (λ old name. Answer.size (size_in (meaning_at old name))) }
-    ensures truthy { HasOneAnswer (ask Question.truthy) (λ old name. Answer.truth (truthy_in (meaning_at old name))) }
-    ensures kind { HasOneAnswer (ask Question.kind) (λ old name. Answer.kind (kind_in (form_at old name))) }
-    ensures safe { HasOneAnswer (ask Question.is_safe) (λ old name. Answer.truth (safe_in (form_at old name))) }
+    ensures remove { HasOneStep remove (λ old name. Answer.found (held_at old name))
+        (λ old name. without old name) }
+    ensures has { HasOneAnswer (ask Question.has)
+        (λ old name. Answer.truth (contains_key old name)) }
+    ensures len { HasOneAnswer (ask Question.len)
+        (λ old name. Answer.size (size_in (meaning_at old name))) }
+    ensures truthy { HasOneAnswer (ask Question.truthy)
+        (λ old name. Answer.truth (truthy_in (meaning_at old name))) }
+    ensures kind { HasOneAnswer (ask Question.kind)
+        (λ old name. Answer.kind (kind_in (form_at old name))) }
+    ensures safe { HasOneAnswer (ask Question.is_safe)
+        (λ old name. Answer.truth (safe_in (form_at old name))) }
     ensures equal { WeighsToOneAnswer (weigh Weighing.equal)
         (λ old left right. Answer.truth (same (meaning_at old left) (meaning_at old right))) }
     ensures compare { WeighsToOneAnswer (weigh Weighing.compare)
-        (λ old left right. Answer.order (Some (compare (meaning_at old left) (meaning_at old right)))) }
-    ensures ask { (question : Question) → (TakesMemory question → ⊥) → (old new : State) (name : List ℕ)
-        (outcome : Outcome) → IsStep old (asking (ask question name)) outcome new
+        (λ old left right. Answer.order
+        (Some (compare (meaning_at old left) (meaning_at old right)))) }
+    ensures ask { (question : Question) → (TakesMemory question → ⊥) → (old new : State)
+        (name : List ℕ) (outcome : Outcome) → IsStep old (asking (ask question name)) outcome new
         → IsAnswered question (held_at old name) outcome × (new ≡ old) }
     ensures weigh { (weighing : Weighing) (old new : State) (left right : List ℕ) (outcome : Outcome)
         → IsOk (weighed weighing (form_at old left) (form_at old right))

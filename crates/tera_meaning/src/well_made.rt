@@ -6,9 +6,10 @@ ghost use Rattle.tera_meaning.specs.State.{State};
 ghost use Rattle.tera_meaning.specs.Request.{Command};
 ghost use Rattle.tera_meaning.specs.WellMade.{IsWellMadeState, AllBringWellMade};
 
-/// Commands that bring well-made values leave well-made values, and nothing held is well made. Takes no memory.
+/// Commands that bring well-made values leave well-made values, and nothing held is well made.
+/// Takes no memory.
 pub fn what_is_held_stays_well_made()
     ensures empty { IsWellMadeState empty }
-    ensures run { (state : State) (commands : List Command) → IsWellMadeState state → AllBringWellMade commands
-        → IsWellMadeState (state_after_all state commands) }
+    ensures run { (state : State) (commands : List Command) → IsWellMadeState state
+        → AllBringWellMade commands → IsWellMadeState (state_after_all state commands) }
 {}

@@ -11,7 +11,7 @@ use Rattle.tera_meaning.specs.Form.{Form}
 use Rattle.tera_meaning.specs.KeyMeaning.{KeyForm}
 use Rattle.tera_meaning.specs.Pairs.{key_form_order, value_at, goes_on, agree_at, pairs_of, AgreeEverywhere, IsLeastDifference, by_values, order_at}
 use Rattle.tera_meaning.proofs.DifferenceLaws.{agree_rising}
-use Rattle.tera_meaning.proofs.MapLaws.{forms_decide, forms_tie}
+use Rattle.tera_meaning.proofs.EntryLaws.{forms_decide, forms_tie}
 use Rattle.tera_meaning.proofs.PairLaws.{more_rising}
 use Rattle.tera_values.specs.Map.{is_before}
 use Rattle.tera_values.specs.MapLaws.{form_total}

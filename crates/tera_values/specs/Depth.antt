@@ -13,7 +13,7 @@ use Rattle.tera_values.specs.MapLaws.{in_pairs}
 use Rattle.tera_values.specs.Key.{key_form}
 use Rattle.tera_values.specs.Map.{forms_of, keys_tie}
 use Rattle.tera_values.specs.declared.key.Key.{Key}
-use Rattle.tera_values.specs.View.{form_of, HasDistinctKeys}
+use Rattle.tera_values.specs.View.{form_of, HoldsDistinctKeys}
 use Rattle.tera_values.specs.declared.value.ValueInner.{ValueInner}
 use Rattle.tera_values.specs.declared.value.ValueInner.TheVariants.{Undefined, None, Bool as Truth, U64, I64, U128, I128, String, Array, Bytes, Map}
 use Rattle.tera_values.specs.declared.value.Value.TheDeep.{deep-ValueInner}
@@ -41,7 +41,7 @@ pub most_le-members_depth : (es : List (Key × Form)) → IsDistinct keys_tie (k
     → most (λ v. depth v + 1) (values_of es) ≤ members_depth (members (pairs_of (forms_of es))) + 1
 most_le-members_depth es h = most_le-members es _ (λ p i. in_pairs es h p i)
 
-pub deep_le-depth : (v : ValueInner) → HasDistinctKeys v → max (deep-ValueInner v) 0 ≤ depth (form_of v)
+pub deep_le-depth : (v : ValueInner) → HoldsDistinctKeys v → max (deep-ValueInner v) 0 ≤ depth (form_of v)
 deep_le-depth Undefined h = omega arith
 deep_le-depth None h = omega arith
 deep_le-depth (Truth b) h = omega arith

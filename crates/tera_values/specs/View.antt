@@ -31,15 +31,15 @@ form_of (Bytes bs) = bytes bs.items
 form_of (Map m) = object (members (pairs_in m))
 
 -- no two keys of a map are equal
-abbrev pub HasDistinctKeys : ValueInner → Type 0
-HasDistinctKeys Undefined = ⊤
-HasDistinctKeys None = ⊤
-HasDistinctKeys (Truth b) = ⊤
-HasDistinctKeys (U64 n) = ⊤
-HasDistinctKeys (I64 z) = ⊤
-HasDistinctKeys (U128 n) = ⊤
-HasDistinctKeys (I128 z) = ⊤
-HasDistinctKeys (String t b) = ⊤
-HasDistinctKeys (Array xs) = ⊤
-HasDistinctKeys (Bytes bs) = ⊤
-HasDistinctKeys (Map m) = IsUnique keys_tie m
+abbrev pub HoldsDistinctKeys : ValueInner → Type 0
+HoldsDistinctKeys Undefined = ⊤
+HoldsDistinctKeys None = ⊤
+HoldsDistinctKeys (Truth b) = ⊤
+HoldsDistinctKeys (U64 n) = ⊤
+HoldsDistinctKeys (I64 z) = ⊤
+HoldsDistinctKeys (U128 n) = ⊤
+HoldsDistinctKeys (I128 z) = ⊤
+HoldsDistinctKeys (String t b) = ⊤
+HoldsDistinctKeys (Array xs) = ⊤
+HoldsDistinctKeys (Bytes bs) = ⊤
+HoldsDistinctKeys (Map m) = IsUnique keys_tie m

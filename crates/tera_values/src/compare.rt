@@ -48,9 +48,10 @@ impl PartialOrd for Value {
     }
 }
 
-/// By kind (truth values, numbers, texts, arrays, maps, bytes, none, undefined), and inside a kind by value: arrays by
-/// the first items that differ, a proper beginning being less, and maps as the lists of their pairs sorted by key, where
-/// a pair goes by its key and then by its value. Mirrors `Ord` of `tera::Value`. Takes no memory.
+/// By rank (truth values, numbers, texts, arrays, maps, bytes, none, undefined), and inside a rank by
+/// value: arrays by the first items that differ, a proper beginning being less, and maps as the lists
+/// of their pairs sorted by key, where a pair goes by its key and then by its value. Mirrors `Ord` of
+/// `tera::Value`. Takes no memory.
 impl Ord for Value {
     ghost cmp = { on plain compare };
 
@@ -197,7 +198,7 @@ fn bytes_order(left: &[u8], other: &Value) -> Ordering
     }
 }
 
-/// The place of its kind in the order of values.
+/// Its rank in the order of values.
 pub(crate) fn rank(value: &Value) -> u8
     ensures { result ≡ rank (plain value.now) }
 {

@@ -158,7 +158,7 @@ impl<'a> Key<'a> {
         }
     }
 
-    // The place of its kind in the order of keys.
+    // Its rank in the order of keys.
     fn rank(&self) -> u8
         ensures { result ≡ key_rank (meaning_of_key self.now) }
     {

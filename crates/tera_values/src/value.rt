@@ -46,11 +46,11 @@ impl Model for Value {
 
     ghost coded = { coded_form };
 
-    ghost use Rattle.tera_values.specs.View.{form_of, HasDistinctKeys};
+    ghost use Rattle.tera_values.specs.View.{form_of, HoldsDistinctKeys};
 
     ghost view = { λ v. form_of v.inner };
 
-    ghost invariant = { λ v. HasDistinctKeys v.inner };
+    ghost invariant = { λ v. HoldsDistinctKeys v.inner };
 
     ghost size = { depth };
 

@@ -1,4 +1,4 @@
-use Rattle.tera_meaning.proofs.MapLaws.{maps_decide, forms_decide, forms_tie, forms_equal}
+use Rattle.tera_meaning.proofs.EntryLaws.{maps_decide, forms_decide, forms_tie, forms_equal}
 use Rattle.tera_meaning.proofs.pairs.maps_compare_by_the_least_difference.Goals as goal
 
 pub returns : goal.returns

@@ -1,4 +1,4 @@
-use Rattle.tera_meaning.proofs.MapLaws.{map_means, one_pair_list}
+use Rattle.tera_meaning.proofs.EntryLaws.{map_means, one_pair_list}
 use Rattle.tera_meaning.proofs.pairs.pair_lists_mean_what_their_entries_mean.Goals as goal
 
 pub returns : goal.returns
