@@ -7,7 +7,10 @@ use Rattle.std.specs.Str.{IsUtf8}
 use Rattle.std.proofs.lemmas.Option.{some_pair_parts}
 use Rattle.tera_meaning.specs.Form.{Form}
 use Rattle.tera_meaning.specs.Tree.{depth}
-use Rattle.tera_meaning.specs.Step.{Command, Request, set, remove, has, get, len, truthy, kind_of, is_safe, mark_safe, escape, print, equal, order}
+use Rattle.tera_meaning.specs.Question
+use Rattle.tera_meaning.specs.Request.{Command, Request, set, remove, mark_safe, ask, weigh, find}
+use Rattle.tera_meaning.specs.Search
+use Rattle.tera_meaning.specs.Weighing
 use Rattle.tera_script.specs.declared.verb.Verb.{Verb}
 use Rattle.tera_script.specs.declared.verb.Verb.TheVariants.{Set, Two, One, Keeping}
 use Rattle.tera_script.specs.declared.verb.TwoNames.{TwoNames}
@@ -198,18 +201,18 @@ kept_ends_name operands name into after h = subst (Stops is_name_byte) (sym (ap 
 
 operands_end_name : (request : Request) (into : Option (List ℕ)) (operands after : List ℕ) → SpellsOperands operands request into → Stops is_name_byte (operands ++ after)
 operands_end_name (set n v) into operands after h = subst (Stops is_name_byte) (sym (ap (λ xs. xs ++ after) h.5 ∙ append_assoc h.1 h.2 after)) (operand_ends_name h.1 n (h.2 ++ after) h.3)
-operands_end_name (equal l r) into operands after h = two_ends_name operands l r after h.1
-operands_end_name (order l r) into operands after h = two_ends_name operands l r after h.1
-operands_end_name (get n) into operands after h = kept_ends_name operands n into after h
+operands_end_name (weigh Weighing.equal l r) into operands after h = two_ends_name operands l r after h.1
+operands_end_name (weigh Weighing.compare l r) into operands after h = two_ends_name operands l r after h.1
+operands_end_name (find (Search.get n)) into operands after h = kept_ends_name operands n into after h
 operands_end_name (mark_safe n) into operands after h = kept_ends_name operands n into after h
 operands_end_name (remove n) into operands after h = operand_ends_name operands n after h.1
-operands_end_name (has n) into operands after h = operand_ends_name operands n after h.1
-operands_end_name (len n) into operands after h = operand_ends_name operands n after h.1
-operands_end_name (truthy n) into operands after h = operand_ends_name operands n after h.1
-operands_end_name (kind_of n) into operands after h = operand_ends_name operands n after h.1
-operands_end_name (is_safe n) into operands after h = operand_ends_name operands n after h.1
-operands_end_name (escape n) into operands after h = operand_ends_name operands n after h.1
-operands_end_name (print n) into operands after h = operand_ends_name operands n after h.1
+operands_end_name (ask Question.has n) into operands after h = operand_ends_name operands n after h.1
+operands_end_name (ask Question.len n) into operands after h = operand_ends_name operands n after h.1
+operands_end_name (ask Question.truthy n) into operands after h = operand_ends_name operands n after h.1
+operands_end_name (ask Question.kind n) into operands after h = operand_ends_name operands n after h.1
+operands_end_name (ask Question.is_safe n) into operands after h = operand_ends_name operands n after h.1
+operands_end_name (ask Question.escape n) into operands after h = operand_ends_name operands n after h.1
+operands_end_name (ask Question.print n) into operands after h = operand_ends_name operands n after h.1
 
 pub command_parts : (bytes : List ℕ) (command : Command) → EndsInCommand bytes command → CommandParts bytes command
 command_parts bytes command h =

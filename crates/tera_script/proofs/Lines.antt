@@ -3,7 +3,7 @@ use Rattle.std.proofs.Common.{◌≡◌, ℕ, Bool, true, false, List, [], ◌�
 use Rattle.std.specs.List.{list_all}
 use Rattle.std.specs.Str.{IsUtf8}
 use Rattle.std.proofs.lemmas.Bool.Decides.{nat_tests}
-use Rattle.tera_meaning.specs.Step.{Command}
+use Rattle.tera_meaning.specs.Request.{Command}
 use Rattle.tera_script.specs.Word.{is_blank, AreBlanks, IsName}
 use Rattle.tera_script.specs.Line.{word_of, Says, IsSkipped, IsBad}
 use Rattle.tera_script.specs.Readers.{Stops, front, past, EndsInCommand, IsCommandAt, is_end_or_comment}

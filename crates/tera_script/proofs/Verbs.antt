@@ -4,7 +4,10 @@ use Rattle.std.specs.Prelude.{codes}
 use Rattle.std.specs.Str.{bytes_eq}
 use Rattle.std.proofs.lemmas.Slice.Eq.{bytes_eq-Decides}
 use Rattle.tera_meaning.specs.Form.{Form}
-use Rattle.tera_meaning.specs.Step.{Request, set, remove, has, get, len, truthy, kind_of, is_safe, mark_safe, escape, print, equal, order}
+use Rattle.tera_meaning.specs.Question
+use Rattle.tera_meaning.specs.Request.{Request, set, remove, mark_safe, ask, weigh, find}
+use Rattle.tera_meaning.specs.Search
+use Rattle.tera_meaning.specs.Weighing
 use Rattle.tera_script.specs.declared.verb.Verb.{Verb}
 use Rattle.tera_script.specs.declared.verb.Verb.TheVariants.{Set, Two, One, Keeping}
 use Rattle.tera_script.specs.declared.verb.TwoNames.{TwoNames}
@@ -23,17 +26,17 @@ pub verb_of_word : (request : Request) → verb_in (word_of request) ≡ Some (v
 unfolding verb_in
 verb_of_word (set name value) = refl
 verb_of_word (remove name) = refl
-verb_of_word (has name) = refl
-verb_of_word (get name) = refl
-verb_of_word (len name) = refl
-verb_of_word (truthy name) = refl
-verb_of_word (kind_of name) = refl
-verb_of_word (is_safe name) = refl
+verb_of_word (ask Question.has name) = refl
+verb_of_word (find (Search.get name)) = refl
+verb_of_word (ask Question.len name) = refl
+verb_of_word (ask Question.truthy name) = refl
+verb_of_word (ask Question.kind name) = refl
+verb_of_word (ask Question.is_safe name) = refl
 verb_of_word (mark_safe name) = refl
-verb_of_word (escape name) = refl
-verb_of_word (print name) = refl
-verb_of_word (equal left right) = refl
-verb_of_word (order left right) = refl
+verb_of_word (ask Question.escape name) = refl
+verb_of_word (ask Question.print name) = refl
+verb_of_word (weigh Weighing.equal left right) = refl
+verb_of_word (weigh Weighing.compare left right) = refl
 
 -- and no other word does
 abbrev verb_word : Verb → List ℕ
@@ -80,17 +83,17 @@ verb_found word v =
 word_of_verb : (request : Request) → verb_word (verb_of request) ≡ word_of request
 word_of_verb (set name value) = refl
 word_of_verb (remove name) = refl
-word_of_verb (has name) = refl
-word_of_verb (get name) = refl
-word_of_verb (len name) = refl
-word_of_verb (truthy name) = refl
-word_of_verb (kind_of name) = refl
-word_of_verb (is_safe name) = refl
+word_of_verb (ask Question.has name) = refl
+word_of_verb (find (Search.get name)) = refl
+word_of_verb (ask Question.len name) = refl
+word_of_verb (ask Question.truthy name) = refl
+word_of_verb (ask Question.kind name) = refl
+word_of_verb (ask Question.is_safe name) = refl
 word_of_verb (mark_safe name) = refl
-word_of_verb (escape name) = refl
-word_of_verb (print name) = refl
-word_of_verb (equal left right) = refl
-word_of_verb (order left right) = refl
+word_of_verb (ask Question.escape name) = refl
+word_of_verb (ask Question.print name) = refl
+word_of_verb (weigh Weighing.equal left right) = refl
+word_of_verb (weigh Weighing.compare left right) = refl
 
 pub word_named : (word : List ℕ) (v : Verb) (request : Request) → verb_in word ≡ Some v → verb_of request ≡ v → word_of request ≡ word
 word_named word v request e f = sym (word_of_verb request) ∙ ap verb_word f ∙ sym (verb_found word v e)
@@ -101,17 +104,17 @@ same_verb a b e = verb_same (verb_of a) (verb_of b) (sym (verb_of_word a) ∙ ap
 pub word_is_name : (request : Request) → IsName (word_of request)
 word_is_name (set name value) = (refl, refl)
 word_is_name (remove name) = (refl, refl)
-word_is_name (has name) = (refl, refl)
-word_is_name (get name) = (refl, refl)
-word_is_name (len name) = (refl, refl)
-word_is_name (truthy name) = (refl, refl)
-word_is_name (kind_of name) = (refl, refl)
-word_is_name (is_safe name) = (refl, refl)
+word_is_name (ask Question.has name) = (refl, refl)
+word_is_name (find (Search.get name)) = (refl, refl)
+word_is_name (ask Question.len name) = (refl, refl)
+word_is_name (ask Question.truthy name) = (refl, refl)
+word_is_name (ask Question.kind name) = (refl, refl)
+word_is_name (ask Question.is_safe name) = (refl, refl)
 word_is_name (mark_safe name) = (refl, refl)
-word_is_name (escape name) = (refl, refl)
-word_is_name (print name) = (refl, refl)
-word_is_name (equal left right) = (refl, refl)
-word_is_name (order left right) = (refl, refl)
+word_is_name (ask Question.escape name) = (refl, refl)
+word_is_name (ask Question.print name) = (refl, refl)
+word_is_name (weigh Weighing.equal left right) = (refl, refl)
+word_is_name (weigh Weighing.compare left right) = (refl, refl)
 
 -- the operands of each verb
 one_same : (o p : OneName) → One o ≡ One p → o ≡ p
@@ -126,27 +129,57 @@ kept_same o p e = cc
 module _ (operands : List ℕ) (into : Option (List ℕ)) where
   pub set_operands : (request : Request) → verb_of request ≡ Set → SpellsOperands operands request into → (name : List ℕ) × (value : Form) × ((first : List ℕ) × (second : List ℕ) × SpellsOperand first name × SpellsValue second value × (operands ≡ first ++ second)) × (request ≡ set name value) × (into ≡ None)
   set_operands (set name value) e h = (name, value, (h.1, h.2, h.3, h.4, h.5), refl, h.0)
+  set_operands (ask Question.has name) e h = absurd (cc)
+  set_operands (ask Question.len name) e h = absurd (cc)
+  set_operands (ask Question.truthy name) e h = absurd (cc)
+  set_operands (ask Question.kind name) e h = absurd (cc)
+  set_operands (ask Question.is_safe name) e h = absurd (cc)
+  set_operands (ask Question.escape name) e h = absurd (cc)
+  set_operands (ask Question.print name) e h = absurd (cc)
+  set_operands (weigh Weighing.equal left right) e h = absurd (cc)
+  set_operands (weigh Weighing.compare left right) e h = absurd (cc)
+  set_operands (find (Search.get name)) e h = absurd (cc)
   set_operands request e h = absurd (cc)
 
   pub two_operands : (o : TwoNames) (request : Request) → verb_of request ≡ Two o → SpellsOperands operands request into → (left : List ℕ) × (right : List ℕ) × SpellsTwo operands left right × (request ≡ two_request o left right) × (into ≡ None)
-  two_operands o (equal left right) e h = (left, right, h.1, ap (λ p. two_request p left right) (two_same Equal o e), h.0)
-  two_operands o (order left right) e h = (left, right, h.1, ap (λ p. two_request p left right) (two_same Compare o e), h.0)
+  two_operands o (weigh Weighing.equal left right) e h = (left, right, h.1, ap (λ p. two_request p left right) (two_same Equal o e), h.0)
+  two_operands o (weigh Weighing.compare left right) e h = (left, right, h.1, ap (λ p. two_request p left right) (two_same Compare o e), h.0)
+  two_operands o (ask Question.has name) e h = absurd (cc)
+  two_operands o (ask Question.len name) e h = absurd (cc)
+  two_operands o (ask Question.truthy name) e h = absurd (cc)
+  two_operands o (ask Question.kind name) e h = absurd (cc)
+  two_operands o (ask Question.is_safe name) e h = absurd (cc)
+  two_operands o (ask Question.escape name) e h = absurd (cc)
+  two_operands o (ask Question.print name) e h = absurd (cc)
+  two_operands o (find (Search.get name)) e h = absurd (cc)
   two_operands o request e h = absurd (cc)
 
   pub one_operand : (o : OneName) (request : Request) → verb_of request ≡ One o → SpellsOperands operands request into → (name : List ℕ) × SpellsOperand operands name × (request ≡ one_request o name) × (into ≡ None)
   one_operand o (remove name) e h = (name, h.1, ap (λ p. one_request p name) (one_same Remove o e), h.0)
-  one_operand o (has name) e h = (name, h.1, ap (λ p. one_request p name) (one_same Has o e), h.0)
-  one_operand o (len name) e h = (name, h.1, ap (λ p. one_request p name) (one_same Len o e), h.0)
-  one_operand o (truthy name) e h = (name, h.1, ap (λ p. one_request p name) (one_same Truthy o e), h.0)
-  one_operand o (kind_of name) e h = (name, h.1, ap (λ p. one_request p name) (one_same Kind o e), h.0)
-  one_operand o (is_safe name) e h = (name, h.1, ap (λ p. one_request p name) (one_same IsSafe o e), h.0)
-  one_operand o (escape name) e h = (name, h.1, ap (λ p. one_request p name) (one_same Escape o e), h.0)
-  one_operand o (print name) e h = (name, h.1, ap (λ p. one_request p name) (one_same Print o e), h.0)
+  one_operand o (ask Question.has name) e h = (name, h.1, ap (λ p. one_request p name) (one_same Has o e), h.0)
+  one_operand o (ask Question.len name) e h = (name, h.1, ap (λ p. one_request p name) (one_same Len o e), h.0)
+  one_operand o (ask Question.truthy name) e h = (name, h.1, ap (λ p. one_request p name) (one_same Truthy o e), h.0)
+  one_operand o (ask Question.kind name) e h = (name, h.1, ap (λ p. one_request p name) (one_same Kind o e), h.0)
+  one_operand o (ask Question.is_safe name) e h = (name, h.1, ap (λ p. one_request p name) (one_same IsSafe o e), h.0)
+  one_operand o (ask Question.escape name) e h = (name, h.1, ap (λ p. one_request p name) (one_same Escape o e), h.0)
+  one_operand o (ask Question.print name) e h = (name, h.1, ap (λ p. one_request p name) (one_same Print o e), h.0)
+  one_operand o (weigh Weighing.equal left right) e h = absurd (cc)
+  one_operand o (weigh Weighing.compare left right) e h = absurd (cc)
+  one_operand o (find (Search.get name)) e h = absurd (cc)
   one_operand o request e h = absurd (cc)
 
   pub kept_operand : (o : Kept) (request : Request) → verb_of request ≡ Keeping o → SpellsOperands operands request into → (name : List ℕ) × SpellsKeeping operands name into × (request ≡ kept_request o name)
-  kept_operand o (get name) e h = (name, h, ap (λ p. kept_request p name) (kept_same Get o e))
+  kept_operand o (find (Search.get name)) e h = (name, h, ap (λ p. kept_request p name) (kept_same Get o e))
   kept_operand o (mark_safe name) e h = (name, h, ap (λ p. kept_request p name) (kept_same MarkSafe o e))
+  kept_operand o (ask Question.has name) e h = absurd (cc)
+  kept_operand o (ask Question.len name) e h = absurd (cc)
+  kept_operand o (ask Question.truthy name) e h = absurd (cc)
+  kept_operand o (ask Question.kind name) e h = absurd (cc)
+  kept_operand o (ask Question.is_safe name) e h = absurd (cc)
+  kept_operand o (ask Question.escape name) e h = absurd (cc)
+  kept_operand o (ask Question.print name) e h = absurd (cc)
+  kept_operand o (weigh Weighing.equal left right) e h = absurd (cc)
+  kept_operand o (weigh Weighing.compare left right) e h = absurd (cc)
   kept_operand o request e h = absurd (cc)
 
 -- and back

@@ -8,7 +8,10 @@ use Rattle.std.proofs.lemmas.Str.Ascii.{IsAscii-nil, IsAscii-cons}
 use Rattle.tera_meaning.specs.Form.{Form}
 use Rattle.tera_meaning.specs.Integer.{IntegerKind, Integer, i64, u64}
 use Rattle.tera_meaning.specs.Tree.{none, number, text, bytes, array, items, depth}
-use Rattle.tera_meaning.specs.Step.{Command, Request, set, remove, has, get, len, truthy, kind_of, is_safe, mark_safe, escape, print, equal, order}
+use Rattle.tera_meaning.specs.Question
+use Rattle.tera_meaning.specs.Request.{Command, Request, set, remove, mark_safe, ask, weigh, find}
+use Rattle.tera_meaning.specs.Search
+use Rattle.tera_meaning.specs.Weighing
 use Rattle.tera_script.specs.Number.{SpellsNumber}
 use Rattle.tera_script.specs.Text.{SpellsText, itself, character, line_feed}
 use Rattle.tera_script.specs.Word.{IsGap, IsName}
@@ -39,15 +42,15 @@ operand_a = blank_then (codes "a") (refl, refl)
 operand_b : SpellsOperand (codes " b") (codes "b")
 operand_b = blank_then (codes "b") (refl, refl)
 
-pub says_eq : Says (codes "eq a b") (command (equal (codes "a") (codes "b")))
+pub says_eq : Says (codes "eq a b") (command (weigh Weighing.equal (codes "a") (codes "b")))
 unfolding encode
-says_eq = says (codes "eq a b") (command (equal (codes "a") (codes "b"))) (codes "eq a b", (refl, refl)) (codes " a b", (refl, (codes " a", codes " b", operand_a, operand_b, refl)), refl)
+says_eq = says (codes "eq a b") (command (weigh Weighing.equal (codes "a") (codes "b"))) (codes "eq a b", (refl, refl)) (codes " a b", (refl, (codes " a", codes " b", operand_a, operand_b, refl)), refl)
 
-pub says_cmp : Says (codes "cmp a b") (command (order (codes "a") (codes "b")))
+pub says_cmp : Says (codes "cmp a b") (command (weigh Weighing.compare (codes "a") (codes "b")))
 unfolding encode
-says_cmp = says (codes "cmp a b") (command (order (codes "a") (codes "b"))) (codes "cmp a b", (refl, refl)) (codes " a b", (refl, (codes " a", codes " b", operand_a, operand_b, refl)), refl)
+says_cmp = says (codes "cmp a b") (command (weigh Weighing.compare (codes "a") (codes "b"))) (codes "cmp a b", (refl, refl)) (codes " a b", (refl, (codes " a", codes " b", operand_a, operand_b, refl)), refl)
 
-pub says_print : Says (codes "\tprint _x9 ") (command (print (codes "_x9")))
+pub says_print : Says (codes "\tprint _x9 ") (command (ask Question.print (codes "_x9")))
 unfolding encode
 says_print = record {
   utf8 = (codes "\tprint _x9 ", (refl, refl));
@@ -63,42 +66,42 @@ pub says_remove : Says (codes "remove a") (command (remove (codes "a")))
 unfolding encode
 says_remove = says (codes "remove a") (command (remove (codes "a"))) (codes "remove a", (refl, refl)) (codes " a", (refl, operand_a), refl)
 
-pub says_has : Says (codes "has a") (command (has (codes "a")))
+pub says_has : Says (codes "has a") (command (ask Question.has (codes "a")))
 unfolding encode
-says_has = says (codes "has a") (command (has (codes "a"))) (codes "has a", (refl, refl)) (codes " a", (refl, operand_a), refl)
+says_has = says (codes "has a") (command (ask Question.has (codes "a"))) (codes "has a", (refl, refl)) (codes " a", (refl, operand_a), refl)
 
-pub says_len : Says (codes "len a") (command (len (codes "a")))
+pub says_len : Says (codes "len a") (command (ask Question.len (codes "a")))
 unfolding encode
-says_len = says (codes "len a") (command (len (codes "a"))) (codes "len a", (refl, refl)) (codes " a", (refl, operand_a), refl)
+says_len = says (codes "len a") (command (ask Question.len (codes "a"))) (codes "len a", (refl, refl)) (codes " a", (refl, operand_a), refl)
 
-pub says_truthy : Says (codes "truthy a") (command (truthy (codes "a")))
+pub says_truthy : Says (codes "truthy a") (command (ask Question.truthy (codes "a")))
 unfolding encode
-says_truthy = says (codes "truthy a") (command (truthy (codes "a"))) (codes "truthy a", (refl, refl)) (codes " a", (refl, operand_a), refl)
+says_truthy = says (codes "truthy a") (command (ask Question.truthy (codes "a"))) (codes "truthy a", (refl, refl)) (codes " a", (refl, operand_a), refl)
 
-pub says_kind : Says (codes "kind a") (command (kind_of (codes "a")))
+pub says_kind : Says (codes "kind a") (command (ask Question.kind (codes "a")))
 unfolding encode
-says_kind = says (codes "kind a") (command (kind_of (codes "a"))) (codes "kind a", (refl, refl)) (codes " a", (refl, operand_a), refl)
+says_kind = says (codes "kind a") (command (ask Question.kind (codes "a"))) (codes "kind a", (refl, refl)) (codes " a", (refl, operand_a), refl)
 
-pub says_is_safe : Says (codes "is_safe a") (command (is_safe (codes "a")))
+pub says_is_safe : Says (codes "is_safe a") (command (ask Question.is_safe (codes "a")))
 unfolding encode
-says_is_safe = says (codes "is_safe a") (command (is_safe (codes "a"))) (codes "is_safe a", (refl, refl)) (codes " a", (refl, operand_a), refl)
+says_is_safe = says (codes "is_safe a") (command (ask Question.is_safe (codes "a"))) (codes "is_safe a", (refl, refl)) (codes " a", (refl, operand_a), refl)
 
-pub says_escape : Says (codes "escape a") (command (escape (codes "a")))
+pub says_escape : Says (codes "escape a") (command (ask Question.escape (codes "a")))
 unfolding encode
-says_escape = says (codes "escape a") (command (escape (codes "a"))) (codes "escape a", (refl, refl)) (codes " a", (refl, operand_a), refl)
+says_escape = says (codes "escape a") (command (ask Question.escape (codes "a"))) (codes "escape a", (refl, refl)) (codes " a", (refl, operand_a), refl)
 
-pub says_get : Says (codes "get a") (command (get (codes "a")))
+pub says_get : Says (codes "get a") (command (find (Search.get (codes "a"))))
 unfolding encode
-says_get = says (codes "get a") (command (get (codes "a"))) (codes "get a", (refl, refl)) (codes " a", (codes " a", [], operand_a, refl, refl), refl)
+says_get = says (codes "get a") (command (find (Search.get (codes "a")))) (codes "get a", (refl, refl)) (codes " a", (codes " a", [], operand_a, refl, refl), refl)
 
 pub says_mark_safe : Says (codes "mark_safe a") (command (mark_safe (codes "a")))
 unfolding encode
 says_mark_safe = says (codes "mark_safe a") (command (mark_safe (codes "a"))) (codes "mark_safe a", (refl, refl)) (codes " a", (codes " a", [], operand_a, refl, refl), refl)
 
 -- with a name for what is found
-pub says_get_into : Says (codes "get a -> b") (keeping (get (codes "a")) (codes "b"))
+pub says_get_into : Says (codes "get a -> b") (keeping (find (Search.get (codes "a"))) (codes "b"))
 unfolding encode
-says_get_into = says (codes "get a -> b") (keeping (get (codes "a")) (codes "b")) (codes "get a -> b", (refl, refl)) (codes " a -> b", (codes " a", codes " -> b", operand_a, (codes " ", codes " b", one_blank, operand_b, refl), refl), refl)
+says_get_into = says (codes "get a -> b") (keeping (find (Search.get (codes "a"))) (codes "b")) (codes "get a -> b", (refl, refl)) (codes " a -> b", (codes " a", codes " -> b", operand_a, (codes " ", codes " b", one_blank, operand_b, refl), refl), refl)
 
 pub says_mark_safe_into : Says (codes "mark_safe a\t->  a ") (keeping (mark_safe (codes "a")) (codes "a"))
 unfolding encode

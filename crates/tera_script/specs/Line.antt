@@ -2,7 +2,10 @@
 use Rattle.std.specs.Prelude.{◌≡◌, ◌≤◌, ℕ, ◌⊎◌, List, [], ◌∷◌, ◌++◌, Option, Some, None, codes}
 use Rattle.std.specs.Str.{IsUtf8}
 use Rattle.tera_meaning.specs.Form.{Form}
-use Rattle.tera_meaning.specs.Step.{Command, Request, set, remove, has, get, len, truthy, kind_of, is_safe, mark_safe, escape, print, equal, order}
+use Rattle.tera_meaning.specs.Question
+use Rattle.tera_meaning.specs.Request.{Command, Request, set, remove, mark_safe, ask, weigh, find}
+use Rattle.tera_meaning.specs.Search
+use Rattle.tera_meaning.specs.Weighing
 use Rattle.tera_meaning.specs.Tree.{depth}
 use Rattle.tera_script.specs.Literal.{SpellsLiteral}
 use Rattle.tera_script.specs.Word.{AreBlanks, IsGap, IsName}
@@ -36,33 +39,33 @@ SpellsKeeping bytes name into = (first : List ℕ) × (second : List ℕ) × Spe
 abbrev pub word_of : Request → List ℕ
 word_of (set name value) = codes "set"
 word_of (remove name) = codes "remove"
-word_of (has name) = codes "has"
-word_of (get name) = codes "get"
-word_of (len name) = codes "len"
-word_of (truthy name) = codes "truthy"
-word_of (kind_of name) = codes "kind"
-word_of (is_safe name) = codes "is_safe"
+word_of (ask Question.has name) = codes "has"
+word_of (find (Search.get name)) = codes "get"
+word_of (ask Question.len name) = codes "len"
+word_of (ask Question.truthy name) = codes "truthy"
+word_of (ask Question.kind name) = codes "kind"
+word_of (ask Question.is_safe name) = codes "is_safe"
 word_of (mark_safe name) = codes "mark_safe"
-word_of (escape name) = codes "escape"
-word_of (print name) = codes "print"
-word_of (equal left right) = codes "eq"
-word_of (order left right) = codes "cmp"
+word_of (ask Question.escape name) = codes "escape"
+word_of (ask Question.print name) = codes "print"
+word_of (weigh Weighing.equal left right) = codes "eq"
+word_of (weigh Weighing.compare left right) = codes "cmp"
 
 -- what stands behind the word of a call. Only `get` and `mark_safe` may have a name for what they find
 abbrev pub SpellsOperands : List ℕ → Request → Option (List ℕ) → Type 0
-SpellsOperands bytes (get name) into = SpellsKeeping bytes name into
+SpellsOperands bytes (find (Search.get name)) into = SpellsKeeping bytes name into
 SpellsOperands bytes (mark_safe name) into = SpellsKeeping bytes name into
 SpellsOperands bytes (set name value) into = (into ≡ None) × (first : List ℕ) × (second : List ℕ) × SpellsOperand first name × SpellsValue second value × (bytes ≡ first ++ second)
-SpellsOperands bytes (equal left right) into = (into ≡ None) × SpellsTwo bytes left right
-SpellsOperands bytes (order left right) into = (into ≡ None) × SpellsTwo bytes left right
+SpellsOperands bytes (weigh Weighing.equal left right) into = (into ≡ None) × SpellsTwo bytes left right
+SpellsOperands bytes (weigh Weighing.compare left right) into = (into ≡ None) × SpellsTwo bytes left right
 SpellsOperands bytes (remove name) into = (into ≡ None) × SpellsOperand bytes name
-SpellsOperands bytes (has name) into = (into ≡ None) × SpellsOperand bytes name
-SpellsOperands bytes (len name) into = (into ≡ None) × SpellsOperand bytes name
-SpellsOperands bytes (truthy name) into = (into ≡ None) × SpellsOperand bytes name
-SpellsOperands bytes (kind_of name) into = (into ≡ None) × SpellsOperand bytes name
-SpellsOperands bytes (is_safe name) into = (into ≡ None) × SpellsOperand bytes name
-SpellsOperands bytes (escape name) into = (into ≡ None) × SpellsOperand bytes name
-SpellsOperands bytes (print name) into = (into ≡ None) × SpellsOperand bytes name
+SpellsOperands bytes (ask Question.has name) into = (into ≡ None) × SpellsOperand bytes name
+SpellsOperands bytes (ask Question.len name) into = (into ≡ None) × SpellsOperand bytes name
+SpellsOperands bytes (ask Question.truthy name) into = (into ≡ None) × SpellsOperand bytes name
+SpellsOperands bytes (ask Question.kind name) into = (into ≡ None) × SpellsOperand bytes name
+SpellsOperands bytes (ask Question.is_safe name) into = (into ≡ None) × SpellsOperand bytes name
+SpellsOperands bytes (ask Question.escape name) into = (into ≡ None) × SpellsOperand bytes name
+SpellsOperands bytes (ask Question.print name) into = (into ≡ None) × SpellsOperand bytes name
 
 abbrev pub SpellsCommand : List ℕ → Command → Type 0
 SpellsCommand bytes command = (operands : List ℕ) × SpellsOperands operands command.request command.into × (bytes ≡ word_of command.request ++ operands)

@@ -10,7 +10,10 @@ use Rattle.tera_meaning.specs.Integer.{IntegerKind, u64, i64, u128, i128, Intege
 use Rattle.tera_meaning.specs.Form.{Form, MarkedText}
 use Rattle.tera_meaning.specs.KeyMeaning.{KeyForm}
 use Rattle.tera_meaning.specs.Tree.{Items, undefined, none, truth, number, text as text_value, bytes as bytes_value, array, no_items, item, depth}
-use Rattle.tera_meaning.specs.Step.{Request, Command, set, remove, has, get, len, truthy, kind_of, is_safe, mark_safe, escape, print, equal, order}
+use Rattle.tera_meaning.specs.Question
+use Rattle.tera_meaning.specs.Request.{Command, Request, set, remove, mark_safe, ask, weigh, find}
+use Rattle.tera_meaning.specs.Search
+use Rattle.tera_meaning.specs.Weighing
 use Rattle.tera_script.specs.Number.{kind_word, signed}
 use Rattle.tera_script.specs.declared.number.Suffix.{Suffix}
 use Rattle.tera_script.specs.declared.number.Suffix.TheVariants.{U64, I64, U128, I128}
@@ -241,36 +244,36 @@ name_into pair = (pair.0.now, option_map (λ name. name.now) pair.1)
 
 -- what is called
 abbrev pub two_request : TwoNames → List ℕ → List ℕ → Request
-two_request Equal left right = equal left right
-two_request Compare left right = order left right
+two_request Equal left right = weigh Weighing.equal left right
+two_request Compare left right = weigh Weighing.compare left right
 
 abbrev pub one_request : OneName → List ℕ → Request
 one_request Remove name = remove name
-one_request Has name = has name
-one_request Len name = len name
-one_request Truthy name = truthy name
-one_request Kind name = kind_of name
-one_request IsSafe name = is_safe name
-one_request Escape name = escape name
-one_request Print name = print name
+one_request Has name = ask Question.has name
+one_request Len name = ask Question.len name
+one_request Truthy name = ask Question.truthy name
+one_request Kind name = ask Question.kind name
+one_request IsSafe name = ask Question.is_safe name
+one_request Escape name = ask Question.escape name
+one_request Print name = ask Question.print name
 
 abbrev pub kept_request : Kept → List ℕ → Request
-kept_request Get name = get name
+kept_request Get name = find (Search.get name)
 kept_request MarkSafe name = mark_safe name
 
 abbrev pub verb_of : Request → Verb
 verb_of (set name value) = Set
-verb_of (equal left right) = Two Equal
-verb_of (order left right) = Two Compare
+verb_of (weigh Weighing.equal left right) = Two Equal
+verb_of (weigh Weighing.compare left right) = Two Compare
 verb_of (remove name) = One Remove
-verb_of (has name) = One Has
-verb_of (len name) = One Len
-verb_of (truthy name) = One Truthy
-verb_of (kind_of name) = One Kind
-verb_of (is_safe name) = One IsSafe
-verb_of (escape name) = One Escape
-verb_of (print name) = One Print
-verb_of (get name) = Keeping Get
+verb_of (ask Question.has name) = One Has
+verb_of (ask Question.len name) = One Len
+verb_of (ask Question.truthy name) = One Truthy
+verb_of (ask Question.kind name) = One Kind
+verb_of (ask Question.is_safe name) = One IsSafe
+verb_of (ask Question.escape name) = One Escape
+verb_of (ask Question.print name) = One Print
+verb_of (find (Search.get name)) = Keeping Get
 verb_of (mark_safe name) = Keeping MarkSafe
 
 -- the verb, if the word is this text, and else what is given

@@ -1,7 +1,7 @@
 //! Laws of the grammar of lines. Each function does nothing, and its contract is the law.
 ghost use Rattle.std.specs.Prelude.{◌≡◌, ℕ, List};
 ghost use Rattle.tera_meaning.specs.Form.{Form};
-ghost use Rattle.tera_meaning.specs.Step.{Command};
+ghost use Rattle.tera_meaning.specs.Request.{Command};
 ghost use Rattle.tera_script.specs.Line.{Says, IsSkipped};
 ghost use Rattle.tera_script.specs.Literal.{SpellsLiteral};
 

@@ -1,31 +1,33 @@
 //! Worked lines. Each function does nothing, and its contract says what some lines say.
 ghost use Rattle.std.specs.Prelude.{[], ◌∷◌, ◌++◌, Some, None, true, codes, pos};
 ghost use Rattle.tera_meaning.specs.Integer.{i64 as kind_i64, u64 as kind_u64};
-ghost use Rattle.tera_meaning.specs.Step.{set, remove, has, get, len, truthy, kind_of, is_safe, mark_safe, escape};
-ghost use Rattle.tera_meaning.specs.Step.{print, equal, order};
+ghost use Rattle.tera_meaning.specs.Question;
+ghost use Rattle.tera_meaning.specs.Request.{set, remove, mark_safe, ask, weigh, find};
+ghost use Rattle.tera_meaning.specs.Search;
+ghost use Rattle.tera_meaning.specs.Weighing;
 ghost use Rattle.tera_meaning.specs.Tree.{none, number, text, bytes, array, items};
 ghost use Rattle.tera_script.specs.Line.{Says, IsSkipped, IsBad};
 ghost use Rattle.tera_script.specs.Nested.{in_brackets, in_arrays};
 
 /// Lines that say a call.
 pub fn worked_calls()
-    ensures eq { Says (codes "eq a b") (record { request = equal (codes "a") (codes "b"); into = None }) }
-    ensures cmp { Says (codes "cmp a b") (record { request = order (codes "a") (codes "b"); into = None }) }
-    ensures print { Says (codes "\tprint _x9 ") (record { request = print (codes "_x9"); into = None }) }
+    ensures eq { Says (codes "eq a b") (record { request = weigh Weighing.equal (codes "a") (codes "b"); into = None }) }
+    ensures cmp { Says (codes "cmp a b") (record { request = weigh Weighing.compare (codes "a") (codes "b"); into = None }) }
+    ensures print { Says (codes "\tprint _x9 ") (record { request = ask Question.print (codes "_x9"); into = None }) }
     ensures remove { Says (codes "remove a") (record { request = remove (codes "a"); into = None }) }
-    ensures has { Says (codes "has a") (record { request = has (codes "a"); into = None }) }
-    ensures get { Says (codes "get a") (record { request = get (codes "a"); into = None }) }
-    ensures len { Says (codes "len a") (record { request = len (codes "a"); into = None }) }
-    ensures truthy { Says (codes "truthy a") (record { request = truthy (codes "a"); into = None }) }
-    ensures kind { Says (codes "kind a") (record { request = kind_of (codes "a"); into = None }) }
-    ensures is_safe { Says (codes "is_safe a") (record { request = is_safe (codes "a"); into = None }) }
+    ensures has { Says (codes "has a") (record { request = ask Question.has (codes "a"); into = None }) }
+    ensures get { Says (codes "get a") (record { request = find (Search.get (codes "a")); into = None }) }
+    ensures len { Says (codes "len a") (record { request = ask Question.len (codes "a"); into = None }) }
+    ensures truthy { Says (codes "truthy a") (record { request = ask Question.truthy (codes "a"); into = None }) }
+    ensures kind { Says (codes "kind a") (record { request = ask Question.kind (codes "a"); into = None }) }
+    ensures is_safe { Says (codes "is_safe a") (record { request = ask Question.is_safe (codes "a"); into = None }) }
     ensures mark_safe { Says (codes "mark_safe a") (record { request = mark_safe (codes "a"); into = None }) }
-    ensures escape { Says (codes "escape a") (record { request = escape (codes "a"); into = None }) }
+    ensures escape { Says (codes "escape a") (record { request = ask Question.escape (codes "a"); into = None }) }
 {}
 
 /// Lines that name where what is found is to be kept.
 pub fn worked_names()
-    ensures get { Says (codes "get a -> b") (record { request = get (codes "a"); into = Some (codes "b") }) }
+    ensures get { Says (codes "get a -> b") (record { request = find (Search.get (codes "a")); into = Some (codes "b") }) }
     ensures mark_safe { Says (codes "mark_safe a\t->  a ")
         (record { request = mark_safe (codes "a"); into = Some (codes "a") }) }
     ensures has { IsBad (codes "has a -> b") }

@@ -1,5 +1,5 @@
 use Rattle.std.proofs.Common.{Some, None, sym, ◌∙◌, subst}
-use Rattle.tera_meaning.specs.Step.{set}
+use Rattle.tera_meaning.specs.Request.{set}
 use Rattle.tera_script.specs.declared.verb.Verb.TheVariants.{Set}
 use Rattle.tera_script.specs.Readers.{AreOperandsOf}
 use Rattle.tera_script.proofs.Lines.{no_blanks}
