@@ -1,4 +1,5 @@
 pub mod ReplyLemmas
+pub mod StatedLemmas
 pub mod RunLemmas
 pub mod ScriptLemmas
 pub mod SplitLemmas

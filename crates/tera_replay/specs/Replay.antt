@@ -3,27 +3,18 @@ use Rattle.std.specs.Prelude.{◌≡◌, ℕ, ◌-◌, ◌^◌, ◌≤◌, ◌�
 use Rattle.std.specs.List.{list_any}
 use Rattle.std.specs.FinMap.{empty}
 use Rattle.tera_meaning.specs.State.{State}
-use Rattle.tera_meaning.specs.Step.{Command, Outcome, done, holds, ordered, found, size, of_kind, shown, out_of_memory}
+use Rattle.tera_meaning.specs.Outcome.{Outcome, is_want}
+use Rattle.tera_meaning.specs.Request.{Command}
 use Rattle.tera_meaning.specs.Run.{IsRun}
 use Rattle.tera_replay.specs.Script.{Splits, Script, without_return, last_line, ended}
 use Rattle.tera_replay.specs.Reply.{AreReplies}
 
-abbrev pub is_out_of_memory : Outcome → Bool
-is_out_of_memory done = false
-is_out_of_memory (holds truth) = false
-is_out_of_memory (ordered order) = false
-is_out_of_memory (found value) = false
-is_out_of_memory (size n) = false
-is_out_of_memory (of_kind kind) = false
-is_out_of_memory (shown printed) = false
-is_out_of_memory out_of_memory = true
-
--- some answer was want of memory
+-- some answer was want of memory. No other refusal counts
 abbrev pub wants_memory : List Outcome → Bool
-wants_memory outcomes = list_any is_out_of_memory outcomes
+wants_memory outcomes = list_any is_want outcomes
 
--- these are the answers to what the lines say, from an empty context on, up to the first bad line
-pub record Answers (lines : List (List ℕ)) (bad : Option ℕ) (outcomes : List Outcome) : Type 0 where
+-- what the lines say, from an empty context on and up to the first bad line, comes to these outcomes
+pub record AreAnswered (lines : List (List ℕ)) (bad : Option ℕ) (outcomes : List Outcome) : Type 0 where
   pub commands : List Command
   pub state : State
   pub script : Script 1 lines commands bad
@@ -51,7 +42,7 @@ pub record AllAnswered (bytes : List ℕ) (fails : Option Bool) (out err : List 
   pub bad : Option ℕ
   pub outcomes : List Outcome
   pub split : Splits bytes lines part
-  pub answers : Answers (lines_given fails lines part) bad outcomes
+  pub answers : AreAnswered (lines_given fails lines part) bad outcomes
   pub ended : fails ≡ Some true → IsSome bad
   pub replied : AreReplies outcomes out
   pub err_is : err ≡ report bad
@@ -73,7 +64,7 @@ pub record ReadingFailed (bytes : List ℕ) (fails : Option Bool) (out err : Lis
   pub front : bytes ≡ given ++ rest
   pub cause : SourceMayFail fails rest ⊎ (2 ^ 64 - 1 ≤ length given)
   pub split : Splits given lines part
-  pub answers : Answers (map without_return lines) None outcomes
+  pub answers : AreAnswered (map without_return lines) None outcomes
   pub replied : AreReplies outcomes out
   pub err_is : err ≡ codes "error: reading failed\n"
   pub status_is : status ≡ 1
@@ -87,7 +78,7 @@ pub record MemoryFailed (bytes : List ℕ) (fails : Option Bool) (out err : List
   pub outcomes : List Outcome
   pub split : Splits bytes lines part
   pub front : lines_given fails lines part ≡ first ++ later
-  pub answers : Answers first None outcomes
+  pub answers : AreAnswered first None outcomes
   pub replied : AreReplies outcomes out
   pub err_is : err ≡ codes "error: Out of memory\n"
   pub status_is : status ≡ 1

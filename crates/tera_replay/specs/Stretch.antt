@@ -3,7 +3,8 @@ use Rattle.std.specs.Prelude.{◌≡◌, ℕ, ◌+◌, Bool, false, ◌||◌, Li
 use Rattle.std.specs.FinMap.{empty}
 use Rattle.std.specs.List.{flat_map}
 use Rattle.tera_meaning.specs.State.{State}
-use Rattle.tera_meaning.specs.Step.{Command, Outcome}
+use Rattle.tera_meaning.specs.Outcome.{Outcome}
+use Rattle.tera_meaning.specs.Request.{Command}
 use Rattle.tera_meaning.specs.Run.{IsRun}
 use Rattle.tera_replay.specs.declared.fault.Fault.{Fault}
 use Rattle.tera_replay.specs.declared.fault.Fault.TheVariants.{BadLine, ReadFailed, WriteFailed, OutOfMemory}

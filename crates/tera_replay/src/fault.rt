@@ -33,10 +33,10 @@ impl From<crate::source::ReadError> for Fault {
     }
 }
 
-impl From<crate::sink::WriteError> for Fault {
+impl From<crate::output::WriteError> for Fault {
     ghost from_gives = { λ _ fault. fault ≡ WriteFailed };
 
-    fn from(_failed: crate::sink::WriteError) -> Fault {
+    fn from(_failed: crate::output::WriteError) -> Fault {
         Fault::WriteFailed
     }
 }

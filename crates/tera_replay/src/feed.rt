@@ -5,9 +5,9 @@ ghost use Rattle.std.specs.Prelude.{◌≡◌, ◌+◌, ◌^◌, ◌<◌, ◌≤
 ghost use Rattle.tera_replay.specs.Script.{HasNoLineFeed, without_return, last_line, ended};
 ghost use Rattle.tera_replay.specs.Stretch.{Place, Goes, Runs, Stops, LineStops, start};
 
-use crate::answer::write_answer;
+use crate::answer::{is_want, write_answer};
 use crate::fault::Fault;
-use crate::sink::Sink;
+use crate::output::Output;
 use memchr::memchr;
 use std::alloc::Global;
 use tera_context::{Context, step};
@@ -41,7 +41,7 @@ impl Feed {
     }
 
     /// Takes a piece of the script, and answers each line that is whole now.
-    pub fn take_piece<W: Sink>(
+    pub fn take_piece<W: Output>(
         &mut self,
         alloc: Global,
         piece: &[u8],
@@ -66,7 +66,7 @@ impl Feed {
     }
 
     // Takes the rest of the line at hand, which a line feed ends.
-    fn end_line<W: Sink>(&mut self, alloc: Global, rest: &[u8], out: &mut W) -> Result<(), Fault>
+    fn end_line<W: Output>(&mut self, alloc: Global, rest: &[u8], out: &mut W) -> Result<(), Fault>
         requires room { self.old.number + 1 < 2 ^ 128 }
         requires part { HasNoLineFeed self.old.part.items }
         requires rest { HasNoLineFeed rest.now }
@@ -85,7 +85,7 @@ impl Feed {
     }
 
     // Answers the line at hand. Where all of it lies in `rest` it isn't copied.
-    fn answer_at_hand<W: Sink>(
+    fn answer_at_hand<W: Output>(
         &mut self,
         alloc: Global,
         rest: &[u8],
@@ -110,7 +110,7 @@ impl Feed {
     }
 
     /// Answers what follows the last line feed, if it is a line. Says whether any answer was want of memory.
-    pub fn finish<W: Sink>(&mut self, alloc: Global, out: &mut W) -> Result<bool, Fault>
+    pub fn finish<W: Output>(&mut self, alloc: Global, out: &mut W) -> Result<bool, Fault>
         ensures ok { IfOk result (λ wanted. (text : List ℕ) × (last : Bool)
             × Runs self.old.number self.old.context (last_line self.old.part.items) text last self.new.context
             × (wanted ≡ (self.old.wanted_memory || last))
@@ -130,7 +130,7 @@ impl Feed {
 }
 
 // Answers a line, and says whether the answer was want of memory.
-fn answer_line<W: Sink>(
+fn answer_line<W: Output>(
     alloc: Global,
     number: u128,
     line: &[u8],
@@ -149,7 +149,7 @@ fn answer_line<W: Sink>(
         Reading::Says(call) => {
             let answer = step(context, call);
             write_answer(alloc, &answer, out)?;
-            Ok(answer.is_err())
+            Ok(is_want(&answer))
         }
     }
 }

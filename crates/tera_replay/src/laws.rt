@@ -1,6 +1,7 @@
 //! Laws of the definitions.
 ghost use Rattle.std.specs.Prelude.{◌≡◌, ℕ, List, [], ◌∷◌, Option, codes};
-ghost use Rattle.tera_meaning.specs.Step.{Command, Outcome};
+ghost use Rattle.tera_meaning.specs.Outcome.{Outcome};
+ghost use Rattle.tera_meaning.specs.Request.{Command};
 ghost use Rattle.tera_replay.specs.Reply.{IsFixedReply, IsReply};
 ghost use Rattle.tera_replay.specs.Script.{Script, Splits, without_return, last_line};
 

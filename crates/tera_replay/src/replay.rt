@@ -6,7 +6,7 @@ ghost use Rattle.tera_replay.specs.Stretch.{Ends, told, status_at};
 
 use crate::fault::Fault;
 use crate::feed::Feed;
-use crate::sink::{Sink, WriteError};
+use crate::output::{Output, WriteError};
 use crate::source::Source;
 use itoa::Buffer;
 use std::alloc::Global;
@@ -31,8 +31,8 @@ pub fn replay<R: Read + Drop, W: Write, E: Write>(
     replay_from(alloc, &mut input, out, err)
 }
 
-/// The same of any source and sinks.
-pub fn replay_from<S: Source, W: Sink, E: Sink>(
+/// The same of any source and outputs.
+pub fn replay_from<S: Source, W: Output, E: Output>(
     alloc: Global,
     input: &mut S,
     out: &mut W,
@@ -49,7 +49,7 @@ pub fn replay_from<S: Source, W: Sink, E: Sink>(
 }
 
 // Answers line after line, and says whether an answer was want of memory.
-fn answer_all<S: Source, W: Sink>(alloc: Global, input: &mut S, out: &mut W) -> Result<bool, Fault>
+fn answer_all<S: Source, W: Output>(alloc: Global, input: &mut S, out: &mut W) -> Result<bool, Fault>
     ensures { IfSome (S.left input.old) (λ bytes. Ends bytes (S.fails input.old) (W.never_fails out.old)
         (λ text. Appends (W.holds out.old) (W.holds out.new) text) result) }
 {
@@ -66,7 +66,7 @@ fn answer_all<S: Source, W: Sink>(alloc: Global, input: &mut S, out: &mut W) -> 
 }
 
 // Writes what is to be said about the end.
-fn tell<E: Sink>(ending: &Result<bool, Fault>, err: &mut E) -> Result<(), WriteError>
+fn tell<E: Output>(ending: &Result<bool, Fault>, err: &mut E) -> Result<(), WriteError>
     ensures ok { OnOk result (Appends (E.holds err.old) (E.holds err.new) (told ending.now)) }
     ensures err { OnErr result (¬ IsTrue (E.never_fails err.old)) }
 {
@@ -79,7 +79,7 @@ fn tell<E: Sink>(ending: &Result<bool, Fault>, err: &mut E) -> Result<(), WriteE
     }
 }
 
-fn tell_bad_line<E: Sink>(number: u128, err: &mut E) -> Result<(), WriteError>
+fn tell_bad_line<E: Output>(number: u128, err: &mut E) -> Result<(), WriteError>
     ensures ok { OnOk result (Appends (E.holds err.old) (E.holds err.new) (report (Some number))) }
     ensures err { OnErr result (¬ IsTrue (E.never_fails err.old)) }
 {
