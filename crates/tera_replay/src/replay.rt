@@ -49,7 +49,11 @@ pub fn replay_from<S: Source, W: Output, E: Output>(
 }
 
 // Answers line after line, and says whether an answer was want of memory.
-fn answer_all<S: Source, W: Output>(alloc: Global, input: &mut S, out: &mut W) -> Result<bool, Fault>
+fn answer_all<S: Source, W: Output>(
+    alloc: Global,
+    input: &mut S,
+    out: &mut W,
+) -> Result<bool, Fault>
     ensures { IfSome (S.left input.old) (λ bytes. Ends bytes (S.fails input.old) (W.never_fails out.old)
         (λ text. Appends (W.holds out.old) (W.holds out.new) text) result) }
 {
