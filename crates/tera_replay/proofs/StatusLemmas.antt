@@ -1,7 +1,7 @@
 -- Which outcomes make the status 1.
-use Rattle.std.specs.Prelude.{◌≡◌, ◌≢◌, ℕ, Bool, true, false, ◌||◌, List, [], ◌∷◌, None, Ok, Err, cond, refl}
+use Rattle.std.specs.Prelude.{◌≡◌, ◌≢◌, ℕ, Bool, true, false, ◌||◌, List, [], ◌∷◌, None, Ok, Err}
+use Rattle.std.specs.Prelude.{cond, refl}
 use Rattle.std.proofs.Common.{ap, sym, ◌∙◌, arith}
-use Rattle.std.specs.List.{list_any}
 use Rattle.tera_report.specs.Refusal.{memory_refused}
 use Rattle.tera_meaning.specs.Outcome.{Outcome, out_of_memory, is_want}
 use Rattle.tera_meaning.specs.Run.{NoneWantsMemory}
@@ -35,4 +35,5 @@ pub status_zero : (outcomes : List Outcome) → status_of None outcomes ≡ 0 �
 status_zero outcomes h = none_wants outcomes (not_one (wants_memory outcomes) h)
 
 pub zero_status : (outcomes : List Outcome) → NoneWantsMemory outcomes → status_of None outcomes ≡ 0
-zero_status outcomes h = ap (λ (w : Bool). let status : ℕ = cond w 1 0 in status) (none_wanted outcomes h)
+zero_status outcomes h =
+    ap (λ (w : Bool). let status : ℕ = cond w 1 0 in status) (none_wanted outcomes h)

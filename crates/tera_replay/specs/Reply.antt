@@ -1,5 +1,6 @@
 -- The line that answers a call.
-use Rattle.std.specs.Prelude.{◌≡◌, ℕ, true, false, List, ◌++◌, codes, decimal, Option, None, Some, IfSome, IsSome, Ok, Err, IsTrue, ⊤}
+use Rattle.std.specs.Prelude.{◌≡◌, ℕ, true, false, List, ◌++◌, codes, decimal, Option, None, Some}
+use Rattle.std.specs.Prelude.{IfSome, IsSome, Ok, Err, IsTrue, ⊤}
 use Rattle.std.specs.List.{AllZip, flat_map}
 use Rattle.std.specs.declared.cmp.Ordering.{Ordering}
 use Rattle.std.specs.declared.cmp.Ordering.TheVariants.{Less, Equal, Greater}
@@ -19,8 +20,8 @@ order_name (Some Less) = codes "less"
 order_name (Some Equal) = codes "equal"
 order_name (Some Greater) = codes "greater"
 
--- how a value that is found is written: undefined and none by their names, and else as it prints inside an array, where
--- a text is quoted. That is one text alone where what is quoted is ASCII
+-- how a value that is found is written: undefined and none by their names, and else as it prints
+-- inside an array, where a text is quoted. That is one text alone where what is quoted is ASCII
 abbrev pub IsFormOf : Form → List ℕ → Type 0
 IsFormOf undefined form = form ≡ codes "undefined"
 IsFormOf none form = form ≡ codes "none"
@@ -51,8 +52,8 @@ IsReply (Ok (Answer.text printed)) line = line ≡ codes "text " ++ printed
 IsReply (Err refusal) line =
     (words : List ℕ) × TellsRefusal refusal words × (line ≡ codes "error: " ++ words)
 
--- the reply is one text alone: but where a value is found that quotes a text past ASCII, and where the text of a
--- refusal is not known
+-- the reply is one text alone: but where a value is found that quotes a text past ASCII, and where
+-- the text of a refusal is not known
 abbrev pub IsFixedReply : Outcome → Type 0
 IsFixedReply (Ok Answer.done) = ⊤
 IsFixedReply (Ok (Answer.truth b)) = ⊤
@@ -66,4 +67,5 @@ IsFixedReply (Err refusal) = IsSome (text_of refusal)
 
 -- one reply with its line feed for each, in order, and nothing else
 abbrev pub AreReplies : List Outcome → List ℕ → Type 0
-AreReplies outcomes written = (lines : List (List ℕ)) × AllZip IsReply outcomes lines × (written ≡ flat_map ended lines)
+AreReplies outcomes written =
+    (lines : List (List ℕ)) × AllZip IsReply outcomes lines × (written ≡ flat_map ended lines)

@@ -1,6 +1,7 @@
 // The line that answers a call.
 ghost use Rattle.std.specs.Io.KnownBytes.{Appends};
-ghost use Rattle.std.specs.Prelude.{◌≡◌, ℕ, List, [], ◌++◌, codes, decimal, IfOk, OnOk, OnErr, IfErr, IsTrue};
+ghost use Rattle.std.specs.Prelude.{◌≡◌, ℕ, List, [], ◌++◌, codes, decimal, IfOk, OnOk, OnErr};
+ghost use Rattle.std.specs.Prelude.{IfErr, IsTrue};
 ghost use Rattle.tera_report.specs.Errors.{kind_of, refusal_of};
 ghost use Rattle.tera_meaning.specs.Kind.{kind_name};
 ghost use Rattle.tera_meaning.specs.Outcome.{is_want};
@@ -29,7 +30,8 @@ pub fn write_answer<W: Output>(
     ensures ok { OnOk result ((text : List ℕ) × IsReply (outcome_stated answer.now) text
         × Appends (W.holds out.old) (W.holds out.new) (ended text)) }
     ensures stays { W.never_fails out.new ≡ W.never_fails out.old }
-    ensures err { IfErr result (ReplyStops (W.never_fails out.old) (Appends (W.holds out.old) (W.holds out.new) [])) }
+    ensures err { IfErr result (ReplyStops (W.never_fails out.old)
+        (Appends (W.holds out.old) (W.holds out.new) [])) }
 {
     match answer {
         Ok(Answer::Done) => out.put(b"ok\n")?,
@@ -68,11 +70,13 @@ fn order_line(order: Option<Ordering>) -> &'static [u8]
     }
 }
 
-// Writes a value: undefined and none by their names, and every other one as it prints inside an array.
+// Writes a value: undefined and none by their names, and any other as it prints inside an array.
 fn write_value<W: Output>(alloc: Global, value: &Value, out: &mut W) -> Result<(), Fault>
-    ensures ok { OnOk result ((form : List ℕ) × IsFormOf value.now form × Appends (W.holds out.old) (W.holds out.new) (ended (codes "value " ++ form))) }
+    ensures ok { OnOk result ((form : List ℕ) × IsFormOf value.now form
+        × Appends (W.holds out.old) (W.holds out.new) (ended (codes "value " ++ form))) }
     ensures stays { W.never_fails out.new ≡ W.never_fails out.old }
-    ensures err { IfErr result (ReplyStops (W.never_fails out.old) (Appends (W.holds out.old) (W.holds out.new) [])) }
+    ensures err { IfErr result (ReplyStops (W.never_fails out.old)
+        (Appends (W.holds out.old) (W.holds out.new) [])) }
 {
     let line = value_line(alloc, value)?;
     out.put(line.as_slice())?;
@@ -81,7 +85,8 @@ fn write_value<W: Output>(alloc: Global, value: &Value, out: &mut W) -> Result<(
 
 // The line for a value, with its line feed.
 fn value_line(alloc: Global, value: &Value) -> Result<Vec<u8>, Fault>
-    ensures ok { IfOk result (λ line. (form : List ℕ) × IsFormOf value.now form × (line.items ≡ ended (codes "value " ++ form))) }
+    ensures ok { IfOk result (λ line. (form : List ℕ) × IsFormOf value.now form
+        × (line.items ≡ ended (codes "value " ++ form))) }
     ensures err { IfErr result (λ fault. fault ≡ OutOfMemory) }
 {
     let mut line = Vec::from_slice(alloc, b"value ")?;
@@ -92,7 +97,8 @@ fn value_line(alloc: Global, value: &Value) -> Result<Vec<u8>, Fault>
 
 // Puts a value's form behind what the line holds.
 fn put_form(value: &Value, line: &mut Vec<u8>) -> Result<(), Fault>
-    ensures ok { OnOk result ((form : List ℕ) × IsFormOf value.now form × (line.new.items ≡ line.old.items ++ form)) }
+    ensures ok { OnOk result ((form : List ℕ) × IsFormOf value.now form
+        × (line.new.items ≡ line.old.items ++ form)) }
     ensures err { IfErr result (λ fault. fault ≡ OutOfMemory) }
 {
     if value.is_undefined() {
@@ -111,7 +117,8 @@ fn put_form(value: &Value, line: &mut Vec<u8>) -> Result<(), Fault>
 
 // Writes a length.
 fn write_size<W: Output>(size: usize, out: &mut W) -> Result<(), WriteError>
-    ensures ok { OnOk result (Appends (W.holds out.old) (W.holds out.new) (ended (codes "size " ++ decimal size))) }
+    ensures ok { OnOk result (Appends (W.holds out.old) (W.holds out.new)
+        (ended (codes "size " ++ decimal size))) }
     ensures stays { W.never_fails out.new ≡ W.never_fails out.old }
     ensures err { OnErr result (¬ IsTrue (W.never_fails out.old)) }
 {
@@ -123,7 +130,8 @@ fn write_size<W: Output>(size: usize, out: &mut W) -> Result<(), WriteError>
 
 // Writes the name of a kind.
 fn write_kind<W: Output>(kind: ValueKind, out: &mut W) -> Result<(), WriteError>
-    ensures ok { OnOk result (Appends (W.holds out.old) (W.holds out.new) (ended (codes "kind " ++ kind_name (kind_form kind)))) }
+    ensures ok { OnOk result (Appends (W.holds out.old) (W.holds out.new)
+        (ended (codes "kind " ++ kind_name (kind_form kind)))) }
     ensures stays { W.never_fails out.new ≡ W.never_fails out.old }
     ensures err { OnErr result (¬ IsTrue (W.never_fails out.old)) }
 {
@@ -137,7 +145,8 @@ fn write_refusal<W: Output>(alloc: Global, error: &Error, out: &mut W) -> Result
     ensures ok { OnOk result ((text : List ℕ) × TellsRefusal (refusal_of (kind_of error.now)) text
         × Appends (W.holds out.old) (W.holds out.new) (ended (codes "error: " ++ text))) }
     ensures stays { W.never_fails out.new ≡ W.never_fails out.old }
-    ensures err { IfErr result (ReplyStops (W.never_fails out.old) (Appends (W.holds out.old) (W.holds out.new) [])) }
+    ensures err { IfErr result (ReplyStops (W.never_fails out.old)
+        (Appends (W.holds out.old) (W.holds out.new) [])) }
 {
     match error.kind() {
         ErrorKind::OutOfMemory => out.put(b"error: Out of memory\n")?,
@@ -151,7 +160,8 @@ fn write_refusal<W: Output>(alloc: Global, error: &Error, out: &mut W) -> Result
 
 // Writes a text as it is behind a word, line feeds and all.
 fn write_text<W: Output>(word: &[u8], text: &str, out: &mut W) -> Result<(), WriteError>
-    ensures ok { OnOk result (Appends (W.holds out.old) (W.holds out.new) (ended (word.now ++ text.now))) }
+    ensures ok { OnOk result (Appends (W.holds out.old) (W.holds out.new)
+        (ended (word.now ++ text.now))) }
     ensures stays { W.never_fails out.new ≡ W.never_fails out.old }
     ensures err { OnErr result (¬ IsTrue (W.never_fails out.old)) }
 {

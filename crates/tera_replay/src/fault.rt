@@ -1,5 +1,6 @@
 // Why a replay ends before its input does.
-ghost use Rattle.tera_replay.specs.declared.fault.Fault.TheVariants.{ReadFailed, WriteFailed, OutOfMemory};
+ghost use Rattle.tera_replay.specs.declared.fault.Fault.TheVariants.{ReadFailed, WriteFailed};
+ghost use Rattle.tera_replay.specs.declared.fault.Fault.TheVariants.{OutOfMemory};
 ghost use Rattle.std.specs.Prelude.{◌≡◌};
 
 use std::alloc::{AllocError, AllocFailed};

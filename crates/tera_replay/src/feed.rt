@@ -1,7 +1,8 @@
 // From pieces of a script to its lines, each answered once it is whole.
 ghost use Rattle.std.specs.FinMap.{empty};
 ghost use Rattle.std.specs.Io.KnownBytes.{Appends};
-ghost use Rattle.std.specs.Prelude.{◌≡◌, ◌+◌, ◌^◌, ◌<◌, ◌≤◌, ℕ, Bool, ◌||◌, List, [], ◌∷◌, ◌++◌, IfOk, OnOk, IfErr, IfSome, IfNone, IsTrue, length};
+ghost use Rattle.std.specs.Prelude.{◌≡◌, ◌+◌, ◌^◌, ◌<◌, ◌≤◌, ℕ, Bool, ◌||◌, List, [], ◌∷◌, ◌++◌};
+ghost use Rattle.std.specs.Prelude.{IfOk, OnOk, IfErr, IfSome, IfNone, IsTrue, length};
 ghost use Rattle.tera_replay.specs.Script.{HasNoLineFeed, without_return, last_line, ended};
 ghost use Rattle.tera_replay.specs.Stretch.{Place, Goes, Runs, Stops, LineStops, start};
 
@@ -49,10 +50,12 @@ impl Feed {
     ) -> Result<(), Fault>
         requires room { self.old.number + length piece.now < 2 ^ 128 }
         requires part { HasNoLineFeed self.old.part.items }
-        ensures ok { OnOk result ((text : List ℕ) × Goes (place_of self.old) piece.now text (place_of self.new)
+        ensures ok { OnOk result ((text : List ℕ)
+            × Goes (place_of self.old) piece.now text (place_of self.new)
             × Appends (W.holds out.old) (W.holds out.new) text) }
         ensures number { OnOk result (self.new.number ≤ self.old.number + length piece.now) }
-        ensures err { IfErr result (λ fault. Stops (place_of self.old) piece.now (W.never_fails out.old)
+        ensures err { IfErr result
+            (λ fault. Stops (place_of self.old) piece.now (W.never_fails out.old)
             (λ text. Appends (W.holds out.old) (W.holds out.new) text) fault) }
         ensures stays { W.never_fails out.new ≡ W.never_fails out.old }
     {
@@ -70,10 +73,12 @@ impl Feed {
         requires room { self.old.number + 1 < 2 ^ 128 }
         requires part { HasNoLineFeed self.old.part.items }
         requires rest { HasNoLineFeed rest.now }
-        ensures ok { OnOk result ((text : List ℕ) × Goes (place_of self.old) (ended rest.now) text (place_of self.new)
+        ensures ok { OnOk result ((text : List ℕ)
+            × Goes (place_of self.old) (ended rest.now) text (place_of self.new)
             × Appends (W.holds out.old) (W.holds out.new) text) }
         ensures number { OnOk result (self.new.number ≡ self.old.number + 1) }
-        ensures err { IfErr result (λ fault. LineStops self.old.number (without_return (self.old.part.items ++ rest.now))
+        ensures err { IfErr result
+            (λ fault. LineStops self.old.number (without_return (self.old.part.items ++ rest.now))
             (W.never_fails out.old) (Appends (W.holds out.old) (W.holds out.new) []) fault) }
         ensures stays { W.never_fails out.new ≡ W.never_fails out.old }
     {
@@ -92,9 +97,11 @@ impl Feed {
         out: &mut W,
     ) -> Result<bool, Fault>
         ensures ok { IfOk result (λ wanted. (text : List ℕ)
-            × Runs self.old.number self.old.context (without_return (self.old.part.items ++ rest.now) ∷ []) text wanted self.new.context
+            × Runs self.old.number self.old.context
+            (without_return (self.old.part.items ++ rest.now) ∷ []) text wanted self.new.context
             × Appends (W.holds out.old) (W.holds out.new) text) }
-        ensures err { IfErr result (λ fault. LineStops self.old.number (without_return (self.old.part.items ++ rest.now))
+        ensures err { IfErr result
+            (λ fault. LineStops self.old.number (without_return (self.old.part.items ++ rest.now))
             (W.never_fails out.old) (Appends (W.holds out.old) (W.holds out.new) []) fault) }
         ensures stays { W.never_fails out.new ≡ W.never_fails out.old }
         ensures number { self.new.number ≡ self.old.number }
@@ -109,14 +116,18 @@ impl Feed {
         }
     }
 
-    /// Answers what follows the last line feed, if it is a line. Says whether any answer was want of memory.
+    /// Answers what follows the last line feed, if it is a line. Says whether any answer was want
+    /// of memory.
     pub fn finish<W: Output>(&mut self, alloc: Global, out: &mut W) -> Result<bool, Fault>
         ensures ok { IfOk result (λ wanted. (text : List ℕ) × (last : Bool)
-            × Runs self.old.number self.old.context (last_line self.old.part.items) text last self.new.context
+            × Runs self.old.number self.old.context (last_line self.old.part.items)
+            text last self.new.context
             × (wanted ≡ (self.old.wanted_memory || last))
             × Appends (W.holds out.old) (W.holds out.new) text) }
-        ensures err { IfErr result (λ fault. (last_line self.old.part.items ≡ self.old.part.items ∷ [])
-            × LineStops self.old.number self.old.part.items (W.never_fails out.old) (Appends (W.holds out.old) (W.holds out.new) []) fault) }
+        ensures err { IfErr result
+            (λ fault. (last_line self.old.part.items ≡ self.old.part.items ∷ [])
+            × LineStops self.old.number self.old.part.items (W.never_fails out.old)
+            (Appends (W.holds out.old) (W.holds out.new) []) fault) }
         ensures number { self.new.number ≡ self.old.number }
         ensures wanted { self.new.wanted_memory ≡ self.old.wanted_memory }
     {
@@ -137,7 +148,8 @@ fn answer_line<W: Output>(
     context: &mut Context,
     out: &mut W,
 ) -> Result<bool, Fault>
-    ensures ok { IfOk result (λ wanted. (text : List ℕ) × Runs number context.old (line.now ∷ []) text wanted context.new
+    ensures ok { IfOk result (λ wanted. (text : List ℕ)
+        × Runs number context.old (line.now ∷ []) text wanted context.new
         × Appends (W.holds out.old) (W.holds out.new) text) }
     ensures err { IfErr result (λ fault. LineStops number line.now (W.never_fails out.old)
         (Appends (W.holds out.old) (W.holds out.new) []) fault) }
@@ -156,7 +168,8 @@ fn answer_line<W: Output>(
 
 // What stands before the first line feed, and after it.
 fn split_line(bytes: &[u8]) -> Option<(&[u8], &[u8])>
-    ensures found { IfSome result (λ parts. HasNoLineFeed parts.0.now × (bytes.now ≡ ended parts.0.now ++ parts.1.now)) }
+    ensures found { IfSome result
+        (λ parts. HasNoLineFeed parts.0.now × (bytes.now ≡ ended parts.0.now ++ parts.1.now)) }
     ensures none { IfNone result (HasNoLineFeed bytes.now) }
 {
     let at = memchr(b'\n', bytes)?;

@@ -15,8 +15,8 @@ use std::io::{Read, Write};
 /// How much is read at once.
 const PIECE: usize = 8192;
 
-/// Reads a script from `input`, writes what its calls answer to `out` and a report of what ended it early to `err`,
-/// and answers the exit status.
+/// Reads a script from `input`, writes what its calls answer to `out` and a report of what ended it
+/// early to `err`, and answers the exit status.
 pub fn replay<R: Read + Drop, W: Write, E: Write>(
     alloc: Global,
     mut input: R,
@@ -38,9 +38,11 @@ pub fn replay_from<S: Source, W: Output, E: Output>(
     out: &mut W,
     err: &mut E,
 ) -> u8
-    ensures known { IfSome (S.left input.old) (λ bytes. Replays bytes (S.fails input.old) (W.never_fails out.old)
+    ensures known { IfSome (S.left input.old)
+        (λ bytes. Replays bytes (S.fails input.old) (W.never_fails out.old)
         (λ text. Appends (W.holds out.old) (W.holds out.new) text)
-        (λ text. IsTrue (E.never_fails err.old) → Appends (E.holds err.old) (E.holds err.new) text) result) }
+        (λ text. IsTrue (E.never_fails err.old)
+        → Appends (E.holds err.old) (E.holds err.new) text) result) }
     ensures status { result ≤ 2 }
 {
     let ending = answer_all(alloc, input, out);
@@ -54,7 +56,8 @@ fn answer_all<S: Source, W: Output>(
     input: &mut S,
     out: &mut W,
 ) -> Result<bool, Fault>
-    ensures { IfSome (S.left input.old) (λ bytes. Ends bytes (S.fails input.old) (W.never_fails out.old)
+    ensures { IfSome (S.left input.old)
+        (λ bytes. Ends bytes (S.fails input.old) (W.never_fails out.old)
         (λ text. Appends (W.holds out.old) (W.holds out.new) text) result) }
 {
     let mut feed = Feed::new(alloc);
