@@ -4,10 +4,10 @@ use Rattle.std.specs.List.{flat_map}
 use Rattle.std.specs.FinMap.{empty}
 use Rattle.std.proofs.lemmas.List.{length-map, map-append}
 use Rattle.tera_meaning.specs.State.{State}
-use Rattle.tera_meaning.specs.Step.{Command}
+use Rattle.tera_meaning.specs.Request.{Command}
 use Rattle.tera_script.specs.Line.{IsBad}
 use Rattle.tera_replay.specs.Script.{Script, without_return, last_line, ended, line_feed}
-use Rattle.tera_replay.specs.Replay.{lines_given, AllAnswered, ReadingFailed, MemoryFailed, Answers, report, SourceMayFail}
+use Rattle.tera_replay.specs.Replay.{lines_given, AllAnswered, ReadingFailed, MemoryFailed, AreAnswered, report, SourceMayFail}
 use Rattle.tera_replay.specs.Source.{EndIsTold}
 use Rattle.tera_replay.specs.Stretch.{Runs, Place, Goes, StopsAtBad, Begins, start}
 use Rattle.tera_replay.proofs.RunLemmas.{Runs-append, Script-append}
@@ -112,7 +112,7 @@ at_bad_end bytes text fails p told g whole bad =
     }
 
 -- the lines read whole, none of them bad
-runs_answer : (bytes text : List ℕ) (p : Place) (g : Goes start bytes text p) → Answers (map without_return g.lines) None g.runs.outcomes
+runs_answer : (bytes text : List ℕ) (p : Place) (g : Goes start bytes text p) → AreAnswered (map without_return g.lines) None g.runs.outcomes
 runs_answer bytes text p g = record { commands = g.runs.commands; state = p.state; script = g.runs.script; run = g.runs.run }
 
 -- no memory was found

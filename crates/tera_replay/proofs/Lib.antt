@@ -1,4 +1,6 @@
 pub mod ReplyLemmas
+pub mod StatedLemmas
+pub mod StatusLemmas
 pub mod RunLemmas
 pub mod ScriptLemmas
 pub mod SplitLemmas

@@ -1,17 +1,13 @@
 -- One line, and the carriage return at its end.
-use Rattle.std.proofs.Common.{◌≡◌, ℕ, suc, zero, Bool, true, false, ◌||◌, List, [], ◌∷◌, ◌++◌, length, get_or, take, cond, Option, None, Some, Result, Ok, Err, inl, inr, sym, ◌∙◌, ap, refl, append-nil, append_assoc, arith, eq-eqb}
+use Rattle.std.proofs.Common.{◌≡◌, ℕ, suc, zero, Bool, true, false, ◌||◌, List, [], ◌∷◌, ◌++◌, length, get_or, take, cond, Option, None, Some, inl, inr, sym, ◌∙◌, ap, refl, append-nil, append_assoc, arith, eq-eqb}
 use Rattle.std.specs.Io.KnownBytes.{Appends}
-use Rattle.std.specs.Result.{is_err}
 use Rattle.std.proofs.lemmas.Bool.{ne_eqb}
-use Rattle.tera_report.specs.declared.errors.Error.{Error}
 use Rattle.tera_meaning.specs.State.{State}
-use Rattle.tera_meaning.specs.Step.{Command, Outcome, IsStep}
-use Rattle.tera_context.specs.declared.call.Answer.{Answer}
-use Rattle.tera_context.specs.declared.call.Answer.TheVariants.{Done, Truth, Order, Found, Size, Kind, Text}
-use Rattle.tera_context.specs.Call.{outcome_of}
+use Rattle.tera_meaning.specs.Outcome.{Outcome, is_want}
+use Rattle.tera_meaning.specs.Request.{Command}
+use Rattle.tera_meaning.specs.Step.{IsStep}
 use Rattle.tera_script.specs.Line.{Says, IsSkipped}
 use Rattle.tera_replay.specs.Reply.{IsReply}
-use Rattle.tera_replay.specs.Replay.{is_out_of_memory}
 use Rattle.tera_replay.specs.Script.{without_return, carriage_return, ended}
 use Rattle.tera_replay.specs.Stretch.{Runs}
 
@@ -45,26 +41,15 @@ Runs-skipped n state line skipped = record {
   wanted_is = refl;
 }
 
-pub Runs-says : (n : ℕ) (old new : State) (line text : List ℕ) (command : Command) (outcome : Outcome) → Says line command → IsStep old command outcome new → IsReply outcome text → Runs n old (line ∷ []) (ended text) (is_out_of_memory outcome) new
+pub Runs-says : (n : ℕ) (old new : State) (line text : List ℕ) (command : Command) (outcome : Outcome) → Says line command → IsStep old command outcome new → IsReply outcome text → Runs n old (line ∷ []) (ended text) (is_want outcome) new
 Runs-says n old new line text command outcome says step replied = record {
   commands = command ∷ [];
   outcomes = outcome ∷ [];
   script = inr (inl (command, [], says, refl, (refl, refl)));
   run = (new, step, refl);
   replied = (text ∷ [], (replied, tt), sym (append-nil (ended text)));
-  wanted_is = or_false (is_out_of_memory outcome);
+  wanted_is = or_false (is_want outcome);
 }
-
--- an answer is an error exactly where it is want of memory
-pub wants-is_err : (answer : Result Answer Error) → is_out_of_memory (outcome_of answer) ≡ is_err answer
-wants-is_err (Ok Done) = refl
-wants-is_err (Ok (Truth b)) = refl
-wants-is_err (Ok (Order o)) = refl
-wants-is_err (Ok (Found v)) = refl
-wants-is_err (Ok (Size n)) = refl
-wants-is_err (Ok (Kind k)) = refl
-wants-is_err (Ok (Text t)) = refl
-wants-is_err (Err e) = refl
 
 -- what is known grows by nothing
 pub Appends-none : (known : Option (List ℕ)) → Appends known known []

@@ -1,11 +1,13 @@
 -- How a value that is found is written.
-use Rattle.std.proofs.Common.{◌≡◌, ℕ, List, ◌++◌, codes, decimal, true, false, sym, ◌∙◌, ap, subst, refl}
-use Rattle.std.specs.Prelude.{Some, None, IsTrue}
+use Rattle.std.proofs.Common.{◌≡◌, ℕ, List, [], ◌++◌, codes, decimal, true, false, sym, ◌∙◌, ap, subst, refl}
+use Rattle.std.specs.Prelude.{Option, Some, None, Ok, Err, IfSome, IsSome, IsTrue}
+use Rattle.tera_report.specs.Refusal.{text_of}
+use Rattle.tera_meaning.specs.Answer
 use Rattle.tera_meaning.specs.Form.{Form}
 use Rattle.tera_meaning.specs.Kind.{kind_in, kind_name, undefined_kind, none_kind}
 use Rattle.tera_meaning.specs.Meaning.{plain}
+use Rattle.tera_meaning.specs.Outcome.{Outcome}
 use Rattle.tera_meaning.specs.Printed.{quoted, printed_with, is_exact_inside, PrintsInside}
-use Rattle.tera_meaning.specs.Step.{Outcome, done, holds, ordered, found, size, of_kind, shown, out_of_memory}
 use Rattle.tera_meaning.specs.Tree.{undefined, none, truth, number, text, bytes, array, object}
 use Rattle.tera_replay.specs.Reply.{IsFormOf, IsReply, IsFixedReply, order_name}
 
@@ -39,7 +41,7 @@ other_form (bytes bs) form d n h = h
 other_form (array xs) form d n h = h
 other_form (object ps) form d n h = h
 
-pub value_reply : (outcome : Outcome) (v : Form) (form : List ℕ) → outcome ≡ found (Some v) → IsFormOf v form → IsReply outcome (codes "value " ++ form)
+pub value_reply : (outcome : Outcome) (v : Form) (form : List ℕ) → outcome ≡ Ok (Answer.found (Some v)) → IsFormOf v form → IsReply outcome (codes "value " ++ form)
 value_reply outcome v form is h =
     let P : Outcome → Type 0 = λ o. IsReply o (codes "value " ++ form) in
     subst P (sym is) (form, h, refl)
@@ -54,18 +56,28 @@ some_form (bytes bs) = (printed_with quoted (plain (bytes bs)), λ exact. refl)
 some_form (array xs) = (printed_with quoted (plain (array xs)), λ exact. refl)
 some_form (object ps) = (printed_with quoted (plain (object ps)), λ exact. refl)
 
+-- some text is as known, where one is known
+abbrev some_text : (known : Option (List ℕ)) → (words : List ℕ) × IfSome known (λ t. words ≡ t)
+some_text None = ([], tt)
+some_text (Some t) = (t, refl)
+
+one_text : (known : Option (List ℕ)) (words other : List ℕ) → IsSome known → IfSome known (λ t. words ≡ t)
+    → IfSome known (λ t. other ≡ t) → words ≡ other
+one_text None words other fixed h g = absurd (cc)
+one_text (Some t) words other fixed h g = h ∙ sym g
+
 pub some_reply : (outcome : Outcome) → (line : List ℕ) × IsReply outcome line
-some_reply done = (codes "ok", refl)
-some_reply (holds true) = (codes "true", refl)
-some_reply (holds false) = (codes "false", refl)
-some_reply (ordered order) = (order_name order, refl)
-some_reply (found None) = (codes "nothing", refl)
-some_reply (found (Some v)) = let form = some_form v in (codes "value " ++ form.0, (form.0, form.1, refl))
-some_reply (size None) = (codes "nothing", refl)
-some_reply (size (Some n)) = (codes "size " ++ decimal n, refl)
-some_reply (of_kind kind) = (codes "kind " ++ kind_name kind, refl)
-some_reply (shown printed) = (codes "text " ++ printed, refl)
-some_reply out_of_memory = (codes "error: Out of memory", refl)
+some_reply (Ok Answer.done) = (codes "ok", refl)
+some_reply (Ok (Answer.truth true)) = (codes "true", refl)
+some_reply (Ok (Answer.truth false)) = (codes "false", refl)
+some_reply (Ok (Answer.order order)) = (order_name order, refl)
+some_reply (Ok (Answer.found None)) = (codes "nothing", refl)
+some_reply (Ok (Answer.found (Some v))) = let form = some_form v in (codes "value " ++ form.0, (form.0, form.1, refl))
+some_reply (Ok (Answer.size None)) = (codes "nothing", refl)
+some_reply (Ok (Answer.size (Some n))) = (codes "size " ++ decimal n, refl)
+some_reply (Ok (Answer.kind kind)) = (codes "kind " ++ kind_name kind, refl)
+some_reply (Ok (Answer.text printed)) = (codes "text " ++ printed, refl)
+some_reply (Err refusal) = let told = some_text (text_of refusal) in (codes "error: " ++ told.0, (told.0, told.1, refl))
 
 one_form : (v : Form) (form other : List ℕ) → IsTrue (is_exact_inside (plain v)) → IsFormOf v form → IsFormOf v other → form ≡ other
 one_form undefined form other exact h g = h ∙ sym g
@@ -78,14 +90,14 @@ one_form (array xs) form other exact h g = h exact ∙ sym (g exact)
 one_form (object ps) form other exact h g = h exact ∙ sym (g exact)
 
 pub one_reply : (outcome : Outcome) (line other : List ℕ) → IsFixedReply outcome → IsReply outcome line → IsReply outcome other → line ≡ other
-one_reply done line other fixed h g = h ∙ sym g
-one_reply (holds true) line other fixed h g = h ∙ sym g
-one_reply (holds false) line other fixed h g = h ∙ sym g
-one_reply (ordered order) line other fixed h g = h ∙ sym g
-one_reply (found None) line other fixed h g = h ∙ sym g
-one_reply (found (Some v)) line other fixed h g = h.2 ∙ ap (λ (form : List ℕ). codes "value " ++ form) (one_form v h.0 g.0 fixed h.1 g.1) ∙ sym g.2
-one_reply (size None) line other fixed h g = h ∙ sym g
-one_reply (size (Some n)) line other fixed h g = h ∙ sym g
-one_reply (of_kind kind) line other fixed h g = h ∙ sym g
-one_reply (shown printed) line other fixed h g = h ∙ sym g
-one_reply out_of_memory line other fixed h g = h ∙ sym g
+one_reply (Ok Answer.done) line other fixed h g = h ∙ sym g
+one_reply (Ok (Answer.truth true)) line other fixed h g = h ∙ sym g
+one_reply (Ok (Answer.truth false)) line other fixed h g = h ∙ sym g
+one_reply (Ok (Answer.order order)) line other fixed h g = h ∙ sym g
+one_reply (Ok (Answer.found None)) line other fixed h g = h ∙ sym g
+one_reply (Ok (Answer.found (Some v))) line other fixed h g = h.2 ∙ ap (λ (form : List ℕ). codes "value " ++ form) (one_form v h.0 g.0 fixed h.1 g.1) ∙ sym g.2
+one_reply (Ok (Answer.size None)) line other fixed h g = h ∙ sym g
+one_reply (Ok (Answer.size (Some n))) line other fixed h g = h ∙ sym g
+one_reply (Ok (Answer.kind kind)) line other fixed h g = h ∙ sym g
+one_reply (Ok (Answer.text printed)) line other fixed h g = h ∙ sym g
+one_reply (Err refusal) line other fixed h g = h.2 ∙ ap (λ (words : List ℕ). codes "error: " ++ words) (one_text (text_of refusal) h.0 g.0 fixed h.1 g.1) ∙ sym g.2

@@ -3,12 +3,12 @@ use Rattle.std.proofs.Common.{◌≡◌, ℕ, ◌+◌, Bool, true, false, ◌||�
 use Rattle.std.proofs.lemmas.List.Folds.{list_any-append}
 use Rattle.std.proofs.lemmas.List.Concat.{flat_map-append}
 use Rattle.tera_meaning.specs.State.{State}
-use Rattle.tera_meaning.specs.Step.{Command, Outcome}
+use Rattle.tera_meaning.specs.Outcome.{Outcome, is_want}
+use Rattle.tera_meaning.specs.Request.{Command}
 use Rattle.std.specs.List.{AllZip}
 use Rattle.tera_meaning.specs.Run.{IsRun}
 use Rattle.tera_replay.specs.Script.{Script, ended}
 use Rattle.tera_replay.specs.Reply.{IsReply, AreReplies}
-use Rattle.tera_replay.specs.Replay.{is_out_of_memory}
 use Rattle.tera_replay.specs.Stretch.{Runs}
 
 pub IsRun-append : (a b c : State) (xs ys : List Command) (os ps : List Outcome) → IsRun a xs os b → IsRun b ys ps c → IsRun a (xs ++ ys) (os ++ ps) c
@@ -59,7 +59,7 @@ Runs-append n m a b c xs ys s t v w g e h = record {
   script = Script-append n xs ys g.commands h.commands None g.script m e h.script;
   run = IsRun-append a b c g.commands h.commands g.outcomes h.outcomes g.run h.run;
   replied = AreReplies-append g.outcomes h.outcomes s t g.replied h.replied;
-  wanted_is = (λ i. g.wanted_is i || h.wanted_is i) ∙ sym (list_any-append is_out_of_memory g.outcomes h.outcomes);
+  wanted_is = (λ i. g.wanted_is i || h.wanted_is i) ∙ sym (list_any-append is_want g.outcomes h.outcomes);
 }
 
 pub Runs-none : (n : ℕ) (a : State) → Runs n a [] [] false a

@@ -1,6 +1,6 @@
 -- What lines say is one thing.
 use Rattle.std.proofs.Common.{◌≡◌, ℕ, ◌+◌, List, [], ◌∷◌, Option, inl, inr, sym, ◌∙◌}
-use Rattle.tera_meaning.specs.Step.{Command}
+use Rattle.tera_meaning.specs.Request.{Command}
 use Rattle.tera_script.specs.Line.{Says, IsSkipped}
 use Rattle.tera_replay.specs.Script.{Script}
 

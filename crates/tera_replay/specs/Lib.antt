@@ -1,5 +1,6 @@
 pub mod Script
 pub mod Reply
+pub mod Stated
 pub mod Replay
 pub mod Source
 pub mod Stretch

@@ -3,4 +3,10 @@ use Rattle.tera_replay.specs.declared.feed.Feed.{Feed}
 use Rattle.tera_replay.specs.Stretch.{Place}
 
 abbrev pub place_of : Feed → Place
-place_of feed = record { number = feed.number; part = feed.part.items; state = feed.context; wanted = feed.wanted_memory }
+place_of feed =
+    record {
+      number = feed.number;
+      part = feed.part.items;
+      state = feed.context;
+      wanted = feed.wanted_memory;
+    }

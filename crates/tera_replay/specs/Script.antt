@@ -1,7 +1,8 @@
 -- The lines of a script, and what they say.
-use Rattle.std.specs.Prelude.{◌≡◌, ◌≢◌, ℕ, ◌+◌, ◌⊎◌, ◌==◌, List, [], ◌∷◌, ◌++◌, All, Option, None, Some, if◌then◌else◌}
+use Rattle.std.specs.Prelude.{◌≡◌, ◌≢◌, ℕ, ◌+◌, ◌⊎◌, ◌==◌, List, [], ◌∷◌, ◌++◌, All, Option, None}
+use Rattle.std.specs.Prelude.{Some, if◌then◌else◌}
 use Rattle.std.specs.List.{flat_map}
-use Rattle.tera_meaning.specs.Step.{Command}
+use Rattle.tera_meaning.specs.Request.{Command}
 use Rattle.tera_script.specs.Line.{Says, IsSkipped, IsBad}
 
 abbrev pub line_feed : ℕ
@@ -39,5 +40,6 @@ abbrev pub Script : ℕ → List (List ℕ) → List Command → Option ℕ → 
 Script n [] commands bad = (commands ≡ []) × (bad ≡ None)
 Script n (line ∷ lines) commands bad =
     (IsSkipped line × Script (n + 1) lines commands bad)
-    ⊎ (((first : Command) × (later : List Command) × Says line first × (commands ≡ first ∷ later) × Script (n + 1) lines later bad)
+    ⊎ (((first : Command) × (later : List Command) × Says line first × (commands ≡ first ∷ later)
+    × Script (n + 1) lines later bad)
     ⊎ (IsBad line × (commands ≡ []) × (bad ≡ Some n)))

@@ -1,19 +1,23 @@
 -- How a replay goes on over a stretch of the script.
-use Rattle.std.specs.Prelude.{◌≡◌, ℕ, ◌+◌, Bool, false, ◌||◌, List, [], ◌∷◌, ◌++◌, map, length, All, codes, Option, None, Some, Result, Ok, Err, IsTrue, if◌then◌else◌}
+use Rattle.std.specs.Prelude.{◌≡◌, ℕ, ◌+◌, Bool, false, ◌||◌, List, [], ◌∷◌, ◌++◌, map, length, All}
+use Rattle.std.specs.Prelude.{codes, Option, None, Some, Result, Ok, Err, IsTrue, if◌then◌else◌}
 use Rattle.std.specs.FinMap.{empty}
 use Rattle.std.specs.List.{flat_map}
 use Rattle.tera_meaning.specs.State.{State}
-use Rattle.tera_meaning.specs.Step.{Command, Outcome}
+use Rattle.tera_meaning.specs.Outcome.{Outcome}
+use Rattle.tera_meaning.specs.Request.{Command}
 use Rattle.tera_meaning.specs.Run.{IsRun}
 use Rattle.tera_replay.specs.declared.fault.Fault.{Fault}
-use Rattle.tera_replay.specs.declared.fault.Fault.TheVariants.{BadLine, ReadFailed, WriteFailed, OutOfMemory}
+use Rattle.tera_replay.specs.declared.fault.Fault.TheVariants.{BadLine, ReadFailed, WriteFailed}
+use Rattle.tera_replay.specs.declared.fault.Fault.TheVariants.{OutOfMemory}
 use Rattle.tera_script.specs.Line.{IsBad}
 use Rattle.tera_replay.specs.Script.{Script, HasNoLineFeed, without_return, ended, line_feed}
 use Rattle.tera_replay.specs.Reply.{AreReplies}
 use Rattle.tera_replay.specs.Replay.{wants_memory, report, AllAnswered, ReadingFailed, MemoryFailed}
 
--- None of the lines, numbered from n on, is bad, and a run over what they say is answered by the text.
-pub record Runs (n : ℕ) (old : State) (lines : List (List ℕ)) (text : List ℕ) (wanted : Bool) (new : State) : Type 0 where
+-- None of the lines, numbered from n on, is bad, and the text answers a run over what they say.
+pub record Runs (n : ℕ) (old : State) (lines : List (List ℕ)) (text : List ℕ) (wanted : Bool)
+    (new : State) : Type 0 where
   pub commands : List Command
   pub outcomes : List Outcome
   pub script : Script n lines commands None
@@ -21,8 +25,8 @@ pub record Runs (n : ℕ) (old : State) (lines : List (List ℕ)) (text : List �
   pub replied : AreReplies outcomes text
   pub wanted_is : wanted ≡ wants_memory outcomes
 
--- Where a replay stands between two bytes: the number of the line at hand and what was read of it, the state,
--- and whether an answer so far was want of memory.
+-- Where a replay stands between two bytes: the number of the line at hand and what was read of it,
+-- the state, and whether an answer so far was want of memory.
 pub record Place : Type 0 where
   pub number : ℕ
   pub part : List ℕ
@@ -63,10 +67,12 @@ pub record Begins (old : Place) (bytes : List ℕ) (text : List ℕ) : Type 0 wh
 
 -- what stands where a fault ended the stretch
 abbrev pub Stops : Place → List ℕ → Bool → (List ℕ → Type 0) → Fault → Type 0
-Stops old bytes never_fails OutGets (BadLine n) = (text : List ℕ) × StopsAtBad old bytes n text × OutGets text
+Stops old bytes never_fails OutGets (BadLine n) =
+    (text : List ℕ) × StopsAtBad old bytes n text × OutGets text
 Stops old bytes never_fails OutGets ReadFailed = ⊥
 Stops old bytes never_fails OutGets WriteFailed = ¬ IsTrue never_fails
-Stops old bytes never_fails OutGets OutOfMemory = (text : List ℕ) × Begins old bytes text × OutGets text
+Stops old bytes never_fails OutGets OutOfMemory =
+    (text : List ℕ) × Begins old bytes text × OutGets text
 
 -- what stands where a fault ended one line, numbered n
 abbrev pub LineStops : ℕ → List ℕ → Bool → Type 0 → Fault → Type 0
@@ -84,11 +90,15 @@ ReplyStops never_fails OutStays OutOfMemory = OutStays
 
 -- how answering all of the input went: whether memory was wanted by an answer, or a fault
 abbrev pub Ends : List ℕ → Option Bool → Bool → (List ℕ → Type 0) → Result Bool Fault → Type 0
-Ends bytes fails never_fails OutGets (Ok wanted) = (out : List ℕ) × AllAnswered bytes fails out [] (if wanted then 1 else 0) × OutGets out
-Ends bytes fails never_fails OutGets (Err (BadLine n)) = (out : List ℕ) × AllAnswered bytes fails out (report (Some n)) 2 × OutGets out
-Ends bytes fails never_fails OutGets (Err ReadFailed) = (out : List ℕ) × ReadingFailed bytes fails out (codes "error: reading failed\n") 1 × OutGets out
+Ends bytes fails never_fails OutGets (Ok wanted) =
+    (out : List ℕ) × AllAnswered bytes fails out [] (if wanted then 1 else 0) × OutGets out
+Ends bytes fails never_fails OutGets (Err (BadLine n)) =
+    (out : List ℕ) × AllAnswered bytes fails out (report (Some n)) 2 × OutGets out
+Ends bytes fails never_fails OutGets (Err ReadFailed) =
+    (out : List ℕ) × ReadingFailed bytes fails out (codes "error: reading failed\n") 1 × OutGets out
 Ends bytes fails never_fails OutGets (Err WriteFailed) = ¬ IsTrue never_fails
-Ends bytes fails never_fails OutGets (Err OutOfMemory) = (out : List ℕ) × MemoryFailed bytes fails out (codes "error: Out of memory\n") 1 × OutGets out
+Ends bytes fails never_fails OutGets (Err OutOfMemory) =
+    (out : List ℕ) × MemoryFailed bytes fails out (codes "error: Out of memory\n") 1 × OutGets out
 
 -- what is written about the end
 abbrev pub told : Result Bool Fault → List ℕ

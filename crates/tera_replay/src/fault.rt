@@ -1,5 +1,6 @@
 // Why a replay ends before its input does.
-ghost use Rattle.tera_replay.specs.declared.fault.Fault.TheVariants.{ReadFailed, WriteFailed, OutOfMemory};
+ghost use Rattle.tera_replay.specs.declared.fault.Fault.TheVariants.{ReadFailed, WriteFailed};
+ghost use Rattle.tera_replay.specs.declared.fault.Fault.TheVariants.{OutOfMemory};
 ghost use Rattle.std.specs.Prelude.{◌≡◌};
 
 use std::alloc::{AllocError, AllocFailed};
@@ -33,10 +34,10 @@ impl From<crate::source::ReadError> for Fault {
     }
 }
 
-impl From<crate::sink::WriteError> for Fault {
+impl From<crate::output::WriteError> for Fault {
     ghost from_gives = { λ _ fault. fault ≡ WriteFailed };
 
-    fn from(_failed: crate::sink::WriteError) -> Fault {
+    fn from(_failed: crate::output::WriteError) -> Fault {
         Fault::WriteFailed
     }
 }

@@ -1,13 +1,14 @@
 // From pieces of a script to its lines, each answered once it is whole.
 ghost use Rattle.std.specs.FinMap.{empty};
 ghost use Rattle.std.specs.Io.KnownBytes.{Appends};
-ghost use Rattle.std.specs.Prelude.{◌≡◌, ◌+◌, ◌^◌, ◌<◌, ◌≤◌, ℕ, Bool, ◌||◌, List, [], ◌∷◌, ◌++◌, IfOk, OnOk, IfErr, IfSome, IfNone, IsTrue, length};
+ghost use Rattle.std.specs.Prelude.{◌≡◌, ◌+◌, ◌^◌, ◌<◌, ◌≤◌, ℕ, Bool, ◌||◌, List, [], ◌∷◌, ◌++◌};
+ghost use Rattle.std.specs.Prelude.{IfOk, OnOk, IfErr, IfSome, IfNone, IsTrue, length};
 ghost use Rattle.tera_replay.specs.Script.{HasNoLineFeed, without_return, last_line, ended};
 ghost use Rattle.tera_replay.specs.Stretch.{Place, Goes, Runs, Stops, LineStops, start};
 
-use crate::answer::write_answer;
+use crate::answer::{is_want, write_answer};
 use crate::fault::Fault;
-use crate::sink::Sink;
+use crate::output::Output;
 use memchr::memchr;
 use std::alloc::Global;
 use tera_context::{Context, step};
@@ -41,7 +42,7 @@ impl Feed {
     }
 
     /// Takes a piece of the script, and answers each line that is whole now.
-    pub fn take_piece<W: Sink>(
+    pub fn take_piece<W: Output>(
         &mut self,
         alloc: Global,
         piece: &[u8],
@@ -49,10 +50,12 @@ impl Feed {
     ) -> Result<(), Fault>
         requires room { self.old.number + length piece.now < 2 ^ 128 }
         requires part { HasNoLineFeed self.old.part.items }
-        ensures ok { OnOk result ((text : List ℕ) × Goes (place_of self.old) piece.now text (place_of self.new)
+        ensures ok { OnOk result ((text : List ℕ)
+            × Goes (place_of self.old) piece.now text (place_of self.new)
             × Appends (W.holds out.old) (W.holds out.new) text) }
         ensures number { OnOk result (self.new.number ≤ self.old.number + length piece.now) }
-        ensures err { IfErr result (λ fault. Stops (place_of self.old) piece.now (W.never_fails out.old)
+        ensures err { IfErr result
+            (λ fault. Stops (place_of self.old) piece.now (W.never_fails out.old)
             (λ text. Appends (W.holds out.old) (W.holds out.new) text) fault) }
         ensures stays { W.never_fails out.new ≡ W.never_fails out.old }
     {
@@ -66,14 +69,16 @@ impl Feed {
     }
 
     // Takes the rest of the line at hand, which a line feed ends.
-    fn end_line<W: Sink>(&mut self, alloc: Global, rest: &[u8], out: &mut W) -> Result<(), Fault>
+    fn end_line<W: Output>(&mut self, alloc: Global, rest: &[u8], out: &mut W) -> Result<(), Fault>
         requires room { self.old.number + 1 < 2 ^ 128 }
         requires part { HasNoLineFeed self.old.part.items }
         requires rest { HasNoLineFeed rest.now }
-        ensures ok { OnOk result ((text : List ℕ) × Goes (place_of self.old) (ended rest.now) text (place_of self.new)
+        ensures ok { OnOk result ((text : List ℕ)
+            × Goes (place_of self.old) (ended rest.now) text (place_of self.new)
             × Appends (W.holds out.old) (W.holds out.new) text) }
         ensures number { OnOk result (self.new.number ≡ self.old.number + 1) }
-        ensures err { IfErr result (λ fault. LineStops self.old.number (without_return (self.old.part.items ++ rest.now))
+        ensures err { IfErr result
+            (λ fault. LineStops self.old.number (without_return (self.old.part.items ++ rest.now))
             (W.never_fails out.old) (Appends (W.holds out.old) (W.holds out.new) []) fault) }
         ensures stays { W.never_fails out.new ≡ W.never_fails out.old }
     {
@@ -85,16 +90,18 @@ impl Feed {
     }
 
     // Answers the line at hand. Where all of it lies in `rest` it isn't copied.
-    fn answer_at_hand<W: Sink>(
+    fn answer_at_hand<W: Output>(
         &mut self,
         alloc: Global,
         rest: &[u8],
         out: &mut W,
     ) -> Result<bool, Fault>
         ensures ok { IfOk result (λ wanted. (text : List ℕ)
-            × Runs self.old.number self.old.context (without_return (self.old.part.items ++ rest.now) ∷ []) text wanted self.new.context
+            × Runs self.old.number self.old.context
+            (without_return (self.old.part.items ++ rest.now) ∷ []) text wanted self.new.context
             × Appends (W.holds out.old) (W.holds out.new) text) }
-        ensures err { IfErr result (λ fault. LineStops self.old.number (without_return (self.old.part.items ++ rest.now))
+        ensures err { IfErr result
+            (λ fault. LineStops self.old.number (without_return (self.old.part.items ++ rest.now))
             (W.never_fails out.old) (Appends (W.holds out.old) (W.holds out.new) []) fault) }
         ensures stays { W.never_fails out.new ≡ W.never_fails out.old }
         ensures number { self.new.number ≡ self.old.number }
@@ -109,14 +116,18 @@ impl Feed {
         }
     }
 
-    /// Answers what follows the last line feed, if it is a line. Says whether any answer was want of memory.
-    pub fn finish<W: Sink>(&mut self, alloc: Global, out: &mut W) -> Result<bool, Fault>
+    /// Answers what follows the last line feed, if it is a line. Says whether any answer was want
+    /// of memory.
+    pub fn finish<W: Output>(&mut self, alloc: Global, out: &mut W) -> Result<bool, Fault>
         ensures ok { IfOk result (λ wanted. (text : List ℕ) × (last : Bool)
-            × Runs self.old.number self.old.context (last_line self.old.part.items) text last self.new.context
+            × Runs self.old.number self.old.context (last_line self.old.part.items)
+            text last self.new.context
             × (wanted ≡ (self.old.wanted_memory || last))
             × Appends (W.holds out.old) (W.holds out.new) text) }
-        ensures err { IfErr result (λ fault. (last_line self.old.part.items ≡ self.old.part.items ∷ [])
-            × LineStops self.old.number self.old.part.items (W.never_fails out.old) (Appends (W.holds out.old) (W.holds out.new) []) fault) }
+        ensures err { IfErr result
+            (λ fault. (last_line self.old.part.items ≡ self.old.part.items ∷ [])
+            × LineStops self.old.number self.old.part.items (W.never_fails out.old)
+            (Appends (W.holds out.old) (W.holds out.new) []) fault) }
         ensures number { self.new.number ≡ self.old.number }
         ensures wanted { self.new.wanted_memory ≡ self.old.wanted_memory }
     {
@@ -130,14 +141,15 @@ impl Feed {
 }
 
 // Answers a line, and says whether the answer was want of memory.
-fn answer_line<W: Sink>(
+fn answer_line<W: Output>(
     alloc: Global,
     number: u128,
     line: &[u8],
     context: &mut Context,
     out: &mut W,
 ) -> Result<bool, Fault>
-    ensures ok { IfOk result (λ wanted. (text : List ℕ) × Runs number context.old (line.now ∷ []) text wanted context.new
+    ensures ok { IfOk result (λ wanted. (text : List ℕ)
+        × Runs number context.old (line.now ∷ []) text wanted context.new
         × Appends (W.holds out.old) (W.holds out.new) text) }
     ensures err { IfErr result (λ fault. LineStops number line.now (W.never_fails out.old)
         (Appends (W.holds out.old) (W.holds out.new) []) fault) }
@@ -149,14 +161,15 @@ fn answer_line<W: Sink>(
         Reading::Says(call) => {
             let answer = step(context, call);
             write_answer(alloc, &answer, out)?;
-            Ok(answer.is_err())
+            Ok(is_want(&answer))
         }
     }
 }
 
 // What stands before the first line feed, and after it.
 fn split_line(bytes: &[u8]) -> Option<(&[u8], &[u8])>
-    ensures found { IfSome result (λ parts. HasNoLineFeed parts.0.now × (bytes.now ≡ ended parts.0.now ++ parts.1.now)) }
+    ensures found { IfSome result
+        (λ parts. HasNoLineFeed parts.0.now × (bytes.now ≡ ended parts.0.now ++ parts.1.now)) }
     ensures none { IfNone result (HasNoLineFeed bytes.now) }
 {
     let at = memchr(b'\n', bytes)?;

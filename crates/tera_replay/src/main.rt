@@ -5,8 +5,8 @@ mod answer;
 mod fault;
 mod feed;
 mod laws;
+mod output;
 mod replay;
-mod sink;
 mod source;
 #[cfg(test)]
 mod tests;

@@ -6,7 +6,7 @@ ghost use Rattle.tera_replay.specs.Stretch.{Ends, told, status_at};
 
 use crate::fault::Fault;
 use crate::feed::Feed;
-use crate::sink::{Sink, WriteError};
+use crate::output::{Output, WriteError};
 use crate::source::Source;
 use itoa::Buffer;
 use std::alloc::Global;
@@ -15,8 +15,8 @@ use std::io::{Read, Write};
 /// How much is read at once.
 const PIECE: usize = 8192;
 
-/// Reads a script from `input`, writes what its calls answer to `out` and a report of what ended it early to `err`,
-/// and answers the exit status.
+/// Reads a script from `input`, writes what its calls answer to `out` and a report of what ended it
+/// early to `err`, and answers the exit status.
 pub fn replay<R: Read + Drop, W: Write, E: Write>(
     alloc: Global,
     mut input: R,
@@ -31,16 +31,18 @@ pub fn replay<R: Read + Drop, W: Write, E: Write>(
     replay_from(alloc, &mut input, out, err)
 }
 
-/// The same of any source and sinks.
-pub fn replay_from<S: Source, W: Sink, E: Sink>(
+/// The same of any source and outputs.
+pub fn replay_from<S: Source, W: Output, E: Output>(
     alloc: Global,
     input: &mut S,
     out: &mut W,
     err: &mut E,
 ) -> u8
-    ensures known { IfSome (S.left input.old) (λ bytes. Replays bytes (S.fails input.old) (W.never_fails out.old)
+    ensures known { IfSome (S.left input.old)
+        (λ bytes. Replays bytes (S.fails input.old) (W.never_fails out.old)
         (λ text. Appends (W.holds out.old) (W.holds out.new) text)
-        (λ text. IsTrue (E.never_fails err.old) → Appends (E.holds err.old) (E.holds err.new) text) result) }
+        (λ text. IsTrue (E.never_fails err.old)
+        → Appends (E.holds err.old) (E.holds err.new) text) result) }
     ensures status { result ≤ 2 }
 {
     let ending = answer_all(alloc, input, out);
@@ -49,8 +51,13 @@ pub fn replay_from<S: Source, W: Sink, E: Sink>(
 }
 
 // Answers line after line, and says whether an answer was want of memory.
-fn answer_all<S: Source, W: Sink>(alloc: Global, input: &mut S, out: &mut W) -> Result<bool, Fault>
-    ensures { IfSome (S.left input.old) (λ bytes. Ends bytes (S.fails input.old) (W.never_fails out.old)
+fn answer_all<S: Source, W: Output>(
+    alloc: Global,
+    input: &mut S,
+    out: &mut W,
+) -> Result<bool, Fault>
+    ensures { IfSome (S.left input.old)
+        (λ bytes. Ends bytes (S.fails input.old) (W.never_fails out.old)
         (λ text. Appends (W.holds out.old) (W.holds out.new) text) result) }
 {
     let mut feed = Feed::new(alloc);
@@ -66,7 +73,7 @@ fn answer_all<S: Source, W: Sink>(alloc: Global, input: &mut S, out: &mut W) -> 
 }
 
 // Writes what is to be said about the end.
-fn tell<E: Sink>(ending: &Result<bool, Fault>, err: &mut E) -> Result<(), WriteError>
+fn tell<E: Output>(ending: &Result<bool, Fault>, err: &mut E) -> Result<(), WriteError>
     ensures ok { OnOk result (Appends (E.holds err.old) (E.holds err.new) (told ending.now)) }
     ensures err { OnErr result (¬ IsTrue (E.never_fails err.old)) }
 {
@@ -79,7 +86,7 @@ fn tell<E: Sink>(ending: &Result<bool, Fault>, err: &mut E) -> Result<(), WriteE
     }
 }
 
-fn tell_bad_line<E: Sink>(number: u128, err: &mut E) -> Result<(), WriteError>
+fn tell_bad_line<E: Output>(number: u128, err: &mut E) -> Result<(), WriteError>
     ensures ok { OnOk result (Appends (E.holds err.old) (E.holds err.new) (report (Some number))) }
     ensures err { OnErr result (¬ IsTrue (E.never_fails err.old)) }
 {

@@ -1,7 +1,10 @@
+use crate::answer::{is_want, write_answer};
 use crate::replay::replay;
 use std::alloc::Global;
 use std::io::{Error, ErrorKind, Read, Result, Write};
 use std::test::Fail;
+use tera_context::Answer;
+use tera_report::{Error as Refused, ErrorKind as Refusal, TeraResult};
 
 // Gives these bytes, at most `size` at a read, and then ends or is interrupted.
 #[derive(Drop)]
@@ -150,6 +153,40 @@ fn a_report_that_is_not_written_changes_nothing(rt: HostRuntime) -> std::result:
         assert_eq!(rt; status, 2, "{room}");
         assert_eq!(rt; out.held.as_slice(), b"true\n".as_slice(), "{room}");
         assert_eq!(rt; err.held.as_slice(), &b"bad line 2\n"[..room], "{room}");
+    }
+    Ok(())
+}
+
+#[test]
+fn a_refusal_is_answered_by_its_text(rt: HostRuntime) -> std::result::Result<(), Fail> {
+    let alloc = rt.alloc();
+    for (refused, line, want) in [
+        (
+            Refused::new(Refusal::OutOfMemory),
+            b"error: Out of memory\n".as_slice(),
+            true,
+        ),
+        (
+            Refused::new(Refusal::Utf8Conversion),
+            b"error: Invalid UTF-8 characters found while rendering.\n",
+            false,
+        ),
+        (
+            Refused::new(Refusal::Io(ErrorKind::NotFound)),
+            b"error: Io error while writing rendered value to output: NotFound\n",
+            false,
+        ),
+        (
+            Refused::message(alloc, "Cannot divide by 0"),
+            b"error: Cannot divide by 0\n",
+            false,
+        ),
+    ] {
+        let mut out = empty_shelf(alloc, 4096);
+        let answer: TeraResult<Answer> = Err(refused);
+        write_answer(alloc, &answer, &mut out)?;
+        assert_eq!(rt; is_want(&answer), want, "{line:?}");
+        assert_eq!(rt; out.held.as_slice(), line);
     }
     Ok(())
 }

@@ -7,10 +7,10 @@ use Rattle.tera_replay.proofs.replay.answer_all.Given as goal
 abbrev pub invariant-pieces : goal.invariant-pieces
 invariant-pieces g l =
     let source = g.S.Source in
-    let sink = g.W.Sink in
+    let output = g.W.Output in
     record {
-      fed : Fed (source.left l.fn.input) (source.left l.input) l._turn (place_of l.feed) (sink.holds l.fn.out) (sink.holds l.out);
+      fed : Fed (source.left l.fn.input) (source.left l.input) l._turn (place_of l.feed) (output.holds l.fn.out) (output.holds l.out);
       fails : source.fails l.input ≡ source.fails l.fn.input;
-      never : sink.never_fails l.out ≡ sink.never_fails l.fn.out;
+      never : output.never_fails l.out ≡ output.never_fails l.fn.out;
       room : l.feed.number ≤ 1 + 8192 * l._turn;
     }

@@ -6,10 +6,10 @@ use Rattle.tera_replay.proofs.feed.Feed.take_piece.Given as goal
 
 abbrev pub invariant-lines : goal.invariant-lines
 invariant-lines g l =
-    let sink = g.W.Sink in
+    let output = g.W.Output in
     record {
-      progress : Progress (place_of l.fn.self) l.piece l.rest (place_of l.self) (sink.holds l.fn.out) (sink.holds l.out);
-      stays : sink.never_fails l.out ≡ sink.never_fails l.fn.out;
+      progress : Progress (place_of l.fn.self) l.piece l.rest (place_of l.self) (output.holds l.fn.out) (output.holds l.out);
+      stays : output.never_fails l.out ≡ output.never_fails l.fn.out;
       room : l.self.number + length l.rest ≤ l.fn.self.number + length l.piece;
     }
 

@@ -9,7 +9,7 @@ use std::io::Write;
 pub struct WriteError;
 
 /// What bytes are written to.
-pub trait Sink {
+pub trait Output {
     // the bytes that it holds, where they are known
     ghost holds: { Self → Option (List ℕ) };
 
@@ -23,7 +23,7 @@ pub trait Sink {
         ensures err { OnErr result (¬ IsTrue (never_fails self.old)) };
 }
 
-impl<W: Write> Sink for W {
+impl<W: Write> Output for W {
     ghost holds = { λ writer. W.contents writer };
 
     ghost never_fails = { λ _. false };
