@@ -3,12 +3,19 @@
 
 mod errors;
 mod escape;
+mod growing;
 mod pieces;
+mod room;
+pub mod sink;
 mod span;
 mod spanned;
 pub mod watch;
+mod writer;
 
 pub use errors::{Error, ErrorKind, TeraResult, kinds_equal_by_refusal};
-pub use escape::{escape_html, escape_text, escape_watched, one_decoding, one_spelling};
+pub use escape::{
+    escape_html, escape_into_room, escape_text, escape_to, escape_watched, one_decoding,
+    one_spelling,
+};
 pub use span::{Span, spans_equal_by_numbers};
 pub use spanned::{Spanned, spanned_equal_by_parts};
