@@ -2,9 +2,9 @@
 ghost use Rattle.std.specs.Prelude.{◌≡◌, ◌<◌, ◌≤◌, true, false, ℕ, length, slice_index, IsTrue, IfSome, IfNone};
 ghost use Rattle.tera_values.specs.Quoted.{Quotes, Escapes, EscapesMarked, Cuts, SkipsPlain};
 ghost use Rattle.tera_values.specs.Quoted.{is_ascii_text, is_marked, escapes};
-ghost use Rattle.tera_values.specs.Sink.{Puts};
+ghost use Rattle.tera_report.specs.Sink.{Puts};
 
-use crate::sink::Sink;
+use tera_report::sink::Sink;
 
 /// Puts the text in debug form: between double quotes, with escapes for quotes, backslashes and control characters.
 /// Which characters past ASCII have an escape is the library's choice. Takes no memory.
