@@ -3,7 +3,7 @@ ghost use Rattle.std.specs.Prelude.{◌≡◌, ℕ, List, [], IsOk, IfOk, IfErr,
 ghost use Rattle.tera_report.specs.Errors.{IsOutOfMemory};
 ghost use Rattle.tera_report.specs.Escaping.{Spells, WritesEscaped, BreaksEscaped, escaped};
 ghost use Rattle.tera_report.specs.Pieces.{written};
-ghost use Rattle.tera_report.specs.Room.{IsDecided};
+ghost use Rattle.tera_report.specs.Room.{RoomTakes, RoomFails, IsDecided};
 ghost use Rattle.tera_report.specs.Sink.{Puts, PutsThese};
 ghost use Rattle.tera_report.specs.Watch.{WatchedTakes, WatchedFails};
 
@@ -52,7 +52,9 @@ pub fn escape_text(alloc: Global, text: &str) -> TeraResult<String>
 /// Puts what `escape_html` writes into a room, where it fits. Else the room holds a beginning of
 /// it besides what it held. Takes no memory.
 pub fn escape_into_room(text: &str, room: &mut Room) -> Result<(), Full>
-    ensures { (bytes : List ℕ) → Spells bytes text.now → IsDecided result room.old bytes room.new }
+    ensures puts { Puts RoomTakes RoomFails result (λ bytes. Spells bytes text.now) room.old room.new }
+    ensures decided { (bytes : List ℕ) → Spells bytes text.now
+        → IsDecided result room.old bytes room.new }
 {
     escape_to(text, room)
 }

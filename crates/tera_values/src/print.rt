@@ -47,7 +47,7 @@ impl Value {
         ensures { Puts (WatchedTakes W.contents W.wrote) (WatchedFails W.contents W.wrote) result
             (Prints (plain self.now)) out.old out.new }
     {
-        put_value(self, out)
+        self.print_to(out)
     }
 
     /// Writes what is printed of the value inside an array or a map: a text in debug form, and every other value as
@@ -71,7 +71,7 @@ impl Value {
         ensures { Puts (WatchedTakes W.contents W.wrote) (WatchedFails W.contents W.wrote) result
             (PrintsInside (plain self.now)) out.old out.new }
     {
-        put_inside(self, out)
+        self.print_inside_to(out)
     }
 
     /// Puts the printed text, piece by piece. Answers an error only where the sink refused a piece.
@@ -100,7 +100,7 @@ impl Value {
         ensures decided { IsTrue (is_exact (plain self.now))
             → IsDecided result room.old (printed (plain self.now)) room.new }
     {
-        put_value(self, room)
+        self.print_to(room)
     }
 
     /// The printed text as a text of its own. Mirrors `to_string` of `tera::Value`.
