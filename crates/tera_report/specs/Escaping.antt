@@ -55,9 +55,10 @@ pub record Spells (bytes text : List ℕ) : Type 0 where
 abbrev pub WritesEscaped : Option (List ℕ) → Option (List ℕ) → List ℕ → Type 0
 WritesEscaped old new text = (bytes : List ℕ) × Spells bytes text × Appends old new bytes
 
--- a writer was to be given a spelling of the text: its writes took a beginning of it, and one of them answered an
--- error or took no byte of some
-abbrev pub BreaksEscaped : {W : Type 0} → (W → List ℕ → Result ℕ Error → W → Type 0) → W → W → List ℕ → Type 0
+-- a writer was to be given a spelling of the text: its writes took a beginning of it, and one of
+-- them answered an error or took no byte of some
+abbrev pub BreaksEscaped : {W : Type 0} → (W → List ℕ → Result ℕ Error → W → Type 0)
+    → W → W → List ℕ → Type 0
 BreaksEscaped wrote old new text = (bytes : List ℕ) × Spells bytes text × Breaks wrote old bytes new
 
 -- the token that stands for a byte

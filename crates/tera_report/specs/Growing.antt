@@ -19,7 +19,8 @@ pub record GrowingTakes (old : Growing) (bytes : List ℕ) (new : Growing) : Typ
   pub counted : grown_len new ≡ grown_len old + length bytes
   pub capacity : grown_capacity old ≤ grown_capacity new
 
--- more memory was wanted for the bytes than the text had, and it was refused; a beginning of the bytes was taken
+-- more memory was wanted for the bytes than the text had, and it was refused; a beginning of the
+-- bytes was taken
 pub record GrowingFails (old : Growing) (bytes : List ℕ) (new : Growing) : Type 0 where
   pub wanted : grown_capacity old < grown_len old + length bytes
   pub taken : List ℕ

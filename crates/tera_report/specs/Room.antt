@@ -35,8 +35,8 @@ pub record RoomFails (old : Room) (bytes : List ℕ) (new : Room) : Type 0 where
   pub grows : room_bytes new ≡ room_bytes old ++ taken
 
 -- the bytes are put in where they fit, and the call fails where they do not
-pub record IsDecided {E : Type 0} (result : Result (Unit {0}) E) (old : Room) (bytes : List ℕ) (new : Room)
-    : Type 0 where
+pub record IsDecided {E : Type 0} (result : Result (Unit {0}) E) (old : Room) (bytes : List ℕ)
+    (new : Room) : Type 0 where
   pub decided : IsOk result ↔ HasRoomFor old (length bytes)
   pub takes : OnOk result (RoomTakes old bytes new)
   pub fails : OnErr result (RoomFails old bytes new)

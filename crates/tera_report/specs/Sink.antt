@@ -20,5 +20,6 @@ PutsThese takes fails result bytes old new =
     MatchResult result (λ _. takes old bytes new) (λ _. fails old bytes new)
 
 -- a formatter took the bytes, and has the options that it had
-abbrev pub FormatterTakes : {W : Type 0} → (W → List ℕ → W → Type 0) → Formatter W → List ℕ → Formatter W → Type 0
+abbrev pub FormatterTakes : {W : Type 0} → (W → List ℕ → W → Type 0)
+    → Formatter W → List ℕ → Formatter W → Type 0
 FormatterTakes took old bytes new = IsFlush old → HasWrittenStyled took old bytes new

@@ -32,7 +32,8 @@ has_fault [] = false
 has_fault (a ∷ rest) = is_fault a.answer a.given || has_fault rest
 
 -- the writer went from old to new by these writes, in turn
-abbrev pub Goes : {W : Type 0} → (W → List ℕ → Result ℕ Error → W → Type 0) → W → List Attempt → W → Type 0
+abbrev pub Goes : {W : Type 0} → (W → List ℕ → Result ℕ Error → W → Type 0)
+    → W → List Attempt → W → Type 0
 Goes wrote old attempts new = FoldsTo (λ v a w. wrote v a.given a.answer w) old attempts new
 
 -- the writer went from old to new by writes that took just these bytes

@@ -18,8 +18,8 @@ use std::alloc::Global;
 use std::io;
 
 /// Writes the text with `&`, `<`, `>`, `"` and `'` as `&amp;`, `&lt;`, `&gt;`, `&quot;` and
-/// `&#39;`. Answers an error only where a write of the writer, during the call, answered one or took
-/// no byte; then a beginning may be written. Takes no memory. Mirrors `tera::escape_html`.
+/// `&#39;`. Answers an error only where a write of the writer, during the call, answered one or
+/// took no byte; then a beginning may be written. Takes no memory. Mirrors `tera::escape_html`.
 pub fn escape_html<W: Writer>(text: &str, writer: &mut W) -> io::Result<()>
     ensures written { OnOk result
         (WritesEscaped (W.contents writer.old) (W.contents writer.new) text.now) }
@@ -52,7 +52,8 @@ pub fn escape_text(alloc: Global, text: &str) -> TeraResult<String>
 /// Puts what `escape_html` writes into a room, where it fits. Else the room holds a beginning of
 /// it besides what it held. Takes no memory.
 pub fn escape_into_room(text: &str, room: &mut Room) -> Result<(), Full>
-    ensures puts { Puts RoomTakes RoomFails result (λ bytes. Spells bytes text.now) room.old room.new }
+    ensures puts { Puts RoomTakes RoomFails result
+        (λ bytes. Spells bytes text.now) room.old room.new }
     ensures decided { (bytes : List ℕ) → Spells bytes text.now
         → IsDecided result room.old bytes room.new }
 {

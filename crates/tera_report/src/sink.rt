@@ -1,4 +1,5 @@
-// Where text goes, piece by piece: a watched writer, a formatter, a room of fixed size, or a text that grows.
+// Where text goes, piece by piece: a watched writer, a formatter, a room of fixed size, or a text
+// that grows.
 ghost use Rattle.std.specs.Prelude.{◌≡◌, ℕ, List, [], ◌++◌, ⊤, OnErr};
 ghost use Rattle.tera_report.specs.Growing.{GrowingTakes, GrowingFails, grown_bytes};
 ghost use Rattle.tera_report.specs.Room.{RoomTakes, RoomFails, room_bytes};

@@ -45,7 +45,8 @@ impl<W: Writer> Write for Watched<'_, W> {
     // One write of the writer with the same bytes, and its answer.
     fn write(&mut self, buf: &[u8]) -> io::Result<usize>
         ensures bound { WritesAtMost result buf.now }
-        ensures bytes { WriteAppends (held W.contents self.old) (held W.contents self.new) result buf.now }
+        ensures bytes { WriteAppends (held W.contents self.old)
+            (held W.contents self.new) result buf.now }
         ensures wrote { W.wrote (watched_writer self.old) buf.now result (watched_writer self.new) }
         ensures same { SameWriter self.old self.new }
         ensures told { has_failed self.new ≡ (has_failed self.old || is_fault result buf.now) }
@@ -71,7 +72,8 @@ impl<W: Writer> Write for Watched<'_, W> {
 
     // All of the bytes, by as many writes as it takes. A write that was interrupted is tried again.
     fn write_all(&mut self, buf: &[u8]) -> io::Result<()>
-        ensures bytes { OnOk result (Appends (held W.contents self.old) (held W.contents self.new) buf.now) }
+        ensures bytes { OnOk result
+            (Appends (held W.contents self.old) (held W.contents self.new) buf.now) }
         ensures told { MatchResult result
             (λ _. WatchedTakes W.contents W.wrote self.old buf.now self.new)
             (λ _. WatchedFails W.contents W.wrote self.old buf.now self.new) }

@@ -9,9 +9,9 @@ use std::io::Write;
 
 /// A writer whose every write is told of: each `Write` is one.
 ///
-/// What is proved over this trait holds whatever `wrote` is. So a clause that says that a writer went
-/// from one state to another by some writes says that just these writes were made, each with these
-/// bytes, and answered so.
+/// What is proved over this trait holds whatever `wrote` is. So a clause that says that a writer
+/// went from one state to another by some writes says that just these writes were made, each with
+/// these bytes, and answered so.
 pub trait Writer {
     // the bytes that it holds, where they are known
     ghost contents: { Self → Option (List ℕ) };

@@ -112,7 +112,8 @@ impl<'a> Key<'a> {
     /// took no byte; then a beginning may be written. Takes no memory.
     pub fn format<W: Writer>(&self, out: &mut W) -> io::Result<()>
         ensures written { OnOk result
-            (Appends (W.contents out.old) (W.contents out.new) (shown_key (meaning_of_key self.now))) }
+            (Appends (W.contents out.old) (W.contents out.new)
+            (shown_key (meaning_of_key self.now))) }
         ensures told { OnErr result
             (Breaks W.wrote out.old (shown_key (meaning_of_key self.now)) out.new) }
     {
@@ -123,8 +124,8 @@ impl<'a> Key<'a> {
     ///
     /// Takes no memory.
     pub fn format_watched<W: Writer>(&self, out: &mut Watched<'_, W>) -> io::Result<()>
-        ensures { PutsThese (WatchedTakes W.contents W.wrote) (WatchedFails W.contents W.wrote) result
-            (shown_key (meaning_of_key self.now)) out.old out.new }
+        ensures { PutsThese (WatchedTakes W.contents W.wrote) (WatchedFails W.contents W.wrote)
+            result (shown_key (meaning_of_key self.now)) out.old out.new }
     {
         self.print_to(out)
     }
@@ -133,7 +134,8 @@ impl<'a> Key<'a> {
     ///
     /// Takes no memory of its own.
     pub fn print_to<S: Sink>(&self, out: &mut S) -> Result<(), S::Fault>
-        ensures { PutsThese S.takes S.fails result (shown_key (meaning_of_key self.now)) out.old out.new }
+        ensures { PutsThese S.takes S.fails result
+            (shown_key (meaning_of_key self.now)) out.old out.new }
     {
         match self {
             Key::Bool(b) => out.put(truth_text(*b)),

@@ -7,8 +7,9 @@ ghost use Rattle.tera_values.specs.Lossy.{stand_in};
 use bstr::ByteSlice;
 use tera_report::sink::Sink;
 
-/// Puts the bytes as UTF-8 text. One U+FFFD stands for each longest piece that begins a character's bytes and is not
-/// whole, and for each byte that begins none. A run of characters is put in one piece. Takes no memory.
+/// Puts the bytes as UTF-8 text. One U+FFFD stands for each longest piece that begins a character's
+/// bytes and is not whole, and for each byte that begins none. A run of characters is put in one
+/// piece. Takes no memory.
 pub(crate) fn put_lossy<S: Sink>(bytes: &[u8], out: &mut S) -> Result<(), S::Fault>
     ensures { PutsThese S.takes S.fails result (utf8_lossy bytes.now) out.old out.new }
 {

@@ -25,9 +25,10 @@ use tera_report::sink::{Full, Growing, Room, Sink};
 use tera_report::watch::{Watched, Writer};
 
 impl Value {
-    /// Writes the printed text. Undefined and none print nothing, a text itself, bytes the text that they are, with
-    /// U+FFFD for what is no character, an array its items between brackets, and a map its pairs between braces in the
-    /// order of their keys; texts in arrays and maps are quoted. Mirrors `Value::format`, which is private there.
+    /// Writes the printed text. Undefined and none print nothing, a text itself, bytes the text that
+    /// they are, with U+FFFD for what is no character, an array its items between brackets, and a
+    /// map its pairs between braces in the order of their keys; texts in arrays and maps are quoted.
+    /// Mirrors `Value::format`, which is private there.
     ///
     /// Answers an error only where, during the call, a write of the writer answered an error or
     /// took no byte; then a beginning may be written. Takes no memory.
@@ -50,8 +51,8 @@ impl Value {
         self.print_to(out)
     }
 
-    /// Writes what is printed of the value inside an array or a map: a text in debug form, and every other value as
-    /// `format` does.
+    /// Writes what is printed of the value inside an array or a map: a text in debug form, and every
+    /// other value as `format` does.
     ///
     /// Answers an error only where, during the call, a write of the writer answered an error or
     /// took no byte; then a beginning may be written. Takes no memory.
@@ -196,7 +197,8 @@ fn put_map<S: Sink>(map: &Map, out: &mut S) -> Result<(), S::Fault>
     out.put("}")
 }
 
-// Puts pairs joined by commas, in the order of their keys: the least, and then the next greater one, again and again.
+// Puts pairs joined by commas, in the order of their keys: the least, and then the next greater
+// one, again and again.
 #[cycle(print)]
 fn put_pairs<S: Sink>(map: &Map, out: &mut S) -> Result<(), S::Fault>
     ensures { Puts S.takes S.fails result (PrintsPairs (pairs_in map.now)) out.old out.new }
@@ -217,7 +219,8 @@ fn put_pairs<S: Sink>(map: &Map, out: &mut S) -> Result<(), S::Fault>
 // Puts a key and its value.
 #[cycle(print)]
 fn put_pair<S: Sink>(key: &Key<'static>, value: &Value, out: &mut S) -> Result<(), S::Fault>
-    ensures { Puts S.takes S.fails result (PrintsPair (key_form key.now) value.now) out.old out.new }
+    ensures { Puts S.takes S.fails result
+        (PrintsPair (key_form key.now) value.now) out.old out.new }
 {
     put_key(key, out)?;
     out.put(": ")?;
