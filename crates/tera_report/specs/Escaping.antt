@@ -1,7 +1,9 @@
 -- Escaped text: a grammar of tokens, each with its spelling and the byte that it stands for.
-use Rattle.std.specs.Prelude.{◌≡◌, ℕ, Bool, false, ◌||◌, ◌==◌, List, [], ◌∷◌, codes, map, slice_index, ◌≤◌, ◌<◌, Option, ⊤, if◌then◌else◌}
+use Rattle.std.specs.Prelude.{◌≡◌, ℕ, Bool, false, ◌||◌, ◌==◌, List, [], ◌∷◌, codes, map, slice_index, ◌≤◌, ◌<◌, Option, Result, ⊤, if◌then◌else◌}
 use Rattle.std.specs.List.{flat_map, AllByRecursion}
 use Rattle.std.specs.Io.KnownBytes.{Appends}
+use Rattle.std.specs.declared.io.Error.{Error}
+use Rattle.tera_report.specs.Writer.{Breaks}
 
 -- a byte that stands for itself, or one of the five entities
 pub data Token : Type 0 where
@@ -52,6 +54,12 @@ pub record Spells (bytes text : List ℕ) : Type 0 where
 -- a writer that held old holds old and a spelling of the text, where it tells what it holds
 abbrev pub WritesEscaped : Option (List ℕ) → Option (List ℕ) → List ℕ → Type 0
 WritesEscaped old new text = (bytes : List ℕ) × Spells bytes text × Appends old new bytes
+
+-- a writer was to be given a spelling of the text: its writes took a beginning of it, and one of
+-- them answered an error or took no byte of some
+abbrev pub BreaksEscaped : {W : Type 0} → (W → List ℕ → Result ℕ Error → W → Type 0)
+    → W → W → List ℕ → Type 0
+BreaksEscaped wrote old new text = (bytes : List ℕ) × Spells bytes text × Breaks wrote old bytes new
 
 -- the token that stands for a byte
 abbrev pub token_of : ℕ → Token

@@ -1,7 +1,13 @@
 pub mod Errors
 pub mod Escaping
+pub mod Growing
 pub mod Pieces
 pub mod Refusal
+pub mod Room
+pub mod Sink
+pub mod SinkLaws
 pub mod Span
 pub mod Spanned
 pub mod Watch
+pub mod Writer
+pub mod WriterLaws

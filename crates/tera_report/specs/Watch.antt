@@ -1,6 +1,9 @@
--- What a watched writer remembers.
-use Rattle.std.specs.Prelude.{◌≡◌, ℕ, Bool, true, ◌&&◌, ◌==◌, not, List, IsTrue, Option, Result, Ok, Err, length}
+-- What a watched writer remembers, and what a call of it does.
+use Rattle.std.specs.Prelude.{◌≡◌, ℕ, Bool, List, IsTrue, Option, Result}
 use Rattle.std.specs.Borrow.{GName}
+use Rattle.std.specs.Io.KnownBytes.{Appends}
+use Rattle.std.specs.declared.io.Error.{Error}
+use Rattle.tera_report.specs.Writer.{all_taken, Passes, Breaks}
 use Rattle.tera_report.specs.declared.watch.Watched.{Watched}
 
 -- the writer, as it stands
@@ -26,7 +29,22 @@ has_failed w = w.failed
 abbrev pub HasFailed : {W : Type 0} → Watched W → Type 0
 HasFailed w = IsTrue (has_failed w)
 
--- a write of these bytes with this answer: an error, or no byte taken of some
-abbrev pub is_fault : {E : Type 0} → Result ℕ E → List ℕ → Bool
-is_fault (Ok taken) bytes = taken == 0 && not (length bytes == 0)
-is_fault (Err e) bytes = true
+-- a watched writer took the bytes: it passed on just these by its writes, what it holds grew by
+-- them, and an earlier failure is not forgotten
+pub record WatchedTakes {W : Type 0} (contents : W → Option (List ℕ))
+    (wrote : W → List ℕ → Result ℕ Error → W → Type 0) (old : Watched W) (bytes : List ℕ)
+    (new : Watched W) : Type 0 where
+  pub same : SameWriter old new
+  pub grows : Appends (held contents old) (held contents new) bytes
+  pub kept : HasFailed old → HasFailed new
+  pub passed : Passes wrote (watched_writer old) bytes (watched_writer new)
+
+-- a watched writer failed on the bytes: a write from old to new answered an error or took no byte
+-- of some, and a beginning of the bytes was passed on
+pub record WatchedFails {W : Type 0} (contents : W → Option (List ℕ))
+    (wrote : W → List ℕ → Result ℕ Error → W → Type 0) (old : Watched W) (bytes : List ℕ)
+    (new : Watched W) : Type 0 where
+  pub same : SameWriter old new
+  pub told : HasFailed new
+  pub broke : Breaks wrote (watched_writer old) bytes (watched_writer new)
+  pub grows : Appends (held contents old) (held contents new) (all_taken broke.attempts)

@@ -1,55 +1,76 @@
 // From a text to HTML: five bytes become entities, every other byte stays.
-ghost use Rattle.std.specs.Prelude.{◌≡◌, ℕ, ◌++◌, List, IfOk, IfErr, OnOk, OnErr, is_ok, if◌then◌else◌, string_bytes};
+ghost use Rattle.std.specs.Prelude.{◌≡◌, ℕ, List, [], IsOk, IfOk, IfErr, OnOk, OnErr, string_bytes};
 ghost use Rattle.tera_report.specs.Errors.{IsOutOfMemory};
-ghost use Rattle.tera_report.specs.Escaping.{Spells, WritesEscaped, escaped};
+ghost use Rattle.tera_report.specs.Escaping.{Spells, WritesEscaped, BreaksEscaped, escaped};
 ghost use Rattle.tera_report.specs.Pieces.{written};
-ghost use Rattle.tera_report.specs.Watch.{held, HasFailed, SameWriter};
+ghost use Rattle.tera_report.specs.Room.{RoomTakes, RoomFails, IsDecided};
+ghost use Rattle.tera_report.specs.Sink.{Puts, PutsThese};
+ghost use Rattle.tera_report.specs.Watch.{WatchedTakes, WatchedFails};
 
 use crate::errors::TeraResult;
+use crate::growing::Growing;
 use crate::pieces::{Piece, first_piece};
+use crate::room::{Full, Room};
+use crate::sink::Sink;
 use crate::watch::Watched;
-use std::alloc::{AllocError, Global};
+use crate::writer::Writer;
+use std::alloc::Global;
 use std::io;
-use std::io::Write;
 
 /// Writes the text with `&`, `<`, `>`, `"` and `'` as `&amp;`, `&lt;`, `&gt;`, `&quot;` and
-/// `&#39;`. Answers an error only where a write of the writer answered one or took no byte; then
-/// a part may be written. Takes no memory. Mirrors `tera::escape_html`.
-pub fn escape_html<W: Write>(text: &str, writer: &mut W) -> io::Result<()>
-    ensures { OnOk result (WritesEscaped (W.contents writer.old) (W.contents writer.new) text.now) }
+/// `&#39;`. Answers an error only where a write of the writer, during the call, answered one or
+/// took no byte; then a beginning may be written. Takes no memory. Mirrors `tera::escape_html`.
+pub fn escape_html<W: Writer>(text: &str, writer: &mut W) -> io::Result<()>
+    ensures written { OnOk result
+        (WritesEscaped (W.contents writer.old) (W.contents writer.new) text.now) }
+    ensures told { OnErr result (BreaksEscaped W.wrote writer.old writer.new text.now) }
 {
     let mut watched = Watched::new(writer);
     escape_watched(text, &mut watched)
 }
 
 /// The same to a writer that is watched.
-pub fn escape_watched<W: Write>(text: &str, writer: &mut Watched<'_, W>) -> io::Result<()>
-    ensures written { OnOk result
-        (WritesEscaped (held W.contents writer.old) (held W.contents writer.new) text.now) }
-    ensures same { SameWriter writer.old writer.new }
-    ensures told { OnErr result (HasFailed writer.new) }
-    ensures kept { HasFailed writer.old → HasFailed writer.new }
+pub fn escape_watched<W: Writer>(text: &str, writer: &mut Watched<'_, W>) -> io::Result<()>
+    ensures { Puts (WatchedTakes W.contents W.wrote) (WatchedFails W.contents W.wrote) result
+        (λ bytes. Spells bytes text.now) writer.old writer.new }
 {
-    let mut rest = text;
-    while let Some((piece, after)) = first_piece(rest) {
-        writer.write_all(piece.text().as_bytes())?;
-        rest = after;
-    }
-    Ok(())
+    escape_to(text, writer)
 }
 
-/// The text that `escape_html` writes. `Out of memory` where it finds none.
+/// The text that `escape_html` writes. The only refusal is want of memory for it, `Out of
+/// memory`; an empty text takes none.
 pub fn escape_text(alloc: Global, text: &str) -> TeraResult<String>
     ensures spelled { IfOk result (λ made. Spells (string_bytes made) text.now) }
     ensures refused { IfErr result IsOutOfMemory }
+    ensures free { text.now ≡ [] → IsOk result }
 {
-    let mut made = String::with_capacity(alloc, text.len())?;
+    let mut made = Growing::with_capacity(alloc, text.len())?;
+    escape_to(text, &mut made)?;
+    Ok(made.into_text())
+}
+
+/// Puts what `escape_html` writes into a room, where it fits. Else the room holds a beginning of
+/// it besides what it held. Takes no memory.
+pub fn escape_into_room(text: &str, room: &mut Room) -> Result<(), Full>
+    ensures puts { Puts RoomTakes RoomFails result
+        (λ bytes. Spells bytes text.now) room.old room.new }
+    ensures decided { (bytes : List ℕ) → Spells bytes text.now
+        → IsDecided result room.old bytes room.new }
+{
+    escape_to(text, room)
+}
+
+/// Puts what `escape_html` writes, piece by piece. Answers an error only where the sink refused a
+/// piece. Takes no memory of its own.
+pub fn escape_to<S: Sink>(text: &str, out: &mut S) -> Result<(), S::Fault>
+    ensures { Puts S.takes S.fails result (λ bytes. Spells bytes text.now) out.old out.new }
+{
     let mut rest = text;
     while let Some((piece, after)) = first_piece(rest) {
-        push_piece(&mut made, &piece)?;
+        put_piece(&piece, out)?;
         rest = after;
     }
-    Ok(made)
+    Ok(())
 }
 
 /// Each text has exactly one spelling.
@@ -63,19 +84,18 @@ pub fn one_decoding()
     ensures { (bytes s t : List ℕ) → Spells bytes s → Spells bytes t → s ≡ t }
 {}
 
-// Appends what is written for the piece. Each entity has a call of its own, so that it is a constant
+// Puts what is written for the piece. Each entity has a call of its own, so that it is a constant
 // where it is copied.
 #[inline(always)]
-fn push_piece(made: &mut String, piece: &Piece<'_>) -> Result<(), AllocError>
-    ensures { string_bytes made.new
-        ≡ (if is_ok result then string_bytes made.old ++ written piece.now else string_bytes made.old) }
+fn put_piece<S: Sink>(piece: &Piece<'_>, out: &mut S) -> Result<(), S::Fault>
+    ensures { PutsThese S.takes S.fails result (written piece.now) out.old out.new }
 {
     match piece {
-        Piece::Run(run) => made.push_str(run),
-        Piece::Ampersand => made.push_str("&amp;"),
-        Piece::LessThan => made.push_str("&lt;"),
-        Piece::GreaterThan => made.push_str("&gt;"),
-        Piece::DoubleQuote => made.push_str("&quot;"),
-        Piece::SingleQuote => made.push_str("&#39;"),
+        Piece::Run(run) => out.put(run),
+        Piece::Ampersand => out.put("&amp;"),
+        Piece::LessThan => out.put("&lt;"),
+        Piece::GreaterThan => out.put("&gt;"),
+        Piece::DoubleQuote => out.put("&quot;"),
+        Piece::SingleQuote => out.put("&#39;"),
     }
 }

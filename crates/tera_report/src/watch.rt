@@ -1,9 +1,12 @@
 // A writer that is watched, and remembers whether a write of it failed.
-ghost use Rattle.std.specs.Prelude.{◌≡◌, ◌||◌, OnOk, OnErr, false};
+ghost use Rattle.std.specs.Prelude.{◌≡◌, ◌||◌, OnOk, false, MatchResult};
 ghost use Rattle.std.specs.Io.{WritesAtMost};
 ghost use Rattle.std.specs.Io.KnownBytes.{Keeps, Appends, WriteAppends};
-ghost use Rattle.tera_report.specs.Watch.{has_failed, HasFailed, is_fault, writer_loan, watched_writer, held, SameWriter};
+ghost use Rattle.tera_report.specs.Watch.{has_failed, writer_loan, watched_writer, held};
+ghost use Rattle.tera_report.specs.Watch.{SameWriter, WatchedTakes, WatchedFails};
+ghost use Rattle.tera_report.specs.Writer.{is_fault};
 
+pub use crate::writer::Writer;
 use std::io;
 use std::io::{ErrorKind, Write};
 
@@ -15,7 +18,7 @@ pub struct Watched<'a, W> {
     failed: bool,
 }
 
-impl<'a, W: Write> Watched<'a, W> {
+impl<'a, W: Writer> Watched<'a, W> {
     /// Watches that writer from now on.
     pub fn new(writer: &'a mut W) -> Watched<'a, W>
         ensures lent { writer_loan result ≡ writer.entry.ghost_name }
@@ -36,17 +39,19 @@ impl<'a, W: Write> Watched<'a, W> {
     }
 }
 
-impl<W: Write> Write for Watched<'_, W> {
+impl<W: Writer> Write for Watched<'_, W> {
     ghost contents = { held W.contents };
 
-    // One write of the writer, and its answer.
+    // One write of the writer with the same bytes, and its answer.
     fn write(&mut self, buf: &[u8]) -> io::Result<usize>
         ensures bound { WritesAtMost result buf.now }
-        ensures bytes { WriteAppends (held W.contents self.old) (held W.contents self.new) result buf.now }
+        ensures bytes { WriteAppends (held W.contents self.old)
+            (held W.contents self.new) result buf.now }
+        ensures wrote { W.wrote (watched_writer self.old) buf.now result (watched_writer self.new) }
         ensures same { SameWriter self.old self.new }
         ensures told { has_failed self.new ≡ (has_failed self.old || is_fault result buf.now) }
     {
-        let written = self.writer.write(buf);
+        let written = self.writer.write_once(buf);
         let failed = match &written {
             Ok(taken) => *taken == 0 && !buf.is_empty(),
             Err(_) => true,
@@ -55,20 +60,23 @@ impl<W: Write> Write for Watched<'_, W> {
         written
     }
 
+    // One flush of the writer, and its answer.
     fn flush(&mut self) -> io::Result<()>
         ensures bytes { Keeps (held W.contents self.old) (held W.contents self.new) }
+        ensures flushed { W.flushed (watched_writer self.old) result (watched_writer self.new) }
         ensures same { SameWriter self.old self.new }
         ensures told { has_failed self.new ≡ has_failed self.old }
     {
-        self.writer.flush()
+        self.writer.flush_once()
     }
 
     // All of the bytes, by as many writes as it takes. A write that was interrupted is tried again.
     fn write_all(&mut self, buf: &[u8]) -> io::Result<()>
-        ensures bytes { OnOk result (Appends (held W.contents self.old) (held W.contents self.new) buf.now) }
-        ensures same { SameWriter self.old self.new }
-        ensures told { OnErr result (HasFailed self.new) }
-        ensures kept { HasFailed self.old → HasFailed self.new }
+        ensures bytes { OnOk result
+            (Appends (held W.contents self.old) (held W.contents self.new) buf.now) }
+        ensures told { MatchResult result
+            (λ _. WatchedTakes W.contents W.wrote self.old buf.now self.new)
+            (λ _. WatchedFails W.contents W.wrote self.old buf.now self.new) }
     {
         let mut rest = buf;
         for turn in 0..u64::MAX {

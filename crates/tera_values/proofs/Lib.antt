@@ -1,4 +1,5 @@
 pub mod Parts
+pub mod PutLemmas
 pub mod QuoteLemmas
 pub mod LossyLemmas
 pub mod PrintLemmas

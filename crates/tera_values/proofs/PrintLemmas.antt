@@ -48,6 +48,15 @@ next_done all left others x done written is before prints exact =
           ∙ sym (append_assoc (done ++ codes ", ") written (later others)),
     )
 
+-- what is done and what is printed of the items that are left is printed of all
+pub rest_done : (all left : List Form) (done : List ℕ) → IsDone all done left → PrintsItems all (done ++ later left)
+rest_done all left done before exact = sym (before exact).1
+
+-- the same before the next item, where a comma comes first
+pub comma_done : (all left others : List Form) (x : Form) (done : List ℕ) → left ≡ x ∷ others → IsDone all done left
+    → PrintsItems all (done ++ (codes ", " ++ printed_items (plain_items (x ∷ others))))
+comma_done all left others x done is before exact = sym ((before exact).1 ∙ ap (λ l. done ++ later l) is)
+
 pub all_done : (all left : List Form) (done : List ℕ) → left ≡ [] → IsDone all done left → PrintsItems all done
 all_done all left done is before exact =
     sym ((before exact).1 ∙ ap (λ l. done ++ later l) is ∙ append-nil done)

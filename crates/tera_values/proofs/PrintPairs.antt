@@ -145,6 +145,17 @@ next_pair_done all left others p done written is before prints exact =
           ∙ sym (append_assoc (done ++ codes ", ") written (later_pairs others)),
     )
 
+-- what is done and what is printed of the pairs that are left is printed of all
+pub rest_pairs_done : (all left : List (KeyForm × Form)) (done : List ℕ) → ArePairsDone all done left
+    → PrintsPairs all (done ++ later_pairs left)
+rest_pairs_done all left done before exact = sym (before exact).1
+
+-- the same before the next pair, where a comma comes first
+pub comma_pairs_done : (all left others : List (KeyForm × Form)) (p : KeyForm × Form) (done : List ℕ) → left ≡ p ∷ others
+    → ArePairsDone all done left
+    → PrintsPairs all (done ++ (codes ", " ++ printed_members (plain_pairs (p ∷ others))))
+comma_pairs_done all left others p done is before exact = sym ((before exact).1 ∙ ap (λ l. done ++ later_pairs l) is)
+
 pub all_pairs_done : (all left : List (KeyForm × Form)) (done : List ℕ) → left ≡ [] → ArePairsDone all done left → PrintsPairs all done
 all_pairs_done all left done is before exact =
     sym ((before exact).1 ∙ ap (λ l. done ++ later_pairs l) is ∙ append-nil done)

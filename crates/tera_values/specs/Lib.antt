@@ -10,5 +10,3 @@ pub mod Whole
 pub mod Quoted
 pub mod Lossy
 pub mod Print
-pub mod Sink
-pub mod SinkLaws

@@ -1,5 +1,5 @@
 -- What printing a value writes.
-use Rattle.std.specs.Prelude.{◌≡◌, ◌++◌, ℕ, ℤ, List, Option, Some, None, IsTrue, ◌&&◌, codes, if◌then◌else◌}
+use Rattle.std.specs.Prelude.{◌≡◌, ◌++◌, ℕ, ℤ, List, Option, Some, None, IsTrue, ◌&&◌, [], codes, if◌then◌else◌}
 use Rattle.std.specs.Io.KnownBytes.{Appends}
 use Rattle.tera_meaning.specs.Form.{Form}
 use Rattle.tera_meaning.specs.KeyMeaning.{KeyMeaning, KeyForm, key_meaning}
@@ -50,6 +50,10 @@ WritesPrinted x old new = (written : List ℕ) × Prints x written × Appends ol
 -- the same of a meaning that stands in an array or map, where texts are quoted
 abbrev pub WritesInside : Meaning → Option (List ℕ) → Option (List ℕ) → Type 0
 WritesInside x old new = (written : List ℕ) × PrintsInside x written × Appends old new written
+
+-- it is known that nothing is printed
+abbrev pub PrintsNothing : Meaning → Type 0
+PrintsNothing x = IsTrue (is_exact x) × (printed x ≡ [])
 
 -- the printed text, where it is known
 abbrev pub printed_if_exact : Meaning → Option (List ℕ)

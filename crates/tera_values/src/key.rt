@@ -1,6 +1,6 @@
 //! The keys of maps: truth values, numbers and texts. Keys of one meaning are one key, whatever kind of integer or of
 //! text holds them.
-ghost use Rattle.std.specs.Prelude.{◌≡◌, pos, Some, None, IfOk, IfErr, IsOk, OnOk, OnErr, MatchOption, MatchResult, fold};
+ghost use Rattle.std.specs.Prelude.{◌≡◌, pos, Some, None, IfOk, IfErr, IsOk, OnOk, OnErr, MatchOption, fold};
 ghost use Rattle.std.specs.Cmp.{on_total, on_equiv, on_per, on_po, partial_equiv_from_equiv};
 ghost use Rattle.std.specs.Io.KnownBytes.{Appends};
 ghost use Rattle.std.specs.Option.{option_map};
@@ -10,22 +10,24 @@ ghost use Rattle.tera_meaning.specs.Integer.{u128, i128};
 ghost use Rattle.tera_meaning.specs.KeyLaws.{key_total, key_equivalence, key_partial, key_is};
 ghost use Rattle.tera_meaning.specs.KeyMeaning.{truth_key, number_key, text_key, borrowed, key_order, key_rank};
 ghost use Rattle.tera_report.specs.Errors.{IsOutOfMemory};
-ghost use Rattle.tera_report.specs.Watch.{HasFailed, SameWriter, held};
+ghost use Rattle.tera_report.specs.Room.{IsDecided};
+ghost use Rattle.tera_report.specs.Sink.{PutsThese};
+ghost use Rattle.tera_report.specs.Watch.{WatchedTakes, WatchedFails};
+ghost use Rattle.tera_report.specs.Writer.{Breaks};
 ghost use Rattle.tera_values.specs.Key.{integer_key, key_form, meaning_of_key, text_in_key, owned_in_key, number_in_key, key_value, shown_key, fed_number, fed};
 ghost use Rattle.tera_values.specs.Whole.{whole_value};
 
 use crate::Value;
 use crate::number::Whole;
 use crate::print::{put_integer, truth_text};
-use crate::sink::Sink;
 use std::alloc::Global;
 use std::cmp::Ordering;
 use std::hash::{Hash, Hasher};
-use std::io::Write;
 use std::rc::RcStr;
 use std::{fmt, io};
 use tera_report::TeraResult;
-use tera_report::watch::Watched;
+use tera_report::sink::{Full, Room, Sink};
+use tera_report::watch::{Watched, Writer};
 
 /// The key of a pair of a map. Mirrors `tera::value::Key`.
 #[derive(Debug, Drop)]
@@ -107,30 +109,33 @@ impl<'a> Key<'a> {
     /// `Key::format`, which is private there.
     ///
     /// Answers an error only where, during the call, a write of the writer answered an error or
-    /// took no byte. Takes no memory.
-    pub fn format<W: Write>(&self, out: &mut W) -> io::Result<()>
-        ensures { OnOk result (Appends (W.contents out.old) (W.contents out.new) (shown_key (meaning_of_key self.now))) }
+    /// took no byte; then a beginning may be written. Takes no memory.
+    pub fn format<W: Writer>(&self, out: &mut W) -> io::Result<()>
+        ensures written { OnOk result
+            (Appends (W.contents out.old) (W.contents out.new)
+            (shown_key (meaning_of_key self.now))) }
+        ensures told { OnErr result
+            (Breaks W.wrote out.old (shown_key (meaning_of_key self.now)) out.new) }
     {
         self.format_watched(&mut Watched::new(out))
     }
 
-    /// Writes what it prints to a watched writer: an error comes only where that writer failed.
+    /// The same to a watched writer.
     ///
     /// Takes no memory.
-    pub fn format_watched<W: Write>(&self, out: &mut Watched<'_, W>) -> io::Result<()>
-        ensures bytes { OnOk result (Appends (held W.contents out.old) (held W.contents out.new) (shown_key (meaning_of_key self.now))) }
-        ensures same { SameWriter out.old out.new }
-        ensures told { OnErr result (HasFailed out.new) }
-        ensures kept { HasFailed out.old → HasFailed out.new }
+    pub fn format_watched<W: Writer>(&self, out: &mut Watched<'_, W>) -> io::Result<()>
+        ensures { PutsThese (WatchedTakes W.contents W.wrote) (WatchedFails W.contents W.wrote)
+            result (shown_key (meaning_of_key self.now)) out.old out.new }
     {
-        self.put(out)
+        self.print_to(out)
     }
 
-    // Puts what it prints.
-    pub(crate) fn put<S: Sink>(&self, out: &mut S) -> Result<(), S::Fault>
-        ensures { MatchResult result
-            (λ _. S.takes out.old (shown_key (meaning_of_key self.now)) out.new)
-            (λ _. S.fails out.old out.new) }
+    /// Puts what it prints. Answers an error only where the sink refused it.
+    ///
+    /// Takes no memory of its own.
+    pub fn print_to<S: Sink>(&self, out: &mut S) -> Result<(), S::Fault>
+        ensures { PutsThese S.takes S.fails result
+            (shown_key (meaning_of_key self.now)) out.old out.new }
     {
         match self {
             Key::Bool(b) => out.put(truth_text(*b)),
@@ -141,6 +146,13 @@ impl<'a> Key<'a> {
             Key::String(text) => out.put(text.as_str()),
             Key::Str(text) => out.put(*text),
         }
+    }
+
+    /// Puts what it prints into a room, exactly where it fits. Takes no memory.
+    pub fn print_into_room(&self, room: &mut Room) -> Result<(), Full>
+        ensures { IsDecided result room.old (shown_key (meaning_of_key self.now)) room.new }
+    {
+        self.print_to(room)
     }
 
     // The number that it is.
@@ -304,7 +316,7 @@ impl fmt::Display for Key<'_> {
     ghost styled_output = { λ k _. Some (shown_key (meaning_of_key k)) };
 
     fn fmt<W: fmt::Write>(&self, f: &mut fmt::Formatter<W>) -> fmt::Result {
-        self.put(f)
+        self.print_to(f)
     }
 }
 

@@ -13,7 +13,6 @@ mod number;
 mod print;
 mod quote;
 mod read;
-mod sink;
 mod value;
 mod well_made;
 

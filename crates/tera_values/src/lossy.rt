@@ -1,15 +1,17 @@
 //! Bytes as text, with U+FFFD for what is no character.
-ghost use Rattle.std.specs.Prelude.{◌≡◌, ◌++◌, ℕ, List, MatchResult};
+ghost use Rattle.std.specs.Prelude.{◌≡◌};
 ghost use Rattle.std.specs.Str.Lossy.{utf8_lossy};
+ghost use Rattle.tera_report.specs.Sink.{PutsThese};
 ghost use Rattle.tera_values.specs.Lossy.{stand_in};
 
-use crate::sink::Sink;
 use bstr::ByteSlice;
+use tera_report::sink::Sink;
 
-/// Puts the bytes as UTF-8 text. One U+FFFD stands for each longest piece that begins a character's bytes and is not
-/// whole, and for each byte that begins none. A run of characters is put in one piece. Takes no memory.
+/// Puts the bytes as UTF-8 text. One U+FFFD stands for each longest piece that begins a character's
+/// bytes and is not whole, and for each byte that begins none. A run of characters is put in one
+/// piece. Takes no memory.
 pub(crate) fn put_lossy<S: Sink>(bytes: &[u8], out: &mut S) -> Result<(), S::Fault>
-    ensures { MatchResult result (λ _. S.takes out.old (utf8_lossy bytes.now) out.new) (λ _. S.fails out.old out.new) }
+    ensures { PutsThese S.takes S.fails result (utf8_lossy bytes.now) out.old out.new }
 {
     let mut chunks = ByteSlice::utf8_chunks(&bytes);
     'chunks: while let Some(chunk) = chunks.next() {

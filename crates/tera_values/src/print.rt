@@ -1,86 +1,121 @@
 //! What values print.
-ghost use Rattle.std.specs.Prelude.{◌≡◌, OnOk, OnErr, IfOk, IfErr, MatchResult};
+ghost use Rattle.std.specs.Prelude.{◌≡◌, IsTrue, IsOk, OnOk, OnErr, IfOk, IfErr};
 ghost use Rattle.std.specs.String.{string_bytes};
 ghost use Rattle.tera_meaning.specs.Meaning.{plain};
-ghost use Rattle.tera_meaning.specs.Printed.{Prints, PrintsInside, printed_truth};
+ghost use Rattle.tera_meaning.specs.Printed.{Prints, PrintsInside, is_exact, printed, printed_truth};
 ghost use Rattle.tera_report.specs.Errors.{IsOutOfMemory};
-ghost use Rattle.tera_report.specs.Watch.{HasFailed, SameWriter, held};
+ghost use Rattle.tera_report.specs.Room.{RoomTakes, RoomFails, IsDecided};
+ghost use Rattle.tera_report.specs.Sink.{OfSome, Puts, PutsThese};
+ghost use Rattle.tera_report.specs.Watch.{WatchedTakes, WatchedFails};
+ghost use Rattle.tera_report.specs.Writer.{Breaks};
 ghost use Rattle.tera_values.specs.Key.{key_form, meaning_of_key};
 ghost use Rattle.tera_values.specs.Map.{pairs_in};
-ghost use Rattle.tera_values.specs.Print.{PrintsArray, PrintsItems, WritesInside, WritesPrinted, printed_if_exact, PrintsMap, PrintsPairs, PrintsPair, PrintsKey};
-ghost use Rattle.tera_values.specs.Sink.{Puts};
+ghost use Rattle.tera_values.specs.Print.{PrintsArray, PrintsItems, WritesInside, WritesPrinted, printed_if_exact, PrintsMap, PrintsPairs, PrintsPair, PrintsKey, PrintsNothing};
 
 use crate::lossy::put_lossy;
 use crate::map::next_pair;
 use crate::quote::put_quoted;
-use crate::sink::Sink;
 use crate::value::ValueInner;
 use crate::{Key, Map, Value};
 use itoa::{Buffer, Integer};
 use std::alloc::Global;
-use std::io::Write;
 use std::{fmt, io};
 use tera_report::TeraResult;
-use tera_report::watch::Watched;
+use tera_report::sink::{Full, Growing, Room, Sink};
+use tera_report::watch::{Watched, Writer};
 
 impl Value {
-    /// Writes the printed text. Undefined and none print nothing, a text itself, bytes the text that they are, with
-    /// U+FFFD for what is no character, an array its items between brackets, and a map its pairs between braces in the
-    /// order of their keys; texts in arrays and maps are quoted. Mirrors `Value::format`, which is private there.
+    /// Writes the printed text. Undefined and none print nothing, a text itself, bytes the text that
+    /// they are, with U+FFFD for what is no character, an array its items between brackets, and a
+    /// map its pairs between braces in the order of their keys; texts in arrays and maps are quoted.
+    /// Mirrors `Value::format`, which is private there.
     ///
     /// Answers an error only where, during the call, a write of the writer answered an error or
-    /// took no byte. Takes no memory.
-    pub fn format<W: Write>(&self, out: &mut W) -> io::Result<()>
-        ensures { OnOk result (WritesPrinted (plain self.now) (W.contents out.old) (W.contents out.new)) }
+    /// took no byte; then a beginning may be written. Takes no memory.
+    pub fn format<W: Writer>(&self, out: &mut W) -> io::Result<()>
+        ensures written { OnOk result
+            (WritesPrinted (plain self.now) (W.contents out.old) (W.contents out.new)) }
+        ensures told { OnErr result
+            (OfSome (Breaks W.wrote) (Prints (plain self.now)) out.old out.new) }
     {
         self.format_watched(&mut Watched::new(out))
     }
 
-    /// Writes the printed text to a watched writer: an error comes only where that writer failed.
+    /// The same to a watched writer.
     ///
     /// Takes no memory.
-    pub fn format_watched<W: Write>(&self, out: &mut Watched<'_, W>) -> io::Result<()>
-        ensures bytes { OnOk result
-            (WritesPrinted (plain self.now) (held W.contents out.old) (held W.contents out.new)) }
-        ensures same { SameWriter out.old out.new }
-        ensures told { OnErr result (HasFailed out.new) }
-        ensures kept { HasFailed out.old → HasFailed out.new }
+    pub fn format_watched<W: Writer>(&self, out: &mut Watched<'_, W>) -> io::Result<()>
+        ensures { Puts (WatchedTakes W.contents W.wrote) (WatchedFails W.contents W.wrote) result
+            (Prints (plain self.now)) out.old out.new }
     {
-        put_value(self, out)
+        self.print_to(out)
     }
 
-    /// Writes what is printed of the value inside an array or a map: a text in debug form, and every other value as
-    /// `format` does.
+    /// Writes what is printed of the value inside an array or a map: a text in debug form, and every
+    /// other value as `format` does.
     ///
     /// Answers an error only where, during the call, a write of the writer answered an error or
-    /// took no byte. Takes no memory.
-    pub fn format_inside<W: Write>(&self, out: &mut W) -> io::Result<()>
-        ensures { OnOk result (WritesInside (plain self.now) (W.contents out.old) (W.contents out.new)) }
+    /// took no byte; then a beginning may be written. Takes no memory.
+    pub fn format_inside<W: Writer>(&self, out: &mut W) -> io::Result<()>
+        ensures written { OnOk result
+            (WritesInside (plain self.now) (W.contents out.old) (W.contents out.new)) }
+        ensures told { OnErr result
+            (OfSome (Breaks W.wrote) (PrintsInside (plain self.now)) out.old out.new) }
     {
         self.format_inside_watched(&mut Watched::new(out))
     }
 
-    /// The same to a watched writer: an error comes only where that writer failed.
+    /// The same to a watched writer.
     ///
     /// Takes no memory.
-    pub fn format_inside_watched<W: Write>(&self, out: &mut Watched<'_, W>) -> io::Result<()>
-        ensures bytes { OnOk result
-            (WritesInside (plain self.now) (held W.contents out.old) (held W.contents out.new)) }
-        ensures same { SameWriter out.old out.new }
-        ensures told { OnErr result (HasFailed out.new) }
-        ensures kept { HasFailed out.old → HasFailed out.new }
+    pub fn format_inside_watched<W: Writer>(&self, out: &mut Watched<'_, W>) -> io::Result<()>
+        ensures { Puts (WatchedTakes W.contents W.wrote) (WatchedFails W.contents W.wrote) result
+            (PrintsInside (plain self.now)) out.old out.new }
+    {
+        self.print_inside_to(out)
+    }
+
+    /// Puts the printed text, piece by piece. Answers an error only where the sink refused a piece.
+    ///
+    /// Takes no memory of its own.
+    pub fn print_to<S: Sink>(&self, out: &mut S) -> Result<(), S::Fault>
+        ensures { Puts S.takes S.fails result (Prints (plain self.now)) out.old out.new }
+    {
+        put_value(self, out)
+    }
+
+    /// Puts what is printed of the value inside an array or a map, piece by piece. Answers an error
+    /// only where the sink refused a piece.
+    ///
+    /// Takes no memory of its own.
+    pub fn print_inside_to<S: Sink>(&self, out: &mut S) -> Result<(), S::Fault>
+        ensures { Puts S.takes S.fails result (PrintsInside (plain self.now)) out.old out.new }
     {
         put_inside(self, out)
     }
 
+    /// Puts the printed text into a room, where it fits. Else the room holds a beginning of it
+    /// besides what it held. Takes no memory.
+    pub fn print_into_room(&self, room: &mut Room) -> Result<(), Full>
+        ensures puts { Puts RoomTakes RoomFails result (Prints (plain self.now)) room.old room.new }
+        ensures decided { IsTrue (is_exact (plain self.now))
+            → IsDecided result room.old (printed (plain self.now)) room.new }
+    {
+        self.print_to(room)
+    }
+
     /// The printed text as a text of its own. Mirrors `to_string` of `tera::Value`.
     ///
-    /// Takes memory for it; the only refusal is want of it, `Out of memory`.
+    /// Takes memory for it; the only refusal is want of it, `Out of memory`. A value that prints
+    /// nothing takes none.
     pub fn to_text(&self, alloc: Global) -> TeraResult<String>
         ensures ok { IfOk result (λ t. Prints (plain self.now) (string_bytes t)) }
         ensures err { IfErr result IsOutOfMemory }
+        ensures free { PrintsNothing (plain self.now) → IsOk result }
     {
-        Ok(self.to_string(alloc)?)
+        let mut made = Growing::new(alloc);
+        self.print_to(&mut made)?;
+        Ok(made.into_text())
     }
 }
 
@@ -162,7 +197,8 @@ fn put_map<S: Sink>(map: &Map, out: &mut S) -> Result<(), S::Fault>
     out.put("}")
 }
 
-// Puts pairs joined by commas, in the order of their keys: the least, and then the next greater one, again and again.
+// Puts pairs joined by commas, in the order of their keys: the least, and then the next greater
+// one, again and again.
 #[cycle(print)]
 fn put_pairs<S: Sink>(map: &Map, out: &mut S) -> Result<(), S::Fault>
     ensures { Puts S.takes S.fails result (PrintsPairs (pairs_in map.now)) out.old out.new }
@@ -183,7 +219,8 @@ fn put_pairs<S: Sink>(map: &Map, out: &mut S) -> Result<(), S::Fault>
 // Puts a key and its value.
 #[cycle(print)]
 fn put_pair<S: Sink>(key: &Key<'static>, value: &Value, out: &mut S) -> Result<(), S::Fault>
-    ensures { Puts S.takes S.fails result (PrintsPair (key_form key.now) value.now) out.old out.new }
+    ensures { Puts S.takes S.fails result
+        (PrintsPair (key_form key.now) value.now) out.old out.new }
 {
     put_key(key, out)?;
     out.put(": ")?;
@@ -196,13 +233,13 @@ fn put_key<S: Sink>(key: &Key<'static>, out: &mut S) -> Result<(), S::Fault>
 {
     match key.as_str() {
         Some(text) => put_quoted(text, out),
-        None => key.put(out),
+        None => key.print_to(out),
     }
 }
 
 // Puts an integer in decimal.
 pub(crate) fn put_integer<I: Integer, S: Sink>(n: I, out: &mut S) -> Result<(), S::Fault>
-    ensures { MatchResult result (λ _. S.takes out.old (I.text n) out.new) (λ _. S.fails out.old out.new) }
+    ensures { PutsThese S.takes S.fails result (I.text n) out.old out.new }
 {
     out.put(Buffer::new().format(n))
 }

@@ -2,12 +2,13 @@
 ghost use Rattle.std.specs.Prelude.{◌≡◌, ◌<◌, ◌≤◌, true, false, ℕ, length, slice_index, IsTrue, IfSome, IfNone};
 ghost use Rattle.tera_values.specs.Quoted.{Quotes, Escapes, EscapesMarked, Cuts, SkipsPlain};
 ghost use Rattle.tera_values.specs.Quoted.{is_ascii_text, is_marked, escapes};
-ghost use Rattle.tera_values.specs.Sink.{Puts};
+ghost use Rattle.tera_report.specs.Sink.{Puts};
 
-use crate::sink::Sink;
+use tera_report::sink::Sink;
 
-/// Puts the text in debug form: between double quotes, with escapes for quotes, backslashes and control characters.
-/// Which characters past ASCII have an escape is the library's choice. Takes no memory.
+/// Puts the text in debug form: between double quotes, with escapes for quotes, backslashes and
+/// control characters. Which characters past ASCII have an escape is the library's choice. Takes no
+/// memory.
 pub(crate) fn put_quoted<S: Sink>(text: &str, out: &mut S) -> Result<(), S::Fault>
     ensures { Puts S.takes S.fails result (Quotes text.now) out.old out.new }
 {
@@ -16,7 +17,8 @@ pub(crate) fn put_quoted<S: Sink>(text: &str, out: &mut S) -> Result<(), S::Faul
     out.put("\"")
 }
 
-// What stands between the quotes. A run of characters that stand for themselves is put in one piece.
+// What stands between the quotes. A run of characters that stand for themselves is put in one
+// piece.
 fn put_escaped<S: Sink>(text: &str, out: &mut S) -> Result<(), S::Fault>
     ensures { Puts S.takes S.fails result (Escapes text.now) out.old out.new }
 {
@@ -41,10 +43,11 @@ fn put_marked<S: Sink>(c: char, out: &mut S) -> Result<(), S::Fault>
     Ok(())
 }
 
-// The text before the first marked character, that character, and the text after it. A character past ASCII is marked
-// where the library has an escape for it.
+// The text before the first marked character, that character, and the text after it. A character
+// past ASCII is marked where the library has an escape for it.
 fn split_marked(text: &str) -> Option<(&str, char, &str)>
-    ensures cut { IfSome result (λ cut. IsTrue (is_ascii_text text.now) → Cuts text.now cut.0.now cut.1 cut.2.now) }
+    ensures cut { IfSome result (λ cut.
+        IsTrue (is_ascii_text text.now) → Cuts text.now cut.0.now cut.1 cut.2.now) }
     ensures shorter { IfSome result (λ cut. length cut.2.now < length text.now) }
     ensures plain { IfNone result (IsTrue (is_ascii_text text.now) → escapes text.now ≡ text.now) }
 {

@@ -1,4 +1,4 @@
-use Rattle.std.proofs.Common.{◌≡◌, Some, None, [], length, ◌+◌, ◌∷◌, ◌++◌, sym, ap, ◌∙◌, arith, drop, codes}
+use Rattle.std.proofs.Common.{rules, refl, ◌≡◌, Some, None, [], length, ◌+◌, ◌∷◌, ◌++◌, sym, ap, ◌∙◌, arith, drop, codes}
 use Rattle.std.proofs.lemmas.List.{drop_more}
 use Rattle.std.proofs.lemmas.Result.{MatchResult-weaker}
 use Rattle.std.proofs.lemmas.Bool.{and_parts}
@@ -6,16 +6,30 @@ use Rattle.tera_meaning.specs.Form.{Form}
 use Rattle.tera_meaning.specs.KeyMeaning.{KeyForm, key_meaning}
 use Rattle.tera_meaning.specs.Meaning.{plain}
 use Rattle.tera_meaning.specs.Pairs.{key_form_order}
-use Rattle.tera_meaning.specs.Printed.{printed_members, is_exact_key, is_exact_inside}
+use Rattle.tera_meaning.specs.Printed.{printed_items, printed_members, printed_with, quoted, is_exact_key, is_exact_inside}
 use Rattle.tera_meaning.specs.Tree.{items, items_depth}
 use Rattle.tera_values.specs.Depth.{member_le-depth}
 use Rattle.tera_values.specs.Key.{key_form}
-use Rattle.tera_values.specs.Map.{forms_of, pairs_in, is_above}
-use Rattle.tera_values.specs.Print.{plain_pairs}
-use Rattle.tera_values.proofs.PrintPairs.{empty_pairs, first_in, from_least, from_next, pairs_sorted, first_pair_done, next_pair_done}
+use Rattle.tera_values.specs.Map.{above, forms_of, pairs_in, is_above}
+use Rattle.tera_values.specs.Print.{plain_items, plain_pairs, PrintsArray, PrintsItems, PrintsMap, PrintsPairs, PrintsPair}
+use Rattle.tera_values.proofs.PrintPairs.{empty_pairs, first_in, from_least, from_next, pairs_sorted, first_pair_done, next_pair_done, rest_pairs_done, comma_pairs_done, later_pairs}
 use Rattle.tera_values.proofs.Parts.{depth_at}
-use Rattle.tera_values.proofs.PrintLemmas.{next_done, text_inside, other_inside}
+use Rattle.tera_values.proofs.PutLemmas.{failed_of}
+use Rattle.tera_values.proofs.PrintLemmas.{first_done, next_done, rest_done, comma_done, later, text_inside, other_inside}
 use Rattle.tera_values.proofs.print.+print.Goals as goal
+
+pub put_array-returns-in_err-put : goal.put_array-returns-in_err-put
+put_array-returns-in_err-put g t c =
+    let failed = g.met.S.Sink.failed_early _ (codes "[") _ (printed_items (plain_items c.args.items.now) ++ codes "]") c.in_err-put.ensures in
+    let bad = failed_of g.S.Sink.fails (PrintsArray c.args.items.now) _ _ _ (λ _. refl) failed in
+    search rules
+
+pub put_array-returns-in_err-put_items : goal.put_array-returns-in_err-put_items
+put_array-returns-in_err-put_items g t c =
+    let (bytes, prints, refused) = c.in_err-put_items.ensures in
+    let failed = g.met.S.Sink.failed_early _ _ _ (codes "]") (g.met.S.Sink.failed_later _ (codes "[") _ bytes _ c.in_ok-put.ensures refused) in
+    let bad = failed_of g.S.Sink.fails (PrintsArray c.args.items.now) _ _ _ (λ exact. ap (λ l. (codes "[" ++ l) ++ codes "]") (prints exact)) failed in
+    search rules
 
 pub put_array-returns : goal.put_array-returns
 put_array-returns g t c =
@@ -27,7 +41,11 @@ put_array-returns g t c =
       (λ exact. ap (λ l. (codes "[" ++ l) ++ codes "]") (prints exact)),
       g.met.S.Sink.joined _ _ _ (codes "]") _ first last,
     ))
-    (λ _ bad. g.met.S.Sink.failed_later _ _ _ _ first bad)
+    (λ _ bad. (
+      _,
+      (λ exact. ap (λ l. (codes "[" ++ l) ++ codes "]") (prints exact)),
+      g.met.S.Sink.failed_later _ _ _ (codes "]") _ first bad,
+    ))
 
 pub put_items-put_inside-requires-in-loop-item : goal.put_items-put_inside-requires-in-loop-item
 put_items-put_inside-requires-in-loop-item g t c κs within =
@@ -53,13 +71,26 @@ pub put_inside-returns-in-Some : goal.put_inside-returns-in-Some
 put_inside-returns-in-Some g t c =
     MatchResult-weaker c.put_quoted.result c.put_quoted.ensures
     (λ _ put. (put.0, text_inside c.args.value.now c.in-Some.text.now put.0 c.in-Some.ensures put.1, put.2))
-    (λ _ bad. bad)
+    (λ _ bad. (bad.0, text_inside c.args.value.now c.in-Some.text.now bad.0 c.in-Some.ensures bad.1, bad.2))
 
 pub put_inside-returns-in-None : goal.put_inside-returns-in-None
 put_inside-returns-in-None g t c =
     MatchResult-weaker c.put_value.result c.put_value.ensures
     (λ _ put. (put.0, other_inside c.args.value.now put.0 c.in-None.ensures put.1, put.2))
-    (λ _ bad. bad)
+    (λ _ bad. (bad.0, other_inside c.args.value.now bad.0 c.in-None.ensures bad.1, bad.2))
+
+pub put_map-returns-in_err-put : goal.put_map-returns-in_err-put
+put_map-returns-in_err-put g t c =
+    let failed = g.met.S.Sink.failed_early _ (codes "{") _ (printed_members (plain_pairs (pairs_in c.args.map.now)) ++ codes "}") c.in_err-put.ensures in
+    let bad = failed_of g.S.Sink.fails (PrintsMap (pairs_in c.args.map.now)) _ _ _ (λ _. refl) failed in
+    search rules
+
+pub put_map-returns-in_err-put_pairs : goal.put_map-returns-in_err-put_pairs
+put_map-returns-in_err-put_pairs g t c =
+    let (bytes, prints, refused) = c.in_err-put_pairs.ensures in
+    let failed = g.met.S.Sink.failed_early _ _ _ (codes "}") (g.met.S.Sink.failed_later _ (codes "{") _ bytes _ c.in_ok-put.ensures refused) in
+    let bad = failed_of g.S.Sink.fails (PrintsMap (pairs_in c.args.map.now)) _ _ _ (λ exact. ap (λ l. (codes "{" ++ l) ++ codes "}") (prints exact)) failed in
+    search rules
 
 pub put_map-returns : goal.put_map-returns
 put_map-returns g t c =
@@ -71,7 +102,11 @@ put_map-returns g t c =
       (λ exact. ap (λ l. (codes "{" ++ l) ++ codes "}") (prints exact)),
       g.met.S.Sink.joined _ _ _ (codes "}") _ first last,
     ))
-    (λ _ bad. g.met.S.Sink.failed_later _ _ _ _ first bad)
+    (λ _ bad. (
+      _,
+      (λ exact. ap (λ l. (codes "{" ++ l) ++ codes "}") (prints exact)),
+      g.met.S.Sink.failed_later _ _ _ (codes "}") _ first bad,
+    ))
 
 pub put_pair-returns : goal.put_pair-returns
 put_pair-returns g t c =
@@ -85,7 +120,31 @@ put_pair-returns g t c =
           λ i. (prints parts.0 i ++ codes ": ") ++ put.1 parts.1 i),
       g.met.S.Sink.joined _ _ _ put.0 _ colon put.2,
     ))
-    (λ _ bad. g.met.S.Sink.failed_later _ _ _ _ colon bad)
+    (λ _ bad. (
+      _,
+      (λ exact.
+          let parts = and_parts (is_exact_key (key_meaning (key_form c.args.key.now))) (is_exact_inside (plain c.args.value.now)) exact in
+          λ i. (prints parts.0 i ++ codes ": ") ++ bad.1 parts.1 i),
+      g.met.S.Sink.failed_later _ _ _ bad.0 _ colon bad.2,
+    ))
+
+pub put_pair-returns-in_err-put_key : goal.put_pair-returns-in_err-put_key
+put_pair-returns-in_err-put_key g t c =
+    let (bytes, prints, refused) = c.in_err-put_key.ensures in
+    let failed = g.met.S.Sink.failed_early _ _ _ (printed_with quoted (plain c.args.value.now)) (g.met.S.Sink.failed_early _ bytes _ (codes ": ") refused) in
+    let bad = failed_of g.S.Sink.fails (PrintsPair (key_form c.args.key.now) c.args.value.now) _ _ _ (λ exact.
+    let parts = and_parts (is_exact_key (key_meaning (key_form c.args.key.now))) (is_exact_inside (plain c.args.value.now)) exact in
+    λ i. (prints parts.0 i ++ codes ": ") ++ printed_with quoted (plain c.args.value.now)) failed in
+    search rules
+
+pub put_pair-returns-in_err-put : goal.put_pair-returns-in_err-put
+put_pair-returns-in_err-put g t c =
+    let (bytes, prints, took) = c.in_ok-put_key.ensures in
+    let failed = g.met.S.Sink.failed_early _ _ _ (printed_with quoted (plain c.args.value.now)) (g.met.S.Sink.failed_later _ bytes _ (codes ": ") _ took c.in_err-put.ensures) in
+    let bad = failed_of g.S.Sink.fails (PrintsPair (key_form c.args.key.now) c.args.value.now) _ _ _ (λ exact.
+    let parts = and_parts (is_exact_key (key_meaning (key_form c.args.key.now))) (is_exact_inside (plain c.args.value.now)) exact in
+    λ i. (prints parts.0 i ++ codes ": ") ++ printed_with quoted (plain c.args.value.now)) failed in
+    search rules
 
 pub put_pairs-returns-in_default : goal.put_pairs-returns-in_default
 put_pairs-returns-in_default g t c =
@@ -134,3 +193,79 @@ put_pairs-pairs-preserved g t c =
       next_pair_done ps _ _ p done bytes left before prints,
       g.met.S.Sink.joined _ _ _ bytes _ comma put,
     )
+
+pub put_items-returns-in_err-put_inside : goal.put_items-returns-in_err-put_inside
+put_items-returns-in_err-put_inside g t c =
+    let (bytes, prints, refused) = c.in_err-put_inside.ensures in
+    let all = c.args.items.now in
+    let others = c.in-Some.others.now in
+    let done = first_done all others c.in-Some.first.now bytes c.in-Some.ensures.cases.0 prints in
+    let failed = g.met.S.Sink.failed_early _ bytes _ (later others) refused in
+    let bad = failed_of g.S.Sink.fails (PrintsItems all) _ _ _ (rest_done all others bytes done) failed in
+    search rules
+
+pub put_items-returns-in_err-put : goal.put_items-returns-in_err-put
+put_items-returns-in_err-put g t c =
+    let (done, before, took) = c.loop-item.invariant in
+    let all = c.args.items.now in
+    let i = c.loop-item.item-index in
+    let item = c.item-item.result in
+    let after = drop (i + 1) c.in-Some.others.now in
+    let left : drop i c.in-Some.others.now ≡ item ∷ after =
+    drop_more c.in-Some.others.now i item c.loop-item-test.true ∙ ap (λ v. v ∷ after) (sym c.item-item.is) in
+    let failed = g.met.S.Sink.failed_later _ done _ _ _ took (g.met.S.Sink.failed_early _ (codes ", ") _ (printed_items (plain_items (item ∷ after))) c.in_err-put.ensures) in
+    let bad = failed_of g.S.Sink.fails (PrintsItems all) _ _ _ (comma_done all _ after item done left before) failed in
+    search rules
+
+pub put_items-returns-in_err-put_inside-2 : goal.put_items-returns-in_err-put_inside-2
+put_items-returns-in_err-put_inside-2 g t c =
+    let (done, before, took) = c.loop-item.invariant in
+    let (bytes, prints, refused) = c.in_err-put_inside-2.ensures in
+    let all = c.args.items.now in
+    let i = c.loop-item.item-index in
+    let item = c.item-item.result in
+    let after = drop (i + 1) c.in-Some.others.now in
+    let left : drop i c.in-Some.others.now ≡ item ∷ after =
+    drop_more c.in-Some.others.now i item c.loop-item-test.true ∙ ap (λ v. v ∷ after) (sym c.item-item.is) in
+    let comma = g.met.S.Sink.joined _ done _ (codes ", ") _ took c.in_ok-put.ensures in
+    let so_far = next_done all _ after item done bytes left before prints in
+    let failed = g.met.S.Sink.failed_early _ _ _ (later after) (g.met.S.Sink.failed_later _ _ _ bytes _ comma refused) in
+    let bad = failed_of g.S.Sink.fails (PrintsItems all) _ _ _ (rest_done all after _ so_far) failed in
+    search rules
+
+pub put_pairs-returns-in_err-put_pair : goal.put_pairs-returns-in_err-put_pair
+put_pairs-returns-in_err-put_pair g t c =
+    let (bytes, prints, refused) = c.in_err-put_pair.ensures in
+    let p : KeyForm × Form = (key_form c.in-Some.first.now, c.in-Some.value.now) in
+    let ps = pairs_in c.args.map.now in
+    let others = above (Some p.0) ps in
+    let left = from_least p ps (pairs_sorted (forms_of c.args.map.now.entries)) (sym c.in-Some.ensures) in
+    let done = first_pair_done ps others p bytes left prints in
+    let failed = g.met.S.Sink.failed_early _ bytes _ (later_pairs others) refused in
+    let bad = failed_of g.S.Sink.fails (PrintsPairs ps) _ _ _ (rest_pairs_done ps others bytes done) failed in
+    search rules
+
+pub put_pairs-returns-in_err-put : goal.put_pairs-returns-in_err-put
+put_pairs-returns-in_err-put g t c =
+    let (done, before, took) = c.pairs.invariant in
+    let p : KeyForm × Form = (key_form c.in-Some-next_pair.key.now, c.in-Some-next_pair.value.now) in
+    let ps = pairs_in c.args.map.now in
+    let others = above (Some p.0) ps in
+    let left = from_next (key_form c.pairs.last.now) p ps (pairs_sorted (forms_of c.args.map.now.entries)) (sym c.in-Some-next_pair.ensures) in
+    let failed = g.met.S.Sink.failed_later _ done _ _ _ took (g.met.S.Sink.failed_early _ (codes ", ") _ (printed_members (plain_pairs (p ∷ others))) c.in_err-put.ensures) in
+    let bad = failed_of g.S.Sink.fails (PrintsPairs ps) _ _ _ (comma_pairs_done ps _ others p done left before) failed in
+    search rules
+
+pub put_pairs-returns-in_err-put_pair-2 : goal.put_pairs-returns-in_err-put_pair-2
+put_pairs-returns-in_err-put_pair-2 g t c =
+    let (done, before, took) = c.pairs.invariant in
+    let (bytes, prints, refused) = c.in_err-put_pair-2.ensures in
+    let p : KeyForm × Form = (key_form c.in-Some-next_pair.key.now, c.in-Some-next_pair.value.now) in
+    let ps = pairs_in c.args.map.now in
+    let others = above (Some p.0) ps in
+    let left = from_next (key_form c.pairs.last.now) p ps (pairs_sorted (forms_of c.args.map.now.entries)) (sym c.in-Some-next_pair.ensures) in
+    let comma = g.met.S.Sink.joined _ done _ (codes ", ") _ took c.in_ok-put.ensures in
+    let so_far = next_pair_done ps _ others p done bytes left before prints in
+    let failed = g.met.S.Sink.failed_early _ _ _ (later_pairs others) (g.met.S.Sink.failed_later _ _ _ bytes _ comma refused) in
+    let bad = failed_of g.S.Sink.fails (PrintsPairs ps) _ _ _ (rest_pairs_done ps others _ so_far) failed in
+    search rules

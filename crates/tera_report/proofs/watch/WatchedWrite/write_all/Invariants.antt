@@ -1,13 +1,16 @@
--- What is gone from `rest` was appended, and each turn took a byte unless a write failed.
-use Rattle.std.proofs.Common.{◌≡◌, false, ℕ, ◌+◌, ◌≤◌, List, ◌++◌, length}
+-- The writes so far took what is gone from `rest`, and each turn took a byte unless a write failed.
+use Rattle.std.proofs.Common.{◌≡◌, false, ◌+◌, ◌≤◌, List, ◌++◌, IsTrue, length}
 use Rattle.std.specs.Io.KnownBytes.{Appends}
-use Rattle.tera_report.specs.Watch.{has_failed, HasFailed, held, SameWriter}
+use Rattle.tera_report.specs.Watch.{HasFailed, held, SameWriter, watched_writer}
+use Rattle.tera_report.specs.Writer.{Attempt, all_taken, has_fault, Goes}
 use Rattle.tera_report.proofs.watch.WatchedWrite.write_all.Given as goal
 
 abbrev pub invariant-loop-turn : goal.invariant-loop-turn
 invariant-loop-turn g l =
-    (done : List ℕ) × (l.fn.buf ≡ done ++ l.rest)
-    × Appends (held g.W.Write.contents l.fn.self) (held g.W.Write.contents l.self) done
+    (attempts : List Attempt) × Goes g.W.Writer.wrote (watched_writer l.fn.self) attempts (watched_writer l.self)
+    × (l.fn.buf ≡ all_taken attempts ++ l.rest)
+    × Appends (held g.W.Writer.contents l.fn.self) (held g.W.Writer.contents l.self) (all_taken attempts)
     × SameWriter l.fn.self l.self
     × (HasFailed l.fn.self → HasFailed l.self)
-    × (has_failed l.self ≡ false → l.turn + length l.rest ≤ length l.fn.buf)
+    × (IsTrue (has_fault attempts) → HasFailed l.self)
+    × (has_fault attempts ≡ false → l.turn + length l.rest ≤ length l.fn.buf)

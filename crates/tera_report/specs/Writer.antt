@@ -1,0 +1,54 @@
+-- Writes of a writer in turn: what each was given, and what it answered.
+use Rattle.std.specs.Prelude.{◌≡◌, ℕ, Bool, true, false, ◌&&◌, ◌||◌, ◌==◌, not, List, [], ◌∷◌, ◌++◌, IsTrue, Result, Ok, Err, length, take}
+use Rattle.std.specs.List.{FoldsTo, flat_map}
+use Rattle.std.specs.declared.io.Error.{Error}
+
+-- a write of these bytes with this answer
+pub record Attempt : Type 0 where
+  pub given : List ℕ
+  pub answer : Result ℕ Error
+
+-- one write alone
+abbrev pub once : List ℕ → Result ℕ Error → List Attempt
+once bytes answer = record { given = bytes; answer = answer } ∷ []
+
+-- a write of these bytes with this answer: an error, or no byte taken of some
+abbrev pub is_fault : {E : Type 0} → Result ℕ E → List ℕ → Bool
+is_fault (Ok taken) bytes = taken == 0 && not (length bytes == 0)
+is_fault (Err e) bytes = true
+
+-- the bytes that a write with this answer took
+abbrev pub bytes_taken : {E : Type 0} → Result ℕ E → List ℕ → List ℕ
+bytes_taken (Ok taken) bytes = take taken bytes
+bytes_taken (Err e) bytes = []
+
+-- the bytes that some writes took, joined
+abbrev pub all_taken : List Attempt → List ℕ
+all_taken attempts = flat_map (λ a. bytes_taken a.answer a.given) attempts
+
+-- one of some writes answered an error, or took no byte of some
+abbrev pub has_fault : List Attempt → Bool
+has_fault [] = false
+has_fault (a ∷ rest) = is_fault a.answer a.given || has_fault rest
+
+-- the writer went from old to new by these writes, in turn
+abbrev pub Goes : {W : Type 0} → (W → List ℕ → Result ℕ Error → W → Type 0)
+    → W → List Attempt → W → Type 0
+Goes wrote old attempts new = FoldsTo (λ v a w. wrote v a.given a.answer w) old attempts new
+
+-- the writer went from old to new by writes that took just these bytes
+pub record Passes {W : Type 0} (wrote : W → List ℕ → Result ℕ Error → W → Type 0) (old : W)
+    (bytes : List ℕ) (new : W) : Type 0 where
+  pub attempts : List Attempt
+  pub calls : Goes wrote old attempts new
+  pub whole : all_taken attempts ≡ bytes
+
+-- the writer went from old to new by writes that took a beginning of these bytes, and one of them
+-- answered an error or took no byte of some
+pub record Breaks {W : Type 0} (wrote : W → List ℕ → Result ℕ Error → W → Type 0) (old : W)
+    (bytes : List ℕ) (new : W) : Type 0 where
+  pub attempts : List Attempt
+  pub calls : Goes wrote old attempts new
+  pub fault : IsTrue (has_fault attempts)
+  pub rest : List ℕ
+  pub part : all_taken attempts ++ rest ≡ bytes

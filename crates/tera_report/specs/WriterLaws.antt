@@ -1,0 +1,81 @@
+-- Writes in turn, one stretch after another.
+use Rattle.std.specs.Prelude.{◌≡◌, ℕ, Bool, true, false, ◌||◌, List, [], ◌∷◌, ◌++◌, IsTrue, Result, refl}
+use Rattle.std.proofs.Common.{◌∙◌, ap, sym, subst, append_assoc, append-nil}
+use Rattle.std.proofs.lemmas.List.Concat.{flat_map-append}
+use Rattle.std.specs.declared.io.Error.{Error}
+use Rattle.tera_report.specs.Writer.{Attempt, once, is_fault, bytes_taken, all_taken, has_fault, Goes, Passes, Breaks}
+
+-- what some writes took, and then some more
+pub taken_joined : (xs ys : List Attempt) → all_taken (xs ++ ys) ≡ all_taken xs ++ all_taken ys
+taken_joined xs ys = flat_map-append (λ a. bytes_taken a.answer a.given) xs ys
+
+pub taken_more : (xs : List Attempt) (bytes : List ℕ) (answer : Result ℕ Error)
+    → all_taken (xs ++ once bytes answer) ≡ all_taken xs ++ bytes_taken answer bytes
+taken_more xs bytes answer =
+    taken_joined xs (once bytes answer) ∙ ap (λ l. all_taken xs ++ l) (append-nil (bytes_taken answer bytes))
+
+or_assoc : (a b c : Bool) → (a || (b || c)) ≡ ((a || b) || c)
+or_assoc true b c = refl
+or_assoc false b c = refl
+
+or_false : (a : Bool) → (a || false) ≡ a
+or_false true = refl
+or_false false = refl
+
+pub or_later : (a b : Bool) → IsTrue b → IsTrue (a || b)
+or_later true b h = refl
+or_later false b h = h
+
+pub faults_joined : (xs ys : List Attempt) → has_fault (xs ++ ys) ≡ (has_fault xs || has_fault ys)
+faults_joined [] ys = refl
+faults_joined (x ∷ xs) ys =
+    ap (λ b. is_fault x.answer x.given || b) (faults_joined xs ys)
+    ∙ or_assoc (is_fault x.answer x.given) (has_fault xs) (has_fault ys)
+
+pub faults_more : (xs : List Attempt) (bytes : List ℕ) (answer : Result ℕ Error)
+    → has_fault (xs ++ once bytes answer) ≡ (has_fault xs || is_fault answer bytes)
+faults_more xs bytes answer =
+    faults_joined xs (once bytes answer) ∙ ap (λ b. has_fault xs || b) (or_false (is_fault answer bytes))
+
+module _ {W : Type 0} (wrote : W → List ℕ → Result ℕ Error → W → Type 0) where
+  pub goes_joined : (w : W) (xs : List Attempt) (v : W) (ys : List Attempt) (u : W)
+      → Goes wrote w xs v → Goes wrote v ys u → Goes wrote w (xs ++ ys) u
+  goes_joined w [] v ys u p q = subst (λ (x : W). Goes wrote x ys u) (sym p) q
+  goes_joined w (x ∷ xs) v ys u p q = (p.0, p.1, goes_joined p.0 xs v ys u p.2 q)
+
+  pub goes_more : (w : W) (xs : List Attempt) (v : W) (bytes : List ℕ) (answer : Result ℕ Error) (u : W)
+      → Goes wrote w xs v → wrote v bytes answer u → Goes wrote w (xs ++ once bytes answer) u
+  goes_more w xs v bytes answer u p q = goes_joined w xs v (once bytes answer) u p (u, q, refl)
+
+  pub passes_nothing : (w : W) → Passes wrote w [] w
+  passes_nothing w = record { attempts = []; calls = refl; whole = refl }
+
+  pub passes_joined : (w : W) (a : List ℕ) (v : W) (b : List ℕ) (u : W)
+      → Passes wrote w a v → Passes wrote v b u → Passes wrote w (a ++ b) u
+  passes_joined w a v b u p q = record {
+    attempts = p.attempts ++ q.attempts;
+    calls = goes_joined w p.attempts v q.attempts u p.calls q.calls;
+    whole = taken_joined p.attempts q.attempts ∙ (λ i. p.whole i ++ q.whole i);
+  }
+
+  abbrev pub breaks_early : (w : W) (a : List ℕ) (v : W) (b : List ℕ) → Breaks wrote w a v → Breaks wrote w (a ++ b) v
+  breaks_early w a v b p = record {
+    attempts = p.attempts;
+    calls = p.calls;
+    fault = p.fault;
+    rest = p.rest ++ b;
+    part = sym (append_assoc (all_taken p.attempts) p.rest b) ∙ ap (λ l. l ++ b) p.part;
+  }
+
+  abbrev pub breaks_later : (w : W) (a : List ℕ) (v : W) (b : List ℕ) (u : W)
+      → Passes wrote w a v → Breaks wrote v b u → Breaks wrote w (a ++ b) u
+  breaks_later w a v b u p q = record {
+    attempts = p.attempts ++ q.attempts;
+    calls = goes_joined w p.attempts v q.attempts u p.calls q.calls;
+    fault = subst IsTrue (sym (faults_joined p.attempts q.attempts)) (or_later (has_fault p.attempts) (has_fault q.attempts) q.fault);
+    rest = q.rest;
+    part =
+        ap (λ l. l ++ q.rest) (taken_joined p.attempts q.attempts)
+        ∙ append_assoc (all_taken p.attempts) (all_taken q.attempts) q.rest
+        ∙ (λ i. p.whole i ++ q.part i);
+  }
