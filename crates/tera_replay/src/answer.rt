@@ -3,10 +3,11 @@ ghost use Rattle.std.specs.Io.KnownBytes.{Appends};
 ghost use Rattle.std.specs.Prelude.{◌≡◌, ℕ, List, [], ◌++◌, codes, decimal, IfOk, OnOk, OnErr};
 ghost use Rattle.std.specs.Prelude.{IfErr, IsTrue};
 ghost use Rattle.tera_report.specs.Errors.{kind_of, refusal_of};
+ghost use Rattle.tera_report.specs.Refusal.{memory_refused};
 ghost use Rattle.tera_meaning.specs.Kind.{kind_name};
 ghost use Rattle.tera_meaning.specs.Outcome.{is_want};
 ghost use Rattle.tera_values.specs.Kind.{kind_form};
-ghost use Rattle.tera_replay.specs.declared.fault.Fault.TheVariants.{OutOfMemory};
+ghost use Rattle.tera_replay.specs.declared.fault.Fault.TheVariants.{WriteFailed, OutOfMemory};
 ghost use Rattle.tera_replay.specs.Reply.{IsFormOf, IsReply, TellsRefusal, order_name};
 ghost use Rattle.tera_replay.specs.Script.{ended};
 ghost use Rattle.tera_replay.specs.Stated.{outcome_stated};
@@ -140,10 +141,12 @@ fn write_kind<W: Output>(kind: ValueKind, out: &mut W) -> Result<(), WriteError>
     out.put(b"\n")
 }
 
-// Writes a refusal. The text of want of memory takes none.
+// Writes a refusal. Want of memory takes none, so that its reply fails only where a write does.
 fn write_refusal<W: Output>(alloc: Global, error: &Error, out: &mut W) -> Result<(), Fault>
     ensures ok { OnOk result ((text : List ℕ) × TellsRefusal (refusal_of (kind_of error.now)) text
         × Appends (W.holds out.old) (W.holds out.new) (ended (codes "error: " ++ text))) }
+    ensures want { refusal_of (kind_of error.now) ≡ memory_refused
+        → IfErr result (λ fault. fault ≡ WriteFailed) }
     ensures stays { W.never_fails out.new ≡ W.never_fails out.old }
     ensures err { IfErr result (ReplyStops (W.never_fails out.old)
         (Appends (W.holds out.old) (W.holds out.new) [])) }

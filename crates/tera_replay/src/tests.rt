@@ -4,7 +4,7 @@ use std::alloc::Global;
 use std::io::{Error, ErrorKind, Read, Result, Write};
 use std::test::Fail;
 use tera_context::Answer;
-use tera_report::{Error as Refused, ErrorKind as Refusal, TeraResult};
+use tera_report::{Error as Refusal, ErrorKind as RefusalKind, TeraResult};
 
 // Gives these bytes, at most `size` at a read, and then ends or is interrupted.
 #[derive(Drop)]
@@ -162,22 +162,22 @@ fn a_refusal_is_answered_by_its_text(rt: HostRuntime) -> std::result::Result<(),
     let alloc = rt.alloc();
     for (refused, line, want) in [
         (
-            Refused::new(Refusal::OutOfMemory),
+            Refusal::new(RefusalKind::OutOfMemory),
             b"error: Out of memory\n".as_slice(),
             true,
         ),
         (
-            Refused::new(Refusal::Utf8Conversion),
+            Refusal::new(RefusalKind::Utf8Conversion),
             b"error: Invalid UTF-8 characters found while rendering.\n",
             false,
         ),
         (
-            Refused::new(Refusal::Io(ErrorKind::NotFound)),
+            Refusal::new(RefusalKind::Io(ErrorKind::NotFound)),
             b"error: Io error while writing rendered value to output: NotFound\n",
             false,
         ),
         (
-            Refused::message(alloc, "Cannot divide by 0"),
+            Refusal::message(alloc, "Cannot divide by 0"),
             b"error: Cannot divide by 0\n",
             false,
         ),

@@ -9,6 +9,7 @@ returns-in_ok-put-in-OutOfMemory-clause-ok g c = (codes "Out of memory", search 
 pub returns-in_ok-write_text-in_default : goal.returns-in_ok-write_text-in_default
 returns-in_ok-write_text-in_default g c = record {
   ok = (string_bytes c.in_ok-text-in_default.text, search rules, search rules);
+  want = λ is. tt;
   stays = search rules;
   err = tt;
 }
