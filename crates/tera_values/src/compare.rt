@@ -1,4 +1,5 @@
-//! The order of values: that of their meanings, whatever the kind of an integer or the flag of a text.
+//! The order of values: that of their meanings, whatever the kind of an integer or the flag of a
+//! text.
 ghost use Rattle.std.specs.Prelude.{◌≡◌, ◌↔◌, IsTrue, Some};
 ghost use Rattle.std.specs.Cmp.{on_total, on_equiv, on_per, on_po};
 ghost use Rattle.std.specs.Option.{option_copied};
@@ -18,8 +19,9 @@ use crate::value::ValueInner;
 use crate::{Map, Value};
 use std::cmp::Ordering;
 
-/// Values are equal exactly where their meanings are: integers by number, texts whatever their flags, arrays item by
-/// item, maps as sets of pairs. Mirrors `PartialEq` of `tera::Value`. Takes no memory.
+/// Values are equal exactly where their meanings are: integers by number, texts whatever their
+/// flags, arrays item by item, maps as sets of pairs. Mirrors `PartialEq` of `tera::Value`. Takes
+/// no memory.
 impl PartialEq for Value {
     ghost eq = { on plain same };
 
@@ -48,10 +50,10 @@ impl PartialOrd for Value {
     }
 }
 
-/// By rank (truth values, numbers, texts, arrays, maps, bytes, none, undefined), and inside a rank by
-/// value: arrays by the first items that differ, a proper beginning being less, and maps as the lists
-/// of their pairs sorted by key, where a pair goes by its key and then by its value. Mirrors `Ord` of
-/// `tera::Value`. Takes no memory.
+/// By rank (truth values, numbers, texts, arrays, maps, bytes, none, undefined), and inside a rank
+/// by value: arrays by the first items that differ, a proper beginning being less, and maps as the
+/// lists of their pairs sorted by key, where a pair goes by its key and then by its value. Mirrors
+/// `Ord` of `tera::Value`. Takes no memory.
 impl Ord for Value {
     ghost cmp = { on plain compare };
 
@@ -97,7 +99,8 @@ fn array_order(left: &[Value], right: &Value) -> Ordering
     }
 }
 
-// The order of two arrays of these items: that of the first that differ, and where none do, that of the lengths.
+// The order of two arrays of these items: that of the first that differ, and where none do, that of
+// the lengths.
 #[cycle(order)]
 fn items_order(left: &[Value], right: &[Value]) -> Ordering
     ensures { result ≡ compare (plain (array (items left.now))) (plain (array (items right.now))) }

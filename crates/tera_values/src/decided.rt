@@ -11,10 +11,10 @@ use crate::value::ValueInner;
 use std::cmp::Ordering;
 
 impl Value {
-    /// The partial order: nothing on two maps, even empty ones, and nothing on values of two ranks, all
-    /// integers being of one. On two arrays the first items whose answer isn't `Some(Equal)` give the
-    /// answer, which may be nothing; without such items the lengths decide. Else what `cmp` gives, with
-    /// which it agrees wherever it answers. Takes no memory.
+    /// The partial order: nothing on two maps, even empty ones, and nothing on values of two ranks,
+    /// all integers being of one. On two arrays the first items whose answer isn't `Some(Equal)`
+    /// give the answer, which may be nothing; without such items the lengths decide. Else what
+    /// `cmp` gives, with which it agrees wherever it answers. Takes no memory.
     pub fn try_compare(&self, other: &Value) -> Option<Ordering>
         ensures value { result ≡ decided (plain self.now) (plain other.now) }
         ensures agrees { IfSome result (λ o. o ≡ compare (plain self.now) (plain other.now)) }

@@ -1,5 +1,5 @@
-//! The keys of maps: truth values, numbers and texts. Keys of one meaning are one key, whatever kind of integer or of
-//! text holds them.
+//! The keys of maps: truth values, numbers and texts. Keys of one meaning are one key, whatever
+//! kind of integer or of text holds them.
 ghost use Rattle.std.specs.Prelude.{◌≡◌, pos, Some, None, IfOk, IfErr, IsOk, OnOk, OnErr, MatchOption, fold};
 ghost use Rattle.std.specs.Cmp.{on_total, on_equiv, on_per, on_po, partial_equiv_from_equiv};
 ghost use Rattle.std.specs.Io.KnownBytes.{Appends};
@@ -268,9 +268,9 @@ fn text_order(left: &str, other: &Key<'_>) -> Ordering
     }
 }
 
-/// What a hasher is fed goes by the meaning alone: a text feeds what `str` feeds, a truth value what
-/// `bool` feeds, and a number a `u8`, 1 if it is negative and else 0, and then an `i128` if it is
-/// negative, else a `u128`. Mirrors `Hash` of `tera::value::Key`. Takes no memory.
+/// What a hasher is fed goes by the meaning alone: a text feeds what `str` feeds, a truth value
+/// what `bool` feeds, and a number a `u8`, 1 if it is negative and else 0, and then an `i128` if it
+/// is negative, else a `u128`. Mirrors `Hash` of `tera::value::Key`. Takes no memory.
 impl Hash for Key<'_> {
     ghost hash_input = { λ k. fed (meaning_of_key k) };
 

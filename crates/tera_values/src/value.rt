@@ -111,7 +111,8 @@ impl Value {
         }
     }
 
-    /// An array of these items, in their order. Mirrors what `Value::from(Vec<Value>)` makes. Takes no memory.
+    /// An array of these items, in their order. Mirrors what `Value::from(Vec<Value>)` makes. Takes
+    /// no memory.
     pub fn of_array(all: Vec<Value>) -> Value
         ensures { result ≡ array (items all.items) }
     {
