@@ -1,6 +1,6 @@
 //! Answers depend on meanings alone: not on the kind of an integer, the safe flag of a text, or how
 //! a key holds its text. Each function here does nothing: its clauses are the law.
-ghost use Rattle.std.specs.Prelude.{◌≡◌, ◌≢◌, ◌↔◌, ℕ, List};
+ghost use Rattle.std.specs.Prelude.{◌≡◌, ◌≢◌, ◌↔◌, ℕ, List, length};
 ghost use Rattle.tera_meaning.specs.Alike.{meaning_held, MeanTheSame, AskTheSame, AllAskTheSame, AnswerAlike, AreAlike, AreToldApartBy, IsSettled, probe};
 ghost use Rattle.tera_meaning.specs.Outcome.{Outcome, shape};
 ghost use Rattle.tera_meaning.specs.Request.{Command};
@@ -32,6 +32,14 @@ pub fn all_answers_depend_on_meaning()
     ensures state { (f g : State) (commands also : List Command) → MeanTheSame f g
         → AllAskTheSame commands also
         → MeanTheSame (state_after_all f commands) (state_after_all g also) }
+{}
+
+/// Lists of outcomes that are alike are as long as the list of commands. Takes no memory.
+pub fn outcomes_that_are_alike_are_as_many()
+    ensures commands { (state : State) (commands : List Command) (outcomes others : List Outcome)
+        → AreAlike state commands outcomes others → length commands ≡ length outcomes }
+    ensures outcomes { (state : State) (commands : List Command) (outcomes others : List Outcome)
+        → AreAlike state commands outcomes others → length outcomes ≡ length others }
 {}
 
 /// States answer alike exactly where they mean the same: the same names are held, and each means
