@@ -4,6 +4,7 @@ ghost use Rattle.std.specs.FinMap.{empty, get, contains_key, insert, remove};
 ghost use Rattle.std.specs.String.{string_bytes};
 ghost use Rattle.tera_meaning.specs.Read.{marked_safe};
 ghost use Rattle.tera_meaning.specs.Step.{marking};
+ghost use Rattle.tera_meaning.specs.WellMade.{IsWellMadeState};
 ghost use Rattle.tera_report.specs.Errors.{IsOutOfMemory};
 
 use std::alloc::Global;
@@ -11,7 +12,7 @@ use std::collections::BTreeMap;
 use std::marker::Model;
 use std::mem;
 use tera_report::TeraResult;
-use tera_values::Value;
+use tera_values::{Value, is_well_made};
 
 /// Finitely many names, and a value for each. Mirrors `tera::Context`.
 #[derive(Debug, Drop)]
@@ -67,6 +68,16 @@ impl Context {
         ensures state { self.new ≡ remove self.old name.now }
     {
         self.values.remove(name)
+    }
+
+    /// Each name that a context holds spells characters in UTF-8, and each value is well made. It
+    /// only walks over the values, for the sake of the clause. Takes no memory.
+    pub fn is_well_made(&self)
+        ensures { IsWellMadeState self.now }
+    {
+        for (_, value) in &self.values {
+            is_well_made(value);
+        }
     }
 
     /// Marks the value of the name safe where it is. A name that isn't there stays away. Takes no

@@ -1,5 +1,5 @@
 -- Answers depend on meanings alone.
-use Rattle.std.specs.Prelude.{◌≡◌, ℕ, Bool, true, false, cond, List, [], ◌∷◌, Option, Some, None, Result, Ok, Err, is_some, refl}
+use Rattle.std.specs.Prelude.{◌≡◌, ℕ, suc, length, Bool, true, false, cond, List, [], ◌∷◌, Option, Some, None, Result, Ok, Err, is_some, refl}
 use Rattle.std.proofs.Common.{sym, ◌∙◌, ap, subst}
 use Rattle.std.specs.Option.{option_map, unwrap_or}
 use Rattle.std.specs.Ordering.{nat_cmp, eq_by_cmp}
@@ -236,3 +236,12 @@ states_alike f g [] [] h a = h
 states_alike f g (c ∷ cs) (d ∷ ds) h a =
     states_alike (state_after f c) (state_after g d) cs ds (state_alike f g h c d a.0) a.1
 states_alike f g cs ds h a = absurd a
+
+-- outcomes that are alike are as many as the commands
+pub as_many : (state : State) (cs : List Command) (os ps : List Outcome) → AreAlike state cs os ps
+    → (length cs ≡ length os) × (length os ≡ length ps)
+as_many state [] [] [] h = (refl, refl)
+as_many state (c ∷ cs) (o ∷ os) (p ∷ ps) h =
+    let rest : (length cs ≡ length os) × (length os ≡ length ps) = as_many (state_after state c) cs os ps h.1 in
+    (ap suc rest.0, ap suc rest.1)
+as_many state cs os ps h = absurd h

@@ -1,5 +1,5 @@
 -- States answer alike exactly where they mean the same, and others are told apart.
-use Rattle.std.specs.Prelude.{◌≡◌, ◌≢◌, ◌↔◌, ◌⊎◌, ℕ, suc, length, Bool, true, false, ◌||◌, List, [], ◌∷◌, Option, Some, None, Ok, is_some, refl}
+use Rattle.std.specs.Prelude.{◌≡◌, ◌≢◌, ◌↔◌, ◌⊎◌, ℕ, suc, length, Bool, true, false, ◌||◌, List, [], ◌∷◌, Option, Some, None, Ok, is_some, IsSome, refl}
 use Rattle.std.proofs.Common.{sym, ◌∙◌, ap, subst, arith, inl, inr}
 use Rattle.std.specs.List.{AllByRecursion, list_any}
 use Rattle.std.specs.Option.{option_map, unwrap_or}
@@ -7,6 +7,9 @@ use Rattle.std.specs.Ordering.{nat_cmp, eq_by_cmp}
 use Rattle.std.specs.Cmp.{Equal-is}
 use Rattle.std.specs.Cmp.Lexicographic.{slice_cmp}
 use Rattle.std.specs.FinMap.{get as held_at, insert, keys, contains_key-keys}
+use Rattle.std.specs.Str.{IsUtf8}
+use Rattle.std.proofs.lemmas.Str.{IsUtf8-append, IsUtf8-from_ascii}
+use Rattle.std.proofs.lemmas.Str.Ascii.{IsAscii-nil, IsAscii-cons}
 use Rattle.tera_meaning.specs.Form.{Form}
 use Rattle.tera_meaning.specs.Meaning.{Meaning, plain}
 use Rattle.tera_meaning.specs.Order.{same}
@@ -17,9 +20,12 @@ use Rattle.tera_meaning.specs.Request.{Command}
 use Rattle.tera_meaning.specs.Run.{AreOutcomes}
 use Rattle.tera_meaning.specs.OrderLaws.{same_is, same_equivalence}
 use Rattle.tera_meaning.specs.StateLaws.{meaning_set, meaning_other, name_exact}
-use Rattle.tera_meaning.specs.Alike.{meaning_held, MeanTheSame, AreAlike, AnswerAlike, AreToldApartBy, probe}
+use Rattle.tera_meaning.specs.Alike.{meaning_held, MeanTheSame, AreAlike, AnswerAlike, AreToldApartBy, RunsAreToldApart, probe}
 use Rattle.tera_meaning.proofs.AlikeLaws.{some_one, all_outcomes_alike, all_ask_the_same}
 use Rattle.tera_meaning.specs.Tree.{undefined}
+use Rattle.tera_meaning.specs.WellMade.{IsWellMadeState, AllBringWellMade}
+use Rattle.tera_meaning.proofs.RunLaws.{ample_outcomes}
+use Rattle.tera_meaning.proofs.WellMadeLaws.{form_at_well, held_name_well}
 
 truth_of : OutcomeOf Meaning → Bool
 truth_of (Ok (Answer.truth b)) = b
@@ -99,6 +105,32 @@ pub apart_at : (f g : State) (name : List ℕ) → meaning_held f name ≢ meani
     → AreToldApartBy (probe name (form_at f name)) f g
 apart_at f g name n os ps e i s = n (by_answers f g name os ps e i s)
 
+pub runs_apart_at : (f g : State) (name : List ℕ) → meaning_held f name ≢ meaning_held g name
+    → RunsAreToldApart (probe name (form_at f name)) f g
+runs_apart_at f g name n os ps f' g' run other =
+    apart_at f g name n os ps
+    (ample_outcomes f (probe name (form_at f name)) os f' run)
+    (ample_outcomes g (probe name (form_at f name)) ps g' other)
+
+-- where the states are well made the commands that tell them apart bring what is
+one_holds : (o p : Option Form) → option_map plain o ≢ option_map plain p → IsSome o ⊎ IsSome p
+one_holds (Some v) p n = inl refl
+one_holds None (Some w) n = inr refl
+one_holds None None n = absurd (n refl)
+
+utf8_of_one : (f g : State) (name : List ℕ) → IsWellMadeState f → IsWellMadeState g
+    → IsSome (held_at f name) ⊎ IsSome (held_at g name) → IsUtf8 name
+utf8_of_one f g name h k (inl is) = held_name_well f h name is
+utf8_of_one f g name h k (inr is) = held_name_well g k name is
+
+pub probe_brings : (f g : State) (name : List ℕ) → IsWellMadeState f → IsWellMadeState g
+    → meaning_held f name ≢ meaning_held g name
+    → IsUtf8 name × AllBringWellMade (probe name (form_at f name))
+probe_brings f g name h k n =
+    let utf8 : IsUtf8 name = utf8_of_one f g name h k (one_holds (held_at f name) (held_at g name) n) in
+    let other : IsUtf8 (0 ∷ name) = IsUtf8-append (0 ∷ []) name (IsUtf8-from_ascii (0 ∷ []) (IsAscii-cons 0 [] (omega arith) IsAscii-nil)) utf8 in
+    (utf8, ((tt, tt), (((other, form_at_well f h name), tt), ((tt, tt), tt))))
+
 yes_no : true ≡ false → ⊥
 yes_no e = cc
 
@@ -161,13 +193,23 @@ module _ (f g : State) where
       (λ h. agree_among name (keys f) all (sym (contains_key-keys f name) ∙ h))
       (λ h. agree_among name (keys g) also (sym (contains_key-keys g name) ∙ h))
 
-  told : (MeanTheSame f g → ⊥) → Differ ⊎ AllByRecursion Agree (keys f) → Differ ⊎ AllByRecursion Agree (keys g)
-      → (commands : List Command) × AreToldApartBy commands f g
-  unfolding Differ
-  told n (inl d) also = (probe d.0 (form_at f d.0), apart_at f g d.0 d.1)
-  told n (inr all) (inl d) = (probe d.0 (form_at f d.0), apart_at f g d.0 d.1)
+  told : (MeanTheSame f g → ⊥) → Differ ⊎ AllByRecursion Agree (keys f) → Differ ⊎ AllByRecursion Agree (keys g) → Differ
+  told n (inl d) also = d
+  told n (inr all) (inl d) = d
   told n (inr all) (inr also) = absurd (n (agree_everywhere all also))
+
+  differ : (MeanTheSame f g → ⊥) → (name : List ℕ) × (meaning_held f name ≢ meaning_held g name)
+  unfolding Differ
+  differ n = told n (agree_or_differ (keys f)) (agree_or_differ (keys g))
 
   -- states of unequal meaning are told apart by some commands
   pub told_apart : (MeanTheSame f g → ⊥) → (commands : List Command) × AreToldApartBy commands f g
-  told_apart n = told n (agree_or_differ (keys f)) (agree_or_differ (keys g))
+  told_apart n = let d = differ n in (probe d.0 (form_at f d.0), apart_at f g d.0 d.1)
+
+  -- and in runs, by such as bring what is well made
+  pub runs_told_apart : IsWellMadeState f → IsWellMadeState g → (MeanTheSame f g → ⊥)
+      → (name : List ℕ) × IsUtf8 name × AllBringWellMade (probe name (form_at f name)) × RunsAreToldApart (probe name (form_at f name)) f g
+  runs_told_apart h k n =
+      let d = differ n in
+      let brings = probe_brings f g d.0 h k d.1 in
+      (d.0, brings.0, brings.1, runs_apart_at f g d.0 d.1)

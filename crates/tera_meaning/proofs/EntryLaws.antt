@@ -1,8 +1,8 @@
 -- What maps mean, and how they compare, by their entries.
-use Rattle.std.specs.Prelude.{◌≡◌, ◌↔◌, true, List, [], ◌∷◌, map, Option, Some, None, refl}
-use Rattle.std.proofs.Common.{sym, ◌∙◌, ap}
+use Rattle.std.specs.Prelude.{◌≡◌, ◌≢◌, ◌↔◌, ◌⊎◌, true, List, [], ◌∷◌, map, Option, Some, None, refl}
+use Rattle.std.proofs.Common.{sym, ◌∙◌, ap, inl, inr}
 use Rattle.std.specs.BTreeMap.{insert_entry}
-use Rattle.std.specs.Cmp.{on_total}
+use Rattle.std.specs.Cmp.{IsTotalOrder, on_total}
 use Rattle.std.specs.Cmp.Lexicographic.{slice_cmp}
 use Rattle.std.specs.Option.{option_eq}
 use Rattle.std.specs.Ordering.{ordering_then, on, eq_by_cmp, is_eq, match_ordering}
@@ -17,7 +17,8 @@ use Rattle.tera_meaning.specs.OrderLaws.{members_exact, members_by_first_differe
 use Rattle.tera_meaning.specs.Pairs.{Rises, rising, value_at, entry_order, AgreeEverywhere, IsLeastDifference, order_at, key_form_order, pairs_of, pair_meaning, map_meaning}
 use Rattle.tera_meaning.specs.Tree.{object, members, members_list}
 use Rattle.tera_meaning.specs.TreeLaws.{members_relabeled, list_of_members}
-use Rattle.tera_meaning.proofs.DifferenceLaws.{difference_decides, agreeing_tie, entries_decide, entries_tie}
+use Rattle.tera_meaning.proofs.PairLaws.{rising_rises}
+use Rattle.tera_meaning.proofs.DifferenceLaws.{difference_decides, agreeing_tie, agree_rising, entries_decide, entries_tie, least_or_none}
 
 -- ---- keys and values read through functions
 
@@ -88,6 +89,26 @@ pub forms_equal : (es fs : List (KeyForm × Form)) → AgreeEverywhere key_form_
 forms_equal es fs =
     let tie : (compare (map_meaning es) (map_meaning fs) ≡ Equal) ↔ (map_meaning es ≡ map_meaning fs) = compare_tie (map_meaning es) (map_meaning fs) in
     (λ agree. tie.0 ((forms_tie es fs).0 agree), λ e. (forms_tie es fs).1 (tie.1 e))
+
+-- ---- maps that mean different things have a least key at which they differ
+
+the_other : {A B : Type 0} → (A → ⊥) → A ⊎ B → B
+the_other n (inl a) = absurd (n a)
+the_other n (inr b) = b
+
+pub maps_differ : (ps qs : List (KeyMeaning × Meaning)) → Rises key_order ps → Rises key_order qs → object (members ps) ≢ object (members qs)
+    → (k : KeyMeaning) × IsLeastDifference key_order compare ps qs k
+maps_differ ps qs h g n =
+    the_other (λ agree. n ((compare_tie (object (members ps)) (object (members qs))).0 (members_by_first_difference ps qs ∙ agreeing_tie key_order key_total compare ps qs h g agree)))
+    (least_or_none key_order key_total compare ps qs h g)
+
+pub forms_differ : (es fs : List (KeyForm × Form)) → map_meaning es ≢ map_meaning fs → (k : KeyForm) × IsLeastDifference key_form_order (on plain compare) es fs k
+forms_differ es fs n =
+    let total : IsTotalOrder key_form_order = on_total key_meaning key_total in
+    let found : (k : KeyForm) × IsLeastDifference key_form_order (on plain compare) (pairs_of es) (pairs_of fs) k =
+        the_other (λ agree. n ((compare_tie (map_meaning es) (map_meaning fs)).0 (compare_forms (pairs_of es) (pairs_of fs) ∙ agreeing_tie key_form_order total (on plain compare) (pairs_of es) (pairs_of fs) (rising_rises key_form_order total es) (rising_rises key_form_order total fs) agree)))
+        (least_or_none key_form_order total (on plain compare) (pairs_of es) (pairs_of fs) (rising_rises key_form_order total es) (rising_rises key_form_order total fs)) in
+    (found.0, (sym (agree_rising key_form_order total (on plain compare) es fs found.0) ∙ found.1.0, λ l m. sym (agree_rising key_form_order total (on plain compare) es fs l) ∙ found.1.1 l m))
 
 -- ---- pair lists that find the same
 

@@ -1,11 +1,19 @@
--- Equal meanings print alike.
-use Rattle.std.specs.Prelude.{◌≡◌, ℕ, IsTrue, List}
-use Rattle.std.proofs.Common.{sym, ◌∙◌, subst}
+-- Equal meanings print alike, and what is exact is so by its parts.
+use Rattle.std.specs.Prelude.{◌≡◌, ◌↔◌, ℕ, zero, suc, Bool, true, false, ◌&&◌, IsTrue, List, [], ◌∷◌, refl}
+use Rattle.std.proofs.Common.{sym, ◌∙◌, ap, subst, ltb-true}
+use Rattle.std.specs.Char.{is_ascii}
+use Rattle.std.specs.List.{All, AllByRecursion, list_all}
+use Rattle.std.specs.Str.{IsAscii}
+use Rattle.std.proofs.lemmas.Bool.{lt-ltb}
+use Rattle.std.proofs.lemmas.List.Elements.{All-from_recursion, recursion_from_All}
+use Rattle.std.proofs.lemmas.Str.Ascii.{IsAscii-nil, IsAscii-cons}
 use Rattle.tera_meaning.specs.Form.{Form}
-use Rattle.tera_meaning.specs.Meaning.{plain}
+use Rattle.tera_meaning.specs.KeyMeaning.{KeyMeaning}
+use Rattle.tera_meaning.specs.Meaning.{Meaning, plain}
 use Rattle.tera_meaning.specs.Order.{same}
 use Rattle.tera_meaning.specs.OrderLaws.{same_is}
-use Rattle.tera_meaning.specs.Printed.{IsExact, Prints, PrintsInside, is_exact_inside}
+use Rattle.tera_meaning.specs.Printed.{IsExact, IsExactInside, IsExactKey, Prints, PrintsInside, are_exact_items, are_exact_members, is_exact_inside, is_exact_key, printed}
+use Rattle.tera_meaning.specs.Tree.{items, members}
 
 pub prints_alike : (v w : Form) (written other : List ℕ) → IsTrue (same (plain v) (plain w))
     → IsExact (plain v) → Prints (plain v) written → Prints (plain w) other → written ≡ other
@@ -16,3 +24,67 @@ pub prints_alike_inside : (v w : Form) (written other : List ℕ) → IsTrue (sa
     → IsTrue (is_exact_inside (plain v)) → PrintsInside (plain v) written → PrintsInside (plain w) other → written ≡ other
 prints_alike_inside v w written other equal exact prints =
     subst (λ x. PrintsInside x other → written ≡ other) ((same_is (plain v) (plain w)).0 equal) (λ alike. prints exact ∙ sym (alike exact))
+
+-- what holds of one of two equal meanings holds of the other
+module _ (v w : Form) (equal : IsTrue (same (plain v) (plain w))) where
+  pub printed_one : printed (plain v) ≡ printed (plain w)
+  printed_one = ap printed ((same_is (plain v) (plain w)).0 equal)
+
+  pub holds_of_both : (P : Meaning → Type 0) → P (plain v) ↔ P (plain w)
+  holds_of_both P =
+      let one : plain v ≡ plain w = (same_is (plain v) (plain w)).0 equal in (subst P one, subst P (sym one))
+
+-- ---- what is exact by its parts
+
+and_both : (a b : Bool) → IsTrue (a && b) → IsTrue a × IsTrue b
+and_both true b h = (refl, h)
+and_both false b h = cc
+
+and_from : (a b : Bool) → IsTrue a → IsTrue b → IsTrue (a && b)
+and_from true b h k = k
+and_from false b h k = cc
+
+ascii_told : (t : List ℕ) → IsTrue (list_all is_ascii t) → IsAscii t
+ascii_told [] h = IsAscii-nil
+ascii_told (b ∷ t) h =
+    let both : IsTrue (is_ascii b) × IsTrue (list_all is_ascii t) = and_both (is_ascii b) (list_all is_ascii t) h in
+    IsAscii-cons b t (ltb-true b 128 both.0) (ascii_told t both.1)
+
+ascii_tells : (t : List ℕ) → IsAscii t → IsTrue (list_all is_ascii t)
+ascii_tells [] h = refl
+ascii_tells (b ∷ t) h =
+    and_from (is_ascii b) (list_all is_ascii t) (lt-ltb b 128 (h 0)) (ascii_tells t (λ i. h (suc i)))
+
+pub ascii_is : (t : List ℕ) → IsTrue (list_all is_ascii t) ↔ IsAscii t
+ascii_is t = (ascii_told t, ascii_tells t)
+
+items_told : (xs : List Meaning) → IsTrue (are_exact_items (items xs)) → AllByRecursion IsExactInside xs
+items_told [] h = tt
+items_told (x ∷ xs) h =
+    let both : IsExactInside x × IsTrue (are_exact_items (items xs)) = and_both (is_exact_inside x) (are_exact_items (items xs)) h in
+    (both.0, items_told xs both.1)
+
+items_tell : (xs : List Meaning) → AllByRecursion IsExactInside xs → IsTrue (are_exact_items (items xs))
+items_tell [] h = refl
+items_tell (x ∷ xs) h = and_from (is_exact_inside x) (are_exact_items (items xs)) h.0 (items_tell xs h.1)
+
+pub exact_items : (xs : List Meaning) → IsTrue (are_exact_items (items xs)) ↔ All IsExactInside xs
+exact_items xs =
+    (λ h. All-from_recursion IsExactInside xs (items_told xs h), λ h. items_tell xs (recursion_from_All IsExactInside xs h))
+
+members_told : (ps : List (KeyMeaning × Meaning)) → IsTrue (are_exact_members (members ps)) → AllByRecursion (λ p. IsExactKey p.0 × IsExactInside p.1) ps
+members_told [] h = tt
+members_told (p ∷ ps) h =
+    let key : IsExactKey p.0 × IsTrue (is_exact_inside p.1 && are_exact_members (members ps)) = and_both (is_exact_key p.0) (is_exact_inside p.1 && are_exact_members (members ps)) h in
+    let both : IsExactInside p.1 × IsTrue (are_exact_members (members ps)) = and_both (is_exact_inside p.1) (are_exact_members (members ps)) key.1 in
+    ((key.0, both.0), members_told ps both.1)
+
+members_tell : (ps : List (KeyMeaning × Meaning)) → AllByRecursion (λ p. IsExactKey p.0 × IsExactInside p.1) ps → IsTrue (are_exact_members (members ps))
+members_tell [] h = refl
+members_tell (p ∷ ps) h =
+    and_from (is_exact_key p.0) (is_exact_inside p.1 && are_exact_members (members ps)) h.0.0
+    (and_from (is_exact_inside p.1) (are_exact_members (members ps)) h.0.1 (members_tell ps h.1))
+
+pub exact_members : (ps : List (KeyMeaning × Meaning)) → IsTrue (are_exact_members (members ps)) ↔ All (λ p. IsExactKey p.0 × IsExactInside p.1) ps
+exact_members ps =
+    (λ h. All-from_recursion (λ p. IsExactKey p.0 × IsExactInside p.1) ps (members_told ps h), λ h. members_tell ps (recursion_from_All (λ p. IsExactKey p.0 × IsExactInside p.1) ps h))

@@ -1,6 +1,6 @@
 -- The outcomes of runs, in which some steps may want memory.
-use Rattle.std.specs.Prelude.{◌≡◌, ◌≢◌, ℕ, Bool, true, false, List, [], ◌∷◌, Option, Some, None, Ok, Err, refl}
-use Rattle.std.proofs.Common.{sym, ◌∙◌, ap, subst, inl, inr}
+use Rattle.std.specs.Prelude.{◌≡◌, ◌≢◌, ℕ, Bool, true, false, List, [], ◌∷◌, ◌++◌, length, Option, Some, None, Ok, Err, refl}
+use Rattle.std.proofs.Common.{sym, ◌∙◌, ap, subst, inl, inr, arith}
 use Rattle.tera_report.specs.Escaping.{escaped}
 use Rattle.tera_report.specs.Refusal.{Refusal, memory_refused}
 use Rattle.tera_report.proofs.EscapeLemmas.{Spells-escaped}
@@ -223,3 +223,16 @@ module _ (f g : State) (commands also : List Command) (outcomes others : List Ou
       ap (λ state. meaning_held state name) (ample_state f commands outcomes f' run)
       ∙ states_alike f g commands also means asks name
       ∙ sym (ap (λ state. meaning_held state name) (ample_state g also others g' other))
+
+-- a run goes through the step of each of its commands
+pub run_through : (old : State) (first : List Command) (command : Command) (later : List Command) (os : List Outcome)
+    (o : Outcome) (ps : List Outcome) (new : State) → length first ≡ length os
+    → IsRun old (first ++ command ∷ later) (os ++ o ∷ ps) new
+    → (mid next : State) × IsRun old first os mid × IsStep mid command o next × IsRun next later ps new
+run_through old [] command later [] o ps new e (next, step, run) = (old, next, refl, step, run)
+run_through old (c ∷ first) command later (p ∷ os) o ps new e (mid, step, run) =
+    let same : length first ≡ length os = omega (arith, e) in
+    let rest : (from next : State) × IsRun mid first os from × IsStep from command o next × IsRun next later ps new = run_through mid first command later os o ps new same run in
+    (rest.0, rest.1, (mid, step, rest.2), rest.3, rest.4)
+run_through old [] command later (p ∷ os) o ps new e run = absurd (omega (arith, e))
+run_through old (c ∷ first) command later [] o ps new e run = absurd (omega (arith, e))

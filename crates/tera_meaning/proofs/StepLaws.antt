@@ -1,5 +1,5 @@
 -- What single steps answer and leave.
-use Rattle.std.specs.Prelude.{◌≡◌, ◌≢◌, ℕ, Bool, true, false, cond, List, Option, Some, None, Ok, Err, refl}
+use Rattle.std.specs.Prelude.{◌≡◌, ◌≢◌, ℕ, Bool, true, false, cond, if◌then◌else◌, List, Option, Some, None, Ok, Err, refl}
 use Rattle.std.proofs.Common.{sym, ◌∙◌, ap, subst}
 use Rattle.std.specs.Option.{option_map, unwrap_or}
 use Rattle.std.specs.Ordering.{nat_cmp, eq_by_cmp}
@@ -12,8 +12,8 @@ use Rattle.tera_report.proofs.EscapeLemmas.{escaped_from_spelling}
 use Rattle.tera_meaning.specs.Form.{Form}
 use Rattle.tera_meaning.specs.Meaning.{plain}
 use Rattle.tera_meaning.specs.Order.{compare, same}
-use Rattle.tera_meaning.specs.Printed.{printed, IsExact}
-use Rattle.tera_meaning.specs.Read.{marked_safe}
+use Rattle.tera_meaning.specs.Printed.{printed, IsExact, shown_in_page}
+use Rattle.tera_meaning.specs.Read.{marked_safe, safe_in}
 use Rattle.tera_meaning.specs.State.{State, form_at, meaning_at}
 use Rattle.tera_meaning.specs.StateLaws.{get_set, meaning_set, meaning_other, name_exact}
 use Rattle.tera_meaning.specs.Alike.{MeanTheSame, meaning_held}
@@ -34,6 +34,27 @@ pub escapes : (state : State) (name : List ℕ) (o : Option Form) → held_at st
 escapes state name o e exact given (t, w, is, spells, d) =
     let at : meaning_at state name ≡ plain (unwrap_or o undefined) = ap (λ p. plain (unwrap_or p undefined)) e in
     d ∙ ap (λ s. Ok (Answer.text s)) (sym (escaped_from_spelling w t spells) ∙ ap escaped (is (subst IsExact (sym at) exact) ∙ ap printed at))
+
+-- what is exact prints one text, and escapes to one
+module _ (state : State) (name : List ℕ) where
+  pub prints_one : IsExact (meaning_at state name)
+      → ComesOnlyTo state (ask Question.print name) (Ok (Answer.text (printed (meaning_at state name))))
+  prints_one exact given (t, is, d) = d ∙ ap (λ s. Ok (Answer.text s)) (is exact)
+
+  pub escapes_one : IsExact (meaning_at state name)
+      → ComesOnlyTo state (ask Question.escape name) (Ok (Answer.text (escaped (printed (meaning_at state name)))))
+  escapes_one = escapes state name (held_at state name) refl
+
+  shown : Bool → List ℕ
+  shown b = if b then printed (meaning_at state name) else escaped (printed (meaning_at state name))
+
+  pub shown_as_it_is : safe_in (form_at state name) ≡ true → shown_in_page (form_at state name) ≡ printed (meaning_at state name)
+  unfolding shown
+  shown_as_it_is e = ap shown e
+
+  pub shown_escaped : safe_in (form_at state name) ≡ false → shown_in_page (form_at state name) ≡ escaped (printed (meaning_at state name))
+  unfolding shown
+  shown_escaped e = ap shown e
 
 -- after a value is set, the other side of a comparison means what it meant
 module _ (state : State) (name : List ℕ) (value : Form) (other : List ℕ) (n : other ≢ name) where

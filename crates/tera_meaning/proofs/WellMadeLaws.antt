@@ -1,21 +1,32 @@
 -- What is held stays well made.
-use Rattle.std.specs.Prelude.{ℕ, Bool, true, false, cond, IfSome, List, [], ◌∷◌, Option, Some, None, Ok, Err, IfOk}
-use Rattle.std.proofs.Common.{sym, subst}
+use Rattle.std.specs.Prelude.{◌≡◌, ℕ, ◌<◌, ◌^◌, ℤ, pos, negsuc, Bool, true, false, cond, IfSome, IsSome, List, [], ◌∷◌, Option, Some, None, Ok, Err, IfOk, refl}
+use Rattle.std.proofs.Common.{sym, ap, subst, inl, inr, arith}
 use Rattle.std.specs.Option.{unwrap_or}
 use Rattle.std.specs.Ordering.{nat_cmp, eq_by_cmp}
+use Rattle.std.specs.Cmp.{Equal-is}
 use Rattle.std.specs.Cmp.Lexicographic.{slice_cmp, nat_list_cmp_total}
 use Rattle.std.specs.FinMap.{empty, get as held_at, insert, remove as without, get-insert, get-remove}
-use Rattle.tera_meaning.specs.Form.{Form}
+use Rattle.std.specs.List.{AllByRecursion}
+use Rattle.std.specs.List.Sorted.{IsStrictlySortedBy}
+use Rattle.std.specs.Map.{keys_of}
+use Rattle.std.specs.Str.{IsUtf8}
+use Rattle.std.specs.declared.cmp.Ordering.TheVariants.{Less}
+use Rattle.tera_meaning.specs.Form.{Form, MarkedText}
+use Rattle.tera_meaning.specs.Integer.{Integer, IntegerKind, u64, i64, u128, i128, IsOfKind, IsWide}
+use Rattle.tera_meaning.specs.KeyMeaning.{KeyForm, truth_key, number_key, text_key, key_meaning, key_order}
+use Rattle.tera_meaning.specs.Meaning.{plain}
+use Rattle.tera_meaning.specs.Outcome.{Outcome}
+use Rattle.tera_meaning.specs.Pairs.{Rises, key_form_order}
 use Rattle.tera_meaning.specs.Read.{marked_safe}
-use Rattle.tera_meaning.specs.Run.{state_after_all}
-use Rattle.tera_meaning.specs.State.{State, form_at}
-use Rattle.tera_meaning.specs.StateLaws.{held_empty}
+use Rattle.tera_meaning.specs.Run.{IsRun, state_after_all}
+use Rattle.tera_meaning.specs.State.{State, form_at, meaning_at}
+use Rattle.tera_meaning.specs.StateLaws.{held_empty, name_exact}
 use Rattle.tera_meaning.specs.Search
 use Rattle.tera_meaning.specs.Search.{Search, Found, found_at}
 use Rattle.tera_meaning.specs.Request.{Command, Request, set, remove, mark_safe, ask, weigh, find}
-use Rattle.tera_meaning.specs.Step.{keeping, marking, marking_into, leaves, state_after}
-use Rattle.tera_meaning.specs.Tree.{undefined, none, truth, number, text, bytes, array, object}
-use Rattle.tera_meaning.specs.WellMade.{IsWellMade, IsWellMadeState, BringsWellMade, AllBringWellMade}
+use Rattle.tera_meaning.specs.Step.{keeping, marking, marking_into, leaves, IsStep, state_after}
+use Rattle.tera_meaning.specs.Tree.{Items, Members, undefined, none, truth, number, text, bytes, array, object, no_items, item, no_members, member, members_list, relabeled_items, relabeled_members}
+use Rattle.tera_meaning.specs.WellMade.{IsWellMade, IsWellMadeKey, AreWellMade, AreWellMadeMembers, IsWellMadeMeaning, IsWellMadeKeyMeaning, AreWellMadeMeanings, AreWellMadePairs, IsWellMadeState, BringsWellMade, AllBringWellMade}
 
 pub marked_well : (value : Form) → IsWellMade value → IsWellMade (marked_safe value)
 marked_well undefined h = h
@@ -27,59 +38,148 @@ marked_well (bytes bs) h = h
 marked_well (array xs) h = h
 marked_well (object ps) h = h
 
-chosen_well : (b : Bool) (o p : Option Form) → IfSome o IsWellMade → IfSome p IsWellMade
-    → IfSome (cond b o p) IsWellMade
-chosen_well true o p h k = h
-chosen_well false o p h k = k
+-- a form that is held under a name that is UTF-8 is well made
+abbrev IsHeldWell : List ℕ → Option Form → Type 0
+IsHeldWell name o = IfSome o (λ value. IsUtf8 name × IsWellMade value)
 
-form_well : (o : Option Form) → IfSome o IsWellMade → IsWellMade (unwrap_or o undefined)
-form_well None h = tt
-form_well (Some value) h = h
+form_well : (name : List ℕ) (o : Option Form) → IsHeldWell name o → IsWellMade (unwrap_or o undefined)
+form_well name None h = tt
+form_well name (Some value) h = h.1
+
+name_well : (name : List ℕ) (o : Option Form) → IsHeldWell name o → IsSome o → IsUtf8 name
+name_well name None h is = cc
+name_well name (Some value) h is = h.0
 
 pub empty_well : IsWellMadeState empty
-empty_well name = subst (λ o. IfSome o IsWellMade) (sym (held_empty name)) tt
+empty_well name = subst (IsHeldWell name) (sym (held_empty name)) tt
 
 module _ (state : State) (h : IsWellMadeState state) where
-  set_well : (name : List ℕ) (value : Form) → IsWellMade value → IsWellMadeState (insert state name value)
-  set_well name value well other =
-      subst (λ o. IfSome o IsWellMade) (sym (get-insert nat_list_cmp_total state name value other))
-      (chosen_well (eq_by_cmp (slice_cmp nat_cmp) other name) (Some value) (held_at state other) well (h other))
+  pub form_at_well : (name : List ℕ) → IsWellMade (form_at state name)
+  form_at_well name = form_well name (held_at state name) (h name)
+
+  pub held_name_well : (name : List ℕ) → IsSome (held_at state name) → IsUtf8 name
+  held_name_well name = name_well name (held_at state name) (h name)
+
+  chosen_well : (name other : List ℕ) (o : Option Form) (b : Bool) → eq_by_cmp (slice_cmp nat_cmp) other name ≡ b
+      → IsHeldWell name o → IsHeldWell other (cond b o (held_at state other))
+  chosen_well name other o true e well =
+      subst (λ n. IsHeldWell n o) (sym (name_exact other name ((Equal-is (slice_cmp nat_cmp other name)).0 e))) well
+  chosen_well name other o false e well = h other
+
+  set_well : (name : List ℕ) (value : Form) → IsUtf8 name → IsWellMade value → IsWellMadeState (insert state name value)
+  set_well name value utf8 well other =
+      subst (IsHeldWell other) (sym (get-insert nat_list_cmp_total state name value other))
+      (chosen_well name other (Some value) (eq_by_cmp (slice_cmp nat_cmp) other name) refl (utf8, well))
 
   removed_well : (name : List ℕ) → IsWellMadeState (without state name)
   removed_well name other =
-      subst (λ o. IfSome o IsWellMade) (sym (get-remove nat_list_cmp_total state name other))
-      (chosen_well (eq_by_cmp (slice_cmp nat_cmp) other name) None (held_at state other) tt (h other))
+      subst (IsHeldWell other) (sym (get-remove nat_list_cmp_total state name other))
+      (chosen_well name other None (eq_by_cmp (slice_cmp nat_cmp) other name) refl tt)
 
-  kept_well : (into : Option (List ℕ)) (found : Found) → IfOk found (λ o. IfSome o IsWellMade)
+  kept_well : (into : Option (List ℕ)) (found : Found) → IfSome into IsUtf8 → IfOk found (λ o. IfSome o IsWellMade)
       → IsWellMadeState (keeping state into found)
-  kept_well None found well = h
-  kept_well (Some into) (Ok None) well = h
-  kept_well (Some into) (Ok (Some value)) well = set_well into value well
-  kept_well (Some into) (Err refusal) well = h
+  kept_well None found utf8 well = h
+  kept_well (Some into) (Ok None) utf8 well = h
+  kept_well (Some into) (Ok (Some value)) utf8 well = set_well into value utf8 well
+  kept_well (Some into) (Err refusal) utf8 well = h
+
+  value_well : (name : List ℕ) (o : Option Form) → IsHeldWell name o → IfSome o IsWellMade
+  value_well name None well = tt
+  value_well name (Some value) well = well.1
 
   found_well : (search : Search) → IfOk (found_at state search) (λ o. IfSome o IsWellMade)
-  found_well (Search.get name) = h name
+  found_well (Search.get name) = value_well name (held_at state name) (h name)
 
-  marked_place_well : (name : List ℕ) (o : Option Form) → IfSome o IsWellMade → IsWellMadeState (marking state name o)
+  marked_place_well : (name : List ℕ) (o : Option Form) → IsHeldWell name o → IsWellMadeState (marking state name o)
   marked_place_well name None well = h
-  marked_place_well name (Some value) well = set_well name (marked_safe value) (marked_well value well)
+  marked_place_well name (Some value) well = set_well name (marked_safe value) well.0 (marked_well value well.1)
 
-  marked_into_well : (name : List ℕ) (into : Option (List ℕ)) → IsWellMadeState (marking_into state name into)
-  marked_into_well name None = marked_place_well name (held_at state name) (h name)
-  marked_into_well name (Some into) =
-      set_well into (marked_safe (form_at state name)) (marked_well (form_at state name) (form_well (held_at state name) (h name)))
+  marked_into_well : (name : List ℕ) (into : Option (List ℕ)) → IfSome into IsUtf8
+      → IsWellMadeState (marking_into state name into)
+  marked_into_well name None utf8 = marked_place_well name (held_at state name) (h name)
+  marked_into_well name (Some into) utf8 =
+      set_well into (marked_safe (form_at state name)) utf8 (marked_well (form_at state name) (form_at_well name))
 
-  left_well : (request : Request) (into : Option (List ℕ)) → BringsWellMade request
+  left_well : (request : Request) (into : Option (List ℕ)) → BringsWellMade request → IfSome into IsUtf8
       → IsWellMadeState (leaves state request into)
-  left_well (set name value) into well = set_well name value well
-  left_well (remove name) into well = removed_well name
-  left_well (mark_safe name) into well = marked_into_well name into
-  left_well (ask question name) into well = h
-  left_well (weigh weighing left right) into well = h
-  left_well (find search) into well = kept_well into (found_at state search) (found_well search)
+  left_well (set name value) into well utf8 = set_well name value well.0 well.1
+  left_well (remove name) into well utf8 = removed_well name
+  left_well (mark_safe name) into well utf8 = marked_into_well name into utf8
+  left_well (ask question name) into well utf8 = h
+  left_well (weigh weighing left right) into well utf8 = h
+  left_well (find search) into well utf8 = kept_well into (found_at state search) utf8 (found_well search)
 
 pub all_left_well : (state : State) (commands : List Command) → IsWellMadeState state → AllBringWellMade commands
     → IsWellMadeState (state_after_all state commands)
 all_left_well state [] h brought = h
 all_left_well state (command ∷ commands) h brought =
-    all_left_well (state_after state command) commands (left_well state h command.request command.into brought.0) brought.1
+    all_left_well (state_after state command) commands (left_well state h command.request command.into brought.0.0 brought.0.1) brought.1
+
+-- a step that wants memory changes nothing
+step_well : (old : State) (command : Command) (outcome : Outcome) (new : State) → IsWellMadeState old
+    → BringsWellMade command.request → IfSome command.into IsUtf8 → IsStep old command outcome new → IsWellMadeState new
+step_well old command outcome new h brings utf8 (inl given) =
+    subst IsWellMadeState (sym given.1) (left_well old h command.request command.into brings utf8)
+step_well old command outcome new h brings utf8 (inr wanted) = subst IsWellMadeState (sym wanted.2) h
+
+pub run_well : (old : State) (commands : List Command) (outcomes : List Outcome) (new : State) → IsWellMadeState old
+    → AllBringWellMade commands → IsRun old commands outcomes new → IsWellMadeState new
+run_well old [] [] new h brought run = subst IsWellMadeState (sym run) h
+run_well old (command ∷ commands) (outcome ∷ outcomes) new h brought (mid, step, run) =
+    run_well mid commands outcomes new (step_well old command outcome mid h brought.0.0 brought.0.1 step) brought.1 run
+run_well old [] (outcome ∷ outcomes) new h brought run = absurd run
+run_well old (command ∷ commands) [] new h brought run = absurd run
+
+-- ---- what well-made forms mean
+
+wide : (kind : IntegerKind) (z : ℤ) → IsOfKind kind z → IsWide z
+wide u64 (pos n) h = omega (arith, h)
+wide u64 (negsuc n) h = absurd h
+wide i64 (pos n) h = omega (arith, h)
+wide i64 (negsuc n) h = omega (arith, h)
+wide u128 (pos n) h = h
+wide u128 (negsuc n) h = absurd h
+wide i128 (pos n) h = omega (arith, h)
+wide i128 (negsuc n) h = h
+
+key_well : (k : KeyForm) → IsWellMadeKey k → IsWellMadeKeyMeaning (key_meaning k)
+key_well (truth_key b) h = tt
+key_well (number_key n) h = wide n.kind n.value h
+key_well (text_key t) h = h
+
+-- the keys of what a map means rise where those of the form do
+means_above : (k : KeyForm) (ps : Members Integer MarkedText KeyForm)
+    → AllByRecursion (λ l. key_form_order k l ≡ Less) (keys_of (members_list ps))
+    → AllByRecursion (λ l. key_order (key_meaning k) l ≡ Less) (keys_of (members_list (relabeled_members (λ n. n.value) (λ t. t.spelled) key_meaning ps)))
+means_above k no_members h = tt
+means_above k (member l x ps) h = (h.0, means_above k ps h.1)
+
+means_rising : (ps : Members Integer MarkedText KeyForm) → Rises key_form_order (members_list ps)
+    → Rises key_order (members_list (relabeled_members (λ n. n.value) (λ t. t.spelled) key_meaning ps))
+unfolding IsStrictlySortedBy
+means_rising no_members h = tt
+means_rising (member k x ps) h = (means_above k ps h.0, means_rising ps h.1)
+
+mutual
+  pub meaning_well : (value : Form) → IsWellMade value → IsWellMadeMeaning (plain value)
+  meaning_well undefined h = tt
+  meaning_well none h = tt
+  meaning_well (truth b) h = tt
+  meaning_well (number n) h = wide n.kind n.value h
+  meaning_well (text t) h = h
+  meaning_well (bytes bs) h = h
+  meaning_well (array xs) h = meanings_well xs h
+  meaning_well (object ps) h = (means_rising ps h.0, pairs_well ps h.1)
+
+  meanings_well : (xs : Items Integer MarkedText KeyForm) → AreWellMade xs
+      → AreWellMadeMeanings (relabeled_items (λ n. n.value) (λ t. t.spelled) key_meaning xs)
+  meanings_well no_items h = tt
+  meanings_well (item x xs) h = (meaning_well x h.0, meanings_well xs h.1)
+
+  pairs_well : (ps : Members Integer MarkedText KeyForm) → AreWellMadeMembers ps
+      → AreWellMadePairs (relabeled_members (λ n. n.value) (λ t. t.spelled) key_meaning ps)
+  pairs_well no_members h = tt
+  pairs_well (member k x ps) h = (key_well k h.0, meaning_well x h.1, pairs_well ps h.2)
+
+pub meaning_at_well : (state : State) (name : List ℕ) → IsWellMadeState state → IsWellMadeMeaning (meaning_at state name)
+meaning_at_well state name h = meaning_well (form_at state name) (form_at_well state h name)

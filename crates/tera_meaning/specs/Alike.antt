@@ -9,7 +9,7 @@ use Rattle.tera_meaning.specs.Outcome.{Outcome, shape}
 use Rattle.tera_meaning.specs.Question
 use Rattle.tera_meaning.specs.Question.{IsSettledAnswer}
 use Rattle.tera_meaning.specs.Request.{Request, set, remove, mark_safe, ask, weigh, find, Command, asking}
-use Rattle.tera_meaning.specs.Run.{AreOutcomes}
+use Rattle.tera_meaning.specs.Run.{AreOutcomes, IsAmpleRun}
 use Rattle.tera_meaning.specs.State.{State, meaning_at}
 use Rattle.tera_meaning.specs.Step.{state_after}
 use Rattle.tera_meaning.specs.Weighing
@@ -63,6 +63,12 @@ abbrev pub AreToldApartBy : List Command → State → State → Type 0
 AreToldApartBy commands f g =
     (outcomes others : List Outcome) → AreOutcomes f commands outcomes → AreOutcomes g commands others
     → AreAlike f commands outcomes others → ⊥
+
+-- the same of runs from these states in which no step wants memory
+abbrev pub RunsAreToldApart : List Command → State → State → Type 0
+RunsAreToldApart commands f g =
+    (outcomes others : List Outcome) (f' g' : State) → IsAmpleRun f commands outcomes f'
+    → IsAmpleRun g commands others g' → AreAlike f commands outcomes others → ⊥
 
 -- commands that compare what a name holds with a value: whether it holds one; and the value is set under another name
 -- and compared with it

@@ -1,11 +1,14 @@
 -- What a meaning prints.
-use Rattle.std.specs.Prelude.{◌≡◌, ℕ, Bool, true, false, ◌&&◌, IsTrue, List, [], ◌∷◌, ◌++◌, ℤ, flat_map, codes}
+use Rattle.std.specs.Prelude.{◌≡◌, ℕ, Bool, true, false, ◌&&◌, if◌then◌else◌, IsTrue, List, [], ◌∷◌, ◌++◌, ℤ, flat_map, codes}
 use Rattle.std.specs.Char.{is_ascii}
 use Rattle.std.specs.Fmt.{signed_decimal, debug_escape}
 use Rattle.std.specs.List.{list_all}
 use Rattle.std.specs.Str.Lossy.{utf8_lossy}
+use Rattle.tera_report.specs.Escaping.{escaped}
+use Rattle.tera_meaning.specs.Form.{Form}
 use Rattle.tera_meaning.specs.KeyMeaning.{KeyMeaning, truth_key, number_key, text_key}
-use Rattle.tera_meaning.specs.Meaning.{Meaning}
+use Rattle.tera_meaning.specs.Meaning.{Meaning, plain}
+use Rattle.tera_meaning.specs.Read.{safe_in}
 use Rattle.tera_meaning.specs.Tree.{Items, Members, undefined, none, truth, number, text, bytes, array, object, no_items, item, no_members, member}
 
 -- the debug form of an ASCII text: in double quotes, with escapes
@@ -92,10 +95,20 @@ is_exact (object ps) = are_exact_members ps
 abbrev pub IsExact : Meaning → Type 0
 IsExact x = IsTrue (is_exact x)
 
+abbrev pub IsExactInside : Meaning → Type 0
+IsExactInside x = IsTrue (is_exact_inside x)
+
+abbrev pub IsExactKey : KeyMeaning → Type 0
+IsExactKey k = IsTrue (is_exact_key k)
+
 -- what is printed of a meaning: some bytes, and these where it is exact
 abbrev pub Prints : Meaning → List ℕ → Type 0
 Prints x written = IsExact x → written ≡ printed x
 
 -- the same of a meaning that stands in an array or map, where texts are quoted
 abbrev pub PrintsInside : Meaning → List ℕ → Type 0
-PrintsInside x written = IsTrue (is_exact_inside x) → written ≡ printed_with quoted x
+PrintsInside x written = IsExactInside x → written ≡ printed_with quoted x
+
+-- what a page shows of a value: what it prints, as it is where the value is safe, and else escaped
+abbrev pub shown_in_page : Form → List ℕ
+shown_in_page value = if safe_in value then printed (plain value) else escaped (printed (plain value))

@@ -1,11 +1,12 @@
--- Forms that a program can hold.
-use Rattle.std.specs.Prelude.{ℕ, ◌<◌, ⊤, IfSome, List}
+-- Forms that a program can hold, and what these mean.
+use Rattle.std.specs.Prelude.{ℕ, ℤ, ◌<◌, ⊤, IfSome, List}
 use Rattle.std.specs.FinMap.{get as held_at}
 use Rattle.std.specs.List.{AllByRecursion}
 use Rattle.std.specs.Str.{IsUtf8}
 use Rattle.tera_meaning.specs.Form.{Form, MarkedText}
-use Rattle.tera_meaning.specs.Integer.{Integer, IsOfKind}
-use Rattle.tera_meaning.specs.KeyMeaning.{KeyForm, truth_key, number_key, text_key, key_text}
+use Rattle.tera_meaning.specs.Integer.{Integer, IsOfKind, IsWide}
+use Rattle.tera_meaning.specs.KeyMeaning.{KeyForm, KeyMeaning, truth_key, number_key, text_key, key_order, key_text}
+use Rattle.tera_meaning.specs.Meaning.{Meaning}
 use Rattle.tera_meaning.specs.Pairs.{Rises, key_form_order}
 use Rattle.tera_meaning.specs.Request.{Command, Request, set, remove, mark_safe, ask, weigh, find}
 use Rattle.tera_meaning.specs.State.{State}
@@ -40,18 +41,46 @@ abbrev mutual
   AreWellMadeMembers no_members = ⊤
   AreWellMadeMembers (member k x ps) = IsWellMadeKey k × IsWellMade x × AreWellMadeMembers ps
 
--- each form that is held is well made
-abbrev pub IsWellMadeState : State → Type 0
-IsWellMadeState state = (name : List ℕ) → IfSome (held_at state name) IsWellMade
+abbrev pub IsWellMadeKeyMeaning : KeyMeaning → Type 0
+IsWellMadeKeyMeaning (truth_key b) = ⊤
+IsWellMadeKeyMeaning (number_key z) = IsWide z
+IsWellMadeKeyMeaning (text_key t) = IsUtf8 t
 
--- a value that the request brings is well made
+-- each number is one that some kind holds, each text spells characters in UTF-8, each byte is below 256, and the keys of
+-- each map rise strictly
+abbrev mutual
+  pub IsWellMadeMeaning : Meaning → Type 0
+  IsWellMadeMeaning undefined = ⊤
+  IsWellMadeMeaning none = ⊤
+  IsWellMadeMeaning (truth b) = ⊤
+  IsWellMadeMeaning (number z) = IsWide z
+  IsWellMadeMeaning (text t) = IsUtf8 t
+  IsWellMadeMeaning (bytes bs) = AllByRecursion IsByte bs
+  IsWellMadeMeaning (array xs) = AreWellMadeMeanings xs
+  IsWellMadeMeaning (object ps) = Rises key_order (members_list ps) × AreWellMadePairs ps
+
+  pub AreWellMadeMeanings : Items ℤ (List ℕ) KeyMeaning → Type 0
+  AreWellMadeMeanings no_items = ⊤
+  AreWellMadeMeanings (item x xs) = IsWellMadeMeaning x × AreWellMadeMeanings xs
+
+  pub AreWellMadePairs : Members ℤ (List ℕ) KeyMeaning → Type 0
+  AreWellMadePairs no_members = ⊤
+  AreWellMadePairs (member k x ps) = IsWellMadeKeyMeaning k × IsWellMadeMeaning x × AreWellMadePairs ps
+
+-- each name under which a form is held spells characters in UTF-8, and the form is well made
+abbrev pub IsWellMadeState : State → Type 0
+IsWellMadeState state = (name : List ℕ) → IfSome (held_at state name) (λ value. IsUtf8 name × IsWellMade value)
+
+-- a value that the request brings is well made, and the name that it is set under spells characters in UTF-8
 abbrev pub BringsWellMade : Request → Type 0
-BringsWellMade (set name value) = IsWellMade value
+BringsWellMade (set name value) = IsUtf8 name × IsWellMade value
 BringsWellMade (remove name) = ⊤
 BringsWellMade (mark_safe name) = ⊤
 BringsWellMade (ask question name) = ⊤
 BringsWellMade (weigh weighing left right) = ⊤
 BringsWellMade (find search) = ⊤
 
+-- the same of commands, each with the name under which what it finds is to be kept
 abbrev pub AllBringWellMade : List Command → Type 0
-AllBringWellMade commands = AllByRecursion (λ command. BringsWellMade command.request) commands
+AllBringWellMade commands =
+    AllByRecursion (λ command. BringsWellMade command.request × IfSome command.into IsUtf8) commands

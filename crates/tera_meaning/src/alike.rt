@@ -1,12 +1,14 @@
 //! Answers depend on meanings alone: not on the kind of an integer, the safe flag of a text, or how
 //! a key holds its text. Each function here does nothing: its clauses are the law.
-ghost use Rattle.std.specs.Prelude.{◌≡◌, ◌≢◌, ◌↔◌, ℕ, List};
-ghost use Rattle.tera_meaning.specs.Alike.{meaning_held, MeanTheSame, AskTheSame, AllAskTheSame, AnswerAlike, AreAlike, AreToldApartBy, IsSettled, probe};
+ghost use Rattle.std.specs.Prelude.{◌≡◌, ◌≢◌, ◌↔◌, ℕ, List, length};
+ghost use Rattle.tera_meaning.specs.Alike.{meaning_held, MeanTheSame, AskTheSame, AllAskTheSame, AnswerAlike, AreAlike, AreToldApartBy, RunsAreToldApart, IsSettled, probe};
+ghost use Rattle.std.specs.Str.{IsUtf8};
 ghost use Rattle.tera_meaning.specs.Outcome.{Outcome, shape};
 ghost use Rattle.tera_meaning.specs.Request.{Command};
 ghost use Rattle.tera_meaning.specs.Run.{AreOutcomes, state_after_all};
 ghost use Rattle.tera_meaning.specs.State.{State, form_at};
 ghost use Rattle.tera_meaning.specs.Step.{IsOutcome, state_after};
+ghost use Rattle.tera_meaning.specs.WellMade.{IsWellMadeState, AllBringWellMade};
 
 /// Each command asks the same as itself, and so do lists of them. Takes no memory.
 pub fn commands_ask_the_same_as_themselves()
@@ -34,6 +36,14 @@ pub fn all_answers_depend_on_meaning()
         → MeanTheSame (state_after_all f commands) (state_after_all g also) }
 {}
 
+/// Lists of outcomes that are alike are as long as the list of commands. Takes no memory.
+pub fn outcomes_that_are_alike_are_as_many()
+    ensures commands { (state : State) (commands : List Command) (outcomes others : List Outcome)
+        → AreAlike state commands outcomes others → length commands ≡ length outcomes }
+    ensures outcomes { (state : State) (commands : List Command) (outcomes others : List Outcome)
+        → AreAlike state commands outcomes others → length outcomes ≡ length others }
+{}
+
 /// States answer alike exactly where they mean the same: the same names are held, and each means
 /// the same. Takes no memory.
 pub fn states_answer_alike_where_they_mean_the_same()
@@ -42,10 +52,20 @@ pub fn states_answer_alike_where_they_mean_the_same()
 
 /// States of unequal meaning are told apart by some list of commands; and those that mean different
 /// things at a name by whether they hold it, or by setting one value under another name and
-/// comparing the two. Takes no memory.
+/// comparing the two. So are the runs of these commands, which bring what is well made where the
+/// states are. Takes no memory.
 pub fn unequal_meanings_are_told_apart()
     ensures name { (f g : State) (name : List ℕ) → meaning_held f name ≢ meaning_held g name
         → AreToldApartBy (probe name (form_at f name)) f g }
     ensures states { (f g : State) → (MeanTheSame f g → ⊥)
         → (commands : List Command) × AreToldApartBy commands f g }
+    ensures runs { (f g : State) (name : List ℕ) → meaning_held f name ≢ meaning_held g name
+        → RunsAreToldApart (probe name (form_at f name)) f g }
+    ensures brings { (f g : State) (name : List ℕ) → IsWellMadeState f → IsWellMadeState g
+        → meaning_held f name ≢ meaning_held g name
+        → IsUtf8 name × AllBringWellMade (probe name (form_at f name)) }
+    ensures well_made { (f g : State) → IsWellMadeState f → IsWellMadeState g
+        → (MeanTheSame f g → ⊥)
+        → (name : List ℕ) × IsUtf8 name × AllBringWellMade (probe name (form_at f name))
+        × RunsAreToldApart (probe name (form_at f name)) f g }
 {}

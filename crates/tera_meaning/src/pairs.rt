@@ -1,6 +1,6 @@
 //! The laws of the pairs of maps, and of the least key at which two differ. Each function here does
 //! nothing: its clauses are the law.
-ghost use Rattle.std.specs.Prelude.{◌≡◌, ◌↔◌, ◌⊎◌, ℕ, true, false, codes, pos, if◌then◌else◌, Some, None, List, [], ◌∷◌, map};
+ghost use Rattle.std.specs.Prelude.{◌≡◌, ◌≢◌, ◌↔◌, ◌⊎◌, ℕ, true, false, codes, pos, if◌then◌else◌, Some, None, List, [], ◌∷◌, map};
 ghost use Rattle.std.specs.List.{All, Contains};
 ghost use Rattle.std.specs.List.Sorted.{IsPermutation};
 ghost use Rattle.std.specs.Ordering.{on};
@@ -78,7 +78,8 @@ pub fn least_difference_decides<K: Ord, V: Ord>()
 {}
 
 /// Two maps compare by the least key at which their entries differ, in whatever order these stand.
-/// They tie, and mean the same, exactly where they differ at no key. Takes no memory.
+/// They tie, and mean the same, exactly where they differ at no key; and two that mean different
+/// things have such a least key. Takes no memory.
 pub fn maps_compare_by_the_least_difference()
     ensures order { (ps qs : List (KeyMeaning × Meaning)) (k : KeyMeaning) → Rises key_order ps
         → Rises key_order qs → IsLeastDifference key_order compare ps qs k
@@ -93,6 +94,12 @@ pub fn maps_compare_by_the_least_difference()
     ensures equal { (entries others : List (KeyForm × Form))
         → (AgreeEverywhere key_form_order (on plain compare) entries others
         ↔ (map_meaning entries ≡ map_meaning others)) }
+    ensures exists { (ps qs : List (KeyMeaning × Meaning)) → Rises key_order ps
+        → Rises key_order qs → object (members ps) ≢ object (members qs)
+        → (k : KeyMeaning) × IsLeastDifference key_order compare ps qs k }
+    ensures form_exists { (entries others : List (KeyForm × Form))
+        → map_meaning entries ≢ map_meaning others
+        → (k : KeyForm) × IsLeastDifference key_form_order (on plain compare) entries others k }
 {}
 
 /// A key at which two lists of entries differ is the least one where each lesser key of either is

@@ -1,17 +1,59 @@
 //! The laws of printing. Each function here does nothing: its clauses are the law.
-ghost use Rattle.std.specs.Prelude.{◌≡◌, ℕ, IsTrue, List};
+ghost use Rattle.std.specs.Prelude.{◌≡◌, ◌↔◌, ℕ, Bool, ℤ, IsTrue, List};
+ghost use Rattle.std.specs.List.{All};
+ghost use Rattle.std.specs.Str.{IsAscii};
 ghost use Rattle.tera_meaning.specs.Form.{Form};
-ghost use Rattle.tera_meaning.specs.Meaning.{plain};
+ghost use Rattle.tera_meaning.specs.KeyMeaning.{KeyMeaning, truth_key, number_key, text_key};
+ghost use Rattle.tera_meaning.specs.Meaning.{Meaning, plain};
 ghost use Rattle.tera_meaning.specs.Order.{same};
-ghost use Rattle.tera_meaning.specs.Printed.{IsExact, Prints, PrintsInside, is_exact_inside};
+ghost use Rattle.tera_meaning.specs.Printed.{IsExact, IsExactInside, IsExactKey, Prints, PrintsInside, is_exact_inside, printed};
+ghost use Rattle.tera_meaning.specs.Tree.{undefined, none, truth, number, text, bytes, array, object, items, members};
 
 /// Equal values print equal bytes where each text that is quoted is ASCII, by themselves and inside
 /// arrays and maps: kinds of integers, flags of texts and the order in which entries stand change
-/// no byte. Takes no memory.
+/// no byte. What one of them prints, or may print, the other does. Takes no memory.
 pub fn equal_values_print_alike()
     ensures alone { (v w : Form) (written other : List ℕ) → IsTrue (same (plain v) (plain w))
         → IsExact (plain v) → Prints (plain v) written → Prints (plain w) other → written ≡ other }
     ensures inside { (v w : Form) (written other : List ℕ) → IsTrue (same (plain v) (plain w))
         → IsTrue (is_exact_inside (plain v)) → PrintsInside (plain v) written
         → PrintsInside (plain w) other → written ≡ other }
+    ensures texts { (v w : Form) → IsTrue (same (plain v) (plain w))
+        → printed (plain v) ≡ printed (plain w) }
+    ensures exact { (v w : Form) → IsTrue (same (plain v) (plain w))
+        → (IsExact (plain v) ↔ IsExact (plain w)) }
+    ensures prints { (v w : Form) (written : List ℕ) → IsTrue (same (plain v) (plain w))
+        → (Prints (plain v) written ↔ Prints (plain w) written) }
+{}
+
+/// By itself each value but an array or a map has one printed text. An array has where its items
+/// have one inside it, and a map where its keys and values have. Takes no memory.
+pub fn exactness_comes_from_the_parts()
+    ensures undefined { IsExact undefined }
+    ensures none { IsExact none }
+    ensures truth { (b : Bool) → IsExact (truth b) }
+    ensures number { (z : ℤ) → IsExact (number z) }
+    ensures text { (t : List ℕ) → IsExact (text t) }
+    ensures bytes { (bs : List ℕ) → IsExact (bytes bs) }
+    ensures array { (xs : List Meaning) → IsExact (array (items xs)) ↔ All IsExactInside xs }
+    ensures map { (ps : List (KeyMeaning × Meaning))
+        → IsExact (object (members ps)) ↔ All (λ p. IsExactKey p.0 × IsExactInside p.1) ps }
+{}
+
+/// Inside arrays and maps, and as a key, a text has one printed form where it is ASCII. All else
+/// has one inside where it has one by itself. Takes no memory.
+pub fn texts_inside_are_exact_where_they_are_ascii()
+    ensures undefined { IsExactInside undefined }
+    ensures none { IsExactInside none }
+    ensures truth { (b : Bool) → IsExactInside (truth b) }
+    ensures number { (z : ℤ) → IsExactInside (number z) }
+    ensures text { (t : List ℕ) → IsExactInside (text t) ↔ IsAscii t }
+    ensures bytes { (bs : List ℕ) → IsExactInside (bytes bs) }
+    ensures array { (xs : List Meaning)
+        → IsExactInside (array (items xs)) ↔ IsExact (array (items xs)) }
+    ensures map { (ps : List (KeyMeaning × Meaning))
+        → IsExactInside (object (members ps)) ↔ IsExact (object (members ps)) }
+    ensures truth_key { (b : Bool) → IsExactKey (truth_key b) }
+    ensures number_key { (z : ℤ) → IsExactKey (number_key z) }
+    ensures text_key { (t : List ℕ) → IsExactKey (text_key t) ↔ IsAscii t }
 {}

@@ -8,9 +8,9 @@ ghost use Rattle.tera_meaning.specs.KeyMeaning.{KeyForm, truth_key, number_key, 
 ghost use Rattle.tera_meaning.specs.Kind.{kind_in, kind_name};
 ghost use Rattle.tera_meaning.specs.Meaning.{plain};
 ghost use Rattle.tera_meaning.specs.Order.{compare, same};
-ghost use Rattle.tera_meaning.specs.Printed.{is_exact, printed};
+ghost use Rattle.tera_meaning.specs.Printed.{is_exact, printed, shown_in_page};
 ghost use Rattle.tera_meaning.specs.Read.{safe_in, size_in, truthy_in};
-ghost use Rattle.tera_meaning.specs.Rows.{count, list_of, map_of, map_at, rises};
+ghost use Rattle.tera_meaning.specs.Rows.{count, list_of, map_of, map_at, marked, normal, rises};
 ghost use Rattle.tera_meaning.specs.Tree.{undefined, none, truth, number, text, bytes, array, object, items, members};
 
 use std::cmp::Ordering;
@@ -90,6 +90,22 @@ pub fn texts_and_bytes_print_in_arrays()
         ∷ [] }
     ensures escaped { escaped (printed (list_of (text (codes "<") ∷ [])))
         ≡ codes "[&quot;&lt;&quot;]" }
+{}
+
+/// A page shows what is safe as it prints, and all else escaped: a text whose flag is not set,
+/// bytes, arrays and maps, whatever they hold. Takes no memory.
+pub fn pages_escape_what_is_not_safe()
+    ensures safe { shown_in_page (marked (codes "<b>")) ≡ codes "<b>" }
+    ensures text { shown_in_page (normal (codes "<b>")) ≡ codes "&lt;b&gt;" }
+    ensures bytes { shown_in_page (bytes (codes "a&b")) ≡ codes "a&amp;b" }
+    ensures array { shown_in_page (array (items (marked (codes "'") ∷ [])))
+        ≡ codes "[&quot;&#39;&quot;]" }
+    ensures map { shown_in_page (object (members ((text_key (owned (codes "k")), none) ∷ [])))
+        ≡ codes "{&quot;k&quot;: }" }
+    ensures number { shown_in_page (number (record { kind = i64; value = negsuc 0 })) ≡ codes "-1" }
+    ensures truth { shown_in_page (truth true) ≡ codes "true" }
+    ensures none { shown_in_page none ≡ [] }
+    ensures undefined { shown_in_page undefined ≡ [] }
 {}
 
 /// A text by itself may be any text; inside arrays and maps, and as keys, texts are to be ASCII.

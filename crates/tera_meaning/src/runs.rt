@@ -1,11 +1,11 @@
 //! The laws of whole runs. Each function here does nothing: its clauses are the law.
-ghost use Rattle.std.specs.Prelude.{◌≡◌, List};
+ghost use Rattle.std.specs.Prelude.{◌≡◌, List, ◌∷◌, ◌++◌, length};
 ghost use Rattle.tera_meaning.specs.Alike.{MeanTheSame, AllAskTheSame, AreAlike};
 ghost use Rattle.tera_meaning.specs.Outcome.{Outcome};
 ghost use Rattle.tera_meaning.specs.Request.{Command};
 ghost use Rattle.tera_meaning.specs.Run.{IsRun, IsAmpleRun, AreOutcomes, AreFixed, state_after_all, commands_with_memory, outcomes_with_memory};
 ghost use Rattle.tera_meaning.specs.State.{State};
-ghost use Rattle.tera_meaning.specs.Step.{IsOutcome, IsFixed};
+ghost use Rattle.tera_meaning.specs.Step.{IsOutcome, IsFixed, IsStep};
 
 /// Each command comes to some outcome, whatever the context holds, and where what it prints is
 /// exact to one alone. Takes no memory.
@@ -15,6 +15,16 @@ pub fn commands_have_outcomes()
     ensures one { (state : State) (command : Command) (outcome other : Outcome)
         → IsFixed state command.request → IsOutcome state command outcome
         → IsOutcome state command other → outcome ≡ other }
+{}
+
+/// An outcome in a run is that of the command in the same place, in a step from the state that the
+/// commands before it leave to the one from which those after it start. Takes no memory.
+pub fn each_outcome_is_that_of_its_command()
+    ensures { (old : State) (first : List Command) (command : Command) (later : List Command)
+        (os : List Outcome) (o : Outcome) (ps : List Outcome) (new : State)
+        → length first ≡ length os → IsRun old (first ++ command ∷ later) (os ++ o ∷ ps) new
+        → (mid next : State) × IsRun old first os mid × IsStep mid command o next
+        × IsRun next later ps new }
 {}
 
 /// A run with the steps that want memory left out is a run in which no step does, to the same

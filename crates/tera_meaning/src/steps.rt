@@ -11,7 +11,7 @@ ghost use Rattle.tera_meaning.specs.Kind.{kind_in, undefined_kind};
 ghost use Rattle.tera_meaning.specs.Meaning.{plain};
 ghost use Rattle.tera_meaning.specs.Order.{compare, same};
 ghost use Rattle.tera_meaning.specs.Outcome.{Outcome, out_of_memory};
-ghost use Rattle.tera_meaning.specs.Printed.{printed};
+ghost use Rattle.tera_meaning.specs.Printed.{IsExact, printed, shown_in_page};
 ghost use Rattle.tera_meaning.specs.Read.{marked_safe, safe_in, size_in, truthy_in};
 ghost use Rattle.tera_meaning.specs.Question;
 ghost use Rattle.tera_meaning.specs.Question.{Question, IsAnswered, TakesMemory};
@@ -41,6 +41,21 @@ pub fn what_is_held_is_read()
         (λ value. Answer.text (printed (plain value))) }
     ensures escape { ExactAnswers (ask Question.escape)
         (λ value. Answer.text (escaped (printed (plain value)))) }
+{}
+
+/// Where what a name means is exact, it prints one text, and escapes to one. With what `is_safe`
+/// answers these are what a page shows of it. Takes no memory.
+pub fn what_is_exact_prints_one_text()
+    ensures print { (state : State) (name : List ℕ) → IsExact (meaning_at state name)
+        → ComesOnlyTo state (ask Question.print name)
+        (Ok (Answer.text (printed (meaning_at state name)))) }
+    ensures escape { (state : State) (name : List ℕ) → IsExact (meaning_at state name)
+        → ComesOnlyTo state (ask Question.escape name)
+        (Ok (Answer.text (escaped (printed (meaning_at state name))))) }
+    ensures safe { (state : State) (name : List ℕ) → safe_in (form_at state name) ≡ true
+        → shown_in_page (form_at state name) ≡ printed (meaning_at state name) }
+    ensures other { (state : State) (name : List ℕ) → safe_in (form_at state name) ≡ false
+        → shown_in_page (form_at state name) ≡ escaped (printed (meaning_at state name)) }
 {}
 
 /// What is set is what is compared from then on; the other side of a comparison means what it
