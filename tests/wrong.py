@@ -216,6 +216,7 @@ class Said:
             f"refused only by: {', '.join(safe)}": safe,
             f"its proof by hand names what the edit took away: {parts(self.lost)}": self.lost,
             f"the prover cannot read it: {unread and unread[0][:200]}": unread,
+            f"it has a loop that is not shown to end: {rest}": "expected a measure" in rest,
             f"the borrow checker does not cover it: {rest}": UNCOVERED.search(rest),
             f"a function that it calls was not proved: {rest}": WAITS.search(rest),
             f"the prover names no goal: {rest}": True,
