@@ -153,6 +153,8 @@ class Edit:
         self.first, self.last = places[0]
         subject = self.file.removeprefix("src/").removesuffix(".rt")
         self.home = f"{subject}/{self.named(lines, [it for it in subject.split('/') if it not in ('lib', 'main')])}"
+        while lines[self.first - 1].lstrip().startswith("#["):
+            self.first -= 1
         return None if os.path.dirname(self.path) == self.home else f"it belongs in {self.home}/"
 
     def named(self, lines, modules):
