@@ -1,13 +1,18 @@
 #!/usr/bin/env python3
-"""Tries the wrong bodies of crates/NAME/wrong/*.edit, many in one check: the prover must refuse each at its own function.
+"""Tries the wrong bodies crates/NAME/wrong/SUBJECT/FUNCTION/EDIT.edit: the prover must refuse each by the contract.
 
-An edit is written as those of must-fail/ are: a line 'file: src/..', and pairs of lines 'old: TEXT' and 'new: TEXT', where
-each old text stands in that file exactly once. `rt ci` tries an edit of must-fail/ by a check of its own, and takes any
-failure of the crate for a refusal. Here a check takes an edit of each of many functions, and an edit is refused only
-where the prover names a goal of its own function. A function that calls one which another edit broke may not have been
-tried; its edit comes again in a later check, without those that were refused.
+An edit is written as those of must-fail/ are: a line 'file: src/SUBJECT.rt', and pairs of lines 'old: TEXT' and
+'new: TEXT', where each old text stands in that file exactly once. FUNCTION is the name of its function, with its type and
+trait as the prover spells them ('Value.format', 'ValueFromU8.from'), or that of a constant or another item.
 
-Prints a line 'pass ..' or 'FAIL ..' for each edit, and 'wrong bodies: end'. It uses the libraries that `rt ci` built.
+A check takes an edit of each of many functions. An edit is refused where a goal of its function's contract is not proved:
+a return's, or an invariant's, but not that a sum fits, that a call is allowed or that a loop ends. What a shared check
+does not show to be refused is tried alone. Where a proof by hand names what the edit took away, it is tried without that
+part; a goal that is then open counts only where the prover finds values at which it is false, or where it is proved of
+the right body without that part.
+
+Prints a line 'pass ..' or 'FAIL ..' for each edit, and 'wrong bodies: end'. It uses the libraries that `rt ci` built, and
+begins with a copy of the work that checks kept in out/.
 """
 import argparse
 import importlib.machinery
@@ -17,15 +22,27 @@ import re
 import shutil
 import sys
 import tempfile
+import time
 from concurrent.futures import ThreadPoolExecutor
 
-FUNCTION = re.compile(r"( *)(?:pub(?:\(crate\))? )?fn (\w+)")
-BLOCK = re.compile(r"impl(?:<.*?>)? (?:(?:\w+::)*(\w+).*? for )?(?:\w+::)*(\w+)")
-# what the prover says of a place of src/, and of a goal in a proof by hand
-SAID = re.compile(r"(?:note: |error: )*(?:\./)?(src/\S+?):(\d+):\d+: (.*)")
-IN_PROOF = re.compile(r"\./proofs/(\S+)/Answers\.antt:\d+:\d+: error: (?:`([^`]*)`)?(.*)")
+PUBLIC = r"( *)(?:pub(?:\([^)]*\))? )?(?:unsafe )?"
+FUNCTION = re.compile(PUBLIC + r"(?:const )?fn (\w+)")
+ITEM = re.compile(PUBLIC + r"(?:const|static|struct|enum|trait|type|impl)\b")
+BLOCK = re.compile(PUBLIC + r"(?:impl|trait)\b")
+IMPL = re.compile(r"impl(<(?:[^<>]|<[^<>]*>)*>)? (?:(.*) for )?(.*)")
+# what the prover says: of a place of src/, of a goal there, of a proof by hand, of a whole function
+PLACE = re.compile(r"(?:note: )?(?:\./)?(src/\S+?):(\d+):\d+: ")
+OPEN = re.compile(PLACE.pattern + r"it is not proved that .*?\(`([^`]+)`\)(.*)")
+BY_HAND = re.compile(r"\./(proofs/(\S+)/\w+\.antt):\d+:\d+: error: (?:`([^`]*)`)?(.*)")
+STATUS = re.compile(r"(?:fn|struct|enum|impl|trait) \w+::(\S+?): (.*)")
 # what a proof by hand says that names what the edit took away: no word on the contract
 MISSES = re.compile(r"has no field|is not in scope|has no `|was not admitted")
+WAITS = re.compile(r"which (?:is|are) not proved|waits for")
+UNCOVERED = re.compile(r"borrow checker (?:does not cover|has no part)")
+# the names of a contract's goals, which a cycle's proof begins with the function's, and of goals that no contract asks for
+RETURNS = re.compile(r"(?:[\w:]+-)?returns(?:-|$)")
+KEPT = re.compile(r"-(?:init|preserved)(?:-|$)|(?:^|-)invariant_of-")
+SAFE = re.compile(r"(?:^|-)(?:overflow_|nonzero_|(?:slice_|offset_)?bounds-)|-(?:requires|smaller)(?:-|$)")
 
 
 def kit():
@@ -38,6 +55,11 @@ def kit():
     return module
 
 
+def read(path):
+    with open(path, encoding="utf-8") as it:
+        return it.read()
+
+
 def is_current(crate):
     """Whether the crate's library is there, and newer than what it is built from."""
     parts = [f"{crate.folder}/{part}" for part in ("src", "specs", "proofs")]
@@ -46,131 +68,258 @@ def is_current(crate):
     return os.path.isdir(crate.rlib) and max(map(os.path.getmtime, made_of)) <= os.path.getmtime(crate.rlib)
 
 
-class Edit:
-    """A wrong body: what it puts in the place of what, and the function that it stands in, by its lines and its path."""
+def is_of_contract(goal):
+    return bool(RETURNS.match(goal)) or bool(KEPT.search(goal)) and not SAFE.search(goal)
 
-    def __init__(self, path, crate):
-        self.name = f"{crate.name}/{os.path.basename(path)[: -len('.edit')]}"
-        self.file, self.changes, old = "", [], None
-        with open(path, encoding="utf-8") as it:
-            lines = it.read().split("\n")
-        for line in lines:
-            if line.startswith("file: "):
-                self.file = line[len("file: ") :].strip()
-            elif line.startswith("old: "):
-                old = line[len("old: ") :]
-            elif line.startswith("new:"):
-                self.changes.append((old, line[len("new: ") :]))
-        self.fault = None if self.changes and self.file.startswith("src/") else "it changes no file of src/"
-        if not self.fault:
-            with open(f"{crate.folder}/{self.file}", encoding="utf-8") as it:
-                self.text = it.read()
-            stray = [old for old, _ in self.changes if self.text.count(old) != 1]
-            self.fault = f"this stands {self.text.count(stray[0])} times in its file: {stray[0]}" if stray else None
-        place = None if self.fault else self.place()
-        if place:
-            self.first, self.last, self.function = place
-        else:
-            self.fault = self.fault or "it stands in no function"
 
-    def place(self):
-        """The function around the first change, with its attributes: its first and last line, and how its path ends."""
-        lines = self.text.split("\n")
-        at = self.text[: self.text.index(self.changes[0][0])].count("\n")
+def is_within(goal, other):
+    return goal == other or goal.startswith(f"{other}-")
+
+
+def spelled(kind, parameters):
+    """A type as the prover spells it in an impl's name: 'FmtFormatter' of 'fmt::Formatter<W>', 'RefStr' of '&str'."""
+    bare = re.sub(r"'\w+|\bmut ", "", kind.partition("<")[0]).strip()
+    if bare in parameters or bare == "()":
+        return "Unit" if bare == "()" else "Any"
+    words = [it for it in re.findall(r"&|\w+", bare) if it not in ("crate", "self", "super")]
+    return "".join("Ref" if it == "&" else it[0].upper() + it[1:] for it in words)
+
+
+def block_of(header):
+    """A trait's or an impl's name as the prover spells it, and whether a trait's functions stand in it."""
+    if not header.startswith("impl"):
+        return re.search(r"trait (\w+)", header)[1], True
+    generics, trait, kind = IMPL.match(header.replace("->", "").split(" where ")[0]).groups()
+    parameters = re.findall(r"[<,] ?(\w+)(?=[:,>])", generics or "")
+    name, _, given = (trait or "").partition("<")
+    given = re.sub("<.*>", "", given.removesuffix(">")).split(",")
+    return "".join([spelled(kind, parameters), name.split("::")[-1], *(spelled(it, parameters) for it in given)]), bool(trait)
+
+
+def end_of(lines, first, margin, is_function):
+    """The last line of an item: its closing brace, or a line that ends in ';' before a brace opens."""
+    is_open = False
+    for at in range(first, len(lines)):
+        is_open = is_open or lines[at].endswith("{")
+        is_last = not is_open and lines[at].endswith(";") and (is_function or not lines[at].startswith(margin + " "))
+        if is_last or lines[at] in [margin + it for it in ("}", "};", "];", "{}")]:
+            return at
+    return len(lines) - 1
+
+
+def place_of(lines, at):
+    """The first and the last line of the function around a line, or else of the other item."""
+    while lines[at].lstrip().startswith(("#[", "//")):
+        at += 1
+    for kind in (FUNCTION, ITEM):
         for first in range(at, -1, -1):
-            found = FUNCTION.match(lines[first])
-            if not found:
-                continue
-            last = next(it for it in range(first, len(lines)) if lines[it] in (found[1] + "}", found[1] + "{}"))
-            path = self.path(lines[:first], found[1], found[2])
-            while lines[first - 1].lstrip().startswith("#["):
-                first -= 1
-            return (first, last, path) if last >= at else None
-        return None
+            found = kind.match(lines[first])
+            last = end_of(lines, first, found[1], kind is FUNCTION) if found else -1
+            if last >= at:
+                return first, last
+    return None
 
-    def path(self, before, margin, name):
-        """A pattern of the end of the function's path: its module or its type, its trait, and its name."""
-        if not margin:
-            modules = self.file.removeprefix("src/").removesuffix(".rt").split("/")
-            return re.compile("^" + "::".join([*(it for it in modules if it not in ("lib", "main")), name]) + "$")
-        block = next(it for it in map(BLOCK.match, reversed(before)) if it)
-        return re.compile(rf"(^|::){block[2]}::{name}$" if not block[1] else rf"(^|::){block[2]}\w*{block[1]}\w*::{name}$")
+
+def header_at(lines, first):
+    last = next(it for it in range(first, len(lines)) if "{" in lines[it])
+    return " ".join(it.strip() for it in lines[first : last + 1]).partition("{")[0].strip()
+
+
+class Edit:
+    """A wrong body: what it puts in the place of what, and the function or other item that it stands in."""
+
+    def __init__(self, path, root, crate):
+        self.path = os.path.relpath(path, root).removesuffix(".edit")
+        self.name = f"{crate.name}/{self.path}"
+        # how the prover names the function, if it is one: a pattern of its paths, and a path for `--only`
+        self.own = self.only = None
+        text = read(path)
+        self.file = "".join(re.findall(r"(?m)^file: (\S+)", text)[:1])
+        self.changes = re.findall(r"(?m)^old: (.*)\nnew: ?(.*)$", text)
+        self.fault = self.placed(crate)
+
+    def placed(self, crate):
+        """Finds where the edit stands, and answers why it cannot be tried, if so."""
+        if not self.changes or not self.file.startswith("src/"):
+            return "it changes no file of src/"
+        self.text = read(f"{crate.folder}/{self.file}")
+        for old, _ in self.changes:
+            if self.text.count(old) != 1:
+                return f"this stands {self.text.count(old)} times in its file: {old}"
+        lines = self.text.split("\n")
+        places = [place_of(lines, self.text[: self.text.index(old)].count("\n")) for old, _ in self.changes]
+        if not places[0] or {*places} - {places[0], None}:
+            return "it stands in several functions" if places[0] else "its first change stands in no function or constant"
+        self.first, self.last = places[0]
+        subject = self.file.removeprefix("src/").removesuffix(".rt")
+        self.home = f"{subject}/{self.named(lines, [it for it in subject.split('/') if it not in ('lib', 'main')])}"
+        while lines[self.first - 1].lstrip().startswith("#["):
+            self.first -= 1
+        return None if os.path.dirname(self.path) == self.home else f"it belongs in {self.home}/"
+
+    def named(self, lines, modules):
+        """The item's name. Finds the function's paths."""
+        found = FUNCTION.match(lines[self.first])
+        if not found:
+            name = re.search(r"(?:const|static|struct|enum|trait|type) (\w+)", lines[self.first])
+            return name[1] if name else block_of(header_at(lines, self.first))[0]
+        tail, before = found[2], "".join(f"{it}::" for it in modules)
+        if found[1]:
+            above = next(it for it in range(self.first, -1, -1) if BLOCK.match(lines[it]))
+            block, is_trait = block_of(header_at(lines, above).removeprefix("unsafe "))
+            tail = f"{block}::{tail}"
+            # a type's own function has its path below the type's module, which may be another
+            before = before if is_trait else r"(?:\w+::)*"
+        self.own = re.compile(rf"{before}(?:{tail}|fn::{tail}::.*)$")
+        self.only = tail if "(" in before else before + tail
+        return tail.replace("::", ".")
+
+    def is_own(self, path):
+        return not self.own or bool(self.own.match(path))
 
     def is_around(self, said):
-        """Whether this is said of a line of the function. (An edit puts no line in or out.)"""
-        return bool(said) and said[1] == self.file and self.first < int(said[2]) <= self.last + 1
-
-    def is_refused(self, lines):
-        """Whether a goal of the function is not proved, or its proof by hand does not hold."""
-        return any(self.is_refused_by(it) for it in lines)
-
-    def is_refused_by(self, line):
-        said = SAID.match(line)
-        if said:
-            return self.is_around(said) and "not proved" in said[3]
-        said = IN_PROOF.match(line)
-        if not said or MISSES.search(line):
-            return False
-        path, goal = said[1].split("/"), (said[2] or "").split("-")[0]
-        if path[-1].startswith("+"):
-            path[-1] = goal
-        return bool(self.function.search("::".join(path)))
-
-    def is_rejected(self, lines):
-        """Whether the compiler names a fault in the function, so that nothing came to the prover."""
-        found = [SAID.match(it) for it in lines]
-        return any(self.is_around(it) and "not proved" not in it[3] for it in found)
+        return bool(said) and (not self.own or said[1] == self.file and self.first < int(said[2]) <= self.last + 1)
 
 
-def one_of_each_function(edits):
-    taken = {}
-    for it in edits:
-        taken.setdefault((it.file, it.first), it)
-    return [*taken.values()]
+class Said:
+    """What a check said of an edit's function, or of all functions where the edit stands in none."""
+
+    def __init__(self, edit, lines):
+        self.edit, self.lines, self.by_hand, self.lost = edit, lines, [], set()
+        self.reached = any(it.startswith(("logic=", "only=")) for it in lines)
+        self.statuses = [it[2] for it in map(STATUS.match, lines) if it and edit.is_own(it[1])]
+        found = [it for it in map(OPEN.match, lines) if edit.is_around(it)]
+        self.open = {it[3]: "values at which this goal is false" in it[4] for it in found}
+        for said in filter(None, map(BY_HAND.match, lines)):
+            file, path, goal, text = said.groups()
+            *modules, last = path.split("/")
+            # a goal of a cycle's proof begins with its function
+            if edit.is_own("::".join([*modules, (goal or "").split("-")[0] if last.startswith("+") else last])):
+                self.lost.add((file, goal or "")) if MISSES.search(text) else self.by_hand.append(goal or file)
+
+    def refused_by(self):
+        """The goals of the contract that are not proved, but those whose proof by hand lost a name."""
+        lost = [goal for _, goal in self.lost if goal]
+        opened = [it for it in self.open if self.open[it] or not any(is_within(it, goal) for goal in lost)]
+        return [it for it in [*self.by_hand, *opened] if is_of_contract(it)]
+
+    def cause(self):
+        """Why the edit is not refused."""
+        if not self.reached:
+            return f"it does not compile: {next(filter(PLACE.match, self.lines), self.lines[0])[:200]}"
+        if not self.statuses:
+            return f"the prover names no function {self.edit.only}"
+        rest = "; ".join(it for it in self.statuses if it != "proved")[:200]
+        if not rest:
+            return "still proved"
+        unread = [it for it in self.lines if re.match(r"(?:\./)?(?:src|specs)/\S+: error", it)]
+        safe = [it for it in dict.fromkeys([*self.by_hand, *self.open]) if not is_of_contract(it)]
+        causes = {
+            f"refused only by: {', '.join(safe)}": safe,
+            f"its proof by hand names what the edit took away: {parts(self.lost)}": self.lost,
+            f"the prover cannot read it: {unread and unread[0][:200]}": unread,
+            f"it has a loop that is not shown to end: {rest}": "expected a measure" in rest,
+            f"the borrow checker does not cover it: {rest}": UNCOVERED.search(rest),
+            f"a function that it calls was not proved: {rest}": WAITS.search(rest),
+            f"the prover names no goal: {rest}": True,
+        }
+        return next(cause for cause in causes if causes[cause])
+
+
+def parts(lost):
+    return ", ".join(sorted({goal or file for file, goal in lost}))
 
 
 def edited(edits):
     """The texts of the files with all these edits, which stand in different functions."""
-    texts = {}
-    for file in {it.file for it in edits}:
+    texts = {it.file: it.text for it in edits}
+    for file in texts:
         here = [it for it in edits if it.file == file]
-        text = here[0].text
-        places = sorted((text.index(old), old, new) for it in here for old, new in it.changes)
+        places = sorted((it.text.index(old), old, new) for it in here for old, new in it.changes)
         for at, old, new in reversed(places):
-            text = text[:at] + new + text[at + len(old) :]
-        texts[file] = text
+            texts[file] = texts[file][:at] + new + texts[file][at + len(old) :]
     return texts
 
 
-def judged(batch, lines):
-    """What one check says of these edits: each of which it settles something, with why it is no refusal."""
-    if not any(it.startswith("logic=") for it in lines):
-        bad = [it for it in batch if it.is_rejected(lines)] or batch
-        return [(it, f"it does not reach the prover: {lines[0][:200]}") for it in bad]
-    refused = [it for it in batch if it.is_refused(lines)]
-    return [(it, None) for it in refused] or [(it, "NOT REFUSED") for it in batch]
+def left_out(text, goals):
+    """A proof by hand without its answers to these goals, or nothing where one is no goal's."""
+    for goal in goals:
+        text = re.sub(rf"(?ms)^(?:pub )?{re.escape(goal)} :.*?(?=^(?:pub |-- |\S+ : )|\Z)", "", text) if goal else ""
+    return text
 
 
-def tried(rt, crate, folder, kept, told):
-    """Prints and returns how many edits of the crate are refused, and how many are not."""
-    names = sorted(it for it in os.listdir(folder) if it.endswith(".edit"))
-    edits = [Edit(f"{folder}/{it}", crate) for it in names]
-    settled = [(it, it.fault) for it in edits if it.fault]
-    counts = [0, 0]
-    while True:
-        for edit, fault in settled:
-            print(f"FAIL {edit.name}: {fault}" if fault else f"pass {edit.name} is refused", flush=True)
-            counts[bool(fault)] += 1
-            edits.remove(edit)
-        if not edits:
-            return counts
-        batch = one_of_each_function(edits)
-        said = rt.checked(crate, edited(batch), ["--jobs", "1"], kept).stdout
-        if told:
-            with open(told, "a", encoding="utf-8") as it:
-                it.write(f"== {' '.join(edit.name for edit in batch)}\n{said}\n")
+class Trial:
+    """The checks of a crate's edits, and how many edits are refused and are not."""
+
+    def __init__(self, rt, crate, kept, told):
+        self.rt, self.crate, self.kept, self.told, self.counts = rt, crate, kept, told, [0, 0]
+
+    def checked(self, title, edits, proofs=None):
+        """The lines of a check of the edits' functions, or of the whole crate where an edit stands in none."""
+        start, only = time.monotonic(), [f"--only={it.only}" for it in edits if it.only]
+        flags = ["--jobs", "1", *(only if len(only) == len(edits) else [])]
+        texts = {**({} if title.endswith("as it was") else edited(edits)), **(proofs or {})}
+        said = self.rt.checked(self.crate, texts, flags, self.kept).stdout
+        if self.told:
+            with open(self.told, "a", encoding="utf-8") as it:
+                it.write(f"== {title} ({time.monotonic() - start:.0f} s)\n{said}\n")
         # what a line says goes on in the lines below that stand in from the margin
-        settled = judged(batch, re.sub(r"\n +", " ", said.rstrip("\n")).split("\n"))
+        return re.sub(r"\n +", " ", said.rstrip("\n")).split("\n")
+
+    def settle(self, edit, goals, fault):
+        self.counts[not goals] += 1
+        print(f"pass {edit.name} is refused by {goals[0]}" if goals else f"FAIL {edit.name}: {fault}", flush=True)
+
+    def run(self, edits):
+        for edit in edits:
+            if edit.fault:
+                self.settle(edit, None, edit.fault)
+        alone = [(it, None) for it in edits if not it.fault and not it.own]
+        edits = [it for it in edits if not it.fault and it.own]
+        while edits:
+            batch = [*{(it.file, it.first): it for it in reversed(edits)}.values()][::-1]
+            lines = self.checked(" ".join(it.name for it in batch), batch)
+            saids = [Said(it, lines) for it in batch]
+            waiting = [it.edit for it in saids if self.is_to_come(it)]
+            if len(waiting) == len(batch):
+                waiting = []
+            for said in saids:
+                if said.refused_by():
+                    self.settle(said.edit, said.refused_by(), None)
+                elif said.edit not in waiting:
+                    alone.append((said.edit, said if said.lost else None))
+            edits = [it for it in edits if it not in batch or it in waiting]
+        for edit, said in alone:
+            self.settle(edit, *self.judged(edit, said))
+
+    @staticmethod
+    def is_to_come(said):
+        """Whether another edit of the check is why the prover says nothing of this one."""
+        if not said.reached:
+            return not any(said.edit.is_around(PLACE.match(it)) for it in said.lines)
+        return not (said.refused_by() or said.lost or said.open) and bool(WAITS.search(" ".join(said.statuses)))
+
+    def judged(self, edit, said):
+        """The goals that an edit is refused by where it is tried alone, or else why it is not refused."""
+        said = said or Said(edit, self.checked(f"{edit.name} alone", [edit]))
+        proofs, lost = {}, set()
+        while said.lost - lost and not said.refused_by():
+            for file in {file for file, _ in said.lost}:
+                text = proofs.get(file) or read(f"{self.crate.folder}/{file}")
+                proofs[file] = left_out(text, [goal for at, goal in said.lost if at == file])
+            lost |= said.lost
+            said = Said(edit, self.checked(f"{edit.name} without {parts(lost)}", [edit], proofs))
+        goals = said.refused_by()
+        if not proofs or not goals or any(said.open.get(it) for it in goals):
+            return goals, said.cause()
+        right = Said(edit, self.checked(f"{edit.name} without {parts(lost)}, as it was", [edit], proofs)).open
+        told = [it for it in goals if not any(is_within(it, goal) or is_within(goal, it) for goal in right)]
+        return told, f"its proof by hand names what the edit took away: {parts(lost)}; without it the right body is open too"
+
+
+def edits_below(folder, crate):
+    paths = sorted(f"{at}/{it}" for at, _, names in os.walk(folder) for it in names if it.endswith(".edit"))
+    return [Edit(it, folder, crate) for it in paths]
 
 
 def main():
@@ -184,8 +333,8 @@ def main():
     rt = kit()
     rt.rtlib.guarded()
     crates = [it for it in rt.rtlib.crates_below(os.getcwd()) if not given.names or it.name in given.names]
-    crates = [it for it in crates if os.path.isdir(f"{it.folder}/{given.folder}")]
-    crates.sort(key=lambda it: -len(os.listdir(f"{it.folder}/{given.folder}")))
+    edits = {it.name: edits_below(f"{it.folder}/{given.folder}", it) for it in crates}
+    crates = sorted((it for it in crates if edits[it.name]), key=lambda it: -len(edits[it.name]))
     below = {low.name: low for it in crates for low in it.below()}.values()
     for low in sorted(below, key=lambda it: len(it.below())):
         if not is_current(low) and low.build_rlib(["--jobs", "1"], anew=False):
@@ -194,8 +343,12 @@ def main():
     def counted(crate):
         with tempfile.TemporaryDirectory(prefix="wrong-") as room:
             kept = os.path.join(os.path.abspath(given.kept) if given.kept else room, crate.name)
+            if not os.path.isdir(kept) and os.path.isdir(f"{crate.folder}/out/incremental"):
+                shutil.copytree(f"{crate.folder}/out/incremental", kept)
             os.makedirs(kept, exist_ok=True)
-            return tried(rt, crate, f"{crate.folder}/{given.folder}", kept, given.told)
+            trial = Trial(rt, crate, kept, given.told)
+            trial.run(edits[crate.name])
+            return trial.counts
 
     with ThreadPoolExecutor(rt.processors()) as lanes:
         counts = [*lanes.map(counted, crates)]
