@@ -8,4 +8,5 @@ mod PrintedLaws
 pub mod UniqueLaws
 mod RunLaws
 mod StepLaws
+mod Utf8Laws
 mod WellMadeLaws
