@@ -4,6 +4,7 @@ pub mod DecidedLaws
 pub mod DifferenceLaws
 pub mod EntryLaws
 pub mod PairLaws
+mod MeantLaws
 mod PrintedLaws
 pub mod UniqueLaws
 mod RunLaws
