@@ -10,22 +10,18 @@ use Rattle.tera_report.specs.Refusal.{Refusal, shape as refusal_shape}
 use Rattle.tera_report.proofs.EscapeLemmas.{one_spelling_each}
 use Rattle.tera_meaning.specs.Form.{Form}
 use Rattle.tera_meaning.specs.Meaning.{Meaning, plain}
-use Rattle.tera_meaning.specs.Order.{compare, same}
 use Rattle.tera_meaning.specs.Printed.{printed, IsExact, Prints}
 use Rattle.tera_meaning.specs.Read.{marked_safe, size_in, truthy_in}
 use Rattle.tera_meaning.specs.State.{State, read, form_at, meaning_at}
-use Rattle.tera_meaning.specs.Alike.{meaning_held, MeanTheSame, RequestTheSame, AskTheSame, AllAskTheSame, IsSettled, AreAlike}
+use Rattle.tera_meaning.specs.Alike.{MeanTheSame, RequestTheSame, AskTheSame, AllAskTheSame, IsSettled, AreAlike}
 use Rattle.tera_meaning.specs.Answer
-use Rattle.tera_meaning.specs.Search
 use Rattle.tera_meaning.specs.Search.{Search, Found, found_at}
-use Rattle.tera_meaning.specs.Outcome.{Outcome, OutcomeOf, shape}
-use Rattle.tera_meaning.specs.Question
+use Rattle.tera_meaning.specs.Outcome.{Outcome, shape}
 use Rattle.tera_meaning.specs.Question.{Question, IsAnswered, IsSettledAnswer}
 use Rattle.tera_meaning.specs.Request.{Request, set, remove, mark_safe, ask, weigh, find, Command}
 use Rattle.tera_meaning.specs.Run.{AreOutcomes, state_after_all}
 use Rattle.tera_meaning.specs.Step.{found_or_kept, keeping, marking, marking_into, ComesTo, IsOutcome, leaves, state_after}
 use Rattle.tera_meaning.specs.Tree.{undefined, none, truth, number, text, bytes, array, object}
-use Rattle.tera_meaning.specs.Weighing
 use Rattle.tera_meaning.specs.Weighing.{Weighing, weighed}
 
 -- marking changes no meaning

@@ -106,8 +106,8 @@ pub forms_differ : (es fs : List (KeyForm × Form)) → map_meaning es ≢ map_m
 forms_differ es fs n =
     let total : IsTotalOrder key_form_order = on_total key_meaning key_total in
     let found : (k : KeyForm) × IsLeastDifference key_form_order (on plain compare) (pairs_of es) (pairs_of fs) k =
-        the_other (λ agree. n ((compare_tie (map_meaning es) (map_meaning fs)).0 (compare_forms (pairs_of es) (pairs_of fs) ∙ agreeing_tie key_form_order total (on plain compare) (pairs_of es) (pairs_of fs) (rising_rises key_form_order total es) (rising_rises key_form_order total fs) agree)))
-        (least_or_none key_form_order total (on plain compare) (pairs_of es) (pairs_of fs) (rising_rises key_form_order total es) (rising_rises key_form_order total fs)) in
+    the_other (λ agree. n ((compare_tie (map_meaning es) (map_meaning fs)).0 (compare_forms (pairs_of es) (pairs_of fs) ∙ agreeing_tie key_form_order total (on plain compare) (pairs_of es) (pairs_of fs) (rising_rises key_form_order total es) (rising_rises key_form_order total fs) agree)))
+    (least_or_none key_form_order total (on plain compare) (pairs_of es) (pairs_of fs) (rising_rises key_form_order total es) (rising_rises key_form_order total fs)) in
     (found.0, (sym (agree_rising key_form_order total (on plain compare) es fs found.0) ∙ found.1.0, λ l m. sym (agree_rising key_form_order total (on plain compare) es fs l) ∙ found.1.1 l m))
 
 -- ---- pair lists that find the same

@@ -4,8 +4,10 @@ pub mod DecidedLaws
 pub mod DifferenceLaws
 pub mod EntryLaws
 pub mod PairLaws
+mod MeantLaws
 mod PrintedLaws
 pub mod UniqueLaws
 mod RunLaws
 mod StepLaws
+mod Utf8Laws
 mod WellMadeLaws

@@ -1,5 +1,5 @@
 -- Equal meanings print alike, and what is exact is so by its parts.
-use Rattle.std.specs.Prelude.{◌≡◌, ◌↔◌, ℕ, zero, suc, Bool, true, false, ◌&&◌, IsTrue, List, [], ◌∷◌, refl}
+use Rattle.std.specs.Prelude.{◌≡◌, ◌↔◌, ℕ, suc, Bool, true, false, ◌&&◌, IsTrue, List, [], ◌∷◌, refl}
 use Rattle.std.proofs.Common.{sym, ◌∙◌, ap, subst, ltb-true}
 use Rattle.std.specs.Char.{is_ascii}
 use Rattle.std.specs.List.{All, AllByRecursion, list_all}

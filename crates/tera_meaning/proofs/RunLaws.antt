@@ -5,20 +5,17 @@ use Rattle.tera_report.specs.Escaping.{escaped}
 use Rattle.tera_report.specs.Refusal.{Refusal, memory_refused}
 use Rattle.tera_report.proofs.EscapeLemmas.{Spells-escaped}
 use Rattle.tera_meaning.specs.Answer
-use Rattle.tera_meaning.specs.Search
 use Rattle.tera_meaning.specs.Search.{Search, Found, found_at}
 use Rattle.tera_meaning.specs.Form.{Form}
 use Rattle.tera_meaning.specs.Meaning.{plain}
 use Rattle.tera_meaning.specs.Outcome.{Outcome, out_of_memory, is_want}
 use Rattle.tera_meaning.specs.Printed.{printed}
-use Rattle.tera_meaning.specs.Question
 use Rattle.tera_meaning.specs.Question.{Question, IsAnswered, IsFixedAnswer}
 use Rattle.tera_meaning.specs.Request.{Request, set, remove, mark_safe, ask, weigh, find, Command}
 use Rattle.tera_meaning.specs.State.{State, read, form_at}
 use Rattle.tera_meaning.specs.Step.{found_or_kept, ComesTo, IsOutcome, IsFixed, IsStep, state_after}
 use Rattle.tera_meaning.specs.Run.{IsRun, AreOutcomes, AreFixed, state_after_all, commands_with_memory, outcomes_with_memory, NoneWantsMemory, IsAmpleRun}
 use Rattle.tera_meaning.specs.Alike.{MeanTheSame, AllAskTheSame, AreAlike, meaning_held}
-use Rattle.tera_meaning.specs.Weighing
 use Rattle.tera_meaning.specs.Weighing.{Weighing, weighed}
 use Rattle.tera_meaning.proofs.AlikeLaws.{word_alike, all_outcomes_alike, states_alike}
 

@@ -19,7 +19,7 @@ use Rattle.tera_meaning.specs.StateLaws.{get_set, meaning_set, meaning_other, na
 use Rattle.tera_meaning.specs.Alike.{MeanTheSame, meaning_held}
 use Rattle.tera_meaning.proofs.AlikeLaws.{plain_marked}
 use Rattle.tera_meaning.specs.Answer
-use Rattle.tera_meaning.specs.Search.{Search, Found, found_at}
+use Rattle.tera_meaning.specs.Search.{Search, found_at}
 use Rattle.tera_meaning.specs.Outcome.{Outcome}
 use Rattle.tera_meaning.specs.Question
 use Rattle.tera_meaning.specs.Request.{mark_safe, ask, weigh, find, asking, asking_into}

@@ -1,6 +1,6 @@
 -- What is held stays well made.
-use Rattle.std.specs.Prelude.{◌≡◌, ℕ, ◌<◌, ◌^◌, ℤ, pos, negsuc, Bool, true, false, cond, IfSome, IsSome, List, [], ◌∷◌, Option, Some, None, Ok, Err, IfOk, refl}
-use Rattle.std.proofs.Common.{sym, ap, subst, inl, inr, arith}
+use Rattle.std.specs.Prelude.{◌≡◌, ℕ, ℤ, pos, negsuc, Bool, true, false, cond, IfSome, IsSome, List, [], ◌∷◌, Option, Some, None, Ok, Err, IfOk, refl}
+use Rattle.std.proofs.Common.{sym, subst, inl, inr, arith}
 use Rattle.std.specs.Option.{unwrap_or}
 use Rattle.std.specs.Ordering.{nat_cmp, eq_by_cmp}
 use Rattle.std.specs.Cmp.{Equal-is}
@@ -21,7 +21,6 @@ use Rattle.tera_meaning.specs.Read.{marked_safe}
 use Rattle.tera_meaning.specs.Run.{IsRun, state_after_all}
 use Rattle.tera_meaning.specs.State.{State, form_at, meaning_at}
 use Rattle.tera_meaning.specs.StateLaws.{held_empty, name_exact}
-use Rattle.tera_meaning.specs.Search
 use Rattle.tera_meaning.specs.Search.{Search, Found, found_at}
 use Rattle.tera_meaning.specs.Request.{Command, Request, set, remove, mark_safe, ask, weigh, find}
 use Rattle.tera_meaning.specs.Step.{keeping, marking, marking_into, leaves, IsStep, state_after}

@@ -40,7 +40,7 @@ abbrev mutual
   printed_items no_items = []
   printed_items (item x xs) = printed_with quoted x ++ more_items xs
 
-  more_items : Items ℤ (List ℕ) KeyMeaning → List ℕ
+  pub more_items : Items ℤ (List ℕ) KeyMeaning → List ℕ
   more_items no_items = []
   more_items (item x xs) = codes ", " ++ printed_with quoted x ++ more_items xs
 
@@ -48,7 +48,7 @@ abbrev mutual
   printed_members no_members = []
   printed_members (member k x ps) = printed_key k ++ codes ": " ++ printed_with quoted x ++ more_members ps
 
-  more_members : Members ℤ (List ℕ) KeyMeaning → List ℕ
+  pub more_members : Members ℤ (List ℕ) KeyMeaning → List ℕ
   more_members no_members = []
   more_members (member k x ps) = codes ", " ++ printed_key k ++ codes ": " ++ printed_with quoted x ++ more_members ps
 

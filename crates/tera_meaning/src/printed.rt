@@ -1,13 +1,14 @@
 //! The laws of printing. Each function here does nothing: its clauses are the law.
 ghost use Rattle.std.specs.Prelude.{◌≡◌, ◌↔◌, ℕ, Bool, ℤ, IsTrue, List};
 ghost use Rattle.std.specs.List.{All};
-ghost use Rattle.std.specs.Str.{IsAscii};
+ghost use Rattle.std.specs.Str.{IsAscii, IsUtf8};
 ghost use Rattle.tera_meaning.specs.Form.{Form};
 ghost use Rattle.tera_meaning.specs.KeyMeaning.{KeyMeaning, truth_key, number_key, text_key};
 ghost use Rattle.tera_meaning.specs.Meaning.{Meaning, plain};
 ghost use Rattle.tera_meaning.specs.Order.{same};
-ghost use Rattle.tera_meaning.specs.Printed.{IsExact, IsExactInside, IsExactKey, Prints, PrintsInside, is_exact_inside, printed};
+ghost use Rattle.tera_meaning.specs.Printed.{IsExact, IsExactInside, IsExactKey, Prints, PrintsInside, is_exact_inside, printed, printed_with, quoted};
 ghost use Rattle.tera_meaning.specs.Tree.{undefined, none, truth, number, text, bytes, array, object, items, members};
+ghost use Rattle.tera_meaning.specs.WellMade.{IsWellMadeMeaning};
 
 /// Equal values print equal bytes where each text that is quoted is ASCII, by themselves and inside
 /// arrays and maps: kinds of integers, flags of texts and the order in which entries stand change
@@ -56,4 +57,11 @@ pub fn texts_inside_are_exact_where_they_are_ascii()
     ensures truth_key { (b : Bool) → IsExactKey (truth_key b) }
     ensures number_key { (z : ℤ) → IsExactKey (number_key z) }
     ensures text_key { (t : List ℕ) → IsExactKey (text_key t) ↔ IsAscii t }
+{}
+
+/// What is printed of a well-made meaning is UTF-8, by itself and inside arrays and maps. Takes no
+/// memory.
+pub fn what_is_printed_is_utf8()
+    ensures alone { (x : Meaning) → IsWellMadeMeaning x → IsUtf8 (printed x) }
+    ensures inside { (x : Meaning) → IsWellMadeMeaning x → IsUtf8 (printed_with quoted x) }
 {}

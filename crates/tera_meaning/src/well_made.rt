@@ -1,9 +1,9 @@
 //! The laws of well-made forms. Each function here does nothing: its clauses are the law.
-ghost use Rattle.std.specs.Prelude.{ℕ, List, IsSome};
+ghost use Rattle.std.specs.Prelude.{◌≡◌, ℕ, List, IsSome};
 ghost use Rattle.std.specs.FinMap.{empty, get as held_at};
 ghost use Rattle.std.specs.Str.{IsUtf8};
 ghost use Rattle.tera_meaning.specs.Form.{Form};
-ghost use Rattle.tera_meaning.specs.Meaning.{plain};
+ghost use Rattle.tera_meaning.specs.Meaning.{Meaning, plain};
 ghost use Rattle.tera_meaning.specs.Run.{IsRun, state_after_all};
 ghost use Rattle.tera_meaning.specs.Outcome.{Outcome};
 ghost use Rattle.tera_meaning.specs.State.{State, form_at, meaning_at};
@@ -22,10 +22,13 @@ pub fn what_is_held_stays_well_made()
 {}
 
 /// What a well-made form means is well made: its numbers are those that some kind holds, its texts
-/// UTF-8, its bytes below 256, and the keys of each map rise. So is what any name means in a state
-/// that is well made, and a name that is held there is UTF-8. Takes no memory.
+/// UTF-8, its bytes below 256, and the keys of each map rise; and each such meaning is that of some
+/// well-made form. So is what any name means in a state that is well made, and a name that is held
+/// there is UTF-8. Takes no memory.
 pub fn well_made_forms_mean_what_is_well_made()
     ensures form { (value : Form) → IsWellMade value → IsWellMadeMeaning (plain value) }
+    ensures meant { (x : Meaning) → IsWellMadeMeaning x
+        → (value : Form) × IsWellMade value × (plain value ≡ x) }
     ensures held { (state : State) (name : List ℕ) → IsWellMadeState state
         → IsWellMade (form_at state name) }
     ensures meaning { (state : State) (name : List ℕ) → IsWellMadeState state

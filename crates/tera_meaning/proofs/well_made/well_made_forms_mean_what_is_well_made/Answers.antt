@@ -1,8 +1,12 @@
+use Rattle.tera_meaning.proofs.MeantLaws.{meant}
 use Rattle.tera_meaning.proofs.WellMadeLaws.{form_at_well, held_name_well, meaning_well, meaning_at_well}
 use Rattle.tera_meaning.proofs.well_made.well_made_forms_mean_what_is_well_made.Goals as goal
 
 pub returns-clause-form : goal.returns-clause-form
 returns-clause-form c = meaning_well
+
+pub returns-clause-meant : goal.returns-clause-meant
+returns-clause-meant c = meant
 
 pub returns-clause-held : goal.returns-clause-held
 returns-clause-held c state name h = form_at_well state h name

@@ -1,0 +1,228 @@
+-- What is printed of a well-made meaning is UTF-8.
+use Rattle.std.specs.Prelude.{◌≢◌, ℤ, pos, negsuc, codes, if◌then◌else◌, Option, Some, None, slice_index, ◌==◌}
+use Rattle.std.proofs.Common.{◌≡◌, ℕ, zero, suc, ◌+◌, ◌<◌, ◌≤◌, Bool, true, false, ◌&&◌, nat_lt, List, [], ◌∷◌, ◌++◌, length, get_or, take, drop, IsUtf8, inl, inr, refl, sym, ap, ap₂, ◌∙◌, subst, arith, append-nil, ltb-true, ne_eqb, take_all, length-drop}
+use Rattle.std.specs.Fmt.{signed_decimal, decimal, debug_escape, digits}
+use Rattle.std.specs.Int.{is_in_range}
+use Rattle.std.specs.List.{flat_map}
+use Rattle.std.specs.Str.{is_utf8}
+use Rattle.std.specs.Option.{unwrap_or}
+use Rattle.std.specs.Str.Lossy.{utf8_lossy, utf8_valid_len, utf8_error_len, utf8_invalid_len, error_len_of_some, error_len_after_one, error_len_after_two, second_byte_min, second_byte_max, valid_len_up_to, after_first_chunk, replacement_bytes}
+use Rattle.std.proofs.lemmas.Bool.{and_parts, cases_lt, cases_eq, le-ltb}
+use Rattle.std.proofs.lemmas.Fmt.{IsAscii-decimal_wide}
+use Rattle.std.proofs.lemmas.List.Concat.{flat_map-append}
+use Rattle.std.proofs.lemmas.Str.{IsUtf8-append, IsUtf8-nil, IsUtf8-encode, IsUtf8-from_ascii, IsUtf8-from_is_utf8, encode_ascii, inside_one, utf8_valid_len_le, utf8_lossy-IsUtf8, utf8_lossy_step}
+use lib.Utf8.{scalar, scalars, encode, encodes, low_scalar}
+use Rattle.tera_meaning.specs.KeyMeaning.{KeyMeaning, truth_key, number_key, text_key}
+use Rattle.tera_meaning.specs.Integer.{IsWide}
+use Rattle.tera_meaning.specs.Meaning.{Meaning}
+use Rattle.tera_meaning.specs.Printed.{quoted, printed, printed_key, printed_truth, printed_with, printed_items, more_items, printed_members, more_members}
+use Rattle.tera_meaning.specs.Tree.{Items, Members, undefined, none, truth, number, text, bytes, array, object, no_items, item, no_members, member}
+use Rattle.tera_meaning.specs.WellMade.{IsWellMadeMeaning, IsWellMadeKeyMeaning, AreWellMadeMeanings, AreWellMadePairs}
+
+ascii_then : (x : ℕ) (xs : List ℕ) → x < 128 → IsUtf8 xs → IsUtf8 (x ∷ xs)
+ascii_then x xs small u =
+    IsUtf8-append (x ∷ []) xs (subst IsUtf8 (encode_ascii x small) (IsUtf8-encode x (low_scalar x (omega arith)))) u
+
+abbrev are_ascii : List ℕ → Bool
+are_ascii [] = true
+are_ascii (x ∷ xs) = nat_lt x 128 && are_ascii xs
+
+ascii_utf8 : (xs : List ℕ) → are_ascii xs ≡ true → IsUtf8 xs
+ascii_utf8 [] e = IsUtf8-nil
+ascii_utf8 (x ∷ xs) e = let p = and_parts _ _ e in ascii_then x xs (ltb-true _ _ p.0) (ascii_utf8 xs p.1)
+
+-- ---- the debug form of a text
+
+escapes_below : ℕ → Bool
+escapes_below zero = true
+escapes_below (suc n) = are_ascii (debug_escape 34 n) && escapes_below n
+
+escape_below : (n : ℕ) → escapes_below n ≡ true → (x : ℕ) → x < n → are_ascii (debug_escape 34 x) ≡ true
+unfolding escapes_below
+escape_below zero e x h = absurd (omega arith)
+escape_below (suc n) e x h =
+    let p = and_parts _ _ e in
+    elim (cases_eq x n) [ inl same ↦ rw same p.0 | inr other ↦ escape_below n p.1 x (omega arith) ]
+
+all_escapes : escapes_below 128 ≡ true
+unfolding escapes_below debug_escape digits
+all_escapes = refl
+
+escape_plain : (x : ℕ) → 128 ≤ x → debug_escape 34 x ≡ x ∷ []
+unfolding debug_escape
+escape_plain x l =
+    rw (
+      ne_eqb x 34 (λ e. omega arith),
+      ne_eqb x 0 (λ e. omega arith),
+      ne_eqb x 9 (λ e. omega arith),
+      ne_eqb x 10 (λ e. omega arith),
+      ne_eqb x 13 (λ e. omega arith),
+      ne_eqb x 92 (λ e. omega arith),
+      le-ltb x 32 (omega arith),
+      ne_eqb x 127 (λ e. omega arith),
+    )
+
+escape_high : (xs : List ℕ) → ((k : ℕ) → k < length xs → 128 ≤ get_or xs k 0) → flat_map (debug_escape 34) xs ≡ xs
+escape_high [] h = refl
+escape_high (x ∷ xs) h =
+    ap₂ (λ (a b : List ℕ). a ++ b) (escape_plain x (h 0 (omega arith))) (escape_high xs (λ k below. h (suc k) (omega arith)))
+
+one_char : (c : ℕ) → scalar c ≡ true → IsUtf8 (flat_map (debug_escape 34) (encode c))
+one_char c ok = elim (cases_lt c 128) [
+  | inl small ↦ rw (encode_ascii c small, append-nil) (ascii_utf8 _ (escape_below 128 all_escapes c small))
+  | inr big ↦
+      let high : (k : ℕ) → k < length (encode c) → 128 ≤ get_or (encode c) k 0 = λ k below. elim (cases_lt (get_or (encode c) k 0) 128) [
+        | inl low ↦ absurd (omega (arith, inside_one c [] (encode c) k (sym (append-nil _)) below low))
+        | inr h ↦ h
+      ] in
+      subst IsUtf8 (sym (escape_high (encode c) high)) (IsUtf8-encode c ok)
+]
+
+all_chars : (cs : List ℕ) → scalars cs ≡ true → IsUtf8 (flat_map (debug_escape 34) (encodes cs))
+all_chars [] e = IsUtf8-nil
+all_chars (c ∷ cs) e =
+    let p = and_parts _ _ e in
+    subst IsUtf8 (sym (flat_map-append (debug_escape 34) (encode c) (encodes cs)))
+    (IsUtf8-append _ _ (one_char c p.0) (all_chars cs p.1))
+
+quoted_utf8 : (t : List ℕ) → IsUtf8 t → IsUtf8 (quoted t)
+quoted_utf8 t u =
+    ascii_then 34 _ (omega arith)
+    (IsUtf8-append _ _ (subst (λ l. IsUtf8 (flat_map (debug_escape 34) l)) u.1.1 (all_chars u.0 u.1.0)) (ascii_utf8 (34 ∷ []) refl))
+
+-- ---- bytes with U+FFFD for each invalid sequence
+
+front_utf8 : (bs : List ℕ) (n : ℕ) → IsUtf8 (take (valid_len_up_to bs n) bs)
+front_utf8 bs zero = IsUtf8-nil
+front_utf8 bs (suc n) =
+    elim (is_utf8 (take (suc n) bs)) as (λ b. is_utf8 (take (suc n) bs) ≡ b → IsUtf8 (take (valid_len_up_to bs (suc n)) bs)) [
+      | true ↦ λ e. rw e (IsUtf8-from_is_utf8 (take (suc n) bs) e)
+      | false ↦ λ e. rw e (front_utf8 bs n)
+    ] refl
+
+valid_utf8 : (bs : List ℕ) → IsUtf8 (take (utf8_valid_len bs) bs)
+unfolding utf8_valid_len
+valid_utf8 bs = front_utf8 bs (length bs)
+
+replacement_utf8 : IsUtf8 replacement_bytes
+unfolding encode
+replacement_utf8 = IsUtf8-encode 65533 refl
+
+-- what one U+FFFD stands for is some byte
+either_some : (b : Bool) (o p : Option ℕ) (n : ℕ) → 0 < unwrap_or o n → 0 < unwrap_or p n
+    → 0 < unwrap_or (if b then o else p) n
+either_some true o p n h k = h
+either_some false o p n h k = k
+
+some_after_two : (bs : List ℕ) (n : ℕ) → 0 < n → 0 < unwrap_or (error_len_after_two bs) n
+some_after_two bs n h =
+    let four : Option ℕ = if nat_lt (length bs) 4 then None else Some 3 in
+    let three : Option ℕ = if is_in_range 0x80 0xBF (slice_index bs 2) then four else Some 2 in
+    either_some (nat_lt (length bs) 3) None three n h
+    (either_some (is_in_range 0x80 0xBF (slice_index bs 2)) four (Some 2) n (either_some (nat_lt (length bs) 4) None (Some 3) n h (omega arith)) (omega arith))
+
+some_after_one : (bs : List ℕ) (n : ℕ) → 0 < n → 0 < unwrap_or (error_len_after_one bs) n
+some_after_one bs n h =
+    let x : ℕ = slice_index bs 0 in
+    let follows : Bool = is_in_range (second_byte_min x) (second_byte_max x) (slice_index bs 1) in
+    let two : Option ℕ = if follows then error_len_after_two bs else Some 1 in
+    either_some (nat_lt (length bs) 2) None two n h (either_some follows (error_len_after_two bs) (Some 1) n (some_after_two bs n h) (omega arith))
+
+some_invalid : (bs : List ℕ) → 0 < length bs → 0 < utf8_invalid_len bs
+unfolding utf8_error_len
+some_invalid bs h =
+    either_some (length bs == 0) None (error_len_of_some bs) (length bs) h
+    (either_some (is_in_range 0xC2 0xF4 (slice_index bs 0)) (error_len_after_one bs) (Some 1) (length bs) (some_after_one bs (length bs) h) (omega arith))
+
+shorter : (bs : List ℕ) → utf8_valid_len bs < length bs → length (after_first_chunk bs) < length bs
+shorter bs short =
+    let n = utf8_valid_len bs in
+    let invalid = some_invalid (drop n bs) (omega (arith, length-drop n bs)) in
+    omega (arith, length-drop (n + utf8_invalid_len (drop n bs)) bs)
+
+lossy_whole : (bs : List ℕ) → length bs ≤ utf8_valid_len bs → IsUtf8 (utf8_lossy bs)
+lossy_whole bs whole =
+    let within = utf8_valid_len_le bs in
+    let same : utf8_valid_len bs ≡ length bs = omega (arith, whole, within) in
+    let u : IsUtf8 bs = subst IsUtf8 (ap (λ n. take n bs) same ∙ take_all (length bs) bs (omega arith)) (valid_utf8 bs) in
+    subst IsUtf8 (sym (utf8_lossy-IsUtf8 bs u)) u
+
+lossy_within_utf8 : (k : ℕ) (bs : List ℕ) → length bs ≤ k → IsUtf8 (utf8_lossy bs)
+lossy_within_utf8 zero bs le = lossy_whole bs (let within = utf8_valid_len_le bs in omega (arith, le, within))
+lossy_within_utf8 (suc k) bs le = elim (cases_lt (utf8_valid_len bs) (length bs)) [
+  | inl short ↦
+      let faulty : utf8_valid_len bs ≢ length bs = λ e. omega (arith, short, e) in
+      let less = shorter bs short in
+      subst IsUtf8 (sym (utf8_lossy_step bs faulty))
+      (IsUtf8-append (take (utf8_valid_len bs) bs) _ (valid_utf8 bs)
+      (IsUtf8-append replacement_bytes _ replacement_utf8 (lossy_within_utf8 k (after_first_chunk bs) (omega (arith, le, less)))))
+  | inr whole ↦ lossy_whole bs whole
+]
+
+lossy_utf8 : (bs : List ℕ) → IsUtf8 (utf8_lossy bs)
+lossy_utf8 bs = lossy_within_utf8 (length bs) bs (omega arith)
+
+-- ---- numbers, keys and whole meanings
+
+signed_utf8 : (z : ℤ) → IsWide z → IsUtf8 (signed_decimal z)
+signed_utf8 (pos n) h = IsUtf8-from_ascii (decimal n) (IsAscii-decimal_wide n (omega (arith, h)))
+signed_utf8 (negsuc n) h =
+    ascii_then 45 (decimal (suc n)) (omega arith) (IsUtf8-from_ascii (decimal (suc n)) (IsAscii-decimal_wide (suc n) (omega (arith, h))))
+
+truth_utf8 : (b : Bool) → IsUtf8 (printed_truth b)
+truth_utf8 true = ascii_utf8 (codes "true") refl
+truth_utf8 false = ascii_utf8 (codes "false") refl
+
+key_utf8 : (k : KeyMeaning) → IsWellMadeKeyMeaning k → IsUtf8 (printed_key k)
+key_utf8 (truth_key b) h = truth_utf8 b
+key_utf8 (number_key z) h = signed_utf8 z h
+key_utf8 (text_key t) h = quoted_utf8 t h
+
+pair_utf8 : (k : KeyMeaning) (value more : List ℕ) → IsWellMadeKeyMeaning k → IsUtf8 value → IsUtf8 more
+    → IsUtf8 (printed_key k ++ codes ": " ++ value ++ more)
+pair_utf8 k value more key u w =
+    IsUtf8-append (printed_key k ++ codes ": " ++ value) more
+    (IsUtf8-append (printed_key k ++ codes ": ") value (IsUtf8-append (printed_key k) (codes ": ") (key_utf8 k key) (ascii_utf8 (codes ": ") refl)) u)
+    w
+
+mutual
+  with_utf8 : (show : List ℕ → List ℕ) → ((t : List ℕ) → IsUtf8 t → IsUtf8 (show t)) → (x : Meaning)
+      → IsWellMadeMeaning x → IsUtf8 (printed_with show x)
+  with_utf8 show keeps undefined h = IsUtf8-nil
+  with_utf8 show keeps none h = IsUtf8-nil
+  with_utf8 show keeps (truth b) h = truth_utf8 b
+  with_utf8 show keeps (number z) h = signed_utf8 z h
+  with_utf8 show keeps (text t) h = keeps t h
+  with_utf8 show keeps (bytes bs) h = lossy_utf8 bs
+  with_utf8 show keeps (array xs) h =
+      ascii_then 91 (printed_items xs ++ codes "]") (omega arith) (IsUtf8-append (printed_items xs) (codes "]") (items_utf8 xs h) (ascii_utf8 (codes "]") refl))
+  with_utf8 show keeps (object ps) h =
+      ascii_then 123 (printed_members ps ++ codes "}") (omega arith) (IsUtf8-append (printed_members ps) (codes "}") (members_utf8 ps h.1) (ascii_utf8 (codes "}") refl))
+
+  items_utf8 : (xs : Items ℤ (List ℕ) KeyMeaning) → AreWellMadeMeanings xs → IsUtf8 (printed_items xs)
+  items_utf8 no_items h = IsUtf8-nil
+  items_utf8 (item x xs) h =
+      IsUtf8-append (printed_with quoted x) (more_items xs) (with_utf8 quoted quoted_utf8 x h.0) (more_items_utf8 xs h.1)
+
+  more_items_utf8 : (xs : Items ℤ (List ℕ) KeyMeaning) → AreWellMadeMeanings xs → IsUtf8 (more_items xs)
+  more_items_utf8 no_items h = IsUtf8-nil
+  more_items_utf8 (item x xs) h =
+      IsUtf8-append (codes ", ") (printed_with quoted x ++ more_items xs) (ascii_utf8 (codes ", ") refl)
+      (IsUtf8-append (printed_with quoted x) (more_items xs) (with_utf8 quoted quoted_utf8 x h.0) (more_items_utf8 xs h.1))
+
+  members_utf8 : (ps : Members ℤ (List ℕ) KeyMeaning) → AreWellMadePairs ps → IsUtf8 (printed_members ps)
+  members_utf8 no_members h = IsUtf8-nil
+  members_utf8 (member k x ps) h =
+      pair_utf8 k (printed_with quoted x) (more_members ps) h.0 (with_utf8 quoted quoted_utf8 x h.1) (more_members_utf8 ps h.2)
+
+  more_members_utf8 : (ps : Members ℤ (List ℕ) KeyMeaning) → AreWellMadePairs ps → IsUtf8 (more_members ps)
+  more_members_utf8 no_members h = IsUtf8-nil
+  more_members_utf8 (member k x ps) h =
+      IsUtf8-append (codes ", ") (printed_key k ++ codes ": " ++ printed_with quoted x ++ more_members ps) (ascii_utf8 (codes ", ") refl)
+      (pair_utf8 k (printed_with quoted x) (more_members ps) h.0 (with_utf8 quoted quoted_utf8 x h.1) (more_members_utf8 ps h.2))
+
+pub printed_utf8 : (x : Meaning) → IsWellMadeMeaning x → IsUtf8 (printed x)
+printed_utf8 x = with_utf8 (λ t. t) (λ t u. u) x
+
+pub inside_utf8 : (x : Meaning) → IsWellMadeMeaning x → IsUtf8 (printed_with quoted x)
+inside_utf8 x = with_utf8 quoted quoted_utf8 x
