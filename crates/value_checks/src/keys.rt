@@ -1,4 +1,5 @@
 // Keys of every kind beside one another: what is equal, what hashes alike, what is printed.
+use crate::writer::Narrow;
 use std::alloc::Global;
 use std::cmp::Ordering;
 use std::fmt::{Debug, Display};
@@ -186,5 +187,25 @@ fn texts_of_any_length(rt: HostRuntime) -> Result<(), Fail> {
         let lent = Key::Str(text.as_str()).as_value(rt.alloc())?;
         assert_eq!(rt; lent.as_str(), Some(text.as_str()));
     }
+    Ok(())
+}
+
+// Whether `format` tells a fault of a writer with that much room.
+fn tells_key(rt: &HostRuntime, key: &Key<'_>, room: usize) -> bool {
+    let mut out = Narrow {
+        room,
+        taken: Vec::new(rt.alloc()),
+    };
+    key.format(&mut out).is_err()
+}
+
+#[test]
+fn keys_tell_faults_of_their_writer(rt: HostRuntime) -> Result<(), Fail> {
+    for room in 0..3 {
+        assert!(rt; tells_key(&rt, &Key::Str("key"), room), "room for {room}");
+        assert!(rt; tells_key(&rt, &Key::I64(-12), room), "room for {room}");
+    }
+    assert!(rt; !tells_key(&rt, &Key::Str("key"), 3));
+    assert!(rt; !tells_key(&rt, &Key::I64(-12), 3));
     Ok(())
 }

@@ -116,3 +116,45 @@ fn a_later_value_replaces_the_first(rt: HostRuntime) -> Result<(), Fail> {
     assert!(rt; is_text(&step(&mut context, print(&rt, "a")?)?, "2"));
     Ok(())
 }
+
+// What `try_cmp` answers of the two names.
+fn tried(rt: &HostRuntime, context: &mut Context, names: [&str; 2]) -> Result<Answer, Fail> {
+    let [left, right] = names;
+    let left = name(rt, left)?;
+    let right = name(rt, right)?;
+    Ok(step(context, plain_step(Call::TryCompare { left, right }))?)
+}
+
+#[test]
+fn the_partial_order_leaves_ranks_and_maps_undecided(rt: HostRuntime) -> Result<(), Fail> {
+    let mut context = Context::new(rt.alloc());
+    step(&mut context, set(&rt, "one", Value::from(1u64))?)?;
+    step(&mut context, set(&rt, "two", Value::from(2i128))?)?;
+    step(&mut context, set(&rt, "map", Value::empty_map(rt.alloc()))?)?;
+    assert!(rt; is_order(&tried(&rt, &mut context, ["one", "two"])?, Ordering::Less));
+    assert!(rt;
+        is_order(
+            &tried(&rt, &mut context, ["two", "one"])?,
+            Ordering::Greater
+        )
+    );
+    assert!(rt;
+        is_order(
+            &tried(&rt, &mut context, ["nope", "none"])?,
+            Ordering::Equal
+        )
+    );
+    assert!(rt;
+        matches!(
+            tried(&rt, &mut context, ["map", "map"])?,
+            Answer::Order(None)
+        )
+    );
+    assert!(rt;
+        matches!(
+            tried(&rt, &mut context, ["one", "map"])?,
+            Answer::Order(None)
+        )
+    );
+    Ok(())
+}

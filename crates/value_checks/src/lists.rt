@@ -186,3 +186,22 @@ fn copies_and_texts_of_any_size_find_ample_memory(rt: HostRuntime) -> Result<(),
     }
     Ok(())
 }
+
+// Whether `format_inside` tells a fault of a writer with that much room.
+fn tells_inside(rt: &HostRuntime, value: &Value, room: usize) -> bool {
+    let mut out = Narrow {
+        room,
+        taken: Vec::new(rt.alloc()),
+    };
+    value.format_inside(&mut out).is_err()
+}
+
+#[test]
+fn inside_an_array_a_text_is_quoted_and_faults_are_told(rt: HostRuntime) -> Result<(), Fail> {
+    let value = Value::normal_string(rt.alloc(), "a\"b")?;
+    for room in 0..6 {
+        assert!(rt; tells_inside(&rt, &value, room), "room for {room}");
+    }
+    assert!(rt; !tells_inside(&rt, &value, 6));
+    Ok(())
+}

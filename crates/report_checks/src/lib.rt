@@ -1,0 +1,5 @@
+//! Tests of errors, spans and escaping through their public calls: texts from outside, and faults of writers.
+#![tactic(auto)]
+
+#[cfg(test)]
+mod report;
