@@ -13,7 +13,8 @@ use Rattle.tera_meaning.specs.Pairs.{Rises, key_form_order}
 use Rattle.tera_meaning.specs.Tree.{Items, Members, undefined, none, truth, number, text, bytes, array, object, no_items, item, no_members, member, members_list, relabeled, relabeled_items, relabeled_members}
 use Rattle.tera_meaning.specs.WellMade.{IsWellMade, IsWellMadeKey, AreWellMade, AreWellMadeMembers, IsWellMadeMeaning, IsWellMadeKeyMeaning, AreWellMadeMeanings, AreWellMadePairs}
 
--- a form for each meaning: numbers in the widest kinds, texts without the flag, and keys that own their texts
+-- a form for each meaning: numbers in the widest kinds, texts without the flag, and keys that own
+-- their texts
 abbrev integer_of : ℤ → Integer
 integer_of (pos n) = record { kind = u128; value = pos n }
 integer_of (negsuc n) = record { kind = i128; value = negsuc n }

@@ -46,8 +46,8 @@ IsWellMadeKeyMeaning (truth_key b) = ⊤
 IsWellMadeKeyMeaning (number_key z) = IsWide z
 IsWellMadeKeyMeaning (text_key t) = IsUtf8 t
 
--- each number is one that some kind holds, each text spells characters in UTF-8, each byte is below 256, and the keys of
--- each map rise strictly
+-- each number is one that some kind holds, each text spells characters in UTF-8, each byte is
+-- below 256, and the keys of each map rise strictly
 abbrev mutual
   pub IsWellMadeMeaning : Meaning → Type 0
   IsWellMadeMeaning undefined = ⊤
@@ -71,7 +71,8 @@ abbrev mutual
 abbrev pub IsWellMadeState : State → Type 0
 IsWellMadeState state = (name : List ℕ) → IfSome (held_at state name) (λ value. IsUtf8 name × IsWellMade value)
 
--- a value that the request brings is well made, and the name that it is set under spells characters in UTF-8
+-- a value that the request brings is well made, and the name that it is set under spells
+-- characters in UTF-8
 abbrev pub BringsWellMade : Request → Type 0
 BringsWellMade (set name value) = IsUtf8 name × IsWellMade value
 BringsWellMade (remove name) = ⊤
@@ -80,7 +81,7 @@ BringsWellMade (ask question name) = ⊤
 BringsWellMade (weigh weighing left right) = ⊤
 BringsWellMade (find search) = ⊤
 
--- the same of commands, each with the name under which what it finds is to be kept
+-- the same of commands, and a name under which what one finds is to be kept is UTF-8 too
 abbrev pub AllBringWellMade : List Command → Type 0
 AllBringWellMade commands =
     AllByRecursion (λ command. BringsWellMade command.request × IfSome command.into IsUtf8) commands
