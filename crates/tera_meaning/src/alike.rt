@@ -10,14 +10,14 @@ ghost use Rattle.tera_meaning.specs.State.{State, form_at};
 ghost use Rattle.tera_meaning.specs.Step.{IsOutcome, state_after};
 ghost use Rattle.tera_meaning.specs.WellMade.{IsWellMadeState, AllBringWellMade};
 
-/// Each command asks the same as itself, and so do lists of them. Takes no memory.
+/// Each command asks the same as itself, and so do lists of them.
 pub fn commands_ask_the_same_as_themselves()
     ensures one { (command : Command) → AskTheSame command command }
     ensures all { (commands : List Command) → AllAskTheSame commands commands }
 {}
 
 /// From states of equal meaning, commands of equal meaning come to outcomes of equal shapes, where
-/// meanings settle them, and leave states of equal meaning. Takes no memory.
+/// meanings settle them, and leave states of equal meaning.
 pub fn answers_depend_on_meaning()
     ensures answer { (f g : State) (command also : Command) (outcome other : Outcome)
         → MeanTheSame f g → AskTheSame command also → IsOutcome f command outcome
@@ -26,7 +26,7 @@ pub fn answers_depend_on_meaning()
         → AskTheSame command also → MeanTheSame (state_after f command) (state_after g also) }
 {}
 
-/// The same of whole lists of commands, however long. Takes no memory.
+/// The same of whole lists of commands, however long.
 pub fn all_answers_depend_on_meaning()
     ensures answers { (f g : State) (commands also : List Command) (outcomes others : List Outcome)
         → MeanTheSame f g → AllAskTheSame commands also → AreOutcomes f commands outcomes
@@ -36,7 +36,7 @@ pub fn all_answers_depend_on_meaning()
         → MeanTheSame (state_after_all f commands) (state_after_all g also) }
 {}
 
-/// Lists of outcomes that are alike are as long as the list of commands. Takes no memory.
+/// Lists of outcomes that are alike are as long as the list of commands.
 pub fn outcomes_that_are_alike_are_as_many()
     ensures commands { (state : State) (commands : List Command) (outcomes others : List Outcome)
         → AreAlike state commands outcomes others → length commands ≡ length outcomes }
@@ -45,7 +45,7 @@ pub fn outcomes_that_are_alike_are_as_many()
 {}
 
 /// States answer alike exactly where they mean the same: the same names are held, and each means
-/// the same. Takes no memory.
+/// the same.
 pub fn states_answer_alike_where_they_mean_the_same()
     ensures { (f g : State) → MeanTheSame f g ↔ AnswerAlike f g }
 {}
@@ -53,7 +53,7 @@ pub fn states_answer_alike_where_they_mean_the_same()
 /// States of unequal meaning are told apart by some list of commands; and those that mean different
 /// things at a name by whether they hold it, or by setting one value under another name and
 /// comparing the two. So are the runs of these commands, which bring what is well made where the
-/// states are. Takes no memory.
+/// states are.
 pub fn unequal_meanings_are_told_apart()
     ensures name { (f g : State) (name : List ℕ) → meaning_held f name ≢ meaning_held g name
         → AreToldApartBy (probe name (form_at f name)) f g }

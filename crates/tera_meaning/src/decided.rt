@@ -17,7 +17,7 @@ use std::cmp::Ordering;
 
 /// Nothing is decided of two maps, even of two empty ones, nor of meanings of two ranks. Two arrays
 /// are decided as the first pair of their items that does not tie is, which may be not at all;
-/// without such a pair the lengths decide. All else is decided as it compares. Takes no memory.
+/// without such a pair the lengths decide. All else is decided as it compares.
 pub fn maps_and_ranks_are_not_decided()
     ensures maps { (ps qs : List (KeyMeaning × Meaning))
         → decided (object (members ps)) (object (members qs)) ≡ None }
@@ -29,15 +29,13 @@ pub fn maps_and_ranks_are_not_decided()
 {}
 
 /// What is decided is decided as it compares, and the other way round when the sides are swapped.
-/// Takes no memory.
 pub fn what_is_decided_compares_so()
     ensures agrees { (x y : Meaning) (answer : Ordering) → decided x y ≡ Some answer
         → compare x y ≡ answer }
     ensures swapped { (x y : Meaning) → decided x y ≡ option_map ordering_reverse (decided y x) }
 {}
 
-/// Maps have an order by which nothing is decided, whatever holds their keys and texts. Takes no
-/// memory.
+/// Maps have an order by which nothing is decided, whatever holds their keys and texts.
 pub fn maps_are_ordered_undecided()
     ensures forms { ComparesUndecided (map_meaning ((key_of u64 1, normal (codes "a")) ∷ []))
         (map_meaning ((key_of i64 1, marked (codes "a")) ∷ [])) Ordering.Equal }
@@ -69,7 +67,7 @@ pub fn maps_are_ordered_undecided()
 {}
 
 /// Arrays are decided by the first pair of items that does not tie, or not at all where that pair
-/// is not; and by their lengths where each pair ties. Takes no memory.
+/// is not; and by their lengths where each pair ties.
 pub fn arrays_are_decided_by_their_first_difference()
     ensures longer { decided (list_of (map_of [] ∷ [])) (list_of []) ≡ Some Ordering.Greater }
     ensures shorter { decided (list_of []) (list_of (map_of [] ∷ [])) ≡ Some Ordering.Less }
@@ -82,7 +80,7 @@ pub fn arrays_are_decided_by_their_first_difference()
         (list_of (map_of ((text_key (codes "a"), count 2) ∷ []) ∷ [])) Ordering.Less }
 {}
 
-/// No two of these are decided. Takes no memory.
+/// No two of these are decided.
 pub fn ranks_are_not_decided()
     ensures { IsTrue (undecided (truth true ∷ count 1 ∷ text (codes "a") ∷ list_of [] ∷ map_of []
         ∷ bytes (0 ∷ []) ∷ none ∷ undefined ∷ [])) }

@@ -8,13 +8,13 @@ ghost use Rattle.tera_meaning.specs.KeyMeaning.{KeyMeaning, truth_key, number_ke
 use std::cmp::Ordering;
 
 /// The order of keys is total: it reads the other way round when its sides are swapped, chains, and
-/// treats keys that it ties alike. Takes no memory.
+/// treats keys that it ties alike.
 pub fn keys_are_ordered()
     ensures { IsTotalOrder key_order }
 {}
 
 /// The order of keys answers `Equal` exactly at one and the same key, whatever kind of integer or
-/// of text holds it. Takes no memory.
+/// of text holds it.
 pub fn keys_tie_themselves()
     ensures order { (k l : KeyMeaning) → (key_order k l ≡ Ordering.Equal) ↔ (k ≡ l) }
     ensures equality { (k l : KeyMeaning) → IsTrue (eq_by_cmp key_order k l) ↔ (k ≡ l) }
@@ -22,7 +22,7 @@ pub fn keys_tie_themselves()
 {}
 
 /// Keys of two ranks compare by their ranks, and those of one rank by value: numbers whatever kind
-/// of integer held them, and texts by the first byte where they differ. Takes no memory.
+/// of integer held them, and texts by the first byte where they differ.
 pub fn key_ranks_decide_before_values()
     ensures ranks { (k l : KeyMeaning) → key_rank k < key_rank l → key_order k l ≡ Ordering.Less }
     ensures truths { (a b : Bool) → key_order (truth_key a) (truth_key b) ≡ bool_cmp a b }

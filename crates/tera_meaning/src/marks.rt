@@ -12,7 +12,6 @@ ghost use Rattle.tera_meaning.specs.WellMade.{IsWellMade};
 
 /// A value that is marked means what it meant: it equals the same values and prints the same text.
 /// A text that is marked is safe, and marking twice is marking once. What is well made stays so.
-/// Takes no memory.
 pub fn marks_change_no_meaning()
     ensures meaning { (value : Form) → plain (marked_safe value) ≡ plain value }
     ensures text { (t : MarkedText) → safe_in (marked_safe (text t)) ≡ true }
@@ -21,7 +20,7 @@ pub fn marks_change_no_meaning()
 {}
 
 /// Marked in its place no name changes its meaning; and what is kept under another name means what
-/// it was made from. Takes no memory.
+/// it was made from.
 pub fn marked_names_mean_the_same()
     ensures place { (state : State) (name : List ℕ)
         → MeanTheSame (state_after state (asking (mark_safe name))) state }

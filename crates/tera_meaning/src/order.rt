@@ -12,19 +12,18 @@ ghost use Rattle.tera_meaning.specs.Tree.{truth, number, text, bytes, array, obj
 use std::cmp::Ordering;
 
 /// The order of meanings is total: it reads the other way round when its sides are swapped, chains,
-/// and treats meanings that it ties alike. Takes no memory.
+/// and treats meanings that it ties alike.
 pub fn meanings_are_ordered()
     ensures total { IsTotalOrder compare }
     ensures partial { IsPartialOrder same (as_partial_cmp compare) }
 {}
 
-/// The order of meanings answers `Equal` exactly at one and the same meaning. Takes no memory.
+/// The order of meanings answers `Equal` exactly at one and the same meaning.
 pub fn meanings_tie_themselves()
     ensures { (x y : Meaning) → (compare x y ≡ Ordering.Equal) ↔ (x ≡ y) }
 {}
 
 /// Two meanings are equal exactly where they are one and the same, so equality is an equivalence.
-/// Takes no memory.
 pub fn equality_is_identity()
     ensures identity { (x y : Meaning) → IsTrue (same x y) ↔ (x ≡ y) }
     ensures equivalence { IsEquivalence same }
@@ -32,7 +31,7 @@ pub fn equality_is_identity()
 
 /// Arrays and maps compare as the lists of their items and pairs do: the first place where they
 /// differ decides, and a proper beginning is less; a pair is compared by its key and then by its
-/// value. Takes no memory.
+/// value.
 pub fn first_difference_decides()
     ensures arrays { (xs ys : List Meaning) → compare (array (items xs)) (array (items ys))
         ≡ slice_cmp compare xs ys }
@@ -41,8 +40,7 @@ pub fn first_difference_decides()
 {}
 
 /// Meanings of two ranks compare by their ranks, and those of one rank by value: numbers whatever
-/// kind of integer held them, and texts and bytes by the first byte where they differ. Takes no
-/// memory.
+/// kind of integer held them, and texts and bytes by the first byte where they differ.
 pub fn ranks_decide_before_values()
     ensures ranks { (x y : Meaning) → rank x < rank y → compare x y ≡ Ordering.Less }
     ensures truths { (a b : Bool) → compare (truth a) (truth b) ≡ bool_cmp a b }

@@ -18,7 +18,7 @@ use std::cmp::Ordering;
 
 /// The pair list of a map has strictly rising keys, and a look-up in it is a look-up in the
 /// entries, in whatever order they stand. Where no two entries have one key it has just the
-/// entries. Takes no memory.
+/// entries.
 pub fn pair_lists_hold_the_entries()
     ensures rises { (entries : List (KeyForm × Form)) → Rises key_form_order (pairs_of entries) }
     ensures found { (entries : List (KeyForm × Form)) (k : KeyForm)
@@ -30,7 +30,7 @@ pub fn pair_lists_hold_the_entries()
 {}
 
 /// The pair list of a map is the only list with strictly rising keys that has just the map's
-/// entries, so it is the same in whatever order these stand. Takes no memory.
+/// entries, so it is the same in whatever order these stand.
 pub fn only_one_pair_list_holds_the_entries()
     ensures only { (entries pairs : List (KeyForm × Form)) → HasDistinctKeys key_form_order entries
         → Rises key_form_order pairs
@@ -42,7 +42,7 @@ pub fn only_one_pair_list_holds_the_entries()
 {}
 
 /// What a map means is the pair list of what its entries mean; and two pair lists of meanings in
-/// which each key finds the same are one. Takes no memory.
+/// which each key finds the same are one.
 pub fn pair_lists_mean_what_their_entries_mean()
     ensures meaning { (entries : List (KeyForm × Form))
         → plain (object (members (pairs_of entries)))
@@ -57,7 +57,7 @@ pub fn pair_lists_mean_what_their_entries_mean()
 /// key and then by value, are ordered as they stand at the least key at which they differ: by their
 /// values there where both have it. The one that alone has it is less where the other has a greater
 /// key, and greater where the other has ended. They tie exactly where no key differs, and else
-/// there is such a least key. This holds of any keys and values with total orders. Takes no memory.
+/// there is such a least key. This holds of any keys and values with total orders.
 pub fn least_difference_decides<K: Ord, V: Ord>()
     ensures order { (ps qs : List (K × V)) (k : K) → Rises K.cmp ps → Rises K.cmp qs
         → IsLeastDifference K.cmp V.cmp ps qs k
@@ -79,7 +79,7 @@ pub fn least_difference_decides<K: Ord, V: Ord>()
 
 /// Two maps compare by the least key at which their entries differ, in whatever order these stand.
 /// They tie, and mean the same, exactly where they differ at no key; and two that mean different
-/// things have such a least key. Takes no memory.
+/// things have such a least key.
 pub fn maps_compare_by_the_least_difference()
     ensures order { (ps qs : List (KeyMeaning × Meaning)) (k : KeyMeaning) → Rises key_order ps
         → Rises key_order qs → IsLeastDifference key_order compare ps qs k
@@ -104,7 +104,7 @@ pub fn maps_compare_by_the_least_difference()
 
 /// A key at which two lists of entries differ is the least one where each lesser key of either is
 /// no difference; and they differ nowhere where they do at no key of either. So a walk over each
-/// finds the least difference. Takes no memory.
+/// finds the least difference.
 pub fn walks_find_the_least_difference<K: Ord, V: Ord>()
     ensures least { (es fs : List (K × V)) (k : K) → agree_at K.cmp V.cmp es fs k ≡ false
         → All (λ e. K.cmp e.0 k ≡ Ordering.Less → agree_at K.cmp V.cmp es fs e.0 ≡ true) es
@@ -115,7 +115,7 @@ pub fn walks_find_the_least_difference<K: Ord, V: Ord>()
 {}
 
 /// Entries stand in the order of their keys, whatever order they came in; of entries with one key
-/// the first gives the value. Takes no memory.
+/// the first gives the value.
 pub fn entries_take_their_places()
     ensures places { pairs_of {V = ℕ}
         ((text_key (owned (codes "a")), 1) ∷ (key_of i128 2, 2) ∷ (truth_key true, 3)
@@ -130,7 +130,7 @@ pub fn entries_take_their_places()
 {}
 
 /// Where one of two maps alone has the least key at which they differ, it is less if the other goes
-/// on above it, and greater if the other has ended. Takes no memory.
+/// on above it, and greater if the other has ended.
 pub fn what_goes_on_is_greater()
     ensures goes_on { order_at key_order compare
         ((number_key (pos 2), count 0) ∷ (number_key (pos 1), count 0) ∷ [])

@@ -12,7 +12,7 @@ ghost use Rattle.tera_meaning.specs.WellMade.{IsWellMadeMeaning};
 
 /// Equal values print equal bytes where each text that is quoted is ASCII, by themselves and inside
 /// arrays and maps: kinds of integers, flags of texts and the order in which entries stand change
-/// no byte. What one of them prints, or may print, the other does. Takes no memory.
+/// no byte. What one of them prints, or may print, the other does.
 pub fn equal_values_print_alike()
     ensures alone { (v w : Form) (written other : List ℕ) → IsTrue (same (plain v) (plain w))
         → IsExact (plain v) → Prints (plain v) written → Prints (plain w) other → written ≡ other }
@@ -28,7 +28,7 @@ pub fn equal_values_print_alike()
 {}
 
 /// By itself each value but an array or a map has one printed text. An array has where its items
-/// have one inside it, and a map where its keys and values have. Takes no memory.
+/// have one inside it, and a map where its keys and values have.
 pub fn exactness_comes_from_the_parts()
     ensures undefined { IsExact undefined }
     ensures none { IsExact none }
@@ -42,7 +42,7 @@ pub fn exactness_comes_from_the_parts()
 {}
 
 /// Inside arrays and maps, and as a key, a text has one printed form where it is ASCII. All else
-/// has one inside where it has one by itself. Takes no memory.
+/// has one inside where it has one by itself.
 pub fn texts_inside_are_exact_where_they_are_ascii()
     ensures undefined { IsExactInside undefined }
     ensures none { IsExactInside none }
@@ -59,8 +59,7 @@ pub fn texts_inside_are_exact_where_they_are_ascii()
     ensures text_key { (t : List ℕ) → IsExactKey (text_key t) ↔ IsAscii t }
 {}
 
-/// What is printed of a well-made meaning is UTF-8, by itself and inside arrays and maps. Takes no
-/// memory.
+/// What is printed of a well-made meaning is UTF-8, by itself and inside arrays and maps.
 pub fn what_is_printed_is_utf8()
     ensures alone { (x : Meaning) → IsWellMadeMeaning x → IsUtf8 (printed x) }
     ensures inside { (x : Meaning) → IsWellMadeMeaning x → IsUtf8 (printed_with quoted x) }

@@ -15,7 +15,7 @@ ghost use Rattle.tera_meaning.specs.Tree.{undefined, none, truth, number, text, 
 
 use std::cmp::Ordering;
 
-/// Each of these is less than every later one. Takes no memory.
+/// Each of these is less than every later one.
 pub fn ranks_rise()
     ensures ranks { IsTrue (rises (truth true ∷ count 1 ∷ text (codes "a") ∷ list_of [] ∷ map_of []
         ∷ bytes (0 ∷ []) ∷ none ∷ undefined ∷ [])) }
@@ -31,7 +31,7 @@ pub fn ranks_rise()
 {}
 
 /// Maps compare along their pairs, by key and then by value; one that is a beginning of the other
-/// is less. Takes no memory.
+/// is less.
 pub fn maps_compare_along_their_pairs()
     ensures value { compare (map_of ((text_key (codes "a"), count 1) ∷ []))
         (map_of ((text_key (codes "a"), count 2) ∷ [])) ≡ Ordering.Less }
@@ -50,7 +50,7 @@ pub fn maps_compare_along_their_pairs()
 {}
 
 /// Undefined and none print nothing, integers print in decimal, a text by itself as it is, and
-/// bytes with U+FFFD for each invalid sequence. Takes no memory.
+/// bytes with U+FFFD for each invalid sequence.
 pub fn single_values_print()
     ensures undefined { printed undefined ≡ [] }
     ensures none { printed none ≡ [] }
@@ -65,7 +65,7 @@ pub fn single_values_print()
     ensures bytes { printed (bytes (97 ∷ 255 ∷ 98 ∷ [])) ≡ 97 ∷ 239 ∷ 191 ∷ 189 ∷ 98 ∷ [] }
 {}
 
-/// Inside arrays and maps texts print in debug form, and maps along their pairs. Takes no memory.
+/// Inside arrays and maps texts print in debug form, and maps along their pairs.
 pub fn nested_values_print()
     ensures empty_list { printed (list_of []) ≡ codes "[]" }
     ensures empty_map { printed (map_of []) ≡ codes "{}" }
@@ -81,7 +81,7 @@ pub fn nested_values_print()
 {}
 
 /// The texts of bytes are quoted in no array, those of safe texts are, and where no character
-/// stands next in bytes the longest beginning of one is one U+FFFD. Takes no memory.
+/// stands next in bytes the longest beginning of one is one U+FFFD.
 pub fn texts_and_bytes_print_in_arrays()
     ensures safe { printed (plain (array (items (text (record { spelled = codes "a"; safe = true })
         ∷ bytes (104 ∷ 105 ∷ []) ∷ array (items []) ∷ [])))) ≡ codes "[\"a\", hi, []]" }
@@ -93,7 +93,7 @@ pub fn texts_and_bytes_print_in_arrays()
 {}
 
 /// A page shows what is safe as it prints, and all else escaped: a text whose flag is not set,
-/// bytes, arrays and maps, whatever they hold. Takes no memory.
+/// bytes, arrays and maps, whatever they hold.
 pub fn pages_escape_what_is_not_safe()
     ensures safe { shown_in_page (marked (codes "<b>")) ≡ codes "<b>" }
     ensures text { shown_in_page (normal (codes "<b>")) ≡ codes "&lt;b&gt;" }
@@ -109,7 +109,6 @@ pub fn pages_escape_what_is_not_safe()
 {}
 
 /// A text by itself may be any text; inside arrays and maps, and as keys, texts are to be ASCII.
-/// Takes no memory.
 pub fn quoted_texts_are_to_be_ascii()
     ensures alone { is_exact (text (195 ∷ 169 ∷ [])) ≡ true }
     ensures item { is_exact (list_of (text (195 ∷ 169 ∷ []) ∷ [])) ≡ false }
@@ -121,7 +120,7 @@ pub fn quoted_texts_are_to_be_ascii()
 {}
 
 /// A text is as long as its characters, whatever bytes spell them, an accent that combines being
-/// one; bytes, arrays and maps have a length, and nothing else has. Takes no memory.
+/// one; bytes, arrays and maps have a length, and nothing else has.
 pub fn sizes_count_characters()
     ensures accent { size_in (text (101 ∷ 204 ∷ 129 ∷ 99 ∷ 111 ∷ 108 ∷ 101 ∷ [])) ≡ Some 6 }
     ensures euro { size_in (text (226 ∷ 130 ∷ 172 ∷ [])) ≡ Some 1 }
@@ -135,7 +134,7 @@ pub fn sizes_count_characters()
     ensures undefined { size_in undefined ≡ None }
 {}
 
-/// Undefined, none, false, 0 and what is empty are false; all else is true. Takes no memory.
+/// Undefined, none, false, 0 and what is empty are false; all else is true.
 pub fn what_is_empty_is_false()
     ensures undefined { truthy_in undefined ≡ false }
     ensures none { truthy_in none ≡ false }
@@ -149,8 +148,7 @@ pub fn what_is_empty_is_false()
     ensures maps { truthy_in (map_of []) ≡ false × (truthy_in (map_at (truth_key false)) ≡ true) }
 {}
 
-/// A text is safe by its flag; arrays, maps and bytes are not safe, and all else is. Takes no
-/// memory.
+/// A text is safe by its flag; arrays, maps and bytes are not safe, and all else is.
 pub fn texts_are_safe_by_their_flags()
     ensures text { (t : List ℕ) (b : Bool) → safe_in (text (record { spelled = t; safe = b })) ≡ b }
     ensures array { (xs : List Form) → safe_in (array (items xs)) ≡ false }
@@ -162,7 +160,7 @@ pub fn texts_are_safe_by_their_flags()
     ensures undefined { safe_in undefined ≡ true }
 {}
 
-/// The name of each kind. Takes no memory.
+/// The name of each kind.
 pub fn kinds_have_names()
     ensures undefined { kind_name (kind_in undefined) ≡ codes "undefined" }
     ensures none { kind_name (kind_in none) ≡ codes "none" }
@@ -183,7 +181,7 @@ pub fn kinds_have_names()
 {}
 
 /// A form means what it holds: the kind of an integer, the safe flag of a text and how a key is
-/// held are forgotten. Takes no memory.
+/// held are forgotten.
 pub fn kinds_and_flags_are_forgotten()
     ensures number { plain (number (record { kind = u64; value = pos 1 }))
         ≡ plain (number (record { kind = i128; value = pos 1 })) }

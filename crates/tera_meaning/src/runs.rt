@@ -8,7 +8,7 @@ ghost use Rattle.tera_meaning.specs.State.{State};
 ghost use Rattle.tera_meaning.specs.Step.{IsOutcome, IsFixed, IsStep};
 
 /// Each command comes to some outcome, whatever the context holds, and where what it prints is
-/// exact to one alone. Takes no memory.
+/// exact to one alone.
 pub fn commands_have_outcomes()
     ensures some { (state : State) (command : Command)
         → (outcome : Outcome) × IsOutcome state command outcome }
@@ -18,7 +18,7 @@ pub fn commands_have_outcomes()
 {}
 
 /// An outcome in a run is that of the command in the same place, in a step from the state that the
-/// commands before it leave to the one from which those after it start. Takes no memory.
+/// commands before it leave to the one from which those after it start.
 pub fn each_outcome_is_that_of_its_command()
     ensures { (old : State) (first : List Command) (command : Command) (later : List Command)
         (os : List Outcome) (o : Outcome) (ps : List Outcome) (new : State)
@@ -28,7 +28,7 @@ pub fn each_outcome_is_that_of_its_command()
 {}
 
 /// A run with the steps that want memory left out is a run in which no step does, to the same
-/// state; the other outcomes are unchanged. Takes no memory.
+/// state; the other outcomes are unchanged.
 pub fn wants_of_memory_can_be_left_out()
     ensures { (old : State) (commands : List Command) (outcomes : List Outcome) (new : State)
         → IsRun old commands outcomes new
@@ -37,7 +37,7 @@ pub fn wants_of_memory_can_be_left_out()
 {}
 
 /// A run in which no step wants memory gives outcomes of its commands, one after another, and
-/// leaves the state after them; and whatever they come to is given by such a run. Takes no memory.
+/// leaves the state after them; and whatever they come to is given by such a run.
 pub fn runs_give_their_outcomes()
     ensures outcomes { (old : State) (commands : List Command) (outcomes : List Outcome)
         (new : State) → IsAmpleRun old commands outcomes new → AreOutcomes old commands outcomes }
@@ -49,7 +49,7 @@ pub fn runs_give_their_outcomes()
 {}
 
 /// Each list of commands comes to some outcomes, and to one list alone where all that they print is
-/// exact: nothing else is left open. Takes no memory.
+/// exact: nothing else is left open.
 pub fn runs_have_outcomes()
     ensures some { (state : State) (commands : List Command)
         → (outcomes : List Outcome) × AreOutcomes state commands outcomes }
@@ -60,7 +60,7 @@ pub fn runs_have_outcomes()
 
 /// Two runs of commands of equal meaning, from states of equal meaning, in which no step wants
 /// memory, come to outcomes of equal shapes wherever meanings settle them, and end in states of
-/// equal meaning. Takes no memory.
+/// equal meaning.
 pub fn runs_depend_on_meaning()
     ensures outcomes { (f g : State) (commands also : List Command) (outcomes others : List Outcome)
         (f' g' : State) → MeanTheSame f g → AllAskTheSame commands also

@@ -11,8 +11,7 @@ ghost use Rattle.tera_meaning.specs.Request.{set, remove, mark_safe, ask, weigh,
 ghost use Rattle.tera_meaning.specs.Run.{AreOutcomes};
 ghost use Rattle.tera_meaning.specs.Weighing;
 
-/// A copy that is marked is safe and equal, and what it was made from is as it was. Takes no
-/// memory.
+/// A copy that is marked is safe and equal, and what it was made from is as it was.
 pub fn marked_copies_are_safe()
     ensures { AreOutcomes empty
         (asking (set (codes "t") (normal (codes "<")))
@@ -24,8 +23,7 @@ pub fn marked_copies_are_safe()
         ∷ Ok (Answer.truth true) ∷ []) }
 {}
 
-/// A marked copy of a name that is not held is undefined, and the name stays absent. Takes no
-/// memory.
+/// A marked copy of a name that is not held is undefined, and the name stays absent.
 pub fn marked_copies_of_nothing_are_undefined()
     ensures { AreOutcomes empty
         (asking_into (mark_safe (codes "nope")) (codes "u")
@@ -36,7 +34,7 @@ pub fn marked_copies_of_nothing_are_undefined()
         ∷ Ok (Answer.kind undefined_kind) ∷ []) }
 {}
 
-/// What is found is kept with its flag; nothing is kept where nothing is found. Takes no memory.
+/// What is found is kept with its flag; nothing is kept where nothing is found.
 pub fn copies_keep_their_flags()
     ensures { AreOutcomes empty
         (asking (set (codes "t") (marked (codes "<")))

@@ -8,7 +8,7 @@ ghost use Rattle.tera_meaning.specs.Meaning.{plain};
 ghost use Rattle.tera_meaning.specs.State.{State, meaning_at};
 ghost use Rattle.tera_meaning.specs.Tree.{undefined};
 
-/// After a value is set the name holds it, and each other name what it held. Takes no memory.
+/// After a value is set the name holds it, and each other name what it held.
 pub fn setting_keeps_other_names()
     ensures set { (state : State) (name : List ℕ) (value : Form)
         → get (insert state name value) name ≡ Some value }
@@ -17,7 +17,7 @@ pub fn setting_keeps_other_names()
 {}
 
 /// After a name is removed it is held no more, and each other name holds what it held. To remove
-/// one that is not held changes nothing. Takes no memory.
+/// one that is not held changes nothing.
 pub fn removing_keeps_other_names()
     ensures removed { (state : State) (name : List ℕ) → get (remove state name) name ≡ None }
     ensures others { (state : State) (name : List ℕ) (other : List ℕ) → other ≢ name
@@ -27,7 +27,7 @@ pub fn removing_keeps_other_names()
 {}
 
 /// After a value is set the name means what the value means, and each other name what it meant.
-/// Where nothing is held each name reads as undefined. Takes no memory.
+/// Where nothing is held each name reads as undefined.
 pub fn setting_gives_the_meaning()
     ensures set { (state : State) (name : List ℕ) (value : Form)
         → meaning_at (insert state name value) name ≡ plain value }
@@ -37,7 +37,7 @@ pub fn setting_gives_the_meaning()
     ensures nothing { (name : List ℕ) → get {X = Form} {R = slice_cmp nat_cmp} empty name ≡ None }
 {}
 
-/// Two states that hold the same at each name are one state. Takes no memory.
+/// Two states that hold the same at each name are one state.
 pub fn states_that_answer_alike_are_equal()
     ensures { (left right : State) → ((name : List ℕ) → get left name ≡ get right name)
         → left ≡ right }

@@ -25,8 +25,7 @@ ghost use Rattle.tera_meaning.specs.Weighing.{Weighing, weighed};
 
 use std::cmp::Ordering;
 
-/// What a name holds is what is found, removed, counted, judged, printed and escaped there. Takes
-/// no memory.
+/// What a name holds is what is found, removed, counted, judged, printed and escaped there.
 pub fn what_is_held_is_read()
     ensures get { HeldAnswers (λ name. find (Search.get name))
         (λ value. Answer.found (Some value)) }
@@ -44,7 +43,7 @@ pub fn what_is_held_is_read()
 {}
 
 /// Where what a name means is exact, it prints one text, and escapes to one. With what `is_safe`
-/// answers these are what a page shows of it. Takes no memory.
+/// answers these are what a page shows of it.
 pub fn what_is_exact_prints_one_text()
     ensures print { (state : State) (name : List ℕ) → IsExact (meaning_at state name)
         → ComesOnlyTo state (ask Question.print name)
@@ -59,7 +58,7 @@ pub fn what_is_exact_prints_one_text()
 {}
 
 /// What is set is what is compared from then on; the other side of a comparison means what it
-/// meant. Takes no memory.
+/// meant.
 pub fn what_is_set_is_compared()
     ensures equal { (state : State) (name : List ℕ) (value : Form) (other : List ℕ) → other ≢ name
         → ComesOnlyTo (state_after state (asking (set name value)))
@@ -72,7 +71,7 @@ pub fn what_is_set_is_compared()
 {}
 
 /// A name that is not held reads as undefined: nothing is found or printed there, and it stays
-/// absent. Takes no memory.
+/// absent.
 pub fn absent_names_read_as_undefined()
     ensures get { AbsentAnswers (λ name. find (Search.get name)) (Answer.found None) }
     ensures remove { AbsentAnswers remove (Answer.found None) }
@@ -92,8 +91,7 @@ pub fn absent_names_read_as_undefined()
         → state_after state (asking (remove name)) ≡ state }
 {}
 
-/// Only what finds something, and `mark_safe`, heed the name under which it is to be kept. Takes no
-/// memory.
+/// Only what finds something, and `mark_safe`, heed the name under which it is to be kept.
 pub fn other_requests_heed_no_name_for_what_they_find()
     ensures outcome { (state : State) (request : Request) (into other : Option (List ℕ))
         (outcome : Outcome) → heeds_into request ≡ false → ComesTo state request into outcome
@@ -105,7 +103,7 @@ pub fn other_requests_heed_no_name_for_what_they_find()
 /// With a name for it, the form that is found is kept there, and the answer says just that it was
 /// done. Where nothing is found nothing is kept, and the answer says that nothing was found; a
 /// refusal is passed on and keeps nothing; and without such a name nothing changes. What `get`
-/// finds is what is held. Takes no memory.
+/// finds is what is held.
 pub fn what_is_found_is_kept()
     ensures get { (state : State) (name : List ℕ)
         → found_at state (Search.get name) ≡ Ok (held_at state name) }
@@ -132,7 +130,7 @@ pub fn what_is_found_is_kept()
 
 /// Marking is always done. Without a name for it the form is marked in its place, and a name that
 /// is not held stays absent; with one the marked form is kept there, undefined for a name that is
-/// not held, and the name that it was made from holds what it held. Takes no memory.
+/// not held, and the name that it was made from holds what it held.
 pub fn what_is_marked_is_kept()
     ensures done { (state : State) (name : List ℕ) (into : Option (List ℕ)) (outcome : Outcome)
         → ComesTo state (mark_safe name) into outcome → outcome ≡ Ok Answer.done }
@@ -150,15 +148,14 @@ pub fn what_is_marked_is_kept()
         ≡ held_at state other }
 {}
 
-/// Want of memory changes nothing, and only a command that may want it comes to it. Takes no
-/// memory.
+/// Want of memory changes nothing, and only a command that may want it comes to it.
 pub fn wants_of_memory_change_nothing()
     ensures { (old new : State) (command : Command) → IsStep old command out_of_memory new
         → MayWantMemory old command × (new ≡ old) }
 {}
 
 /// These never want memory, whatever name is given for what they find: each has one answer and
-/// leaves one state. Takes no memory.
+/// leaves one state.
 pub fn these_requests_never_want_memory()
     ensures remove { HasOneStep remove (λ old name. Answer.found (held_at old name))
         (λ old name. without old name) }

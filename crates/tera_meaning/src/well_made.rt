@@ -11,7 +11,7 @@ ghost use Rattle.tera_meaning.specs.Request.{Command};
 ghost use Rattle.tera_meaning.specs.WellMade.{IsWellMade, IsWellMadeMeaning, IsWellMadeState, AllBringWellMade};
 
 /// Commands that bring well-made values under names that are UTF-8 leave such values and names, and
-/// nothing held is well made. This holds of each run, whatever wants memory. Takes no memory.
+/// nothing held is well made. This holds of each run, whatever wants memory.
 pub fn what_is_held_stays_well_made()
     ensures empty { IsWellMadeState empty }
     ensures run { (state : State) (commands : List Command) → IsWellMadeState state
@@ -24,7 +24,7 @@ pub fn what_is_held_stays_well_made()
 /// What a well-made form means is well made: its numbers are those that some kind holds, its texts
 /// UTF-8, its bytes below 256, and the keys of each map rise; and each such meaning is that of some
 /// well-made form. So is what any name means in a state that is well made, and a name that is held
-/// there is UTF-8. Takes no memory.
+/// there is UTF-8.
 pub fn well_made_forms_mean_what_is_well_made()
     ensures form { (value : Form) → IsWellMade value → IsWellMadeMeaning (plain value) }
     ensures meant { (x : Meaning) → IsWellMadeMeaning x

@@ -9,7 +9,7 @@ ghost use Rattle.tera_report.specs.Refusal.{memory_refused, message, out_of_rang
 ghost use Rattle.tera_report.specs.Refusal.{plus, minus, times, remainder, floor_division, power};
 ghost use Rattle.tera_report.specs.Refusal.{Refusal, in_array, in_text};
 
-/// What arithmetic refuses is told by the operand or by both and their operator. Takes no memory.
+/// What arithmetic refuses is told by the operand or by both and their operator.
 pub fn refusals_of_arithmetic_have_these_texts()
     ensures kind { text_of (not_a_number (codes "string"))
         ≡ Some (codes "Only numbers can be used in arithmetic. This is a `string`") }
@@ -37,7 +37,7 @@ pub fn refusals_of_arithmetic_have_these_texts()
         ≡ Some (codes "Only numbers can be negated. This is a `string`") }
 {}
 
-/// What look-ups, slices, reversal and `in` refuse is told by the kind of the value. Takes no memory.
+/// What look-ups, slices, reversal and `in` refuse is told by the kind of the value.
 pub fn refusals_of_look_ups_have_these_texts()
     ensures key { text_of not_a_key ≡ Some (codes "Not a valid key type") }
     ensures map_key { text_of (not_a_map_key (codes "array"))
@@ -55,7 +55,7 @@ pub fn refusals_of_look_ups_have_these_texts()
         ++ codes "and map/structs") }
 {}
 
-/// What conversions and arguments refuse is told by the type that is wanted. Takes no memory.
+/// What conversions and arguments refuse is told by the type that is wanted.
 pub fn refusals_of_conversions_have_these_texts()
     ensures kind { text_of (invalid_argument (codes "u8") (codes "string"))
         ≡ Some (codes "Invalid type for the value, expected `u8` but got `string`") }
@@ -69,7 +69,7 @@ pub fn refusals_of_conversions_have_these_texts()
     ensures memory { text_of memory_refused ≡ Some (codes "Out of memory") }
 {}
 
-/// The error of a refusal says its whole text, most of them as a message. Takes no memory.
+/// The error of a refusal says its whole text, most of them as a message.
 pub fn errors_say_the_text_of_their_refusal()
     ensures text { (refusal : Refusal) → text_of (stated refusal) ≡ text_of refusal }
     ensures message { stated (not_a_number (codes "none"))
@@ -77,7 +77,7 @@ pub fn errors_say_the_text_of_their_refusal()
     ensures range { stated (number_out_of_range (pos 300) (codes "u8")) ≡ out_of_range (codes "300") (codes "u8") }
 {}
 
-/// The shape of a refusal forgets the name of the kind that a value really has, and nothing else. Takes no memory.
+/// The shape of a refusal forgets the name of the kind that a value really has, and nothing else.
 pub fn shapes_forget_the_kind_alone()
     ensures twice { (refusal : Refusal) → shape (shape refusal) ≡ shape refusal }
     ensures kind { (actual other : List ℕ) → shape (not_a_number actual) ≡ shape (not_a_number other) }
