@@ -1,4 +1,5 @@
-//! Tests of errors, spans and escaping through their public calls: texts from outside, and faults of writers.
+//! Tests of errors, spans and escaping through their public calls: texts from outside, and faults
+//! of writers.
 #![tactic(auto)]
 
 #[cfg(test)]

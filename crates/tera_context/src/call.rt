@@ -37,7 +37,8 @@ pub enum Call {
     Equal { left: String, right: String },
     /// The order of the two values. Answers `Order`, always of some order.
     Compare { left: String, right: String },
-    /// The partial order of the two values, which leaves maps and values of different ranks undecided. Answers `Order`.
+    /// The partial order of the two values, which leaves maps and values of different ranks
+    /// undecided. Answers `Order`.
     TryCompare { left: String, right: String },
     /// The printed text. Answers `Text`.
     Print { of: String },

@@ -1,7 +1,9 @@
 //! Answers depend on meanings alone: not on the kind of an integer, the safe flag of a text, or how
 //! a key holds its text. Each function here does nothing: its clauses are the law.
 ghost use Rattle.std.specs.Prelude.{◌≡◌, ◌≢◌, ◌↔◌, ℕ, List, length};
-ghost use Rattle.tera_meaning.specs.Alike.{meaning_held, MeanTheSame, AskTheSame, AllAskTheSame, AnswerAlike, AreAlike, AreToldApartBy, RunsAreToldApart, IsSettled, probe};
+ghost use Rattle.tera_meaning.specs.Alike.{meaning_held, MeanTheSame, AskTheSame, AllAskTheSame};
+ghost use Rattle.tera_meaning.specs.Alike.{AnswerAlike, AreAlike, AreToldApartBy, RunsAreToldApart};
+ghost use Rattle.tera_meaning.specs.Alike.{IsSettled, probe};
 ghost use Rattle.std.specs.Str.{IsUtf8};
 ghost use Rattle.tera_meaning.specs.Outcome.{Outcome, shape};
 ghost use Rattle.tera_meaning.specs.Request.{Command};

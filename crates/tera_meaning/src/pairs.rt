@@ -1,6 +1,7 @@
 //! The laws of the pairs of maps, and of the least key at which two differ. Each function here does
 //! nothing: its clauses are the law.
-ghost use Rattle.std.specs.Prelude.{◌≡◌, ◌≢◌, ◌↔◌, ◌⊎◌, ℕ, true, false, codes, pos, if◌then◌else◌, Some, None, List, [], ◌∷◌, map};
+ghost use Rattle.std.specs.Prelude.{◌≡◌, ◌≢◌, ◌↔◌, ◌⊎◌, ℕ, true, false, codes, pos, if◌then◌else◌};
+ghost use Rattle.std.specs.Prelude.{Some, None, List, [], ◌∷◌, map};
 ghost use Rattle.std.specs.List.{All, Contains};
 ghost use Rattle.std.specs.List.Sorted.{IsPermutation};
 ghost use Rattle.std.specs.Ordering.{on};

@@ -6,8 +6,11 @@ ghost use Rattle.tera_meaning.specs.Form.{Form};
 ghost use Rattle.tera_meaning.specs.KeyMeaning.{KeyMeaning, truth_key, number_key, text_key};
 ghost use Rattle.tera_meaning.specs.Meaning.{Meaning, plain};
 ghost use Rattle.tera_meaning.specs.Order.{same};
-ghost use Rattle.tera_meaning.specs.Printed.{IsExact, IsExactInside, IsExactKey, Prints, PrintsInside, is_exact_inside, printed, printed_with, quoted};
-ghost use Rattle.tera_meaning.specs.Tree.{undefined, none, truth, number, text, bytes, array, object, items, members};
+ghost use Rattle.tera_meaning.specs.Printed.{IsExact, IsExactInside, IsExactKey, Prints};
+ghost use Rattle.tera_meaning.specs.Printed.{PrintsInside, is_exact_inside, printed, printed_with};
+ghost use Rattle.tera_meaning.specs.Printed.{quoted};
+ghost use Rattle.tera_meaning.specs.Tree.{undefined, none, truth, number, text, bytes, array};
+ghost use Rattle.tera_meaning.specs.Tree.{object, items, members};
 ghost use Rattle.tera_meaning.specs.WellMade.{IsWellMadeMeaning};
 
 /// Equal values print equal bytes where each text that is quoted is ASCII, by themselves and inside

@@ -3,7 +3,8 @@ ghost use Rattle.std.specs.Prelude.{◌≡◌, List, ◌∷◌, ◌++◌, length
 ghost use Rattle.tera_meaning.specs.Alike.{MeanTheSame, AllAskTheSame, AreAlike};
 ghost use Rattle.tera_meaning.specs.Outcome.{Outcome};
 ghost use Rattle.tera_meaning.specs.Request.{Command};
-ghost use Rattle.tera_meaning.specs.Run.{IsRun, IsAmpleRun, AreOutcomes, AreFixed, state_after_all, commands_with_memory, outcomes_with_memory};
+ghost use Rattle.tera_meaning.specs.Run.{IsRun, IsAmpleRun, AreOutcomes, AreFixed, state_after_all};
+ghost use Rattle.tera_meaning.specs.Run.{commands_with_memory, outcomes_with_memory};
 ghost use Rattle.tera_meaning.specs.State.{State};
 ghost use Rattle.tera_meaning.specs.Step.{IsOutcome, IsFixed, IsStep};
 

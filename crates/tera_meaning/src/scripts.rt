@@ -7,7 +7,8 @@ ghost use Rattle.tera_meaning.specs.Rows.{normal, marked};
 ghost use Rattle.tera_meaning.specs.Answer;
 ghost use Rattle.tera_meaning.specs.Search;
 ghost use Rattle.tera_meaning.specs.Question;
-ghost use Rattle.tera_meaning.specs.Request.{set, remove, mark_safe, ask, weigh, find, asking, asking_into};
+ghost use Rattle.tera_meaning.specs.Request.{set, remove, mark_safe, ask, weigh, find, asking};
+ghost use Rattle.tera_meaning.specs.Request.{asking_into};
 ghost use Rattle.tera_meaning.specs.Run.{AreOutcomes};
 ghost use Rattle.tera_meaning.specs.Weighing;
 

@@ -1,5 +1,6 @@
 //! The laws of single steps. Each function here does nothing: its clauses are the law.
-ghost use Rattle.std.specs.Prelude.{◌≡◌, ◌≢◌, ℕ, true, false, [], List, Option, Some, None, Ok, Err, IsOk};
+ghost use Rattle.std.specs.Prelude.{◌≡◌, ◌≢◌, ℕ, true, false, [], List, Option, Some, None, Ok};
+ghost use Rattle.std.specs.Prelude.{Err, IsOk};
 ghost use Rattle.std.specs.FinMap.{contains_key, get as held_at, insert, remove as without};
 ghost use Rattle.tera_report.specs.Escaping.{escaped};
 ghost use Rattle.tera_report.specs.Refusal.{Refusal};
@@ -15,10 +16,14 @@ ghost use Rattle.tera_meaning.specs.Printed.{IsExact, printed, shown_in_page};
 ghost use Rattle.tera_meaning.specs.Read.{marked_safe, safe_in, size_in, truthy_in};
 ghost use Rattle.tera_meaning.specs.Question;
 ghost use Rattle.tera_meaning.specs.Question.{Question, IsAnswered, TakesMemory};
-ghost use Rattle.tera_meaning.specs.Request.{Request, Command, set, remove, mark_safe, ask, weigh, find, heeds_into, asking, asking_into};
+ghost use Rattle.tera_meaning.specs.Request.{Request, Command, set, remove, mark_safe, ask, weigh};
+ghost use Rattle.tera_meaning.specs.Request.{find, heeds_into, asking, asking_into};
 ghost use Rattle.tera_meaning.specs.State.{State, form_at, meaning_at};
-ghost use Rattle.tera_meaning.specs.Step.{ComesTo, ComesOnlyTo, IsOutcome, IsStep, MayWantMemory, leaves, marking, state_after};
-ghost use Rattle.tera_meaning.specs.Steps.{AbsentAnswers, BothAbsentAnswer, ExactAnswers, HasOneAnswer, HasOneStep, HeldAnswers, WeighsToOneAnswer};
+ghost use Rattle.tera_meaning.specs.Step.{ComesTo, ComesOnlyTo, IsOutcome, IsStep, MayWantMemory};
+ghost use Rattle.tera_meaning.specs.Step.{leaves, marking, state_after};
+ghost use Rattle.tera_meaning.specs.Steps.{AbsentAnswers, BothAbsentAnswer, ExactAnswers};
+ghost use Rattle.tera_meaning.specs.Steps.{HasOneAnswer, HasOneStep, HeldAnswers};
+ghost use Rattle.tera_meaning.specs.Steps.{WeighsToOneAnswer};
 ghost use Rattle.tera_meaning.specs.Tree.{undefined};
 ghost use Rattle.tera_meaning.specs.Weighing;
 ghost use Rattle.tera_meaning.specs.Weighing.{Weighing, weighed};
@@ -177,8 +182,8 @@ pub fn these_requests_never_want_memory()
     ensures ask { (question : Question) → (TakesMemory question → ⊥) → (old new : State)
         (name : List ℕ) (outcome : Outcome) → IsStep old (asking (ask question name)) outcome new
         → IsAnswered question (held_at old name) outcome × (new ≡ old) }
-    ensures weigh { (weighing : Weighing) (old new : State) (left right : List ℕ) (outcome : Outcome)
-        → IsOk (weighed weighing (form_at old left) (form_at old right))
+    ensures weigh { (weighing : Weighing) (old new : State) (left right : List ℕ)
+        (outcome : Outcome) → IsOk (weighed weighing (form_at old left) (form_at old right))
         → IsStep old (asking (weigh weighing left right)) outcome new
         → (outcome ≡ weighed weighing (form_at old left) (form_at old right)) × (new ≡ old) }
     ensures mark { (old new : State) (name : List ℕ) (outcome : Outcome)

@@ -8,7 +8,8 @@ ghost use Rattle.tera_meaning.specs.Run.{IsRun, state_after_all};
 ghost use Rattle.tera_meaning.specs.Outcome.{Outcome};
 ghost use Rattle.tera_meaning.specs.State.{State, form_at, meaning_at};
 ghost use Rattle.tera_meaning.specs.Request.{Command};
-ghost use Rattle.tera_meaning.specs.WellMade.{IsWellMade, IsWellMadeMeaning, IsWellMadeState, AllBringWellMade};
+ghost use Rattle.tera_meaning.specs.WellMade.{IsWellMade, IsWellMadeMeaning, IsWellMadeState};
+ghost use Rattle.tera_meaning.specs.WellMade.{AllBringWellMade};
 
 /// Commands that bring well-made values under names that are UTF-8 leave such values and names, and
 /// nothing held is well made. This holds of each run, whatever wants memory.

@@ -1,6 +1,7 @@
 // A text that grows.
 ghost use Rattle.std.specs.Prelude.{◌≡◌, ◌≤◌, [], IfOk, IsOk, OnErr, string_bytes};
-ghost use Rattle.tera_report.specs.Growing.{grown_bytes, grown_len, grown_capacity, GrowingTakes, GrowingFails};
+ghost use Rattle.tera_report.specs.Growing.{grown_bytes, grown_len, grown_capacity, GrowingTakes};
+ghost use Rattle.tera_report.specs.Growing.{GrowingFails};
 ghost use Rattle.tera_report.specs.Sink.{PutsThese};
 
 use std::alloc::{AllocError, Global};

@@ -1,5 +1,6 @@
 // A text in a room of fixed size.
-ghost use Rattle.std.specs.Prelude.{◌≡◌, ◌+◌, ◌-◌, ◌≤◌, [], IfOk, IsOk, OnErr, string_bytes, string_len, string_capacity};
+ghost use Rattle.std.specs.Prelude.{◌≡◌, ◌+◌, ◌-◌, ◌≤◌, [], IfOk, IsOk, OnErr, string_bytes};
+ghost use Rattle.std.specs.Prelude.{string_len, string_capacity};
 
 use std::alloc::{AllocError, Global};
 

@@ -2,7 +2,8 @@
 ghost use Rattle.std.specs.Prelude.{[], ◌∷◌, ◌++◌, Some, None, true, codes, pos};
 ghost use Rattle.tera_meaning.specs.Integer.{i64 as kind_i64, u64 as kind_u64};
 ghost use Rattle.tera_meaning.specs.Question;
-ghost use Rattle.tera_meaning.specs.Request.{set, remove, mark_safe, ask, weigh, find, asking, asking_into};
+ghost use Rattle.tera_meaning.specs.Request.{set, remove, mark_safe, ask, weigh, find, asking};
+ghost use Rattle.tera_meaning.specs.Request.{asking_into};
 ghost use Rattle.tera_meaning.specs.Search;
 ghost use Rattle.tera_meaning.specs.Tree.{none, number, text, bytes, array, items};
 ghost use Rattle.tera_meaning.specs.Weighing;
@@ -13,7 +14,8 @@ ghost use Rattle.tera_script.specs.Nested.{in_brackets, in_arrays};
 pub fn worked_calls()
     ensures eq { Says (codes "eq a b") (asking (weigh Weighing.equal (codes "a") (codes "b"))) }
     ensures cmp { Says (codes "cmp a b") (asking (weigh Weighing.compare (codes "a") (codes "b"))) }
-    ensures try_cmp { Says (codes "try_cmp a b") (asking (weigh Weighing.try_compare (codes "a") (codes "b"))) }
+    ensures try_cmp { Says (codes "try_cmp a b")
+        (asking (weigh Weighing.try_compare (codes "a") (codes "b"))) }
     ensures print { Says (codes "\tprint _x9 ") (asking (ask Question.print (codes "_x9"))) }
     ensures remove { Says (codes "remove a") (asking (remove (codes "a"))) }
     ensures has { Says (codes "has a") (asking (ask Question.has (codes "a"))) }
@@ -28,7 +30,8 @@ pub fn worked_calls()
 
 /// Lines that name where what is found is to be kept.
 pub fn worked_names()
-    ensures get { Says (codes "get a -> b") (asking_into (find (Search.get (codes "a"))) (codes "b")) }
+    ensures get { Says (codes "get a -> b")
+        (asking_into (find (Search.get (codes "a"))) (codes "b")) }
     ensures mark_safe { Says (codes "mark_safe a\t->  a ")
         (asking_into (mark_safe (codes "a")) (codes "a")) }
     ensures has { IsBad (codes "has a -> b") }
@@ -49,7 +52,8 @@ pub fn worked_values()
     ensures no_suffix { Says (codes "set a 1")
         (asking (set (codes "a") (number (record { kind = kind_i64; value = pos 1 })))) }
     ensures safe_text { Says (codes "set t s\"a\\u{e9}\\n\"")
-        (asking (set (codes "t") (text (record { spelled = 97 ∷ 195 ∷ 169 ∷ 10 ∷ []; safe = true })))) }
+        (asking (set (codes "t")
+        (text (record { spelled = 97 ∷ 195 ∷ 169 ∷ 10 ∷ []; safe = true })))) }
     ensures byte_string { Says (codes "set a x\"6aFF\"")
         (asking (set (codes "a") (bytes (106 ∷ 255 ∷ [])))) }
     ensures no_bytes { Says (codes "set a x\"\"") (asking (set (codes "a") (bytes []))) }

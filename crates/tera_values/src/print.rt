@@ -2,7 +2,8 @@
 ghost use Rattle.std.specs.Prelude.{◌≡◌, IsTrue, IsOk, OnOk, OnErr, IfOk, IfErr};
 ghost use Rattle.std.specs.String.{string_bytes};
 ghost use Rattle.tera_meaning.specs.Meaning.{plain};
-ghost use Rattle.tera_meaning.specs.Printed.{Prints, PrintsInside, is_exact, printed, printed_truth};
+ghost use Rattle.tera_meaning.specs.Printed.{Prints, PrintsInside, is_exact, printed};
+ghost use Rattle.tera_meaning.specs.Printed.{printed_truth};
 ghost use Rattle.tera_report.specs.Errors.{IsOutOfMemory};
 ghost use Rattle.tera_report.specs.Room.{RoomTakes, RoomFails, IsDecided};
 ghost use Rattle.tera_report.specs.Sink.{OfSome, Puts, PutsThese};
@@ -10,7 +11,9 @@ ghost use Rattle.tera_report.specs.Watch.{WatchedTakes, WatchedFails};
 ghost use Rattle.tera_report.specs.Writer.{Breaks};
 ghost use Rattle.tera_values.specs.Key.{key_form, meaning_of_key};
 ghost use Rattle.tera_values.specs.Map.{pairs_in};
-ghost use Rattle.tera_values.specs.Print.{PrintsArray, PrintsItems, WritesInside, WritesPrinted, printed_if_exact, PrintsMap, PrintsPairs, PrintsPair, PrintsKey, PrintsNothing};
+ghost use Rattle.tera_values.specs.Print.{PrintsArray, PrintsItems, WritesInside, WritesPrinted};
+ghost use Rattle.tera_values.specs.Print.{printed_if_exact, PrintsMap, PrintsPairs, PrintsPair};
+ghost use Rattle.tera_values.specs.Print.{PrintsKey, PrintsNothing};
 
 use crate::lossy::put_lossy;
 use crate::map::next_pair;
@@ -25,10 +28,10 @@ use tera_report::sink::{Full, Growing, Room, Sink};
 use tera_report::watch::{Watched, Writer};
 
 impl Value {
-    /// Writes the printed text. Undefined and none print nothing, a text itself, bytes the text that
-    /// they are, with U+FFFD for what is no character, an array its items between brackets, and a
-    /// map its pairs between braces in the order of their keys; texts in arrays and maps are quoted.
-    /// Mirrors `Value::format`, which is private there.
+    /// Writes the printed text. Undefined and none print nothing, a text itself, bytes the text
+    /// that they are, with U+FFFD for what is no character, an array its items between brackets,
+    /// and a map its pairs between braces in the order of their keys; texts in arrays and maps are
+    /// quoted. Mirrors `Value::format`, which is private there.
     ///
     /// Answers an error only where, during the call, a write of the writer answered an error or
     /// took no byte; then a beginning may be written. Takes no memory.
@@ -51,8 +54,8 @@ impl Value {
         self.print_to(out)
     }
 
-    /// Writes what is printed of the value inside an array or a map: a text in debug form, and every
-    /// other value as `format` does.
+    /// Writes what is printed of the value inside an array or a map: a text in debug form, and
+    /// every other value as `format` does.
     ///
     /// Answers an error only where, during the call, a write of the writer answered an error or
     /// took no byte; then a beginning may be written. Takes no memory.

@@ -24,8 +24,8 @@ pub fn is_one(context: &Context, name: &str) -> bool
 
 /// What a name holds as text for a page: printed, and escaped. `Out of memory` is the only refusal.
 pub fn shown(alloc: Global, context: &Context, name: &str) -> TeraResult<String>
-    ensures ok { IfOk result (λ word. (text : List ℕ) × Prints (meaning_at context.now name.now) text
-        × Spells (string_bytes word) text) }
+    ensures ok { IfOk result (λ word. (text : List ℕ)
+        × Prints (meaning_at context.now name.now) text × Spells (string_bytes word) text) }
     ensures err { IfErr result IsOutOfMemory }
 {
     let absent = Value::undefined();

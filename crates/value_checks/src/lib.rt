@@ -1,4 +1,5 @@
-//! Tests of values, keys and maps through their public calls: values from outside, printed texts, and faults of writers.
+//! Tests of values, keys and maps through their public calls: values from outside, printed texts,
+//! and faults of writers.
 #![tactic(auto)]
 
 #[cfg(test)]

@@ -1,11 +1,16 @@
-// The texts of refusals, tried on numbers and names from outside. Each function here does nothing: its clauses are the
-// rows.
+// The texts of refusals, tried on numbers and names from outside. Each function here does nothing:
+// its clauses are the rows.
 ghost use Rattle.std.specs.Prelude.{◌≡◌, ◌^◌, ◌-◌, ◌++◌, ℕ, ℤ, List, [], codes, pos, negsuc, Some};
-ghost use Rattle.tera_report.specs.Refusal.{not_a_number, operand_outside_i128, not_exact, divided_by_zero, exponent_outside_u32};
-ghost use Rattle.tera_report.specs.Refusal.{negation_outside_i128, negated_no_number, not_a_key, not_a_map_key, not_an_index};
-ghost use Rattle.tera_report.specs.Refusal.{step_of_zero, not_sliceable, not_reversible, not_a_container};
-ghost use Rattle.tera_report.specs.Refusal.{invalid_argument, missing_argument, number_out_of_range, number_outside_i128};
-ghost use Rattle.tera_report.specs.Refusal.{memory_refused, message, out_of_range, stated, shape, text_of};
+ghost use Rattle.tera_report.specs.Refusal.{not_a_number, operand_outside_i128, not_exact};
+ghost use Rattle.tera_report.specs.Refusal.{divided_by_zero, exponent_outside_u32};
+ghost use Rattle.tera_report.specs.Refusal.{negation_outside_i128, negated_no_number, not_a_key};
+ghost use Rattle.tera_report.specs.Refusal.{not_a_map_key, not_an_index};
+ghost use Rattle.tera_report.specs.Refusal.{step_of_zero, not_sliceable, not_reversible};
+ghost use Rattle.tera_report.specs.Refusal.{not_a_container};
+ghost use Rattle.tera_report.specs.Refusal.{invalid_argument, missing_argument};
+ghost use Rattle.tera_report.specs.Refusal.{number_out_of_range, number_outside_i128};
+ghost use Rattle.tera_report.specs.Refusal.{memory_refused, message, out_of_range, stated, shape};
+ghost use Rattle.tera_report.specs.Refusal.{text_of};
 ghost use Rattle.tera_report.specs.Refusal.{plus, minus, times, remainder, floor_division, power};
 ghost use Rattle.tera_report.specs.Refusal.{Refusal, in_array, in_text};
 
@@ -14,8 +19,8 @@ pub fn refusals_of_arithmetic_have_these_texts()
     ensures kind { text_of (not_a_number (codes "string"))
         ≡ Some (codes "Only numbers can be used in arithmetic. This is a `string`") }
     ensures operand { text_of (operand_outside_i128 (pos (2 ^ 128 - 1)))
-        ≡ Some (codes "Operand `340282366920938463463374607431768211455` is out of range for integer "
-        ++ codes "arithmetic (must fit in i128)") }
+        ≡ Some (codes "Operand `340282366920938463463374607431768211455` is out of range for "
+        ++ codes "integer arithmetic (must fit in i128)") }
     ensures sum { text_of (not_exact (pos (2 ^ 127 - 1)) plus (pos 1))
         ≡ Some (codes "Unable to perform 170141183460469231731687303715884105727 + 1") }
     ensures difference { text_of (not_exact (negsuc (2 ^ 127 - 1)) minus (pos 1))
@@ -32,7 +37,8 @@ pub fn refusals_of_arithmetic_have_these_texts()
     ensures exponent { text_of (exponent_outside_u32 (negsuc 0))
         ≡ Some (codes "Exponent -1 is out of range for integer ** (must fit in u32)") }
     ensures negation { text_of (negation_outside_i128 (pos (2 ^ 127)))
-        ≡ Some (codes "Cannot negate 170141183460469231731687303715884105728: result would overflow i128") }
+        ≡ Some (codes "Cannot negate 170141183460469231731687303715884105728: result would "
+        ++ codes "overflow i128") }
     ensures negated { text_of (negated_no_number (codes "string"))
         ≡ Some (codes "Only numbers can be negated. This is a `string`") }
 {}
@@ -49,10 +55,11 @@ pub fn refusals_of_look_ups_have_these_texts()
     ensures step { text_of step_of_zero ≡ Some (codes "Slicing step cannot be 0") }
     ensures slice { text_of (not_sliceable (codes "undefined"))
         ≡ Some (codes "Slicing can only be used on arrays or strings, not on `undefined`.") }
-    ensures reversed { text_of (not_reversible (codes "bool")) ≡ Some (codes "Value of type bool cannot be reversed") }
+    ensures reversed { text_of (not_reversible (codes "bool"))
+        ≡ Some (codes "Value of type bool cannot be reversed") }
     ensures container { text_of (not_a_container (codes "i64"))
-        ≡ Some (codes "`in` cannot be used on a container of type `i64`. It can only be used on arrays, strings "
-        ++ codes "and map/structs") }
+        ≡ Some (codes "`in` cannot be used on a container of type `i64`. It can only be used on "
+        ++ codes "arrays, strings and map/structs") }
 {}
 
 /// What conversions and arguments refuse is told by the type that is wanted.
@@ -65,7 +72,8 @@ pub fn refusals_of_conversions_have_these_texts()
         ≡ Some (codes "Value `-1` is out of range for `usize`") }
     ensures number { text_of (number_outside_i128 (pos (2 ^ 128 - 1)))
         ≡ Some (codes "Number `340282366920938463463374607431768211455` is out of range for i128") }
-    ensures missing { text_of (missing_argument (codes "n")) ≡ Some (codes "Missing keyword argument `n`") }
+    ensures missing { text_of (missing_argument (codes "n"))
+        ≡ Some (codes "Missing keyword argument `n`") }
     ensures memory { text_of memory_refused ≡ Some (codes "Out of memory") }
 {}
 
@@ -74,13 +82,17 @@ pub fn errors_say_the_text_of_their_refusal()
     ensures text { (refusal : Refusal) → text_of (stated refusal) ≡ text_of refusal }
     ensures message { stated (not_a_number (codes "none"))
         ≡ message (codes "Only numbers can be used in arithmetic. This is a `none`") }
-    ensures range { stated (number_out_of_range (pos 300) (codes "u8")) ≡ out_of_range (codes "300") (codes "u8") }
+    ensures range { stated (number_out_of_range (pos 300) (codes "u8"))
+        ≡ out_of_range (codes "300") (codes "u8") }
 {}
 
 /// The shape of a refusal forgets the name of the kind that a value really has, and nothing else.
 pub fn shapes_forget_the_kind_alone()
     ensures twice { (refusal : Refusal) → shape (shape refusal) ≡ shape refusal }
-    ensures kind { (actual other : List ℕ) → shape (not_a_number actual) ≡ shape (not_a_number other) }
-    ensures wanted { (expected actual : List ℕ) → shape (invalid_argument expected actual) ≡ invalid_argument expected [] }
-    ensures number { (left right : ℤ) → shape (not_exact left plus right) ≡ not_exact left plus right }
+    ensures kind { (actual other : List ℕ)
+        → shape (not_a_number actual) ≡ shape (not_a_number other) }
+    ensures wanted { (expected actual : List ℕ)
+        → shape (invalid_argument expected actual) ≡ invalid_argument expected [] }
+    ensures number { (left right : ℤ)
+        → shape (not_exact left plus right) ≡ not_exact left plus right }
 {}
