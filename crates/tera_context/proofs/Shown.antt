@@ -10,6 +10,7 @@ use Rattle.tera_meaning.specs.Request.{find}
 use Rattle.tera_meaning.specs.Search.{Search, found_at, IsCopy}
 use Rattle.tera_meaning.specs.State.{State}
 use Rattle.tera_meaning.specs.Step.{found_or_kept, keeping, IsStep}
+use Rattle.tera_meaning.proofs.StepLaws.{refused_answer, refused_left}
 use Rattle.tera_context.specs.declared.call.Answer.{Answer}
 use Rattle.tera_context.specs.Steps.{ShowsOutcome, ShowsOneOf, ShowsFound}
 
@@ -34,21 +35,13 @@ shown_outcome (Ok answer) P holds = (_, refl, holds)
 shown_outcome (Err e) P (refusal, shows, holds) = (Err refusal, (refusal, shows, refl), holds)
 
 -- a search that was refused, or that wanted memory, changes nothing
-refused_outcome : (into : Option (List ℕ)) (refusal : Refusal) → found_or_kept into (Err refusal) ≡ Err refusal
-refused_outcome None refusal = refl
-refused_outcome (Some into) refusal = refl
-
-refused_state : (state : State) (into : Option (List ℕ)) (refusal : Refusal) → keeping state into (Err refusal) ≡ state
-refused_state state None refusal = refl
-refused_state state (Some into) refusal = refl
-
 pub search_refused : (r : Result Answer Error) (e : Error) (state : State) (search : Search) (into : Option (List ℕ))
     → IsErrAnd r (λ f. f ≡ e) → ShowsFound (Err e) state search
     → ShowsOneOf r (λ outcome. IsStep state (record { request = find search; into = into }) outcome state)
 search_refused r e state search into passed (inl (refusal, shows, found)) =
     refusal_shown r e _ passed refusal shows (inl (
-      sym (ap (found_or_kept into) found ∙ refused_outcome into refusal),
-      sym (ap (keeping state into) found ∙ refused_state state into refusal),
+      sym (ap (found_or_kept into) found ∙ refused_answer into refusal),
+      sym (ap (keeping state into) found ∙ refused_left state into refusal),
     ))
 search_refused r e state search into passed (inr (is, why)) =
     want_shown r e _ passed is (inr (inr why, refl, refl))

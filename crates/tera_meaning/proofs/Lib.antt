@@ -8,6 +8,6 @@ mod MeantLaws
 mod PrintedLaws
 pub mod UniqueLaws
 mod RunLaws
-mod StepLaws
+pub mod StepLaws
 mod Utf8Laws
 mod WellMadeLaws

@@ -17,6 +17,7 @@ use Rattle.tera_meaning.specs.Step.{found_or_kept, ComesTo, IsOutcome, IsFixed, 
 use Rattle.tera_meaning.specs.Run.{IsRun, AreOutcomes, AreFixed, state_after_all, commands_with_memory, outcomes_with_memory, NoneWantsMemory, IsAmpleRun}
 use Rattle.tera_meaning.specs.Alike.{MeanTheSame, AllAskTheSame, AreAlike, meaning_held}
 use Rattle.tera_meaning.specs.Weighing.{Weighing, weighed}
+use Rattle.tera_meaning.proofs.StepLaws.{refused_answer}
 use Rattle.tera_meaning.proofs.AlikeLaws.{word_alike, all_outcomes_alike, states_alike}
 
 -- no request comes to want of memory
@@ -32,16 +33,12 @@ never_weighed weighing v w e = cc
 never_searched : (state : State) (search : Search) → found_at state search ≡ Err memory_refused → ⊥
 never_searched state (Search.get name) e = cc
 
-passed_on : (into : Option (List ℕ)) (refusal : Refusal) → found_or_kept into (Err refusal) ≡ Err refusal
-passed_on None refusal = refl
-passed_on (Some into) refusal = refl
-
 want_is : (refusal : Refusal) → ◌≡◌ {A = Outcome} (Err memory_refused) (Err refusal) → refusal ≡ memory_refused
 want_is refusal e = cc
 
 never_found : (into : Option (List ℕ)) (found : Found) → (found ≡ Err memory_refused → ⊥)
     → out_of_memory ≡ found_or_kept into found → ⊥
-never_found into (Err refusal) n e = n (λ i. Err (want_is refusal (e ∙ passed_on into refusal) i))
+never_found into (Err refusal) n e = n (λ i. Err (want_is refusal (e ∙ refused_answer into refusal) i))
 never_found None (Ok value) n e = cc
 never_found (Some into) (Ok None) n e = cc
 never_found (Some into) (Ok (Some value)) n e = cc

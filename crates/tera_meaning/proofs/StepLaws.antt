@@ -96,6 +96,15 @@ module _ (state : State) (name : List ℕ) where
   pub marked_alike : MeanTheSame (state_after state (asking (mark_safe name))) state
   marked_alike = marked_held (held_at state name) refl
 
+-- a refusal is passed on, and keeps nothing
+pub refused_answer : (into : Option (List ℕ)) (refusal : Refusal) → found_or_kept into (Err refusal) ≡ Err refusal
+refused_answer None refusal = refl
+refused_answer (Some into) refusal = refl
+
+pub refused_left : (state : State) (into : Option (List ℕ)) (refusal : Refusal) → keeping state into (Err refusal) ≡ state
+refused_left state None refusal = refl
+refused_left state (Some into) refusal = refl
+
 -- what is found is kept or answered, by what is found alone
 module _ (state : State) (search : Search) where
   pub kept_done : (into : List ℕ) (value : Form) (outcome : Outcome) → found_at state search ≡ Ok (Some value)
@@ -121,18 +130,10 @@ module _ (state : State) (search : Search) where
   pub nothing_kept : (into : Option (List ℕ)) → found_at state search ≡ Ok None → leaves state (find search) into ≡ state
   nothing_kept into e = ap (keeping state into) e ∙ nothing_left into
 
-  refused_answer : (into : Option (List ℕ)) (refusal : Refusal) → found_or_kept into (Err refusal) ≡ Err refusal
-  refused_answer None refusal = refl
-  refused_answer (Some into) refusal = refl
-
   pub refusal_passed : (into : Option (List ℕ)) (refusal : Refusal) (outcome : Outcome)
       → found_at state search ≡ Err refusal → ComesTo state (find search) into outcome → outcome ≡ Err refusal
   refusal_passed into refusal outcome e o = o ∙ ap (found_or_kept into) e ∙ refused_answer into refusal
 
-  refused_left : (into : Option (List ℕ)) (refusal : Refusal) → keeping state into (Err refusal) ≡ state
-  refused_left None refusal = refl
-  refused_left (Some into) refusal = refl
-
   pub refusal_keeps : (into : Option (List ℕ)) (refusal : Refusal) → found_at state search ≡ Err refusal
       → leaves state (find search) into ≡ state
-  refusal_keeps into refusal e = ap (keeping state into) e ∙ refused_left into refusal
+  refusal_keeps into refusal e = ap (keeping state into) e ∙ refused_left state into refusal

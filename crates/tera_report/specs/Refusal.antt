@@ -137,14 +137,30 @@ stated memory_refused = memory_refused
 stated (number_out_of_range number target) = out_of_range (signed_decimal number) target
 stated refusal = message (unwrap_or (text_of refusal) [])
 
--- the refusal without the name of the type that a value really has
+-- the name of the kind that a value really has, of a refusal that tells it
+abbrev pub actual_in : Refusal → List ℕ
+actual_in (invalid_argument expected actual) = actual
+actual_in (not_a_number actual) = actual
+actual_in (negated_no_number actual) = actual
+actual_in (not_a_map_key actual) = actual
+actual_in (not_an_index container actual) = actual
+actual_in (not_sliceable actual) = actual
+actual_in (not_reversible actual) = actual
+actual_in (not_a_container actual) = actual
+actual_in refusal = []
+
+-- the refusal with that name in its place
+abbrev pub with_actual : Refusal → List ℕ → Refusal
+with_actual (invalid_argument expected actual) name = invalid_argument expected name
+with_actual (not_a_number actual) name = not_a_number name
+with_actual (negated_no_number actual) name = negated_no_number name
+with_actual (not_a_map_key actual) name = not_a_map_key name
+with_actual (not_an_index container actual) name = not_an_index container name
+with_actual (not_sliceable actual) name = not_sliceable name
+with_actual (not_reversible actual) name = not_reversible name
+with_actual (not_a_container actual) name = not_a_container name
+with_actual refusal name = refusal
+
+-- the refusal without the name of the kind that a value really has
 abbrev pub shape : Refusal → Refusal
-shape (invalid_argument expected actual) = invalid_argument expected []
-shape (not_a_number actual) = not_a_number []
-shape (negated_no_number actual) = negated_no_number []
-shape (not_a_map_key actual) = not_a_map_key []
-shape (not_an_index container actual) = not_an_index container []
-shape (not_sliceable actual) = not_sliceable []
-shape (not_reversible actual) = not_reversible []
-shape (not_a_container actual) = not_a_container []
-shape refusal = refusal
+shape refusal = with_actual refusal []

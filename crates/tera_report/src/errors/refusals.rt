@@ -4,15 +4,14 @@ ghost use Rattle.std.specs.Prelude.{◌≡◌, ◌^◌, ◌-◌, ◌++◌, ℕ, 
 ghost use Rattle.tera_report.specs.Refusal.{not_a_number, operand_outside_i128, not_exact};
 ghost use Rattle.tera_report.specs.Refusal.{divided_by_zero, exponent_outside_u32};
 ghost use Rattle.tera_report.specs.Refusal.{negation_outside_i128, negated_no_number, not_a_key};
-ghost use Rattle.tera_report.specs.Refusal.{not_a_map_key, not_an_index};
-ghost use Rattle.tera_report.specs.Refusal.{step_of_zero, not_sliceable, not_reversible};
-ghost use Rattle.tera_report.specs.Refusal.{not_a_container};
+ghost use Rattle.tera_report.specs.Refusal.{not_a_map_key, not_an_index, step_of_zero};
+ghost use Rattle.tera_report.specs.Refusal.{not_sliceable, not_reversible, not_a_container};
 ghost use Rattle.tera_report.specs.Refusal.{invalid_argument, missing_argument};
 ghost use Rattle.tera_report.specs.Refusal.{number_out_of_range, number_outside_i128};
 ghost use Rattle.tera_report.specs.Refusal.{memory_refused, message, out_of_range, stated, shape};
-ghost use Rattle.tera_report.specs.Refusal.{text_of};
-ghost use Rattle.tera_report.specs.Refusal.{plus, minus, times, remainder, floor_division, power};
-ghost use Rattle.tera_report.specs.Refusal.{Refusal, in_array, in_text};
+ghost use Rattle.tera_report.specs.Refusal.{text_of, plus, minus, times, remainder, floor_division};
+ghost use Rattle.tera_report.specs.Refusal.{power, Refusal, in_array, in_text, actual_in};
+ghost use Rattle.tera_report.specs.Refusal.{with_actual};
 
 /// What arithmetic refuses is told by the operand or by both and their operator.
 pub fn refusals_of_arithmetic_have_these_texts()
@@ -86,9 +85,12 @@ pub fn errors_say_the_text_of_their_refusal()
         ≡ out_of_range (codes "300") (codes "u8") }
 {}
 
-/// The shape of a refusal forgets the name of the kind that a value really has, and nothing else.
+/// The shape of a refusal forgets the name of the kind that a value really has, and nothing else:
+/// with that name put back it is the refusal.
 pub fn shapes_forget_the_kind_alone()
-    ensures twice { (refusal : Refusal) → shape (shape refusal) ≡ shape refusal }
+    ensures forgotten { (refusal : Refusal) → actual_in (shape refusal) ≡ [] }
+    ensures alone { (refusal : Refusal)
+        → with_actual (shape refusal) (actual_in refusal) ≡ refusal }
     ensures kind { (actual other : List ℕ)
         → shape (not_a_number actual) ≡ shape (not_a_number other) }
     ensures wanted { (expected actual : List ℕ)
