@@ -1,5 +1,5 @@
 -- A run goes on by one step.
-use Rattle.std.specs.Prelude.{List, [], ◌∷◌, ◌++◌, Result, map, refl}
+use Rattle.std.specs.Prelude.{List, [], ◌∷◌, ◌++◌, Result, refl}
 use Rattle.std.proofs.Common.{subst}
 use Rattle.std.specs.List.{AllZip}
 use Rattle.tera_report.specs.declared.errors.Error.{Error}

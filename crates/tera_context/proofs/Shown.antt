@@ -1,13 +1,12 @@
 -- What results show of the model's outcomes.
-use Rattle.std.specs.Prelude.{◌≡◌, ◌⊎◌, ℕ, List, [], ◌∷◌, Option, Some, None, Result, Ok, Err, IsErr, IsErrAnd, IsSome, refl}
+use Rattle.std.specs.Prelude.{◌≡◌, ℕ, List, Option, Result, Ok, Err, IsErrAnd, refl}
 use Rattle.std.proofs.Common.{sym, ◌∙◌, ap, subst, inl, inr}
 use Rattle.tera_report.specs.declared.errors.Error.{Error}
 use Rattle.tera_report.specs.Errors.{Shows, IsOutOfMemory}
 use Rattle.tera_report.specs.Refusal.{Refusal, memory_refused}
-use Rattle.tera_meaning.specs.Form.{Form}
 use Rattle.tera_meaning.specs.Outcome.{Outcome, out_of_memory}
 use Rattle.tera_meaning.specs.Request.{find}
-use Rattle.tera_meaning.specs.Search.{Search, found_at, IsCopy}
+use Rattle.tera_meaning.specs.Search.{Search}
 use Rattle.tera_meaning.specs.State.{State}
 use Rattle.tera_meaning.specs.Step.{found_or_kept, keeping, IsStep}
 use Rattle.tera_meaning.proofs.StepLaws.{refused_answer, refused_left}
@@ -27,6 +26,12 @@ refusal_shown (Err f) e P passed refusal shows holds =
 pub want_shown : (r : Result Answer Error) (e : Error) (P : Outcome → Type 0) → IsErrAnd r (λ f. f ≡ e)
     → IsOutOfMemory e → P out_of_memory → ShowsOneOf r P
 want_shown r e P passed is holds = refusal_shown r e P passed memory_refused (want_shows e is) holds
+
+-- a want of memory that was passed on
+pub want_passed : (r : Result Answer Error) (P : Outcome → Type 0) → IsErrAnd r IsOutOfMemory → P out_of_memory
+    → ShowsOneOf r P
+want_passed (Ok answer) P is holds = absurd is
+want_passed (Err e) P is holds = (memory_refused, want_shows e is, holds)
 
 -- what is shown is one outcome
 pub shown_outcome : (r : Result Answer Error) (P : Outcome → Type 0) → ShowsOneOf r P

@@ -1,13 +1,12 @@
 -- What the results of steps show.
-use Rattle.std.specs.Prelude.{◌≡◌, ◌⊎◌, ℕ, List, Option, Result, Ok, Err, IsErr, IsSome}
+use Rattle.std.specs.Prelude.{◌≡◌, ◌⊎◌, Option, Result, Ok, Err, IsErr}
 use Rattle.tera_report.specs.declared.errors.Error.{Error}
 use Rattle.tera_report.specs.Errors.{Shows, IsOutOfMemory}
 use Rattle.tera_report.specs.Refusal.{Refusal}
 use Rattle.tera_meaning.specs.Form.{Form}
-use Rattle.tera_meaning.specs.Outcome.{Outcome, out_of_memory}
-use Rattle.tera_meaning.specs.Search.{Search, Found, found_at, IsCopy}
+use Rattle.tera_meaning.specs.Outcome.{Outcome}
+use Rattle.tera_meaning.specs.Search.{Search, found_at, IsCopy}
 use Rattle.tera_meaning.specs.State.{State}
-use Rattle.tera_meaning.specs.Step.{found_or_kept, keeping}
 use Rattle.tera_context.specs.declared.call.Answer.{Answer}
 use Rattle.tera_context.specs.Call.{answer_of}
 

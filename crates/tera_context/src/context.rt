@@ -1,17 +1,15 @@
 //! The values that a template's names stand for.
-ghost use Rattle.std.specs.Prelude.{◌≡◌, MatchOption, None, Some, OnOk, OnErr, IfErr};
+ghost use Rattle.std.specs.Prelude.{◌≡◌, MatchOption, None, Some, OnOk, OnErr};
 ghost use Rattle.std.specs.FinMap.{empty, get, contains_key, insert, remove};
 ghost use Rattle.std.specs.String.{string_bytes};
 ghost use Rattle.tera_meaning.specs.Read.{marked_safe};
 ghost use Rattle.tera_meaning.specs.Step.{marking};
 ghost use Rattle.tera_meaning.specs.WellMade.{IsWellMadeState};
-ghost use Rattle.tera_report.specs.Errors.{IsOutOfMemory};
 
-use std::alloc::Global;
+use std::alloc::{AllocError, Global};
 use std::collections::BTreeMap;
 use std::marker::Model;
 use std::mem;
-use tera_report::TeraResult;
 use tera_values::{Value, is_well_made};
 
 /// Finitely many names, and a value for each. Mirrors `tera::Context`.
@@ -92,10 +90,9 @@ impl Context {
 
     /// Keeps the value under the name, in the place of what was there.
     ///
-    /// Takes memory; the only refusal is want of it, `Out of memory`, and then nothing has changed.
-    pub(crate) fn keep(&mut self, name: String, value: Value) -> TeraResult<()>
+    /// Takes memory; where it is refused nothing has changed.
+    pub(crate) fn keep(&mut self, name: String, value: Value) -> Result<(), AllocError>
         ensures ok { OnOk result (self.new ≡ insert self.old (string_bytes name) value) }
-        ensures err { IfErr result IsOutOfMemory }
         ensures unchanged { OnErr result (self.new ≡ self.old) }
     {
         self.values.insert(name, value)?;

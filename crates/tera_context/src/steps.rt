@@ -2,6 +2,7 @@
 ghost use Rattle.std.specs.Prelude.{◌≡◌, ℕ, List, map, unwrap_or, IfOk, IfErr, OnErr};
 ghost use Rattle.std.specs.FinMap.{get};
 ghost use Rattle.std.specs.List.{AllZip};
+ghost use Rattle.std.specs.Mem.{manually_drop_value};
 ghost use Rattle.std.specs.Option.{option_map};
 ghost use Rattle.std.specs.String.{string_bytes};
 ghost use Rattle.tera_meaning.specs.Form.{Form};
@@ -13,12 +14,14 @@ ghost use Rattle.tera_meaning.specs.Search;
 ghost use Rattle.tera_meaning.specs.Search.{Search};
 ghost use Rattle.tera_meaning.specs.State.{form_at};
 ghost use Rattle.tera_meaning.specs.Step.{IsStep};
+ghost use Rattle.tera_meaning.specs.Tree.{undefined};
 ghost use Rattle.tera_report.specs.Errors.{IsOutOfMemory};
 ghost use Rattle.tera_context.specs.Call.{command_of};
 ghost use Rattle.tera_context.specs.Steps.{ShowsOutcome, ShowsOneOf, ShowsFound};
 
 use crate::call::{Answer, Call, Step};
 use crate::context::Context;
+use std::mem::ManuallyDrop;
 use tera_report::{TeraResult, escape_text};
 use tera_values::Value;
 
@@ -32,7 +35,7 @@ pub fn step(context: &mut Context, step: Step) -> TeraResult<Answer>
         IsStep context.old (command_of step) outcome context.new) }
 {
     let Step { call, into } = step;
-    let absent = Value::undefined();
+    let absent = absent_value();
     match call {
         Call::Set { name, value } => set(context, name, value),
         Call::Remove { name } => Ok(Answer::Found(context.remove(&name))),
@@ -64,6 +67,13 @@ pub fn step(context: &mut Context, step: Step) -> TeraResult<Answer>
     }
 }
 
+// What a name that isn't there reads as. It holds nothing that would have to be dropped.
+fn absent_value() -> ManuallyDrop<Value>
+    ensures { manually_drop_value result ≡ undefined }
+{
+    ManuallyDrop::new(Value::undefined())
+}
+
 // The value of a name, and the absent one where there is none.
 fn value_at<'a>(context: &'a Context, name: &str, absent: &'a Value) -> &'a Value
     ensures { result.now ≡ unwrap_or (get context.now name.now) absent.now }
@@ -89,7 +99,7 @@ fn mark_safe(context: &mut Context, name: &str, into: Option<String>) -> TeraRes
 {
     match into {
         Some(into) => {
-            let absent = Value::undefined();
+            let absent = absent_value();
             let value = value_at(context, name, &absent).clone(context.allocator())?;
             context.keep(into, value.mark_safe())?;
             Ok(Answer::Done)
@@ -106,7 +116,7 @@ fn print(context: &Context, name: &str) -> TeraResult<Answer>
     ensures { ShowsOneOf result (λ outcome.
         IsStep context.now (asking (ask Question.print name.now)) outcome context.now) }
 {
-    let absent = Value::undefined();
+    let absent = absent_value();
     let value = value_at(context, name, &absent);
     Ok(Answer::Text(value.to_text(context.allocator())?))
 }
@@ -116,7 +126,7 @@ fn escape(context: &Context, name: &str) -> TeraResult<Answer>
     ensures { ShowsOneOf result (λ outcome.
         IsStep context.now (asking (ask Question.escape name.now)) outcome context.now) }
 {
-    let absent = Value::undefined();
+    let absent = absent_value();
     let text = value_at(context, name, &absent).to_text(context.allocator())?;
     Ok(Answer::Text(escape_text(context.allocator(), &text)?))
 }

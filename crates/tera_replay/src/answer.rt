@@ -72,7 +72,6 @@ fn order_line(order: Option<Ordering>) -> &'static [u8]
 }
 
 // Writes a value: undefined and none by their names, and any other as it prints inside an array.
-#[inline(never)]
 fn write_value<W: Output>(alloc: Global, value: &Value, out: &mut W) -> Result<(), Fault>
     ensures ok { OnOk result ((form : List ℕ) × IsFormOf value.now form
         × Appends (W.holds out.old) (W.holds out.new) (ended (codes "value " ++ form))) }
@@ -143,7 +142,6 @@ fn write_kind<W: Output>(kind: ValueKind, out: &mut W) -> Result<(), WriteError>
 }
 
 // Writes a refusal. Want of memory takes none, so that its reply fails only where a write does.
-#[inline(never)]
 fn write_refusal<W: Output>(alloc: Global, error: &Error, out: &mut W) -> Result<(), Fault>
     ensures ok { OnOk result ((text : List ℕ) × TellsRefusal (refusal_of (kind_of error.now)) text
         × Appends (W.holds out.old) (W.holds out.new) (ended (codes "error: " ++ text))) }

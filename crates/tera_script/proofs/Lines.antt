@@ -1,5 +1,5 @@
 -- Whole lines.
-use Rattle.std.proofs.Common.{◌≡◌, ℕ, Bool, true, false, List, [], ◌∷◌, ◌++◌, None, refl, ap, sym, ◌∙◌, inl, inr, arith, append_assoc, append-nil, subst}
+use Rattle.std.proofs.Common.{◌≡◌, ◌⊎◌, ℕ, Bool, true, false, List, [], ◌∷◌, ◌++◌, None, refl, ap, sym, ◌∙◌, inl, inr, arith, append_assoc, append-nil, subst}
 use Rattle.std.specs.List.{list_all}
 use Rattle.std.specs.Str.{IsUtf8}
 use Rattle.std.proofs.lemmas.Bool.Decides.{nat_tests}
@@ -56,6 +56,12 @@ past_skipped line (b ∷ rest) e h =
 
 pub is_skipped : (line : List ℕ) → is_end_or_comment (past is_blank line) ≡ true → IsSkipped line
 is_skipped line h = past_skipped line (past is_blank line) refl h
+
+-- a line of UTF-8 whose first byte past the blanks begins no comment is neither skipped nor no UTF-8
+pub says_something : (line : List ℕ) → is_end_or_comment (past is_blank line) ≡ false → IsUtf8 line
+    → IsSkipped line ⊎ (¬ IsUtf8 line) → ⊥
+says_something line goes_on utf8 (inl skipped) = let ends = skipped_past line skipped in cc
+says_something line goes_on utf8 (inr not_utf8) = not_utf8 utf8
 
 name_is_no_comment : (name rest : List ℕ) → IsName name → is_end_or_comment (name ++ rest) ≡ false
 name_is_no_comment [] rest n = absurd n

@@ -169,15 +169,13 @@ fn past_arrow(bytes: &[u8]) -> Option<&[u8]>
     }
 }
 
-// A name as a text of its own.
+// A name as a text of its own. It is ASCII, so nothing is left to be found out.
 fn name_text(alloc: Global, name: &[u8]) -> Result<String, AllocError>
     requires { IsName name.now }
     ensures { IfOk result (λ text. string_bytes text ≡ name.now) }
 {
-    match str::from_utf8(name) {
-        Ok(text) => String::from_str(alloc, text),
-        Err(_) => unreachable!(),
-    }
+    let text = unsafe { str::from_utf8_unchecked(name) };
+    String::from_str(alloc, text)
 }
 
 // A name that may be there, as a text of its own.

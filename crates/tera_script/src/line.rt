@@ -1,5 +1,7 @@
 //! Whole lines.
-ghost use Rattle.std.specs.Prelude.{◌≡◌, IfOk};
+ghost use Rattle.std.specs.Prelude.{◌≡◌, ◌⊎◌, IfOk, IsOk, IsUtf8};
+ghost use Rattle.std.specs.Bool.{MatchBool};
+ghost use Rattle.tera_script.specs.Line.{IsSkipped};
 ghost use Rattle.tera_script.specs.Readers.{is_end_or_comment};
 ghost use Rattle.tera_script.specs.Said.{IsReadingOf};
 
@@ -22,21 +24,30 @@ pub enum Reading {
 
 /// What a line says. The line comes without its end of line.
 ///
-/// Takes memory for names, texts, byte strings and arrays; the only refusal is want of it.
+/// Takes memory for names, texts, byte strings and arrays; the only refusal is want of it. A line
+/// that is skipped or is no UTF-8 takes none.
 pub fn read_line(alloc: Global, line: &[u8]) -> Result<Reading, AllocError>
-    ensures { IfOk result (IsReadingOf line.now) }
+    ensures reading { IfOk result (IsReadingOf line.now) }
+    ensures free { IsSkipped line.now ⊎ (¬ IsUtf8 line.now) → IsOk result }
 {
     let bytes = past_blanks(line);
     if is_end_or_comment(bytes) {
         return Ok(Reading::Skipped);
     }
-    match str::from_utf8(line) {
-        Err(_) => Ok(Reading::Bad),
-        Ok(_) => match read_step(alloc, bytes)? {
-            Some(step) => Ok(Reading::Says(step)),
-            None => Ok(Reading::Bad),
-        },
+    if !is_utf8(line) {
+        return Ok(Reading::Bad);
     }
+    match read_step(alloc, bytes)? {
+        Some(step) => Ok(Reading::Says(step)),
+        None => Ok(Reading::Bad),
+    }
+}
+
+// Whether the bytes are UTF-8. Most lines are ASCII, which is told eight bytes at a time.
+fn is_utf8(bytes: &[u8]) -> bool
+    ensures { MatchBool result (IsUtf8 bytes.now) (¬ IsUtf8 bytes.now) }
+{
+    bytes.is_ascii() || str::from_utf8(bytes).is_ok()
 }
 
 // Whether there are no bytes, or the first begins a comment.

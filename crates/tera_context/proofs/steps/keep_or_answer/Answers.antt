@@ -1,8 +1,8 @@
-use Rattle.std.proofs.Common.{Some, Err, inl, inr, refl, ap, subst, sym}
+use Rattle.std.proofs.Common.{inl, inr, refl, subst}
 use Rattle.std.specs.Option.{option_map}
 use Rattle.std.specs.String.{string_bytes}
 use Rattle.tera_context.specs.Steps.{ShowsFound}
-use Rattle.tera_context.proofs.Shown.{want_shown, search_refused}
+use Rattle.tera_context.proofs.Shown.{want_passed, search_refused}
 use Rattle.tera_context.proofs.steps.keep_or_answer.Goals as goal
 
 pub returns-in_err-found : goal.returns-in_err-found
@@ -13,6 +13,6 @@ returns-in_err-found c search found =
 
 pub returns-in_err-keep-in-Some-Some : goal.returns-in_err-keep-in-Some-Some
 returns-in_err-keep-in-Some-Some c search found =
-    want_shown c.from_residual-in_err-keep-in-Some-Some.result c.in_err-keep-in-Some-Some.field-0.0 _
-    c.from_residual-in_err-keep-in-Some-Some.ensures.1 c.in_err-keep-in-Some-Some.ensures.err
+    want_passed c.from_residual-in_err-keep-in-Some-Some.result _
+    c.from_residual-in_err-keep-in-Some-Some.ensures.1
     (inr (inl (rw (c.in-Some-Some.is-1) refl), refl, c.in_err-keep-in-Some-Some.ensures.unchanged))

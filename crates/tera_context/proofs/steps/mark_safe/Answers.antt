@@ -1,5 +1,5 @@
 use Rattle.std.proofs.Common.{inr, refl}
-use Rattle.tera_context.proofs.Shown.{want_shown}
+use Rattle.tera_context.proofs.Shown.{want_shown, want_passed}
 use Rattle.tera_context.proofs.steps.mark_safe.Goals as goal
 
 pub returns-in_err-value-in-Some : goal.returns-in_err-value-in-Some
@@ -9,6 +9,6 @@ returns-in_err-value-in-Some c =
 
 pub returns-in_err-keep-in-Some : goal.returns-in_err-keep-in-Some
 returns-in_err-keep-in-Some c =
-    want_shown c.from_residual-in_err-keep-in-Some.result c.in_err-keep-in-Some.field-0.0 _
-    c.from_residual-in_err-keep-in-Some.ensures.1 c.in_err-keep-in-Some.ensures.err
+    want_passed c.from_residual-in_err-keep-in-Some.result _
+    c.from_residual-in_err-keep-in-Some.ensures.1
     (inr (rw (c.in-Some.is) refl, refl, c.in_err-keep-in-Some.ensures.unchanged))

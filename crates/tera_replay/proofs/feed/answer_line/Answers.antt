@@ -12,7 +12,7 @@ use Rattle.tera_replay.proofs.feed.answer_line.Goals as goal
 
 pub returns-in-Skipped-clause-ok : goal.returns-in-Skipped-clause-ok
 returns-in-Skipped-clause-ok g c =
-    ([], Runs-skipped _ _ _ (rw c.in-Skipped.is at c.in_ok-read_line.ensures), Appends-none _)
+    ([], Runs-skipped _ _ _ (rw c.in-Skipped.is at c.in_ok-read_line.ensures.reading), Appends-none _)
 
 pub returns-in_ok-write_answer-in-Says-clause-ok :
     goal.returns-in_ok-write_answer-in-Says-clause-ok
@@ -25,6 +25,6 @@ returns-in_ok-write_answer-in-Says-clause-ok g c =
     let written = c.in_ok-write_answer-in-Says.ensures.ok in
     let replied = reply_shown answer shown.0 written.0 shown.1 written.1 in
     let P : Bool → Type 0 = λ w. Runs c.args.number old (c.args.line.now ∷ []) (ended written.0) w new in
-    let says = rw c.in-Says.is at c.in_ok-read_line.ensures in
+    let says = rw c.in-Says.is at c.in_ok-read_line.ensures.reading in
     let runs = Runs-says c.args.number old new c.args.line.now written.0 command shown.0 says shown.2 replied in
     (ended written.0, subst P (sym (want_shown answer shown.0 shown.1) ∙ sym c.is_want.ensures) runs, written.2)

@@ -1,5 +1,5 @@
 use Rattle.tera_script.proofs.Utf8Fronts.{name_utf8}
 use Rattle.tera_script.proofs.command.name_text.Goals as goal
 
-pub unreachable-requires : goal.unreachable-requires
-unreachable-requires c = c.in-Err.ensures.cases.0 (name_utf8 c.args.name.now c.requires)
+pub from_utf8_unchecked-text-requires : goal.from_utf8_unchecked-text-requires
+from_utf8_unchecked-text-requires c = name_utf8 c.args.name.now c.requires
