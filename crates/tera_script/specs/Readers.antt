@@ -12,6 +12,8 @@ use Rattle.tera_meaning.specs.KeyMeaning.{KeyForm}
 use Rattle.tera_meaning.specs.Tree.{Items, undefined, none, truth, number, text as text_value, bytes as bytes_value, array, no_items, item, depth}
 use Rattle.tera_meaning.specs.Request.{Command}
 use Rattle.tera_script.specs.Number.{kind_word, signed}
+use Rattle.tera_script.specs.declared.number.Integer.{Integer as Held}
+use Rattle.tera_script.specs.declared.number.Integer.TheVariants as held
 use Rattle.tera_script.specs.declared.number.Suffix.{Suffix}
 use Rattle.tera_script.specs.declared.number.Suffix.TheVariants.{U64, I64, U128, I128}
 use Rattle.tera_script.specs.declared.verb.Verb.{Verb}
@@ -120,6 +122,13 @@ suffix_kind U64 = u64
 suffix_kind I64 = i64
 suffix_kind U128 = u128
 suffix_kind I128 = i128
+
+-- the number that is held, in its kind
+abbrev pub integer_held : Held → Integer
+integer_held (held.U64 n) = record { kind = u64; value = pos n }
+integer_held (held.I64 z) = record { kind = i64; value = z }
+integer_held (held.U128 n) = record { kind = u128; value = pos n }
+integer_held (held.I128 z) = record { kind = i128; value = z }
 
 -- the value that holds a number
 abbrev pub number_value : Option Integer → Option Form

@@ -5,7 +5,7 @@ ghost use Rattle.tera_script.specs.Readers.{past, is_word_byte, value_in, plain_
 ghost use Rattle.tera_script.specs.Readers.{IsQuotedAt, IsLiteralAt, IsArrayAt};
 
 use crate::hex::take_hex;
-use crate::number::number_in;
+use crate::number::{number_in, value_of};
 use crate::text::take_text;
 use crate::word::past_blanks;
 use std::alloc::{AllocError, Global};
@@ -146,6 +146,6 @@ fn value_in(word: &[u8]) -> Option<Value>
     } else if word == b"false".as_slice() {
         Some(Value::from(false))
     } else {
-        number_in(word)
+        Some(value_of(number_in(word)?))
     }
 }

@@ -5,9 +5,19 @@ ghost use Rattle.std.specs.Option.{option_map};
 ghost use Rattle.tera_meaning.specs.Integer.{i128 as kind_i128};
 ghost use Rattle.tera_script.specs.Number.{signed};
 ghost use Rattle.tera_script.specs.Readers.{Stops, BeginsWithDigit, digits_at, suffix_in, integer_of, is_of_kind};
-ghost use Rattle.tera_script.specs.Readers.{unsigned_in, number_in, number_rest, number_value, suffix_kind};
+ghost use Rattle.tera_script.specs.Readers.{unsigned_in, number_in, number_rest, integer_held, suffix_kind};
+ghost use Rattle.tera_meaning.specs.Tree.{number};
 
 use tera_values::Value;
+
+/// A number in its kind.
+#[derive(Clone, Copy)]
+pub(crate) enum Integer {
+    U64(u64),
+    I64(i64),
+    U128(u128),
+    I128(i128),
+}
 
 // The kind that a suffix names.
 #[derive(Clone, Copy)]
@@ -18,10 +28,22 @@ pub(crate) enum Suffix {
     I128,
 }
 
+/// The value that holds the number. Takes no memory.
+pub(crate) fn value_of(integer: Integer) -> Value
+    ensures { result ≡ number (integer_held integer) }
+{
+    match integer {
+        Integer::U64(n) => Value::from(n),
+        Integer::I64(z) => Value::from(z),
+        Integer::U128(n) => Value::from(n),
+        Integer::I128(z) => Value::from(z),
+    }
+}
+
 /// The number that a word spells, in its kind. `None` where it spells none. Takes no memory.
 #[tactic(auto, unfolding(crate::specs::Readers::number_in))]
-pub(crate) fn number_in(word: &[u8]) -> Option<Value>
-    ensures { result ≡ number_value (number_in word.now) }
+pub(crate) fn number_in(word: &[u8]) -> Option<Integer>
+    ensures { option_map integer_held result ≡ number_in word.now }
 {
     match word {
         [] => None,
@@ -32,8 +54,8 @@ pub(crate) fn number_in(word: &[u8]) -> Option<Value>
 
 // The number that a sign and the bytes behind it spell.
 #[tactic(auto, unfolding(crate::specs::Readers::unsigned_in))]
-fn unsigned_in(minus: bool, bytes: &[u8]) -> Option<Value>
-    ensures { result ≡ number_value (unsigned_in minus bytes.now) }
+fn unsigned_in(minus: bool, bytes: &[u8]) -> Option<Integer>
+    ensures { option_map integer_held result ≡ unsigned_in minus bytes.now }
 {
     let (magnitude, rest) = take_digits(bytes)?;
     let suffix = suffix_in(rest)?;
@@ -98,8 +120,9 @@ fn suffix_in(word: &[u8]) -> Option<Option<Suffix>>
 
 // The number with this sign in the kind of its suffix, or in the first kind that holds it.
 #[tactic(auto, unfolding(crate::specs::Readers::integer_of))]
-fn integer_of(minus: bool, magnitude: u128, suffix: Option<Suffix>) -> Option<Value>
-    ensures { result ≡ number_value (integer_of minus magnitude (option_map suffix_kind suffix)) }
+fn integer_of(minus: bool, magnitude: u128, suffix: Option<Suffix>) -> Option<Integer>
+    ensures { option_map integer_held result
+        ≡ integer_of minus magnitude (option_map suffix_kind suffix) }
 {
     match suffix {
         None => in_first_kind(minus, magnitude),
@@ -107,40 +130,40 @@ fn integer_of(minus: bool, magnitude: u128, suffix: Option<Suffix>) -> Option<Va
             if minus {
                 return None;
             }
-            Some(Value::from(u64::try_from(magnitude).ok()?))
+            Some(Integer::U64(u64::try_from(magnitude).ok()?))
         }
         Some(Suffix::I64) => {
             let number = signed(minus, magnitude)?;
-            Some(Value::from(i64::try_from(number).ok()?))
+            Some(Integer::I64(i64::try_from(number).ok()?))
         }
         Some(Suffix::U128) => {
             if minus {
                 return None;
             }
-            Some(Value::from(magnitude))
+            Some(Integer::U128(magnitude))
         }
-        Some(Suffix::I128) => Some(Value::from(signed(minus, magnitude)?)),
+        Some(Suffix::I128) => Some(Integer::I128(signed(minus, magnitude)?)),
     }
 }
 
 // The first of i64, u64, i128 and u128 that holds the number.
 #[tactic(auto, unfolding(crate::specs::Readers::integer_of))]
-fn in_first_kind(minus: bool, magnitude: u128) -> Option<Value>
-    ensures { result ≡ number_value (integer_of minus magnitude None) }
+fn in_first_kind(minus: bool, magnitude: u128) -> Option<Integer>
+    ensures { option_map integer_held result ≡ integer_of minus magnitude None }
 {
     let Some(number) = signed(minus, magnitude) else {
         if minus {
             return None;
         }
-        return Some(Value::from(magnitude));
+        return Some(Integer::U128(magnitude));
     };
     if let Ok(small) = i64::try_from(number) {
-        return Some(Value::from(small));
+        return Some(Integer::I64(small));
     }
     if let Ok(small) = u64::try_from(number) {
-        return Some(Value::from(small));
+        return Some(Integer::U64(small));
     }
-    Some(Value::from(number))
+    Some(Integer::I128(number))
 }
 
 // The number with this sign, if 128 bits hold it.
