@@ -66,15 +66,18 @@ tokens_decoding [] h = refl
 tokens_decoding (token ∷ tokens) h = let first = token_of-decoding token h.0 in let others = tokens_decoding tokens h.1 in cc
 
 -- what spells a text is `escaped` of it
-pub escaped_from_spelling : (bytes text : List ℕ) → Spells bytes text → escaped text ≡ bytes
+escaped_from_spelling : (bytes text : List ℕ) → Spells bytes text → escaped text ≡ bytes
 escaped_from_spelling bytes text h =
     sym (spelled_tokens text)
     ∙ ap (λ t. flat_map spelling (map token_of t)) (sym h.decoded)
     ∙ ap (flat_map spelling) (tokens_decoding h.tokens h.proper)
     ∙ h.spelled
 
+pub spelling_is_escaped : (bytes text : List ℕ) → Spells bytes text → bytes ≡ escaped text
+spelling_is_escaped bytes text h = sym (escaped_from_spelling bytes text h)
+
 pub one_spelling_each : (v w text : List ℕ) → Spells v text → Spells w text → v ≡ w
-one_spelling_each v w text g h = sym (escaped_from_spelling v text g) ∙ escaped_from_spelling w text h
+one_spelling_each v w text g h = spelling_is_escaped v text g ∙ escaped_from_spelling w text h
 
 -- an ordinary byte begins no entity
 no_ampersand : {P : Type 0} (byte : ℕ) → is_special byte ≡ false → byte ≡ 38 → P
