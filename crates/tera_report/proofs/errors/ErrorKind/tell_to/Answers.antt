@@ -7,32 +7,20 @@ use Rattle.tera_report.proofs.errors.ErrorKind.tell_to.Goals as goal
 
 pub returns-in-CircularExtend : goal.returns-in-CircularExtend
 returns-in-CircularExtend g c =
-    rw (c.in-CircularExtend.is) (rw (c.as_str-in-CircularExtend.ensures.value, c.as_slice.ensures.value) at c.put_chain.ensures)
+    rw (c.in-CircularExtend.is) (rw (c.as_str-in-CircularExtend.ensures.value, c.as_slice.ensures.value) at c.put_extend.ensures)
 
 pub returns-in-CircularInclude : goal.returns-in-CircularInclude
 returns-in-CircularInclude g c =
-    rw (c.in-CircularInclude.is) (rw (c.as_str-in-CircularInclude.ensures.value, c.as_slice-in-CircularInclude.ensures.value) at c.put_chain-in-CircularInclude.ensures)
+    rw (c.in-CircularInclude.is) (rw (c.as_str-in-CircularInclude.ensures.value, c.as_slice-in-CircularInclude.ensures.value) at c.put_include.ensures)
 
 pub returns-in-TemplateNotFound : goal.returns-in-TemplateNotFound
 returns-in-TemplateNotFound g c =
     let told : Tells (refusal_of c.args.self.now) (codes "Template '" ++ (c.as_str-in-TemplateNotFound.result.now ++ codes "' not found")) =
     rw (c.in-TemplateNotFound.is) (ap (λ n. codes "Template '" ++ (n ++ codes "' not found")) c.as_str-in-TemplateNotFound.ensures.value) in
-    puts_these g.S.Sink.takes g.S.Sink.fails (Tells (refusal_of c.args.self.now)) _ _ _ _ told c.put_all-in-TemplateNotFound.ensures
+    puts_these g.S.Sink.takes g.S.Sink.fails (Tells (refusal_of c.args.self.now)) _ _ _ _ told c.put_all.ensures
 
 pub returns-in-ComponentNotFound : goal.returns-in-ComponentNotFound
 returns-in-ComponentNotFound g c =
     let told : Tells (refusal_of c.args.self.now) (codes "Component '" ++ (c.as_str-in-ComponentNotFound.result.now ++ codes "' not found")) =
     rw (c.in-ComponentNotFound.is) (ap (λ n. codes "Component '" ++ (n ++ codes "' not found")) c.as_str-in-ComponentNotFound.ensures.value) in
     puts_these g.S.Sink.takes g.S.Sink.fails (Tells (refusal_of c.args.self.now)) _ _ _ _ told c.put_all-in-ComponentNotFound.ensures
-
-pub returns-in-MissingParent : goal.returns-in-MissingParent
-returns-in-MissingParent g c =
-    let told : Tells (refusal_of c.args.self.now) (codes "Template '" ++ (c.as_str-in-MissingParent.result.now ++ (codes "' is inheriting from '" ++ (c.as_str-in-MissingParent-2.result.now ++ codes "', which doesn't exist or isn't loaded.")))) =
-    rw (c.in-MissingParent.is) (λ i. codes "Template '" ++ (c.as_str-in-MissingParent.ensures.value i ++ (codes "' is inheriting from '" ++ (c.as_str-in-MissingParent-2.ensures.value i ++ codes "', which doesn't exist or isn't loaded.")))) in
-    puts_these g.S.Sink.takes g.S.Sink.fails (Tells (refusal_of c.args.self.now)) _ _ _ _ told c.put_all.ensures
-
-pub returns-in-OutOfRangeArgument : goal.returns-in-OutOfRangeArgument
-returns-in-OutOfRangeArgument g c =
-    let told : Tells (refusal_of c.args.self.now) (codes "Value `" ++ (c.as_str-in-OutOfRangeArgument.result.now ++ (codes "` is out of range for `" ++ (c.as_str-in-OutOfRangeArgument-2.result.now ++ codes "`")))) =
-    rw (c.in-OutOfRangeArgument.is) (λ i. codes "Value `" ++ (c.as_str-in-OutOfRangeArgument.ensures.value i ++ (codes "` is out of range for `" ++ (c.as_str-in-OutOfRangeArgument-2.ensures.value i ++ codes "`")))) in
-    puts_these g.S.Sink.takes g.S.Sink.fails (Tells (refusal_of c.args.self.now)) _ _ _ _ told c.put_all-in-OutOfRangeArgument.ensures
