@@ -66,7 +66,7 @@ tokens_decoding [] h = refl
 tokens_decoding (token ∷ tokens) h = let first = token_of-decoding token h.0 in let others = tokens_decoding tokens h.1 in cc
 
 -- what spells a text is `escaped` of it
-escaped_from_spelling : (bytes text : List ℕ) → Spells bytes text → escaped text ≡ bytes
+pub escaped_from_spelling : (bytes text : List ℕ) → Spells bytes text → escaped text ≡ bytes
 escaped_from_spelling bytes text h =
     sym (spelled_tokens text)
     ∙ ap (λ t. flat_map spelling (map token_of t)) (sym h.decoded)

@@ -20,7 +20,7 @@ escapes text = flat_map (debug_escape 34) text
 abbrev pub quoted : List ℕ → List ℕ
 quoted text = 34 ∷ (escapes text ++ 34 ∷ [])
 
--- the bytes stand for the text where it is quoted: exactly known for an ASCII text, else some bytes
+-- the bytes stand for the text where it is quoted: exactly known for an ASCII text, else some
 abbrev pub Quotes : List ℕ → List ℕ → Type 0
 Quotes text bytes = IsTrue (is_ascii_text text) → bytes ≡ quoted text
 
@@ -36,7 +36,8 @@ QuotesItems lead texts bytes = IsText (debug_items debug_str lead texts) bytes
 abbrev pub QuotesList : List (List ℕ) → List ℕ → Type 0
 QuotesList texts bytes = IsText (debug_list debug_str texts) bytes
 
--- the byte may stand for something else between the quotes: a control byte, a quote, a backslash, or one past ASCII
+-- the byte may stand for something else between the quotes: a control byte, a quote, a backslash,
+-- or one past ASCII
 abbrev pub is_marked : ℕ → Bool
 is_marked byte = nat_lt byte 32 || (byte == 34 || (byte == 92 || nat_lt 126 byte))
 
@@ -44,15 +45,16 @@ is_marked byte = nat_lt byte 32 || (byte == 34 || (byte == 92 || nat_lt 126 byte
 abbrev pub EscapesMarked : ℕ → List ℕ → Type 0
 EscapesMarked c bytes = is_marked c ≡ true → c < 128 → bytes ≡ debug_escape 34 c
 
--- what stands for an ASCII text is a run, then what stands for a marked ASCII character, and then what stands for the
--- rest, which is ASCII too
+-- what stands for an ASCII text is a run, then what stands for a marked ASCII character, and then
+-- what stands for the rest, which is ASCII too
 pub record Cuts (text run : List ℕ) (c : ℕ) (rest : List ℕ) : Type 0 where
   pub marked : is_marked c ≡ true
   pub ascii : c < 128
   pub ascii_rest : IsTrue (is_ascii_text rest)
   pub whole : escapes text ≡ run ++ (debug_escape 34 c ++ escapes rest)
 
--- after is what is left of the text past a run that stands for itself: nothing, or it begins with a marked byte
+-- after is what is left of the text past a run that stands for itself: nothing, or it begins with a
+-- marked byte
 pub record SkipsPlain (text after : List ℕ) : Type 0 where
   pub run : List ℕ
   pub parts : text ≡ run ++ after

@@ -30,8 +30,8 @@ abbrev pub container_word : Container → List ℕ
 container_word in_array = codes "Array"
 container_word in_text = codes "String"
 
--- One constructor for each refusal. Texts and names stand as their bytes; `actual` is the name of the kind that the
--- refused value really has.
+-- One constructor for each refusal. Texts and names stand as their bytes; `actual` is the name of
+-- the kind that the refused value really has.
 pub data Refusal : Type 0 where
   -- what the kinds of errors state in words of the caller's own
   message : (text : List ℕ) → Refusal
@@ -69,13 +69,15 @@ pub data Refusal : Type 0 where
 
 -- the words before the names of a chain
 abbrev pub extend_words : List ℕ → List ℕ
-extend_words template = codes "Circular extend detected for template '" ++ (template ++ codes "'. Inheritance chain: `")
+extend_words template =
+    codes "Circular extend detected for template '" ++ (template ++ codes "'. Inheritance chain: `")
 
 abbrev pub include_words : List ℕ → List ℕ
-include_words template = codes "Circular include detected for template '" ++ (template ++ codes "'. Include chain: `")
+include_words template =
+    codes "Circular include detected for template '" ++ (template ++ codes "'. Include chain: `")
 
--- What is written for a refusal. It says nothing of the debug form of a name past ASCII, nor of the name
--- of a kind of io errors.
+-- What is written for a refusal. It says nothing of the debug form of a name past ASCII, nor of the
+-- name of a kind of io errors.
 abbrev pub text_of : Refusal → Option (List ℕ)
 text_of (message text) = Some text
 text_of (circular_extend template chain) =
@@ -127,10 +129,12 @@ text_of (number_outside_i128 number) =
 
 -- the bytes are these words, then some that stand for the list of names, and a backquote
 abbrev pub TellsChain : List ℕ → List (List ℕ) → List ℕ → Type 0
-TellsChain words chain bytes = (names : List ℕ) × QuotesList chain names × (bytes ≡ words ++ (names ++ codes "`"))
+TellsChain words chain bytes =
+    (names : List ℕ) × QuotesList chain names × (bytes ≡ words ++ (names ++ codes "`"))
 
--- The bytes tell the refusal: they are its text where that is known. Where it is not, they are the words of the text
--- around some bytes for the list of names, or before some bytes for the name of the io kind.
+-- The bytes tell the refusal: they are its text where that is known. Where it is not, they are the
+-- words of the text around some bytes for the list of names, or before some bytes for the name of
+-- the io kind.
 abbrev pub Tells : Refusal → List ℕ → Type 0
 Tells (circular_extend template chain) bytes = TellsChain (extend_words template) chain bytes
 Tells (circular_include template chain) bytes = TellsChain (include_words template) chain bytes
@@ -138,8 +142,8 @@ Tells (writing_failed kind) bytes =
     (name : List ℕ) × (bytes ≡ codes "Io error while writing rendered value to output: " ++ name)
 Tells refusal bytes = IsText (text_of refusal) bytes
 
--- what the error of a refusal states. What a kind states in words of its own is itself; a number outside a type is
--- stated by its digits; and every other refusal is a message of its whole text
+-- what the error of a refusal states. What a kind states in words of its own is itself; a number
+-- outside a type is stated by its digits; and every other refusal is a message of its whole text
 abbrev pub stated : Refusal → Refusal
 stated (message words) = message words
 stated (circular_extend template chain) = circular_extend template chain
