@@ -3,4 +3,8 @@
 #![tactic(auto)]
 
 #[cfg(test)]
+mod debug;
+#[cfg(test)]
 mod report;
+#[cfg(test)]
+mod told;

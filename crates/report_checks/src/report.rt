@@ -19,13 +19,22 @@ fn prints<D: Display>(
 ) -> Result<(), Fail> {
     let text = format!(in rt.alloc(); "{value}")?;
     assert_eq!(rt; text.as_str(), expected);
-    // No width and no fill is applied.
+    Ok(())
+}
+
+// Of a text of which no clause says all: nor is a width or a fill applied.
+fn prints_at_any_width<D: Display>(
+    rt: &(impl Abort + AllocGlobal),
+    value: &D,
+    expected: &str,
+) -> Result<(), Fail> {
+    prints(rt, value, expected)?;
     let wide = format!(in rt.alloc(); "{value:*>200}")?;
     assert_eq!(rt; wide.as_str(), expected);
     Ok(())
 }
 
-fn names(alloc: Global, texts: &[&str]) -> Result<Vec<String>, AllocError> {
+pub(crate) fn names(alloc: Global, texts: &[&str]) -> Result<Vec<String>, AllocError> {
     let mut names = Vec::new(alloc);
     for text in texts {
         names.push(String::from_str(alloc, text)?)?;
@@ -52,7 +61,7 @@ fn texts_of_chains(rt: HostRuntime) -> Result<(), Fail> {
     )?;
     let chain = names(rt.alloc(), &["é\"", "\u{7f}"])?;
     let error = Error::circular_include(rt.alloc(), "é", chain);
-    prints(
+    prints_at_any_width(
         &rt,
         &error,
         "Circular include detected for template 'é'. Include chain: `[\"é\\\"\", \"\\u{7f}\"]`",
@@ -127,9 +136,13 @@ fn io_kinds_by_name(rt: HostRuntime) -> Result<(), Fail> {
             io::ErrorKind::OutOfMemory,
             "Io error while writing rendered value to output: OutOfMemory",
         ),
+        (
+            io::ErrorKind::StaleNetworkFileHandle,
+            "Io error while writing rendered value to output: StaleNetworkFileHandle",
+        ),
     ];
     for (kind, expected) in kinds {
-        prints(&rt, &Error::from(io::Error::from(kind)), expected)?;
+        prints_at_any_width(&rt, &Error::from(io::Error::from(kind)), expected)?;
     }
     Ok(())
 }

@@ -1,17 +1,9 @@
--- Lemmas on the debug form of a list of texts.
+-- Kinds are equal exactly where they state one refusal: equality of texts, and refusals of different kinds.
 use lib.Pointwise.{pointwise, bytes_decides}
 use Rattle.std.specs.String.{string_eq}
-use Rattle.std.proofs.Common.{String, Global, string_bytes, Bool, true, false, ◌&&◌, ◌==◌, ◌≡◌, ℕ, List, [], ◌∷◌, map, Option, Some, refl, ap}
+use Rattle.std.proofs.Common.{String, Global, string_bytes, Bool, true, false, ◌&&◌, ◌==◌, ◌≡◌, ℕ, List, [], ◌∷◌, map, refl}
 use Rattle.std.proofs.lemmas.Bool.{eq-eqb}
-use Rattle.tera_report.specs.Refusal.{Refusal, message, circular_extend, circular_include, missing_parent, template_not_found, component_not_found, invalid_argument, missing_argument, out_of_range, writing_failed, not_utf8, memory_refused}
-use Rattle.std.specs.Fmt.{◌++?◌, debug_items, debug_list, comma_space}
-
-debug_items-map : {A B : Type 0} (text : B → Option (List ℕ)) (f : A → B) (lead : List ℕ) (xs : List A) → debug_items text lead (map f xs) ≡ debug_items (λ x. text (f x)) lead xs
-debug_items-map text f lead [] = refl
-debug_items-map text f lead (x ∷ xs) = ap (λ rest. Some lead ++? text (f x) ++? rest) (debug_items-map text f comma_space xs)
-
-pub debug_list-map : {A B : Type 0} (text : B → Option (List ℕ)) (f : A → B) (xs : List A) → debug_list text (map f xs) ≡ debug_list (λ x. text (f x)) xs
-debug_list-map text f xs = ap (λ items. Some (91 ∷ []) ++? items ++? Some (93 ∷ [])) (debug_items-map text f [] xs)
+use Rattle.tera_report.specs.Refusal.{Refusal, message, circular_extend, circular_include, missing_parent, template_not_found, component_not_found, invalid_argument, missing_argument, out_of_range, writing_failed, not_utf8}
 
 -- `==` of two texts, and of two lists of texts, is that of their bytes
 pub same_text : (s t : String Global) → string_eq s t ≡ true → string_bytes s ≡ string_bytes t

@@ -73,8 +73,11 @@ escaped_from_spelling bytes text h =
     ∙ ap (flat_map spelling) (tokens_decoding h.tokens h.proper)
     ∙ h.spelled
 
+pub spelling_is_escaped : (bytes text : List ℕ) → Spells bytes text → bytes ≡ escaped text
+spelling_is_escaped bytes text h = sym (escaped_from_spelling bytes text h)
+
 pub one_spelling_each : (v w text : List ℕ) → Spells v text → Spells w text → v ≡ w
-one_spelling_each v w text g h = sym (escaped_from_spelling v text g) ∙ escaped_from_spelling w text h
+one_spelling_each v w text g h = spelling_is_escaped v text g ∙ escaped_from_spelling w text h
 
 -- an ordinary byte begins no entity
 no_ampersand : {P : Type 0} (byte : ℕ) → is_special byte ≡ false → byte ≡ 38 → P

@@ -2,6 +2,7 @@ pub mod Errors
 pub mod Escaping
 pub mod Growing
 pub mod Pieces
+pub mod Quoted
 pub mod Refusal
 pub mod Room
 pub mod Sink

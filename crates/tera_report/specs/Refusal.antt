@@ -1,7 +1,8 @@
 -- Refusals as data, their texts, and what of them depends on no type's name.
-use Rattle.std.specs.Prelude.{ℕ, ℤ, List, [], ◌++◌, codes, Option, Some, None, unwrap_or}
+use Rattle.std.specs.Prelude.{◌≡◌, ℕ, ℤ, List, [], ◌++◌, codes, Option, Some, None, unwrap_or}
 use Rattle.std.specs.Fmt.{◌++?◌, debug_str, debug_list, signed_decimal}
 use Rattle.std.specs.declared.io.ErrorKind.{ErrorKind}
+use Rattle.tera_report.specs.Quoted.{IsText, QuotesList}
 
 -- The operators of arithmetic, and how each is written
 pub data Operator : Type 0 where
@@ -29,8 +30,8 @@ abbrev pub container_word : Container → List ℕ
 container_word in_array = codes "Array"
 container_word in_text = codes "String"
 
--- One constructor for each refusal. Texts and names stand as their bytes; `actual` is the name of the kind that the
--- refused value really has.
+-- One constructor for each refusal. Texts and names stand as their bytes; `actual` is the name of
+-- the kind that the refused value really has.
 pub data Refusal : Type 0 where
   -- what the kinds of errors state in words of the caller's own
   message : (text : List ℕ) → Refusal
@@ -66,16 +67,23 @@ pub data Refusal : Type 0 where
   number_out_of_range : (number : ℤ) (target : List ℕ) → Refusal
   number_outside_i128 : (number : ℤ) → Refusal
 
--- What is written for a refusal. It says nothing of the debug form of a name past ASCII, nor of the name
--- of a kind of io errors.
+-- the words before the names of a chain
+abbrev pub extend_words : List ℕ → List ℕ
+extend_words template =
+    codes "Circular extend detected for template '" ++ (template ++ codes "'. Inheritance chain: `")
+
+abbrev pub include_words : List ℕ → List ℕ
+include_words template =
+    codes "Circular include detected for template '" ++ (template ++ codes "'. Include chain: `")
+
+-- What is written for a refusal. It says nothing of the debug form of a name past ASCII, nor of the
+-- name of a kind of io errors.
 abbrev pub text_of : Refusal → Option (List ℕ)
 text_of (message text) = Some text
 text_of (circular_extend template chain) =
-    Some (codes "Circular extend detected for template '") ++? Some template
-    ++? Some (codes "'. Inheritance chain: `") ++? debug_list debug_str chain ++? Some (codes "`")
+    Some (extend_words template) ++? debug_list debug_str chain ++? Some (codes "`")
 text_of (circular_include template chain) =
-    Some (codes "Circular include detected for template '") ++? Some template
-    ++? Some (codes "'. Include chain: `") ++? debug_list debug_str chain ++? Some (codes "`")
+    Some (include_words template) ++? debug_list debug_str chain ++? Some (codes "`")
 text_of (missing_parent current parent) =
     Some (codes "Template '" ++ (current ++ (codes "' is inheriting from '" ++ (parent ++ codes "', which doesn't exist or isn't loaded."))))
 text_of (template_not_found name) = Some (codes "Template '" ++ (name ++ codes "' not found"))
@@ -119,8 +127,23 @@ text_of (number_out_of_range number target) =
 text_of (number_outside_i128 number) =
     Some (codes "Number `" ++ (signed_decimal number ++ codes "` is out of range for i128"))
 
--- what the error of a refusal states. What a kind states in words of its own is itself; a number outside a type is
--- stated by its digits; and every other refusal is a message of its whole text
+-- the bytes are these words, then some that stand for the list of names, and a backquote
+abbrev pub TellsChain : List ℕ → List (List ℕ) → List ℕ → Type 0
+TellsChain words chain bytes =
+    (names : List ℕ) × QuotesList chain names × (bytes ≡ words ++ (names ++ codes "`"))
+
+-- The bytes tell the refusal: they are its text where that is known. Where it is not, they are the
+-- words of the text around some bytes for the list of names, or before some bytes for the name of
+-- the io kind.
+abbrev pub Tells : Refusal → List ℕ → Type 0
+Tells (circular_extend template chain) bytes = TellsChain (extend_words template) chain bytes
+Tells (circular_include template chain) bytes = TellsChain (include_words template) chain bytes
+Tells (writing_failed kind) bytes =
+    (name : List ℕ) × (bytes ≡ codes "Io error while writing rendered value to output: " ++ name)
+Tells refusal bytes = IsText (text_of refusal) bytes
+
+-- what the error of a refusal states. What a kind states in words of its own is itself; a number
+-- outside a type is stated by its digits; and every other refusal is a message of its whole text
 abbrev pub stated : Refusal → Refusal
 stated (message words) = message words
 stated (circular_extend template chain) = circular_extend template chain

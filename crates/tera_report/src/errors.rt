@@ -1,7 +1,9 @@
 // The error type of every call, its kinds and their texts.
-ghost use Rattle.std.specs.Prelude.{◌≡◌, ◌↔◌, IsTrue, option_copied};
+ghost use Rattle.std.specs.Prelude.{◌≡◌, ◌↔◌, IsTrue, OnOk, option_copied};
+ghost use Rattle.std.specs.Fmt.{DisplaysOnOk, DisplaysStyledOnOk};
 ghost use Rattle.tera_report.specs.Errors.{kind_of, source_of, plain_error, IsOutOfMemory, refusal_of};
-ghost use Rattle.tera_report.specs.Refusal.{text_of};
+ghost use Rattle.tera_report.specs.Refusal.{text_of, Tells};
+ghost use Rattle.tera_report.specs.Sink.{OfSome, FormatterTakes};
 ghost use Rattle.tera_report.specs.declared.errors.ErrorKind.{ErrorKind};
 
 use std::alloc::{AllocError, AllocFailed};
@@ -10,11 +12,12 @@ use std::{fmt, io};
 mod constructors;
 mod copies;
 mod refusals;
+mod texts;
 
 pub use refusals::{
-    errors_say_the_text_of_their_refusal, refusals_of_arithmetic_have_these_texts,
-    refusals_of_conversions_have_these_texts, refusals_of_look_ups_have_these_texts,
-    shapes_forget_the_kind_alone,
+    errors_say_the_text_of_their_refusal, refusals_are_told_by_their_text,
+    refusals_of_arithmetic_have_these_texts, refusals_of_conversions_have_these_texts,
+    refusals_of_look_ups_have_these_texts, shapes_forget_the_kind_alone,
 };
 
 /// The answer of a call that can refuse.
@@ -103,60 +106,40 @@ pub fn kinds_equal_by_refusal()
         IsTrue (⟦<ErrorKind as PartialEq>⟧.eq a b) ↔ (refusal_of a ≡ refusal_of b) }
 {}
 
+/// The text of the kind, which `text_of` gives. A width or a fill of the format changes nothing.
+/// Takes no memory.
 impl fmt::Display for ErrorKind {
     ghost output = { λ kind. text_of (refusal_of kind) };
 
-    fn fmt<W: fmt::Write>(&self, f: &mut fmt::Formatter<W>) -> fmt::Result {
-        match self {
-            ErrorKind::Msg(message) => write!(f, "{message}"),
-            ErrorKind::CircularExtend {
-                tpl,
-                inheritance_chain,
-            } => write!(
-                f,
-                "Circular extend detected for template '{tpl}'. Inheritance chain: `{inheritance_chain:?}`"
-            ),
-            ErrorKind::CircularInclude { tpl, include_chain } => write!(
-                f,
-                "Circular include detected for template '{tpl}'. Include chain: `{include_chain:?}`"
-            ),
-            ErrorKind::MissingParent { current, parent } => write!(
-                f,
-                "Template '{current}' is inheriting from '{parent}', which doesn't exist or isn't loaded."
-            ),
-            ErrorKind::TemplateNotFound(name) => write!(f, "Template '{name}' not found"),
-            ErrorKind::ComponentNotFound(name) => write!(f, "Component '{name}' not found"),
-            ErrorKind::InvalidArgument {
-                expected_type,
-                actual_type,
-            } => write!(
-                f,
-                "Invalid type for the value, expected `{expected_type}` but got `{actual_type}`"
-            ),
-            ErrorKind::MissingArgument { arg_name } => {
-                write!(f, "Missing keyword argument `{arg_name}`")
-            }
-            ErrorKind::OutOfRangeArgument { value, target_type } => {
-                write!(f, "Value `{value}` is out of range for `{target_type}`")
-            }
-            ErrorKind::Io(kind) => write!(
-                f,
-                "Io error while writing rendered value to output: {kind:?}"
-            ),
-            ErrorKind::Utf8Conversion => {
-                write!(f, "Invalid UTF-8 characters found while rendering.")
-            }
-            ErrorKind::OutOfMemory => write!(f, "Out of memory"),
-        }
+    ghost styled_output = { λ kind _. text_of (refusal_of kind) };
+
+    fn fmt<W: fmt::Write>(&self, f: &mut fmt::Formatter<W>) -> fmt::Result
+        ensures writes { DisplaysOnOk W.write_str_gives f.old result
+            (text_of (refusal_of self.now)) f.new }
+        ensures styled { DisplaysStyledOnOk W.write_str_gives f.old result
+            (text_of (refusal_of self.now)) f.new }
+        ensures tells { OnOk result (OfSome (FormatterTakes W.write_str_gives)
+            (Tells (refusal_of self.now)) f.old f.new) }
+    {
+        self.tell_to(f)
     }
 }
 
-// The text of the kind. The cause is read by `source`.
+/// The text of the kind. The cause is read by `source`.
 impl fmt::Display for Error {
     ghost output = { λ e. text_of (refusal_of (kind_of e)) };
 
-    fn fmt<W: fmt::Write>(&self, f: &mut fmt::Formatter<W>) -> fmt::Result {
-        write!(f, "{}", self.kind)
+    ghost styled_output = { λ e _. text_of (refusal_of (kind_of e)) };
+
+    fn fmt<W: fmt::Write>(&self, f: &mut fmt::Formatter<W>) -> fmt::Result
+        ensures writes { DisplaysOnOk W.write_str_gives f.old result
+            (text_of (refusal_of (kind_of self.now))) f.new }
+        ensures styled { DisplaysStyledOnOk W.write_str_gives f.old result
+            (text_of (refusal_of (kind_of self.now))) f.new }
+        ensures tells { OnOk result (OfSome (FormatterTakes W.write_str_gives)
+            (Tells (refusal_of (kind_of self.now))) f.old f.new) }
+    {
+        self.kind.tell_to(f)
     }
 }
 

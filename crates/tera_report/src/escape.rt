@@ -73,9 +73,11 @@ pub fn escape_to<S: Sink>(text: &str, out: &mut S) -> Result<(), S::Fault>
     Ok(())
 }
 
-/// Each text has exactly one spelling.
+/// Each text has exactly one spelling: each of its five special bytes as an entity, and every other
+/// byte as it is.
 pub fn one_spelling()
     ensures spelled { (text : List ℕ) → Spells (escaped text) text }
+    ensures word { (bytes text : List ℕ) → Spells bytes text → bytes ≡ escaped text }
     ensures unique { (v w text : List ℕ) → Spells v text → Spells w text → v ≡ w }
 {}
 

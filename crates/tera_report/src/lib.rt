@@ -5,17 +5,20 @@ mod errors;
 mod escape;
 mod growing;
 mod pieces;
+pub mod quote;
 mod room;
 pub mod sink;
 mod span;
 mod spanned;
 pub mod watch;
+mod words;
 mod writer;
 
 pub use errors::{
     Error, ErrorKind, TeraResult, errors_say_the_text_of_their_refusal, kinds_equal_by_refusal,
-    refusals_of_arithmetic_have_these_texts, refusals_of_conversions_have_these_texts,
-    refusals_of_look_ups_have_these_texts, shapes_forget_the_kind_alone,
+    refusals_are_told_by_their_text, refusals_of_arithmetic_have_these_texts,
+    refusals_of_conversions_have_these_texts, refusals_of_look_ups_have_these_texts,
+    shapes_forget_the_kind_alone,
 };
 pub use escape::{
     escape_html, escape_into_room, escape_text, escape_to, escape_watched, one_decoding,

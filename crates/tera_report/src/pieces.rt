@@ -17,22 +17,6 @@ pub(crate) enum Piece<'a> {
     SingleQuote,
 }
 
-impl<'a> Piece<'a> {
-    /// The run itself, or the entity of the byte.
-    pub(crate) fn text(&self) -> &'a str
-        ensures { result.now ≡ written self.now }
-    {
-        match self {
-            Piece::Run(run) => run,
-            Piece::Ampersand => "&amp;",
-            Piece::LessThan => "&lt;",
-            Piece::GreaterThan => "&gt;",
-            Piece::DoubleQuote => "&quot;",
-            Piece::SingleQuote => "&#39;",
-        }
-    }
-}
-
 /// The piece that the text begins with, and the text after it. None of an empty text.
 #[inline(always)]
 pub(crate) fn first_piece(text: &str) -> Option<(Piece<'_>, &str)>

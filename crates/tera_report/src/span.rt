@@ -3,6 +3,8 @@ ghost use Rattle.std.specs.Prelude.{◌≡◌, ◌↔◌, Some, IsTrue};
 ghost use Rattle.tera_report.specs.Span.{span_text, span_debug_text, expanded, zeros};
 ghost use Rattle.tera_report.specs.declared.span.Span.{Span};
 
+use crate::words::put_all;
+use itoa::Buffer;
 use std::fmt;
 use std::ops::Range;
 
@@ -41,19 +43,26 @@ pub fn spans_equal_by_numbers()
     ensures free { (span : Span) → ⟦<Span as Clone>⟧.is_infallible span }
 {}
 
-// ` @ 1:0-1:5`, with no width or fill.
+/// ` @ 1:0-1:5`. A width or a fill of the format changes nothing. Takes no memory.
 impl fmt::Display for Span {
     ghost output = { λ span. Some (span_text span) };
 
+    ghost styled_output = { λ span _. Some (span_text span) };
+
     fn fmt<W: fmt::Write>(&self, f: &mut fmt::Formatter<W>) -> fmt::Result {
-        let Span {
-            start_line,
-            start_col,
-            end_line,
-            end_col,
-            ..
-        } = self;
-        write!(f, " @ {start_line}:{start_col}-{end_line}:{end_col}")
+        put_all(
+            &[
+                " @ ",
+                Buffer::new().format(self.start_line),
+                ":",
+                Buffer::new().format(self.start_col),
+                "-",
+                Buffer::new().format(self.end_line),
+                ":",
+                Buffer::new().format(self.end_col),
+            ],
+            f,
+        )
     }
 }
 

@@ -1,6 +1,6 @@
 // The texts of refusals, tried on numbers and names from outside. Each function here does nothing:
 // its clauses are the rows.
-ghost use Rattle.std.specs.Prelude.{◌≡◌, ◌^◌, ◌-◌, ◌++◌, ℕ, ℤ, List, [], codes, pos, negsuc, Some};
+ghost use Rattle.std.specs.Prelude.{◌≡◌, ◌↔◌, ◌^◌, ◌-◌, ◌++◌, ℕ, ℤ, List, [], codes, pos, negsuc, Some};
 ghost use Rattle.tera_report.specs.Refusal.{not_a_number, operand_outside_i128, not_exact};
 ghost use Rattle.tera_report.specs.Refusal.{divided_by_zero, exponent_outside_u32};
 ghost use Rattle.tera_report.specs.Refusal.{negation_outside_i128, negated_no_number, not_a_key};
@@ -11,7 +11,10 @@ ghost use Rattle.tera_report.specs.Refusal.{number_out_of_range, number_outside_
 ghost use Rattle.tera_report.specs.Refusal.{memory_refused, message, out_of_range, stated, shape};
 ghost use Rattle.tera_report.specs.Refusal.{text_of, plus, minus, times, remainder, floor_division};
 ghost use Rattle.tera_report.specs.Refusal.{power, Refusal, in_array, in_text, actual_in};
-ghost use Rattle.tera_report.specs.Refusal.{with_actual};
+ghost use Rattle.tera_report.specs.Quoted.{IsText};
+ghost use Rattle.tera_report.specs.Refusal.{with_actual, Tells, writing_failed, circular_extend};
+ghost use Rattle.tera_report.specs.Refusal.{circular_include};
+ghost use Rattle.std.specs.declared.io.ErrorKind.{ErrorKind};
 
 /// What arithmetic refuses is told by the operand or by both and their operator.
 pub fn refusals_of_arithmetic_have_these_texts()
@@ -83,6 +86,29 @@ pub fn errors_say_the_text_of_their_refusal()
         ≡ message (codes "Only numbers can be used in arithmetic. This is a `none`") }
     ensures range { stated (number_out_of_range (pos 300) (codes "u8"))
         ≡ out_of_range (codes "300") (codes "u8") }
+{}
+
+/// Some bytes tell each refusal, and its text alone where that is known; else its words around some
+/// bytes. The error of a refusal is told by what tells the refusal.
+pub fn refusals_are_told_by_their_text()
+    ensures some { (refusal : Refusal) → (bytes : List ℕ) × Tells refusal bytes }
+    ensures text { (refusal : Refusal) (bytes : List ℕ)
+        → Tells refusal bytes → IsText (text_of refusal) bytes }
+    ensures known { (refusal : Refusal) (bytes : List ℕ)
+        → text_of refusal ≡ Some bytes → Tells refusal bytes }
+    ensures stated { (refusal : Refusal) (bytes : List ℕ)
+        → Tells (stated refusal) bytes ↔ Tells refusal bytes }
+    ensures io { (kind : ErrorKind) (bytes : List ℕ) → Tells (writing_failed kind) bytes
+        → (name : List ℕ)
+        × (bytes ≡ codes "Io error while writing rendered value to output: " ++ name) }
+    ensures extend { (chain : List (List ℕ)) (bytes : List ℕ)
+        → Tells (circular_extend (codes "a") chain) bytes → (names : List ℕ)
+        × (bytes ≡ codes "Circular extend detected for template 'a'. Inheritance chain: `"
+        ++ (names ++ codes "`")) }
+    ensures include { (chain : List (List ℕ)) (bytes : List ℕ)
+        → Tells (circular_include (codes "a") chain) bytes → (names : List ℕ)
+        × (bytes ≡ codes "Circular include detected for template 'a'. Include chain: `"
+        ++ (names ++ codes "`")) }
 {}
 
 /// The shape of a refusal forgets the name of the kind that a value really has, and nothing else:

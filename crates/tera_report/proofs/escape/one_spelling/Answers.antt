@@ -1,5 +1,5 @@
-use Rattle.tera_report.proofs.EscapeLemmas.{Spells-escaped, one_spelling_each}
+use Rattle.tera_report.proofs.EscapeLemmas.{Spells-escaped, spelling_is_escaped, one_spelling_each}
 use Rattle.tera_report.proofs.escape.one_spelling.Goals as goal
 
 pub returns : goal.returns
-returns c = record { spelled = Spells-escaped; unique = one_spelling_each }
+returns c = record { spelled = Spells-escaped; word = spelling_is_escaped; unique = one_spelling_each }

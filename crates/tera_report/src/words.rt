@@ -1,0 +1,17 @@
+// Text put in several pieces.
+ghost use Rattle.std.specs.List.{flat_map};
+ghost use Rattle.tera_report.specs.Sink.{PutsThese};
+
+use crate::sink::Sink;
+
+/// Puts the pieces, one after another. Answers an error only where the sink refused one. Takes no
+/// memory of its own.
+pub(crate) fn put_all<S: Sink>(pieces: &[&str], out: &mut S) -> Result<(), S::Fault>
+    ensures { PutsThese S.takes S.fails result (flat_map (λ piece. piece.now) pieces.now)
+        out.old out.new }
+{
+    for at in 0..pieces.len() {
+        out.put(pieces[at])?;
+    }
+    Ok(())
+}
