@@ -1,7 +1,4 @@
 pub mod Parts
-pub mod PutLemmas
-pub mod QuoteLemmas
-pub mod LossyLemmas
 pub mod PrintLemmas
 pub mod Walks
 pub mod UnlikeLemmas

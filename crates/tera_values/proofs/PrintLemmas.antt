@@ -8,7 +8,7 @@ use Rattle.tera_meaning.specs.Printed.{printed_with, printed_items, quoted, is_e
 use Rattle.tera_meaning.specs.Read.{text_in}
 use Rattle.tera_meaning.specs.Tree.{undefined, none, truth, number, text, bytes, array, object}
 use Rattle.tera_values.specs.Print.{plain_items, PrintsItems}
-use Rattle.tera_values.specs.Quoted.{Quotes, is_ascii_text}
+use Rattle.tera_text.specs.Quoted.{Quotes, is_ascii_text}
 
 -- what is printed of the items that come after others
 abbrev pub later : List Form → List ℕ

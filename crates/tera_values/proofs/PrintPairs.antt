@@ -17,7 +17,7 @@ use Rattle.tera_values.specs.Map.{above, first_pair, is_above}
 use Rattle.tera_values.specs.MapLaws.{form_total}
 use Rattle.tera_values.specs.Placing.{In, in_below, below_less, not_back, placed_sorted, rising_is, first_part, second_part}
 use Rattle.tera_values.specs.Print.{plain_pairs, PrintsKey, PrintsPair, PrintsPairs}
-use Rattle.tera_values.specs.Quoted.{Quotes, is_ascii_text}
+use Rattle.tera_text.specs.Quoted.{Quotes, is_ascii_text}
 
 -- ---- the pairs above a key
 

@@ -6,7 +6,4 @@ pub mod View
 pub mod Unlike
 pub mod Depth
 pub mod Kind
-pub mod Whole
-pub mod Quoted
-pub mod Lossy
 pub mod Print

@@ -16,11 +16,10 @@ ghost use Rattle.tera_report.specs.Sink.{PutsThese};
 ghost use Rattle.tera_report.specs.Watch.{WatchedTakes, WatchedFails};
 ghost use Rattle.tera_report.specs.Writer.{Breaks};
 ghost use Rattle.tera_values.specs.Key.{integer_key, key_form, meaning_of_key, text_in_key, owned_in_key, number_in_key, key_value, shown_key, fed_number, fed};
-ghost use Rattle.tera_values.specs.Whole.{whole_value};
+ghost use Rattle.tera_text.specs.Whole.{whole_value};
 
 use crate::Value;
-use crate::number::Whole;
-use crate::print::{put_integer, truth_text};
+use crate::print::truth_text;
 use std::alloc::Global;
 use std::cmp::Ordering;
 use std::hash::{Hash, Hasher};
@@ -29,6 +28,7 @@ use std::{fmt, io};
 use tera_report::TeraResult;
 use tera_report::sink::{Full, Room, Sink};
 use tera_report::watch::{Watched, Writer};
+use tera_text::{Whole, put_integer};
 
 /// The key of a pair of a map. Mirrors `tera::value::Key`.
 #[derive(Debug, Drop)]

@@ -6,7 +6,7 @@ ghost use Rattle.tera_meaning.specs.Printed.{Prints, PrintsInside, is_exact, pri
 ghost use Rattle.tera_meaning.specs.Printed.{printed_truth};
 ghost use Rattle.tera_report.specs.Errors.{IsOutOfMemory};
 ghost use Rattle.tera_report.specs.Room.{RoomTakes, RoomFails, IsDecided};
-ghost use Rattle.tera_report.specs.Sink.{OfSome, Puts, PutsThese};
+ghost use Rattle.tera_report.specs.Sink.{OfSome, Puts};
 ghost use Rattle.tera_report.specs.Watch.{WatchedTakes, WatchedFails};
 ghost use Rattle.tera_report.specs.Writer.{Breaks};
 ghost use Rattle.tera_values.specs.Key.{key_form, meaning_of_key};
@@ -15,17 +15,15 @@ ghost use Rattle.tera_values.specs.Print.{PrintsArray, PrintsItems, WritesInside
 ghost use Rattle.tera_values.specs.Print.{printed_if_exact, PrintsMap, PrintsPairs, PrintsPair};
 ghost use Rattle.tera_values.specs.Print.{PrintsKey, PrintsNothing};
 
-use crate::lossy::put_lossy;
 use crate::map::next_pair;
-use crate::quote::put_quoted;
 use crate::value::ValueInner;
 use crate::{Key, Map, Value};
-use itoa::{Buffer, Integer};
 use std::alloc::Global;
 use std::{fmt, io};
 use tera_report::TeraResult;
 use tera_report::sink::{Full, Growing, Room, Sink};
 use tera_report::watch::{Watched, Writer};
+use tera_text::{put_integer, put_lossy, put_quoted};
 
 impl Value {
     /// Writes the printed text. Undefined and none print nothing, a text itself, bytes the text
@@ -238,13 +236,6 @@ fn put_key<S: Sink>(key: &Key<'static>, out: &mut S) -> Result<(), S::Fault>
         Some(text) => put_quoted(text, out),
         None => key.print_to(out),
     }
-}
-
-// Puts an integer in decimal.
-pub(crate) fn put_integer<I: Integer, S: Sink>(n: I, out: &mut S) -> Result<(), S::Fault>
-    ensures { PutsThese S.takes S.fails result (I.text n) out.old out.new }
-{
-    out.put(Buffer::new().format(n))
 }
 
 // The word for a truth value.

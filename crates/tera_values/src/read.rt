@@ -5,12 +5,12 @@ ghost use Rattle.std.specs.Str.{chars};
 ghost use Rattle.tera_meaning.specs.Meaning.{plain};
 ghost use Rattle.tera_meaning.specs.Read.{truth_in, number_in, text_in, bytes_in, items_in, members_in, safe_in, marked_safe, truthy_in, size_in, iterable_in, is_nonempty};
 ghost use Rattle.tera_values.specs.Map.{pairs_in};
-ghost use Rattle.tera_values.specs.Whole.{whole_value};
+ghost use Rattle.tera_text.specs.Whole.{whole_value};
 
 use crate::map::pair_count;
-use crate::number::Whole;
 use crate::value::ValueInner;
 use crate::{Map, Value};
+use tera_text::Whole;
 
 impl Value {
     /// The truth value that it is. Mirrors `Value::as_bool`. Takes no memory.

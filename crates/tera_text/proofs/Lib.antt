@@ -1,0 +1,3 @@
+pub mod PutLemmas
+mod QuoteLemmas
+mod LossyLemmas

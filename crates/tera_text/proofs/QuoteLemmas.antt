@@ -1,0 +1,222 @@
+-- Where a text is cut at its first marked character, and what stands for that character.
+use Rattle.std.proofs.Common.{◌≡◌, ℕ, zero, suc, ◌+◌, ◌-◌, ◌<◌, ◌≤◌, Bool, true, false, not, ◌||◌, ◌==◌, IsTrue, nat_lt, cond, List, [], ◌∷◌, ◌++◌, length, get_or, take, drop, bytes_eq, refl, sym, ap, subst, ◌∙◌, arith, ne_eqb, append-nil, append_assoc, take-append-drop, take_at, ltb-true, encode_utf8_all, IsUtf8, length-append, length-take-le, length-drop}
+use Rattle.std.proofs.lemmas.Bool.{cond-false, and_parts, agree_below_at}
+use Rattle.std.proofs.lemmas.Bool.Decides.{nat_tests}
+use Rattle.std.proofs.lemmas.List.{nil_from_length, get_or-append_right, get_or-take}
+use Rattle.std.proofs.lemmas.List.Concat.{flat_map-append}
+use Rattle.std.proofs.lemmas.List.Folds.{list_all-append}
+use Rattle.std.proofs.Math.Seq.{drop-cons}
+use Rattle.std.proofs.lemmas.Str.{char_from_byte, encode_ascii, IsCharBoundary-start, IsCharBoundary-after_ascii, length-encode, len_utf8_bounds}
+use Rattle.std.specs.Str.{IsCharBoundary}
+use Rattle.std.specs.Char.{encode_utf8, is_ascii}
+use Rattle.std.specs.Char.Escape.{IsEscapeDebug, escape_default}
+use Rattle.std.specs.Cmp.Lexicographic.{bytes_decides}
+use Rattle.std.specs.Fmt.{debug_escape, digits}
+use Rattle.std.specs.List.{list_all}
+use Rattle.tera_text.specs.Quoted.{is_ascii_text, is_marked, escapes, Cuts, SkipsPlain, EscapesMarked}
+
+-- what `escape_debug` gives for an ASCII character
+abbrev escape_chars : ℕ → List ℕ
+escape_chars c = cond (c == 0) (92 ∷ 48 ∷ []) (escape_default c)
+
+abbrev same_escape : ℕ → Bool
+same_escape c = not (is_marked c) || bytes_eq (encode_utf8_all (escape_chars c)) (debug_escape 34 c)
+
+each_escape : (c : ℕ) → c < 128 → same_escape c ≡ true
+unfolding debug_escape digits encode_utf8
+each_escape c h = agree_below_at same_escape (λ _. true) 128 c refl h
+
+or_right : (a b : Bool) → (not a || b) ≡ true → a ≡ true → b ≡ true
+or_right true b h e = h
+or_right false b h e = absurd (cc)
+
+-- what `escape_debug` gives for a marked character stands for it
+pub marked_escape : (c : ℕ) (given : List ℕ) → IsEscapeDebug c given → EscapesMarked c (encode_utf8_all given)
+marked_escape c given e marked low =
+    let is : given ≡ escape_chars c = given_chars c given e low in
+    ap encode_utf8_all is ∙ (bytes_decides _ _).0 (or_right (is_marked c) _ (each_escape c low) marked)
+  where
+    given_chars : (c : ℕ) (given : List ℕ) → IsEscapeDebug c given → c < 128 → given ≡ escape_chars c
+    given_chars zero given e low = e.0 refl
+    given_chars (suc n) given e low = e.1 (omega arith) low
+        ∙ sym (cond-false _ _ _ (ne_eqb (suc n) 0 (λ h. omega arith)))
+
+-- a byte that is not marked stands for itself
+plain_escape_tests : (b : ℕ) → is_marked b ≡ false
+    → (nat_lt b 32 ≡ false) × ((b == 34) ≡ false) × ((b == 92) ≡ false) × (nat_lt 126 b ≡ false)
+plain_escape_tests b h = four (nat_lt b 32) (b == 34) (b == 92) (nat_lt 126 b) h
+  where
+    four : (p q r s : Bool) → (p || (q || (r || s))) ≡ false → (p ≡ false) × (q ≡ false) × (r ≡ false) × (s ≡ false)
+    four true q r s h = absurd (cc)
+    four false true r s h = absurd (cc)
+    four false false true s h = absurd (cc)
+    four false false false s h = (refl, refl, refl, h)
+
+pub plain_bounds : (b : ℕ) → is_marked b ≡ false → (32 ≤ b) × (b < 127)
+plain_bounds b h = let t = plain_escape_tests b h in (grind (arith, nat_tests), grind (arith, nat_tests))
+
+abbrev plain_same : ℕ → Bool
+plain_same b = is_marked b || bytes_eq (debug_escape 34 b) (b ∷ [])
+
+each_plain : (b : ℕ) → b < 128 → plain_same b ≡ true
+unfolding debug_escape
+each_plain b h = agree_below_at plain_same (λ _. true) 128 b refl h
+
+plain_escape : (b : ℕ) → is_marked b ≡ false → debug_escape 34 b ≡ b ∷ []
+plain_escape b h =
+    let low : (32 ≤ b) × (b < 127) = plain_bounds b h in
+    (bytes_decides _ _).0 (or_other (is_marked b) _ (each_plain b (omega arith)) h)
+  where
+    or_other : (a b : Bool) → (a || b) ≡ true → a ≡ false → b ≡ true
+    or_other true b h e = absurd (cc)
+    or_other false b h e = h
+
+-- a text with no marked byte stands for itself
+pub escapes_plain : (xs : List ℕ) → ((k : ℕ) → k < length xs → is_marked (get_or xs k 0) ≡ false) → escapes xs ≡ xs
+escapes_plain [] plain = refl
+escapes_plain (x ∷ xs) plain =
+    let first = plain_escape x (plain 0 (omega arith)) in
+    let others = escapes_plain xs (λ k h. plain (suc k) (omega arith)) in
+    cc
+
+-- a character begins where only plain bytes stand before, or the text ends there
+pub boundary_after_plain : (bs : List ℕ) (at : ℕ) → IsUtf8 bs → at ≤ length bs
+    → ((k : ℕ) → k < at → is_marked (get_or bs k 0) ≡ false) → IsCharBoundary bs at
+boundary_after_plain bs zero u within plain = IsCharBoundary-start bs u
+boundary_after_plain bs (suc n) u within plain =
+    let before : (32 ≤ get_or bs n 0) × (get_or bs n 0 < 127) = plain_bounds (get_or bs n 0) (plain n (omega arith)) in
+    let next : n + 1 ≡ suc n = omega arith in
+    subst (λ k. IsCharBoundary bs k) next (IsCharBoundary-after_ascii bs n u (omega arith) (omega arith))
+
+-- what is left of an ASCII text is ASCII
+ascii_after : (text after : List ℕ) → SkipsPlain text after → IsTrue (is_ascii_text text) → IsTrue (is_ascii_text after)
+ascii_after text after skips ascii =
+    (and_parts (list_all is_ascii skips.run) _ (sym (list_all-append is_ascii skips.run after)
+    ∙ ap (list_all is_ascii) (sym skips.parts) ∙ ascii)).1
+
+-- the first character of an ASCII text is one byte
+first_char : (bs rest : List ℕ) (c : ℕ) → bs ≡ encode_utf8 c ++ rest → 0 < length bs → IsTrue (is_ascii_text bs)
+    → (c < 128) × (bs ≡ c ∷ rest) × IsTrue (is_ascii_text rest)
+first_char [] rest c e some ascii = absurd (omega arith)
+first_char (b ∷ bs) rest c e some ascii =
+    let parts = and_parts (is_ascii b) (list_all is_ascii bs) ascii in
+    let low : b < 128 = ltb-true b 128 parts.0 in
+    let is : c ≡ b = char_from_byte (b ∷ bs) rest c e low some in
+    let small : c < 128 = omega arith in
+    let whole : b ∷ bs ≡ c ∷ rest = e ∙ ap (λ l. l ++ rest) (encode_ascii c small) in
+    let tail : bs ≡ rest = cc in
+    (small, whole, subst (λ l. IsTrue (is_ascii_text l)) tail parts.1)
+
+-- past a run of plain bytes
+pub past_plain : (text after : List ℕ) (at : ℕ) → at ≤ length text
+    → ((k : ℕ) → k < at → is_marked (get_or text k 0) ≡ false)
+    → (at < length text → is_marked (get_or text at 0) ≡ true) → after ≡ drop at text → SkipsPlain text after
+past_plain text after at within plain stops is = record {
+  run = take at text;
+  parts = sym (take-append-drop at text) ∙ ap (λ l. take at text ++ l) (sym is);
+  plain = escapes_plain (take at text) (λ k h.
+      let before : k < at = omega (arith, length-take-le at text) in
+      subst (λ b. is_marked b ≡ false) (sym (get_or-take at text k 0 before)) (plain k before));
+  stops = λ some.
+      let inside : at < length text = omega (arith, ap length is, length-drop at text) in
+      let first : after ≡ get_or text at 0 ∷ drop (suc at) text = is ∙ drop-cons text at 0 inside in
+      subst (λ l. is_marked (get_or l 0 0) ≡ true) (sym first) (stops inside);
+}
+
+-- a character begins where a text begins that ends another, or that text ends
+pub boundary_before : (text front after : List ℕ) → text ≡ front ++ after → IsUtf8 after
+    → IsCharBoundary text (length text - length after)
+boundary_before text front after parts u =
+    let here : length text - length after ≡ length front = omega (arith, ap length parts, length-append front after) in
+    let start = IsCharBoundary-start after u in
+    let same : get_or text (length front) 0 ≡ get_or after 0 0 =
+    ap (λ l. get_or l (length front) 0) parts
+    ∙ get_or-append_right front after (length front) (length front) 0 refl (omega arith)
+    ∙ ap (λ k. get_or after k 0) (sub_self (length front)) in
+    subst (λ n. IsCharBoundary text n) (sym here) (
+      omega (arith, ap length parts, length-append front after),
+      λ some high. rw same (start.1 (omega (arith, ap length parts, length-append front after)) (rw same at high)),
+    )
+  where
+    sub_self : (n : ℕ) → n - n ≡ 0
+    sub_self n = omega arith
+
+pub some_left : (after tail : List ℕ) (c : ℕ) → after ≡ encode_utf8 c ++ tail → length tail < length after
+some_left after tail c cut = omega (
+  arith,
+  ap length cut,
+  length-append (encode_utf8 c) tail,
+  length-encode c,
+  (len_utf8_bounds c).0,
+)
+
+-- what ends what ends a text ends the text
+pub ends_later : (text front rest run after : List ℕ) → text ≡ front ++ rest → rest ≡ run ++ after
+    → text ≡ (front ++ run) ++ after
+ends_later text front rest run after parts more = parts ∙ ap (λ l. front ++ l) more ∙ sym (append_assoc front run after)
+
+-- in an ASCII text no character is past ASCII
+pub none_past_ascii : {P : Type 0} (text after tail : List ℕ) (c : ℕ) → SkipsPlain text after
+    → after ≡ encode_utf8 c ++ tail → 127 < c → IsTrue (is_ascii_text text) → P
+none_past_ascii text after tail c skips cut past ascii =
+    let later = ascii_after text after skips ascii in
+    let first = first_char after tail c cut (omega (arith, some_left after tail c cut)) later in
+    absurd (omega (arith, first.0))
+
+-- where an ASCII text is cut
+pub cut_here : (text run after tail : List ℕ) (c : ℕ) → SkipsPlain text after → after ≡ encode_utf8 c ++ tail
+    → run ≡ take (length text - length after) text → IsTrue (is_ascii_text text) → Cuts text run c tail
+cut_here text run after tail c skips cut run_is ascii =
+    let some : 0 < length after = omega (arith, some_left after tail c cut) in
+    let first = first_char after tail c cut some (ascii_after text after skips ascii) in
+    let here : length skips.run ≡ length text - length after = omega (
+      arith,
+      ap length skips.parts,
+      length-append skips.run after,
+    ) in
+    let same : run ≡ skips.run = run_is ∙ ap (take (length text - length after)) skips.parts
+    ∙ take_at skips.run after _ here in
+    record {
+      marked = subst (λ l. is_marked (get_or l 0 0) ≡ true) first.1 (skips.stops some);
+      ascii = first.0;
+      ascii_rest = first.2;
+      whole = ap escapes skips.parts ∙ flat_map-append (debug_escape 34) skips.run after
+          ∙ ap (λ l. l ++ escapes after) (skips.plain ∙ sym same) ∙ ap (λ l. run ++ escapes l) first.1;
+    }
+
+-- a text of which nothing is left past a run that stands for itself
+pub all_plain : (text after : List ℕ) → SkipsPlain text after → length after ≡ 0 → escapes text ≡ text
+all_plain text after skips none =
+    let whole : text ≡ skips.run = skips.parts ∙ ap (λ l. skips.run ++ l) (nil_from_length after none)
+    ∙ append-nil skips.run in
+    ap escapes whole ∙ skips.plain ∙ sym whole
+
+-- one more part of an escape is put
+pub parts_more : (given done rest later : List ℕ) (part : ℕ) → encode_utf8_all given ≡ done ++ encode_utf8_all rest
+    → rest ≡ part ∷ later
+    → encode_utf8_all given ≡ (done ++ encode_utf8 part) ++ encode_utf8_all later
+parts_more given done rest later part split is =
+    split ∙ ap (λ l. done ++ encode_utf8_all l) is ∙ sym (append_assoc done (encode_utf8 part) (encode_utf8_all later))
+
+-- one more run and what stands for a marked character are put
+pub runs_more : (text rest done run after bytes : List ℕ) (c : ℕ)
+    → (IsTrue (is_ascii_text text) → IsTrue (is_ascii_text rest) × (escapes text ≡ done ++ escapes rest))
+    → (IsTrue (is_ascii_text rest) → Cuts rest run c after) → EscapesMarked c bytes
+    → IsTrue (is_ascii_text text)
+    → IsTrue (is_ascii_text after) × (escapes text ≡ ((done ++ run) ++ bytes) ++ escapes after)
+runs_more text rest done run after bytes c split cut stands ascii =
+    let before = split ascii in
+    let at = cut before.0 in (
+      at.ascii_rest,
+      before.1 ∙ ap (λ l. done ++ l) (at.whole
+          ∙ ap (λ l. run ++ (l ++ escapes after)) (sym (stands at.marked at.ascii)))
+          ∙ sym (append_assoc done run (bytes ++ escapes after))
+          ∙ sym (append_assoc (done ++ run) bytes (escapes after)),
+    )
+
+-- where an escape has no more parts, all of it is put
+pub parts_done : (given done rest : List ℕ) (left : ℕ) (all : List ℕ)
+    → encode_utf8_all given ≡ done ++ encode_utf8_all rest → rest ≡ take left all → left ≡ 0
+    → encode_utf8_all given ≡ done
+parts_done given done rest left all split is none =
+    split ∙ ap (λ l. done ++ encode_utf8_all l) (is ∙ ap (λ n. take n all) none) ∙ append-nil done
