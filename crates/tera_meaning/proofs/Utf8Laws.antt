@@ -15,7 +15,8 @@ use lib.Utf8.{scalar, scalars, encode, encodes, low_scalar}
 use Rattle.tera_meaning.specs.KeyMeaning.{KeyMeaning, truth_key, number_key, text_key}
 use Rattle.tera_meaning.specs.Integer.{IsWide}
 use Rattle.tera_meaning.specs.Meaning.{Meaning}
-use Rattle.tera_meaning.specs.Printed.{quoted, printed, printed_key, printed_truth, printed_with, printed_items, more_items, printed_members, more_members}
+use Rattle.tera_meaning.specs.Printed.{printed, printed_key, printed_truth, printed_with, printed_items, more_items, printed_members, more_members}
+use Rattle.tera_report.specs.Quoted.{quoted}
 use Rattle.tera_meaning.specs.Tree.{Items, Members, undefined, none, truth, number, text, bytes, array, object, no_items, item, no_members, member}
 use Rattle.tera_meaning.specs.WellMade.{IsWellMadeMeaning, IsWellMadeKeyMeaning, AreWellMadeMeanings, AreWellMadePairs}
 

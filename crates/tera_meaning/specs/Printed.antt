@@ -5,15 +5,12 @@ use Rattle.std.specs.Fmt.{signed_decimal, debug_escape}
 use Rattle.std.specs.List.{list_all}
 use Rattle.std.specs.Str.Lossy.{utf8_lossy}
 use Rattle.tera_report.specs.Escaping.{escaped}
+use Rattle.tera_report.specs.Quoted.{quoted}
 use Rattle.tera_meaning.specs.Form.{Form}
 use Rattle.tera_meaning.specs.KeyMeaning.{KeyMeaning, truth_key, number_key, text_key}
 use Rattle.tera_meaning.specs.Meaning.{Meaning, plain}
 use Rattle.tera_meaning.specs.Read.{safe_in}
 use Rattle.tera_meaning.specs.Tree.{Items, Members, undefined, none, truth, number, text, bytes, array, object, no_items, item, no_members, member}
-
--- the debug form of an ASCII text: in double quotes, with escapes
-abbrev pub quoted : List ℕ → List ℕ
-quoted t = 34 ∷ (flat_map (debug_escape 34) t ++ 34 ∷ [])
 
 abbrev pub printed_truth : Bool → List ℕ
 printed_truth true = codes "true"

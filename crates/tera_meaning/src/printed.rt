@@ -8,7 +8,7 @@ ghost use Rattle.tera_meaning.specs.Meaning.{Meaning, plain};
 ghost use Rattle.tera_meaning.specs.Order.{same};
 ghost use Rattle.tera_meaning.specs.Printed.{IsExact, IsExactInside, IsExactKey, Prints};
 ghost use Rattle.tera_meaning.specs.Printed.{PrintsInside, is_exact_inside, printed, printed_with};
-ghost use Rattle.tera_meaning.specs.Printed.{quoted};
+ghost use Rattle.tera_report.specs.Quoted.{quoted};
 ghost use Rattle.tera_meaning.specs.Tree.{undefined, none, truth, number, text, bytes, array};
 ghost use Rattle.tera_meaning.specs.Tree.{object, items, members};
 ghost use Rattle.tera_meaning.specs.WellMade.{IsWellMadeMeaning};

@@ -1,3 +1,1 @@
-pub mod PutLemmas
-mod QuoteLemmas
 mod LossyLemmas

@@ -1,11 +1,9 @@
-//! How texts, bytes and numbers are put, piece by piece, and how numbers of any kind compare: what
-//! values stand on and what knows no value.
+//! How bytes and numbers are put, piece by piece, and how numbers of any kind compare: what values
+//! stand on and what knows no value.
 #![tactic(auto)]
 
 mod lossy;
 mod number;
-mod quote;
 
 pub use lossy::put_lossy;
 pub use number::{Whole, put_integer};
-pub use quote::put_quoted;

@@ -4,11 +4,11 @@ use Rattle.std.proofs.Common.{sym, ◌∙◌, ap, subst, append_assoc, append-ni
 use Rattle.std.proofs.lemmas.Bool.{and_parts}
 use Rattle.tera_meaning.specs.Form.{Form}
 use Rattle.tera_meaning.specs.Meaning.{plain}
-use Rattle.tera_meaning.specs.Printed.{printed_with, printed_items, quoted, is_exact_inside, are_exact_items, Prints, PrintsInside}
+use Rattle.tera_meaning.specs.Printed.{printed_with, printed_items, is_exact_inside, are_exact_items, Prints, PrintsInside}
 use Rattle.tera_meaning.specs.Read.{text_in}
 use Rattle.tera_meaning.specs.Tree.{undefined, none, truth, number, text, bytes, array, object}
 use Rattle.tera_values.specs.Print.{plain_items, PrintsItems}
-use Rattle.tera_text.specs.Quoted.{Quotes, is_ascii_text}
+use Rattle.tera_report.specs.Quoted.{Quotes, is_ascii_text, quoted}
 
 -- what is printed of the items that come after others
 abbrev pub later : List Form → List ℕ

@@ -11,13 +11,13 @@ use Rattle.tera_meaning.specs.Form.{Form}
 use Rattle.tera_meaning.specs.KeyMeaning.{KeyForm, truth_key, number_key, text_key, key_text, key_meaning}
 use Rattle.tera_meaning.specs.Meaning.{plain}
 use Rattle.tera_meaning.specs.Pairs.{key_form_order, pairs_of}
-use Rattle.tera_meaning.specs.Printed.{printed_with, printed_members, printed_key, quoted, is_exact_key, is_exact_inside, are_exact_members}
+use Rattle.tera_meaning.specs.Printed.{printed_with, printed_members, printed_key, is_exact_key, is_exact_inside, are_exact_members}
 use Rattle.tera_values.specs.Key.{text_in_key, shown_key}
 use Rattle.tera_values.specs.Map.{above, first_pair, is_above}
 use Rattle.tera_values.specs.MapLaws.{form_total}
 use Rattle.tera_values.specs.Placing.{In, in_below, below_less, not_back, placed_sorted, rising_is, first_part, second_part}
 use Rattle.tera_values.specs.Print.{plain_pairs, PrintsKey, PrintsPair, PrintsPairs}
-use Rattle.tera_text.specs.Quoted.{Quotes, is_ascii_text}
+use Rattle.tera_report.specs.Quoted.{Quotes, is_ascii_text, quoted}
 
 -- ---- the pairs above a key
 

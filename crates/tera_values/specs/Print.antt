@@ -4,7 +4,8 @@ use Rattle.std.specs.Io.KnownBytes.{Appends}
 use Rattle.tera_meaning.specs.Form.{Form}
 use Rattle.tera_meaning.specs.KeyMeaning.{KeyMeaning, KeyForm, key_meaning}
 use Rattle.tera_meaning.specs.Meaning.{Meaning, plain}
-use Rattle.tera_meaning.specs.Printed.{printed, printed_with, printed_items, printed_members, printed_key, quoted, is_exact, is_exact_key, is_exact_inside, are_exact_items, are_exact_members, Prints, PrintsInside}
+use Rattle.tera_meaning.specs.Printed.{printed, printed_with, printed_items, printed_members, printed_key, is_exact, is_exact_key, is_exact_inside, are_exact_items, are_exact_members, Prints, PrintsInside}
+use Rattle.tera_report.specs.Quoted.{quoted}
 use Rattle.tera_meaning.specs.Tree.{Items, Members, items, members, relabeled_items, relabeled_members}
 
 -- the meanings of items

@@ -6,7 +6,8 @@ use Rattle.tera_meaning.specs.Form.{Form}
 use Rattle.tera_meaning.specs.KeyMeaning.{KeyForm, key_meaning}
 use Rattle.tera_meaning.specs.Meaning.{plain}
 use Rattle.tera_meaning.specs.Pairs.{key_form_order}
-use Rattle.tera_meaning.specs.Printed.{printed_items, printed_members, printed_with, quoted, is_exact_key, is_exact_inside}
+use Rattle.tera_meaning.specs.Printed.{printed_items, printed_members, printed_with, is_exact_key, is_exact_inside}
+use Rattle.tera_report.specs.Quoted.{quoted}
 use Rattle.tera_meaning.specs.Tree.{items, items_depth}
 use Rattle.tera_values.specs.Depth.{member_le-depth}
 use Rattle.tera_values.specs.Key.{key_form}
@@ -14,7 +15,7 @@ use Rattle.tera_values.specs.Map.{above, forms_of, pairs_in, is_above}
 use Rattle.tera_values.specs.Print.{plain_items, plain_pairs, PrintsArray, PrintsItems, PrintsMap, PrintsPairs, PrintsPair}
 use Rattle.tera_values.proofs.PrintPairs.{empty_pairs, first_in, from_least, from_next, pairs_sorted, first_pair_done, next_pair_done, rest_pairs_done, comma_pairs_done, later_pairs}
 use Rattle.tera_values.proofs.Parts.{depth_at}
-use Rattle.tera_text.proofs.PutLemmas.{failed_of}
+use Rattle.tera_report.proofs.PutLemmas.{failed_of}
 use Rattle.tera_values.proofs.PrintLemmas.{first_done, next_done, rest_done, comma_done, later, text_inside, other_inside}
 use Rattle.tera_values.proofs.print.+print.Goals as goal
 

@@ -1,6 +1,0 @@
-use Rattle.std.proofs.Common.{◌≡◌, ◌<◌, ℕ, false, slice_index}
-use Rattle.tera_text.specs.Quoted.{is_marked}
-use Rattle.tera_text.proofs.quote.plain_len.Given as goal
-
-abbrev pub invariant-loop-at : goal.invariant-loop-at
-invariant-loop-at l = (k : ℕ) → k < l.at → is_marked (slice_index l.bytes k) ≡ false
