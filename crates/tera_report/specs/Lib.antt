@@ -4,6 +4,7 @@ pub mod Growing
 pub mod Pieces
 pub mod Refusal
 pub mod Room
+pub mod SentLaws
 pub mod Sink
 pub mod SinkLaws
 pub mod Span
