@@ -1,8 +1,10 @@
 pub mod ReplyLemmas
 pub mod StatedLemmas
 pub mod StatusLemmas
+pub mod PutLemmas
 pub mod RunLemmas
 pub mod ScriptLemmas
+pub mod SourceLemmas
 pub mod SplitLemmas
 pub mod StretchLemmas
 pub mod EndLemmas
@@ -11,3 +13,4 @@ pub mod FeedLemmas
 pub mod PieceLemmas
 pub mod InputLemmas
 pub mod ReplayLemmas
+pub mod WatchedLemmas

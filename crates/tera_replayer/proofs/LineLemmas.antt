@@ -1,6 +1,5 @@
 -- One line, and the carriage return at its end.
-use Rattle.std.proofs.Common.{◌≡◌, ℕ, suc, zero, Bool, true, false, ◌||◌, List, [], ◌∷◌, ◌++◌, length, get_or, take, cond, Option, None, Some, inl, inr, sym, ◌∙◌, ap, refl, append-nil, append_assoc, arith, eq-eqb}
-use Rattle.std.specs.Io.KnownBytes.{Appends}
+use Rattle.std.proofs.Common.{◌≡◌, ℕ, suc, zero, Bool, true, false, ◌||◌, List, [], ◌∷◌, length, get_or, take, cond, inl, inr, sym, ap, refl, append-nil, arith, eq-eqb}
 use Rattle.std.proofs.lemmas.Bool.{ne_eqb}
 use Rattle.tera_meaning.specs.State.{State}
 use Rattle.tera_meaning.specs.Outcome.{Outcome, is_want}
@@ -50,18 +49,6 @@ Runs-says n old new line text command outcome says step replied = record {
   replied = (text ∷ [], (replied, tt), sym (append-nil (ended text)));
   wanted_is = or_false (is_want outcome);
 }
-
--- what is known grows by nothing
-pub Appends-none : (known : Option (List ℕ)) → Appends known known []
-Appends-none None = tt
-Appends-none (Some xs) = sym (append-nil xs)
-
--- what is known grows by one text and then by another
-pub Appends-append : (a b c : Option (List ℕ)) (s t : List ℕ) → Appends a b s → Appends b c t → Appends a c (s ++ t)
-Appends-append None b c s t g h = tt
-Appends-append (Some xs) None c s t g h = absurd g
-Appends-append (Some xs) (Some ys) None s t g h = absurd h
-Appends-append (Some xs) (Some ys) (Some zs) s t g h = h ∙ ap (λ (ls : List ℕ). ls ++ t) g ∙ append_assoc xs s t
 
 pub without_return-none : (xs : List ℕ) → length xs ≡ 0 → xs ≡ without_return xs
 without_return-none [] e = refl

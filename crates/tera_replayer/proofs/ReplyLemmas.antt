@@ -46,7 +46,7 @@ value_reply outcome v form is h =
     let P : Outcome → Type 0 = λ o. IsReply o (codes "value " ++ form) in
     subst P (sym is) (form, h, refl)
 
-some_form : (v : Form) → (form : List ℕ) × IsFormOf v form
+pub some_form : (v : Form) → (form : List ℕ) × IsFormOf v form
 some_form undefined = (codes "undefined", refl)
 some_form none = (codes "none", refl)
 some_form (truth b) = (printed_with quoted (plain (truth b)), λ exact. refl)

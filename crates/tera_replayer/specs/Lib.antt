@@ -2,6 +2,7 @@ pub mod Script
 pub mod Reply
 pub mod Stated
 pub mod Replay
+pub mod Output
 pub mod Source
 pub mod Stretch
 pub mod Place

@@ -1,6 +1,6 @@
 -- What a replay writes, and the status with which it ends.
 use Rattle.std.specs.Prelude.{◌≡◌, ℕ, ◌-◌, ◌^◌, ◌≤◌, ◌⊎◌, Bool, true, false, List, [], ◌++◌, map}
-use Rattle.std.specs.Prelude.{length, codes, decimal, Option, None, Some, IsSome, IsTrue}
+use Rattle.std.specs.Prelude.{length, codes, decimal, Option, None, Some, IsSome}
 use Rattle.std.specs.Prelude.{if◌then◌else◌}
 use Rattle.std.specs.List.{list_any}
 use Rattle.std.specs.FinMap.{empty}
@@ -98,10 +98,11 @@ Writes bytes fails out err status =
     AllAnswered bytes fails out err status
     ⊎ (ReadingFailed bytes fails out err status ⊎ MemoryFailed bytes fails out err status)
 
--- The same of writers. One that may fail may have done so; nothing is said of what it then got.
-abbrev pub Replays : List ℕ → Option Bool → Bool → (List ℕ → Type 0) → (List ℕ → Type 0)
+-- The same of what is written to: `out` got its bytes and `err` its own; or `out` broke, and `err`
+-- got the text for that.
+abbrev pub Replays : List ℕ → Option Bool → (List ℕ → Type 0) → Type 0 → (List ℕ → Type 0)
     → ℕ → Type 0
-Replays bytes fails never_fails OutGets ErrGets status =
+Replays bytes fails OutGets OutBroke ErrGets status =
     ((out : List ℕ) × (err : List ℕ) × Writes bytes fails out err status × OutGets out
     × ErrGets err)
-    ⊎ (¬ IsTrue never_fails × (status ≡ 1) × ErrGets (codes "error: writing failed\n"))
+    ⊎ (OutBroke × (status ≡ 1) × ErrGets (codes "error: writing failed\n"))

@@ -32,6 +32,11 @@ IsFormOf (bytes bs) form = PrintsInside (plain (bytes bs)) form
 IsFormOf (array xs) form = PrintsInside (plain (array xs)) form
 IsFormOf (object ps) form = PrintsInside (plain (object ps)) form
 
+-- the line for a value that is found, with its line feed
+abbrev pub IsValueLine : Form → List ℕ → Type 0
+IsValueLine value written =
+    (form : List ℕ) × IsFormOf value form × (written ≡ ended (codes "value " ++ form))
+
 -- what is written for a refusal: its text, where that is known
 abbrev pub TellsRefusal : Refusal → List ℕ → Type 0
 TellsRefusal refusal words = IfSome (text_of refusal) (λ known. words ≡ known)
@@ -51,6 +56,11 @@ IsReply (Ok (Answer.kind kind)) line = line ≡ codes "kind " ++ kind_name kind
 IsReply (Ok (Answer.text printed)) line = line ≡ codes "text " ++ printed
 IsReply (Err refusal) line =
     (words : List ℕ) × TellsRefusal refusal words × (line ≡ codes "error: " ++ words)
+
+-- the same with its line feed
+abbrev pub IsReplyLine : Outcome → List ℕ → Type 0
+IsReplyLine outcome written =
+    (line : List ℕ) × IsReply outcome line × (written ≡ ended line)
 
 -- the reply is one text alone: but where a value is found that quotes a text past ASCII, and where
 -- the text of a refusal is not known

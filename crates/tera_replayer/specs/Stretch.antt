@@ -1,8 +1,10 @@
 -- How a replay goes on over a stretch of the script.
-use Rattle.std.specs.Prelude.{◌≡◌, ℕ, ◌+◌, Bool, false, ◌||◌, List, [], ◌∷◌, ◌++◌, map, length, All}
-use Rattle.std.specs.Prelude.{codes, Option, None, Some, Result, Ok, Err, IsTrue, if◌then◌else◌}
+use Rattle.std.specs.Prelude.{◌≡◌, ◌≢◌, ℕ, ◌+◌, ◌⊎◌, Bool, false, ◌||◌, List, [], ◌∷◌, ◌++◌, map}
+use Rattle.std.specs.Prelude.{length, All}
+use Rattle.std.specs.Prelude.{codes, Option, None, Some, Result, Ok, Err, if◌then◌else◌}
 use Rattle.std.specs.FinMap.{empty}
 use Rattle.std.specs.List.{flat_map}
+use Rattle.tera_report.specs.Refusal.{memory_refused}
 use Rattle.tera_meaning.specs.State.{State}
 use Rattle.tera_meaning.specs.Outcome.{Outcome}
 use Rattle.tera_meaning.specs.Request.{Command}
@@ -66,39 +68,53 @@ pub record Begins (old : Place) (bytes : List ℕ) (text : List ℕ) : Type 0 wh
   pub goes : Goes old read text place
 
 -- what stands where a fault ended the stretch
-abbrev pub Stops : Place → List ℕ → Bool → (List ℕ → Type 0) → Fault → Type 0
-Stops old bytes never_fails OutGets (BadLine n) =
+abbrev pub Stops : Place → List ℕ → (List ℕ → Type 0) → Type 0 → Fault → Type 0
+Stops old bytes OutGets OutBroke (BadLine n) =
     (text : List ℕ) × StopsAtBad old bytes n text × OutGets text
-Stops old bytes never_fails OutGets ReadFailed = ⊥
-Stops old bytes never_fails OutGets WriteFailed = ¬ IsTrue never_fails
-Stops old bytes never_fails OutGets OutOfMemory =
+Stops old bytes OutGets OutBroke ReadFailed = ⊥
+Stops old bytes OutGets OutBroke WriteFailed = OutBroke
+Stops old bytes OutGets OutBroke OutOfMemory =
     (text : List ℕ) × Begins old bytes text × OutGets text
 
 -- what stands where a fault ended one line, numbered n
-abbrev pub LineStops : ℕ → List ℕ → Bool → Type 0 → Fault → Type 0
-LineStops n line never_fails OutStays (BadLine m) = (m ≡ n) × IsBad line × OutStays
-LineStops n line never_fails OutStays ReadFailed = ⊥
-LineStops n line never_fails OutStays WriteFailed = ¬ IsTrue never_fails
-LineStops n line never_fails OutStays OutOfMemory = OutStays
+abbrev pub LineStops : ℕ → List ℕ → Type 0 → Type 0 → Fault → Type 0
+LineStops n line OutStays OutBroke (BadLine m) = (m ≡ n) × IsBad line × OutStays
+LineStops n line OutStays OutBroke ReadFailed = ⊥
+LineStops n line OutStays OutBroke WriteFailed = OutBroke
+LineStops n line OutStays OutBroke OutOfMemory = OutStays
 
--- what stands where a fault ended the writing of a reply
-abbrev pub ReplyStops : Bool → Type 0 → Fault → Type 0
-ReplyStops never_fails OutStays (BadLine m) = ⊥
-ReplyStops never_fails OutStays ReadFailed = ⊥
-ReplyStops never_fails OutStays WriteFailed = ¬ IsTrue never_fails
-ReplyStops never_fails OutStays OutOfMemory = OutStays
+-- a reply to this outcome may take memory: that of a refusal, but not of want of memory
+abbrev pub TakesMemory : Outcome → Type 0
+TakesMemory (Ok answer) = ⊥
+TakesMemory (Err refusal) = refusal ≢ memory_refused
+
+-- what stands where a fault ended the writing of a reply to this outcome
+abbrev pub ReplyStops : Outcome → Type 0 → Type 0 → Fault → Type 0
+ReplyStops outcome OutStays OutBroke (BadLine m) = ⊥
+ReplyStops outcome OutStays OutBroke ReadFailed = ⊥
+ReplyStops outcome OutStays OutBroke WriteFailed = OutBroke
+ReplyStops outcome OutStays OutBroke OutOfMemory = TakesMemory outcome × OutStays
 
 -- how answering all of the input went: whether memory was wanted by an answer, or a fault
-abbrev pub Ends : List ℕ → Option Bool → Bool → (List ℕ → Type 0) → Result Bool Fault → Type 0
-Ends bytes fails never_fails OutGets (Ok wanted) =
+abbrev pub Ends : List ℕ → Option Bool → (List ℕ → Type 0) → Type 0 → Result Bool Fault → Type 0
+Ends bytes fails OutGets OutBroke (Ok wanted) =
     (out : List ℕ) × AllAnswered bytes fails out [] (if wanted then 1 else 0) × OutGets out
-Ends bytes fails never_fails OutGets (Err (BadLine n)) =
+Ends bytes fails OutGets OutBroke (Err (BadLine n)) =
     (out : List ℕ) × AllAnswered bytes fails out (report (Some n)) 2 × OutGets out
-Ends bytes fails never_fails OutGets (Err ReadFailed) =
+Ends bytes fails OutGets OutBroke (Err ReadFailed) =
     (out : List ℕ) × ReadingFailed bytes fails out (codes "error: reading failed\n") 1 × OutGets out
-Ends bytes fails never_fails OutGets (Err WriteFailed) = ¬ IsTrue never_fails
-Ends bytes fails never_fails OutGets (Err OutOfMemory) =
+Ends bytes fails OutGets OutBroke (Err WriteFailed) = OutBroke
+Ends bytes fails OutGets OutBroke (Err OutOfMemory) =
     (out : List ℕ) × MemoryFailed bytes fails out (codes "error: Out of memory\n") 1 × OutGets out
+
+-- a last flush went well and left the ending as it was, or it failed; there is none where writing
+-- has failed
+abbrev pub EndsFlushed : {S : Type 0} → (S → S → Type 0) → (S → S → Type 0)
+    → Result Bool Fault → Result Bool Fault → S → S → Type 0
+EndsFlushed flushes flush_fails ending result old new =
+    ((result ≡ Err WriteFailed) × (ending ≡ Err WriteFailed) × (new ≡ old))
+    ⊎ (((result ≡ ending) × (ending ≢ Err WriteFailed) × flushes old new)
+    ⊎ ((result ≡ Err WriteFailed) × (ending ≢ Err WriteFailed) × flush_fails old new))
 
 -- what is written about the end
 abbrev pub told : Result Bool Fault → List ℕ

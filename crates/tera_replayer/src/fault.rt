@@ -1,9 +1,9 @@
 // Why a replay ends before its input does.
+ghost use Rattle.std.specs.Prelude.{◌≡◌, Ok, Err, MatchResult};
 ghost use Rattle.tera_replayer.specs.declared.fault.Fault.TheVariants.{ReadFailed, WriteFailed};
 ghost use Rattle.tera_replayer.specs.declared.fault.Fault.TheVariants.{OutOfMemory};
-ghost use Rattle.std.specs.Prelude.{◌≡◌};
 
-use std::alloc::{AllocError, AllocFailed};
+use std::alloc::AllocError;
 
 /// What ends a replay before its input ends.
 #[derive(Debug, Drop)]
@@ -12,7 +12,7 @@ pub enum Fault {
     BadLine(u128),
     /// A read failed.
     ReadFailed,
-    /// A write of an answer failed.
+    /// A write of an answer failed, or a flush behind it.
     WriteFailed,
     /// The program itself found no memory.
     OutOfMemory,
@@ -34,10 +34,12 @@ impl From<crate::source::ReadError> for Fault {
     }
 }
 
-impl From<crate::output::WriteError> for Fault {
-    ghost from_gives = { λ _ fault. fault ≡ WriteFailed };
-
-    fn from(_failed: crate::output::WriteError) -> Fault {
-        Fault::WriteFailed
+/// What was put, or that a write failed.
+pub(crate) fn written<E: Drop>(put: Result<(), E>) -> Result<(), Fault>
+    ensures { MatchResult put (λ _. result ≡ Ok tt) (λ _. result ≡ Err WriteFailed) }
+{
+    match put {
+        Ok(()) => Ok(()),
+        Err(_) => Err(Fault::WriteFailed),
     }
 }

@@ -1,17 +1,17 @@
 // From pieces of a script to its lines, each answered once it is whole.
 ghost use Rattle.std.specs.FinMap.{empty};
-ghost use Rattle.std.specs.Io.KnownBytes.{Appends};
 ghost use Rattle.std.specs.Prelude.{◌≡◌, ◌+◌, ◌^◌, ◌<◌, ◌≤◌, ℕ, Bool, ◌||◌, List, [], ◌∷◌, ◌++◌};
-ghost use Rattle.std.specs.Prelude.{IfOk, OnOk, IfErr, IfSome, IfNone, IsTrue, length};
+ghost use Rattle.std.specs.Prelude.{IfOk, OnOk, IfErr, IfSome, IfNone, length};
+ghost use Rattle.tera_report.specs.Sink.{Broke, Sends};
 ghost use Rattle.tera_replayer.specs.Script.{HasNoLineFeed, without_return, last_line, ended};
 ghost use Rattle.tera_replayer.specs.Stretch.{Place, Goes, Runs, Stops, LineStops, start};
 
 use crate::answer::{is_want, write_answer};
 use crate::fault::Fault;
-use crate::output::Output;
 use memchr::memchr;
 use std::alloc::Global;
 use tera_context::{Context, step};
+use tera_report::sink::Sink;
 use tera_script::{Reading, read_line};
 
 /// What a replay keeps between two pieces of its script.
@@ -42,7 +42,7 @@ impl Feed {
     }
 
     /// Takes a piece of the script, and answers each line that is whole now.
-    pub fn take_piece<W: Output>(
+    pub fn take_piece<W: Sink>(
         &mut self,
         alloc: Global,
         piece: &[u8],
@@ -52,12 +52,12 @@ impl Feed {
         requires part { HasNoLineFeed self.old.part.items }
         ensures ok { OnOk result ((text : List ℕ)
             × Goes (place_of self.old) piece.now text (place_of self.new)
-            × Appends (W.holds out.old) (W.holds out.new) text) }
+            × Sends W.takes W.flushes out.old text out.new) }
         ensures number { OnOk result (self.new.number ≤ self.old.number + length piece.now) }
         ensures err { IfErr result
-            (λ fault. Stops (place_of self.old) piece.now (W.never_fails out.old)
-            (λ text. Appends (W.holds out.old) (W.holds out.new) text) fault) }
-        ensures stays { W.never_fails out.new ≡ W.never_fails out.old }
+            (Stops (place_of self.old) piece.now
+            (λ text. Sends W.takes W.flushes out.old text out.new)
+            (Broke W.takes W.fails W.flushes W.flush_fails out.old out.new)) }
     {
         let mut rest = piece;
         'lines: while let Some((line, later)) = split_line(rest) {
@@ -69,18 +69,18 @@ impl Feed {
     }
 
     // Takes the rest of the line at hand, which a line feed ends.
-    fn end_line<W: Output>(&mut self, alloc: Global, rest: &[u8], out: &mut W) -> Result<(), Fault>
+    fn end_line<W: Sink>(&mut self, alloc: Global, rest: &[u8], out: &mut W) -> Result<(), Fault>
         requires room { self.old.number + 1 < 2 ^ 128 }
         requires part { HasNoLineFeed self.old.part.items }
         requires rest { HasNoLineFeed rest.now }
         ensures ok { OnOk result ((text : List ℕ)
             × Goes (place_of self.old) (ended rest.now) text (place_of self.new)
-            × Appends (W.holds out.old) (W.holds out.new) text) }
+            × Sends W.takes W.flushes out.old text out.new) }
         ensures number { OnOk result (self.new.number ≡ self.old.number + 1) }
         ensures err { IfErr result
-            (λ fault. LineStops self.old.number (without_return (self.old.part.items ++ rest.now))
-            (W.never_fails out.old) (Appends (W.holds out.old) (W.holds out.new) []) fault) }
-        ensures stays { W.never_fails out.new ≡ W.never_fails out.old }
+            (LineStops self.old.number (without_return (self.old.part.items ++ rest.now))
+            (Sends W.takes W.flushes out.old [] out.new)
+            (Broke W.takes W.fails W.flushes W.flush_fails out.old out.new)) }
     {
         let wanted = self.answer_at_hand(alloc, rest, out)?;
         self.part.clear();
@@ -90,7 +90,7 @@ impl Feed {
     }
 
     // Answers the line at hand. Where all of it lies in `rest` it isn't copied.
-    fn answer_at_hand<W: Output>(
+    fn answer_at_hand<W: Sink>(
         &mut self,
         alloc: Global,
         rest: &[u8],
@@ -99,11 +99,11 @@ impl Feed {
         ensures ok { IfOk result (λ wanted. (text : List ℕ)
             × Runs self.old.number self.old.context
             (without_return (self.old.part.items ++ rest.now) ∷ []) text wanted self.new.context
-            × Appends (W.holds out.old) (W.holds out.new) text) }
+            × Sends W.takes W.flushes out.old text out.new) }
         ensures err { IfErr result
-            (λ fault. LineStops self.old.number (without_return (self.old.part.items ++ rest.now))
-            (W.never_fails out.old) (Appends (W.holds out.old) (W.holds out.new) []) fault) }
-        ensures stays { W.never_fails out.new ≡ W.never_fails out.old }
+            (LineStops self.old.number (without_return (self.old.part.items ++ rest.now))
+            (Sends W.takes W.flushes out.old [] out.new)
+            (Broke W.takes W.fails W.flushes W.flush_fails out.old out.new)) }
         ensures number { self.new.number ≡ self.old.number }
         ensures wanted { self.new.wanted_memory ≡ self.old.wanted_memory }
     {
@@ -118,16 +118,17 @@ impl Feed {
 
     /// Answers what follows the last line feed, if it is a line. Says whether any answer was want
     /// of memory.
-    pub fn finish<W: Output>(&mut self, alloc: Global, out: &mut W) -> Result<bool, Fault>
+    pub fn finish<W: Sink>(&mut self, alloc: Global, out: &mut W) -> Result<bool, Fault>
         ensures ok { IfOk result (λ wanted. (text : List ℕ) × (last : Bool)
             × Runs self.old.number self.old.context (last_line self.old.part.items)
             text last self.new.context
             × (wanted ≡ (self.old.wanted_memory || last))
-            × Appends (W.holds out.old) (W.holds out.new) text) }
+            × Sends W.takes W.flushes out.old text out.new) }
         ensures err { IfErr result
             (λ fault. (last_line self.old.part.items ≡ self.old.part.items ∷ [])
-            × LineStops self.old.number self.old.part.items (W.never_fails out.old)
-            (Appends (W.holds out.old) (W.holds out.new) []) fault) }
+            × LineStops self.old.number self.old.part.items
+            (Sends W.takes W.flushes out.old [] out.new)
+            (Broke W.takes W.fails W.flushes W.flush_fails out.old out.new) fault) }
         ensures number { self.new.number ≡ self.old.number }
         ensures wanted { self.new.wanted_memory ≡ self.old.wanted_memory }
     {
@@ -141,7 +142,7 @@ impl Feed {
 }
 
 // Answers a line, and says whether the answer was want of memory.
-fn answer_line<W: Output>(
+fn answer_line<W: Sink>(
     alloc: Global,
     number: u128,
     line: &[u8],
@@ -150,10 +151,10 @@ fn answer_line<W: Output>(
 ) -> Result<bool, Fault>
     ensures ok { IfOk result (λ wanted. (text : List ℕ)
         × Runs number context.old (line.now ∷ []) text wanted context.new
-        × Appends (W.holds out.old) (W.holds out.new) text) }
-    ensures err { IfErr result (λ fault. LineStops number line.now (W.never_fails out.old)
-        (Appends (W.holds out.old) (W.holds out.new) []) fault) }
-    ensures stays { W.never_fails out.new ≡ W.never_fails out.old }
+        × Sends W.takes W.flushes out.old text out.new) }
+    ensures err { IfErr result (LineStops number line.now
+        (Sends W.takes W.flushes out.old [] out.new)
+        (Broke W.takes W.fails W.flushes W.flush_fails out.old out.new)) }
 {
     match read_line(alloc, line)? {
         Reading::Skipped => Ok(false),

@@ -5,13 +5,11 @@ mod answer;
 mod fault;
 mod feed;
 pub mod laws;
-mod output;
 mod replays;
 mod source;
 #[cfg(test)]
 mod tests;
 
 pub use fault::Fault;
-pub use output::{Output, WriteError};
 pub use replays::{replay, replay_from};
-pub use source::{ReadError, Source};
+pub use source::{Pieces, ReadError, Source};

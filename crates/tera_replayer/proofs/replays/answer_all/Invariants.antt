@@ -7,10 +7,9 @@ use Rattle.tera_replayer.proofs.replays.answer_all.Given as goal
 abbrev pub invariant-pieces : goal.invariant-pieces
 invariant-pieces g l =
     let source = g.S.Source in
-    let output = g.W.Output in
+    let sink = g.W.Sink in
     record {
-      fed : Fed (source.left l.fn.input) (source.left l.input) l._turn (place_of l.feed) (output.holds l.fn.out) (output.holds l.out);
+      fed : Fed sink.takes sink.flushes (source.left l.fn.input) (source.left l.input) l._turn (place_of l.feed) l.fn.out l.out;
       fails : source.fails l.input ≡ source.fails l.fn.input;
-      never : output.never_fails l.out ≡ output.never_fails l.fn.out;
       room : l.feed.number ≤ 1 + 8192 * l._turn;
     }
