@@ -50,6 +50,9 @@ status=$?
 [ "$status" -eq 1 ] && [ ! -s "$work/out" ] && [ "$(cat "$work/err")" = "error: reading failed" ]
 tell "a folder for standard input is a failed read" $?
 
+python3 tests/talk.py "$program" 2>"$work/err"
+tell "each answer is out before more input is asked for" $?
+
 python3 bench/scalars.py 400000 >"$work/script"
 python3 bench/scalars.py 400000 --answers >"$work/wanted"
 "$program" <"$work/script" >"$work/out" 2>"$work/err"
@@ -67,7 +70,6 @@ tell "a text of a megabyte" $?
 # Each request for memory is refused in turn. Either the program itself found no memory, and what it
 # wrote is a beginning of the answers, or a step did, and the run went on.
 refusals() {
-    cc -shared -fPIC -o "$work/refuse.so" tests/refuse.c -ldl || return 1
     answers=${1%.replay}.answers
     turn=1
     while [ "$turn" -le 2000 ]; do
@@ -91,6 +93,12 @@ refusals() {
     return 1
 }
 command -v cc >/dev/null || { apt-get update && apt-get install -y gcc libc6-dev; } >"$work/install" 2>&1
+cc -shared -fPIC -o "$work/refuse.so" tests/refuse.c -ldl
+tell "the library that refuses memory is built" $?
+LD_PRELOAD="$work/refuse.so" REFUSE=1 "$program" <examples/first.replay >"$work/out" 2>"$work/err"
+status=$?
+[ "$status" -eq 1 ] && [ ! -s "$work/out" ] && [ "$(cat "$work/err")" = "error: Out of memory" ]
+tell "no memory for the answers' buffer is told" $?
 for script in examples/first.replay examples/calls.replay; do
     refusals "$script"
     tell "$script with each request for memory refused in turn" $?

@@ -1,10 +1,10 @@
 -- Lemmas on the flag of a watched writer, on what is left of the bytes to write, and on a write that failed.
-use Rattle.std.proofs.Common.{◌≡◌, ◌≢◌, ℕ, ◌+◌, ◌-◌, ◌≤◌, Bool, true, false, ◌||◌, IsTrue, List, [], ◌++◌, length, take, drop, refl, sym, ap, subst, ◌∙◌, append_assoc, append-nil, take-append-drop, arith, length-drop, Option, None, Some, Result}
+use Rattle.std.proofs.Common.{◌≡◌, ◌≢◌, ℕ, ◌+◌, ◌-◌, ◌≤◌, Bool, true, false, ◌||◌, IsTrue, List, [], ◌++◌, length, take, drop, refl, sym, ap, subst, ◌∙◌, append_assoc, append-nil, take-append-drop, arith, length-drop, Option, Result}
 use Rattle.std.proofs.lemmas.List.{take_rest}
 use Rattle.std.proofs.KnownBytes.{Appends-trans}
-use Rattle.std.specs.Io.KnownBytes.{Appends, Keeps}
+use Rattle.std.specs.Io.KnownBytes.{Appends}
 use Rattle.std.specs.declared.io.Error.{Error}
-use Rattle.tera_report.specs.Watch.{has_failed, held, SameWriter, watched_writer, WatchedFails}
+use Rattle.tera_report.specs.Watch.{has_failed, held, SameWriter, watched_writer, WatchedTakes, WatchedFails}
 use Rattle.tera_report.specs.Writer.{Attempt, once, is_fault, bytes_taken, all_taken, has_fault, Goes}
 use Rattle.tera_report.specs.WriterLaws.{goes_more, taken_more, faults_more}
 use Rattle.tera_report.specs.declared.watch.Watched.{Watched}
@@ -34,12 +34,6 @@ pub turn_took_one : (rest : List ℕ) (turn n most : ℕ) → n ≢ 0 → n ≤ 
 turn_took_one rest turn n most some fits before =
     rw (take_rest rest n) (rw (length-drop n rest) (omega arith))
 
--- what is kept grows by nothing
-pub keeps_appends : (a b : Option (List ℕ)) → Keeps a b → Appends a b []
-keeps_appends None b h = tt
-keeps_appends (Some xs) None h = absurd h
-keeps_appends (Some xs) (Some ys) h = h ∙ sym (append-nil xs)
-
 or_true : (a : Bool) → IsTrue (a || true)
 or_true true = refl
 or_true false = refl
@@ -59,6 +53,19 @@ loud_more x false false h true e d loud told = absurd (no_truth (loud refl))
 loud_more x false false h false e d loud told = absurd (no_truth (sym d ∙ told))
 
 module _ {W : Type 0} (contents : W → Option (List ℕ)) (wrote : W → List ℕ → Result ℕ Error → W → Type 0) where
+  -- one write took a beginning of the bytes, or none where it was interrupted
+  pub took_once : (old new : Watched W) (buf : List ℕ) (answer : Result ℕ Error)
+      → wrote (watched_writer old) buf answer (watched_writer new)
+      → Appends (held contents old) (held contents new) (bytes_taken answer buf) → SameWriter old new
+      → has_failed new ≡ (has_failed old || is_fault answer buf)
+      → WatchedTakes contents wrote old (bytes_taken answer buf) new
+  took_once old new buf answer one grows same told = record {
+    same = same;
+    grows = grows;
+    kept = λ h. kept_by_or _ _ _ told h;
+    passed = record { attempts = once buf answer; calls = (watched_writer new, one, refl); whole = append-nil (bytes_taken answer buf) };
+  }
+
   -- after some writes one more failed, and took nothing
   pub failed_here : (old mid new : Watched W) (attempts : List Attempt) (buf rest : List ℕ) (answer : Result ℕ Error)
       → Goes wrote (watched_writer old) attempts (watched_writer mid) → buf ≡ all_taken attempts ++ rest

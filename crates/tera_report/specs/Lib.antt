@@ -5,6 +5,7 @@ pub mod Pieces
 pub mod Quoted
 pub mod Refusal
 pub mod Room
+pub mod SentLaws
 pub mod Sink
 pub mod SinkLaws
 pub mod Span

@@ -1,12 +1,11 @@
 -- What is taken in turn is taken together; and what fails on a beginning, or on what comes after it, fails on the whole.
-use Rattle.std.specs.Prelude.{◌≡◌, ℕ, List, [], ◌∷◌, ◌++◌, Option, None, Some, Result, Ok, Err, refl}
+use Rattle.std.specs.Prelude.{◌≡◌, ℕ, List, [], ◌++◌, Option, None, Some, Result, Ok, Err, refl}
 use Rattle.std.proofs.Common.{◌∙◌, ap, sym, subst, append_assoc, append-nil, arith, length-append}
 use Rattle.std.proofs.lemmas.List.Folds.{concat-append}
 use Rattle.std.specs.declared.fmt.Formatter.{Formatter}
 use Rattle.std.specs.declared.io.Error.{Error}
 use Rattle.std.specs.Fmt.{WritesInCalls}
-use Rattle.std.specs.Io.KnownBytes.{Appends}
-use Rattle.std.specs.List.{FoldsTo}
+use Rattle.std.specs.Io.KnownBytes.{Appends, Keeps}
 use Rattle.tera_report.specs.declared.growing.Growing.{Growing}
 use Rattle.tera_report.specs.declared.room.Room.{Room}
 use Rattle.tera_report.specs.declared.watch.Watched.{Watched}
@@ -15,17 +14,23 @@ use Rattle.tera_report.specs.Room.{RoomTakes, RoomFails, IsDecided}
 use Rattle.tera_report.specs.Sink.{FormatterTakes, Puts}
 use Rattle.tera_report.specs.Watch.{WatchedTakes, WatchedFails}
 use Rattle.tera_report.specs.Writer.{all_taken}
-use Rattle.tera_report.specs.WriterLaws.{passes_nothing, passes_joined, breaks_early, breaks_later, taken_joined}
+use Rattle.tera_report.specs.WriterLaws.{folds_joined, passes_nothing, passes_joined, breaks_early, breaks_later, taken_joined}
 
-appends_nothing : (a : Option (List ℕ)) → Appends a a []
+pub appends_nothing : (a : Option (List ℕ)) → Appends a a []
 appends_nothing None = tt
 appends_nothing (Some xs) = sym (append-nil xs)
 
-appends_joined : (a b c : Option (List ℕ)) (xs ys : List ℕ) → Appends a b xs → Appends b c ys → Appends a c (xs ++ ys)
+pub appends_joined : (a b c : Option (List ℕ)) (xs ys : List ℕ) → Appends a b xs → Appends b c ys → Appends a c (xs ++ ys)
 appends_joined None b c xs ys p q = tt
 appends_joined (Some a) None c xs ys p q = absurd p
 appends_joined (Some a) (Some b) None xs ys p q = absurd q
 appends_joined (Some a) (Some b) (Some c) xs ys p q = q ∙ ap (λ l. l ++ ys) p ∙ append_assoc a xs ys
+
+-- what is kept grows by nothing
+pub keeps_appends : (a b : Option (List ℕ)) → Keeps a b → Appends a b []
+keeps_appends None b h = tt
+keeps_appends (Some xs) None h = absurd h
+keeps_appends (Some xs) (Some ys) h = h ∙ sym (append-nil xs)
 
 module _ {W : Type 0} (contents : W → Option (List ℕ)) (wrote : W → List ℕ → Result ℕ Error → W → Type 0) where
   pub watched_nothing : (s : Watched W) → WatchedTakes contents wrote s [] s
@@ -61,16 +66,11 @@ module _ {W : Type 0} (contents : W → Option (List ℕ)) (wrote : W → List �
   }
 
 module _ {W : Type 0} (took : W → List ℕ → W → Type 0) where
-  calls_joined : (w : W) (xs : List (List ℕ)) (v : W) (ys : List (List ℕ)) (u : W)
-      → FoldsTo took w xs v → FoldsTo took v ys u → FoldsTo took w (xs ++ ys) u
-  calls_joined w [] v ys u p q = subst (λ (x : W). FoldsTo took x ys u) (sym p) q
-  calls_joined w (x ∷ xs) v ys u p q = (p.0, p.1, calls_joined p.0 xs v ys u p.2 q)
-
   writes_joined : (w : W) (a : List ℕ) (v : W) (b : List ℕ) (u : W)
       → WritesInCalls took w a v → WritesInCalls took v b u → WritesInCalls took w (a ++ b) u
   writes_joined w a v b u p q = record {
     parts = p.parts ++ q.parts;
-    calls = calls_joined w p.parts v q.parts u p.calls q.calls;
+    calls = folds_joined took w p.parts v q.parts u p.calls q.calls;
     whole = concat-append p.parts q.parts ∙ (λ i. p.whole i ++ q.whole i);
   }
 

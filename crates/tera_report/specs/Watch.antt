@@ -1,7 +1,7 @@
 -- What a watched writer remembers, and what a call of it does.
-use Rattle.std.specs.Prelude.{◌≡◌, ℕ, Bool, List, IsTrue, Option, Result}
+use Rattle.std.specs.Prelude.{◌≡◌, ℕ, Bool, List, IsTrue, Option, Result, Ok, Err}
 use Rattle.std.specs.Borrow.{GName}
-use Rattle.std.specs.Io.KnownBytes.{Appends}
+use Rattle.std.specs.Io.KnownBytes.{Appends, Keeps}
 use Rattle.std.specs.declared.io.Error.{Error}
 use Rattle.tera_report.specs.Writer.{all_taken, Passes, Breaks}
 use Rattle.tera_report.specs.declared.watch.Watched.{Watched}
@@ -48,3 +48,22 @@ pub record WatchedFails {W : Type 0} (contents : W → Option (List ℕ))
   pub told : HasFailed new
   pub broke : Breaks wrote (watched_writer old) bytes (watched_writer new)
   pub grows : Appends (held contents old) (held contents new) (all_taken broke.attempts)
+
+-- a watched writer was flushed: by one flush of its writer, with this answer; what it holds and
+-- whether a write failed is as it was
+pub record WatchedFlush {W : Type 0} (contents : W → Option (List ℕ))
+    (flushed : W → Result (Unit {0}) Error → W → Type 0) (old : Watched W)
+    (answer : Result (Unit {0}) Error) (new : Watched W) : Type 0 where
+  pub same : SameWriter old new
+  pub keeps : Keeps (held contents old) (held contents new)
+  pub kept : has_failed new ≡ has_failed old
+  pub passed : flushed (watched_writer old) answer (watched_writer new)
+
+abbrev pub WatchedFlushes : {W : Type 0} → (W → Option (List ℕ))
+    → (W → Result (Unit {0}) Error → W → Type 0) → Watched W → Watched W → Type 0
+WatchedFlushes contents flushed old new = WatchedFlush contents flushed old (Ok tt) new
+
+abbrev pub WatchedFlushFails : {W : Type 0} → (W → Option (List ℕ))
+    → (W → Result (Unit {0}) Error → W → Type 0) → Watched W → Watched W → Type 0
+WatchedFlushFails contents flushed old new =
+    (fault : Error) × WatchedFlush contents flushed old (Err fault) new

@@ -52,3 +52,10 @@ pub record Breaks {W : Type 0} (wrote : W → List ℕ → Result ℕ Error → 
   pub fault : IsTrue (has_fault attempts)
   pub rest : List ℕ
   pub part : all_taken attempts ++ rest ≡ bytes
+
+-- a flush of the writer that went well, and one that failed, led from old to new
+abbrev pub Flushes : {W : Type 0} → (W → Result (Unit {0}) Error → W → Type 0) → W → W → Type 0
+Flushes flushed old new = flushed old (Ok tt) new
+
+abbrev pub FlushFails : {W : Type 0} → (W → Result (Unit {0}) Error → W → Type 0) → W → W → Type 0
+FlushFails flushed old new = (fault : Error) × flushed old (Err fault) new

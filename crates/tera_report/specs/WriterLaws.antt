@@ -3,7 +3,14 @@ use Rattle.std.specs.Prelude.{◌≡◌, ℕ, Bool, true, false, ◌||◌, List,
 use Rattle.std.proofs.Common.{◌∙◌, ap, sym, subst, append_assoc, append-nil}
 use Rattle.std.proofs.lemmas.List.Concat.{flat_map-append}
 use Rattle.std.specs.declared.io.Error.{Error}
+use Rattle.std.specs.List.{FoldsTo}
 use Rattle.tera_report.specs.Writer.{Attempt, once, is_fault, bytes_taken, all_taken, has_fault, Goes, Passes, Breaks}
+
+-- some turns, and then some more
+pub folds_joined : {P A : Type 0} (R : P → A → P → Type 0) (p : P) (xs : List A) (q : P) (ys : List A) (u : P)
+    → FoldsTo R p xs q → FoldsTo R q ys u → FoldsTo R p (xs ++ ys) u
+folds_joined {P} R p [] q ys u f g = subst (λ (x : P). FoldsTo R x ys u) (sym f) g
+folds_joined R p (x ∷ xs) q ys u (j, first, f) g = (j, first, folds_joined R j xs q ys u f g)
 
 -- what some writes took, and then some more
 pub taken_joined : (xs ys : List Attempt) → all_taken (xs ++ ys) ≡ all_taken xs ++ all_taken ys
@@ -40,8 +47,7 @@ faults_more xs bytes answer =
 module _ {W : Type 0} (wrote : W → List ℕ → Result ℕ Error → W → Type 0) where
   pub goes_joined : (w : W) (xs : List Attempt) (v : W) (ys : List Attempt) (u : W)
       → Goes wrote w xs v → Goes wrote v ys u → Goes wrote w (xs ++ ys) u
-  goes_joined w [] v ys u p q = subst (λ (x : W). Goes wrote x ys u) (sym p) q
-  goes_joined w (x ∷ xs) v ys u p q = (p.0, p.1, goes_joined p.0 xs v ys u p.2 q)
+  goes_joined w xs v ys u p q = folds_joined _ w xs v ys u p q
 
   pub goes_more : (w : W) (xs : List Attempt) (v : W) (bytes : List ℕ) (answer : Result ℕ Error) (u : W)
       → Goes wrote w xs v → wrote v bytes answer u → Goes wrote w (xs ++ once bytes answer) u

@@ -1,6 +1,6 @@
 // Where text goes, piece by piece: a watched writer, a formatter, a room of fixed size, or a text
 // that grows.
-ghost use Rattle.std.specs.Prelude.{◌≡◌, ℕ, List, [], ◌++◌, ⊤, OnErr};
+ghost use Rattle.std.specs.Prelude.{◌≡◌, ℕ, List, [], ◌++◌, ⊤, OnErr, MatchResult};
 ghost use Rattle.tera_report.specs.Growing.{GrowingTakes, GrowingFails, grown_bytes};
 ghost use Rattle.tera_report.specs.Room.{RoomTakes, RoomFails, room_bytes};
 ghost use Rattle.tera_report.specs.Sink.{PutsThese, FormatterTakes};
@@ -11,6 +11,7 @@ ghost use Rattle.tera_report.specs.SinkLaws.{room_nothing, room_joined, room_ear
 ghost use Rattle.tera_report.specs.SinkLaws.{growing_nothing, growing_joined, growing_early};
 ghost use Rattle.tera_report.specs.SinkLaws.{growing_later};
 ghost use Rattle.tera_report.specs.Watch.{WatchedTakes, WatchedFails};
+ghost use Rattle.tera_report.specs.Watch.{WatchedFlushes, WatchedFlushFails};
 
 pub use crate::growing::Growing;
 pub use crate::room::{Full, Room};
@@ -23,8 +24,9 @@ use std::{fmt, io};
 /// What takes text. It takes all of a piece, or answers why it did not.
 ///
 /// What is put by several calls is seen as put by one: `takes` and `fails` speak of all the bytes.
+/// A flush is none of these, so a call that tells of puts alone makes no flush.
 pub trait Sink {
-    type Fault;
+    type Fault: Drop;
 
     // the bytes were taken, in one piece or in several
     ghost takes: { Self → List ℕ → Self → Type 0 };
@@ -32,9 +34,20 @@ pub trait Sink {
     // the bytes were to be put, and a piece of them was refused
     ghost fails: { Self → List ℕ → Self → Type 0 };
 
+    // what was kept back was passed on
+    ghost flushes: { Self → Self → Type 0 };
+
+    // what was kept back was to be passed on, and that failed
+    ghost flush_fails: { Self → Self → Type 0 };
+
     /// Puts a piece of text.
     fn put(&mut self, text: &str) -> Result<(), Self::Fault>
         ensures { PutsThese takes fails result text.now self.old self.new };
+
+    /// Passes on what it keeps back.
+    fn flush(&mut self) -> Result<(), Self::Fault>
+        ensures { MatchResult result (λ _. flushes self.old self.new)
+            (λ _. flush_fails self.old self.new) };
 
     // nothing is taken where no piece is put
     ghost nothing: { (s : Self) → takes s [] s };
@@ -53,7 +66,7 @@ pub trait Sink {
 }
 
 /// All of a piece is passed on, by as many writes as it takes; or one of these writes answered an
-/// error or took no byte. Takes no memory.
+/// error or took no byte. A flush is one flush of the writer, with its answer. Takes no memory.
 impl<W: Writer> Sink for Watched<'_, W> {
     type Fault = io::Error;
 
@@ -61,8 +74,17 @@ impl<W: Writer> Sink for Watched<'_, W> {
 
     ghost fails = { WatchedFails W.contents W.wrote };
 
+    ghost flushes = { WatchedFlushes W.contents W.flushed };
+
+    ghost flush_fails = { WatchedFlushFails W.contents W.flushed };
+
+    #[inline(always)]
     fn put(&mut self, text: &str) -> io::Result<()> {
         self.write_all(text.as_bytes())
+    }
+
+    fn flush(&mut self) -> io::Result<()> {
+        Write::flush(self)
     }
 
     ghost nothing = { watched_nothing W.contents W.wrote };
@@ -74,8 +96,8 @@ impl<W: Writer> Sink for Watched<'_, W> {
     ghost failed_later = { watched_later W.contents W.wrote };
 }
 
-/// A piece is written with no width and no fill. When a formatter fails is not told. Takes no
-/// memory.
+/// A piece is written with no width and no fill. When a formatter fails is not told. It keeps
+/// nothing back. Takes no memory.
 impl<W: fmt::Write> Sink for fmt::Formatter<W> {
     type Fault = fmt::Error;
 
@@ -83,8 +105,16 @@ impl<W: fmt::Write> Sink for fmt::Formatter<W> {
 
     ghost fails = { λ _ _ _. ⊤ };
 
+    ghost flushes = { λ old new. new ≡ old };
+
+    ghost flush_fails = { λ _ _. ⊥ };
+
     fn put(&mut self, text: &str) -> fmt::Result {
         self.write_str(text)
+    }
+
+    fn flush(&mut self) -> fmt::Result {
+        Ok(())
     }
 
     ghost nothing = { formatter_nothing W.write_str_gives };
@@ -96,7 +126,8 @@ impl<W: fmt::Write> Sink for fmt::Formatter<W> {
     ghost failed_later = { λ _ _ _ _ _ _ _. tt };
 }
 
-/// A piece is taken exactly where it fits, and else the room holds what it held. Takes no memory.
+/// A piece is taken exactly where it fits, and else the room holds what it held. It keeps nothing
+/// back. Takes no memory.
 impl Sink for Room {
     type Fault = Full;
 
@@ -104,11 +135,19 @@ impl Sink for Room {
 
     ghost fails = { RoomFails };
 
+    ghost flushes = { λ old new. new ≡ old };
+
+    ghost flush_fails = { λ _ _. ⊥ };
+
     fn put(&mut self, text: &str) -> Result<(), Full>
         ensures puts { PutsThese RoomTakes RoomFails result text.now self.old self.new }
         ensures kept { OnErr result (room_bytes self.new ≡ room_bytes self.old) }
     {
         self.push(text)
+    }
+
+    fn flush(&mut self) -> Result<(), Full> {
+        Ok(())
     }
 
     ghost nothing = { room_nothing };
@@ -121,7 +160,7 @@ impl Sink for Room {
 }
 
 /// A piece is refused only where the text had to grow for it and found no memory, and then it is as
-/// it was. Takes memory.
+/// it was. It keeps nothing back. Takes memory.
 impl Sink for Growing {
     type Fault = AllocError;
 
@@ -129,12 +168,20 @@ impl Sink for Growing {
 
     ghost fails = { GrowingFails };
 
+    ghost flushes = { λ old new. new ≡ old };
+
+    ghost flush_fails = { λ _ _. ⊥ };
+
     #[inline(always)]
     fn put(&mut self, text: &str) -> Result<(), AllocError>
         ensures puts { PutsThese GrowingTakes GrowingFails result text.now self.old self.new }
         ensures kept { OnErr result (grown_bytes self.new ≡ grown_bytes self.old) }
     {
         self.push(text)
+    }
+
+    fn flush(&mut self) -> Result<(), AllocError> {
+        Ok(())
     }
 
     ghost nothing = { growing_nothing };

@@ -1,9 +1,11 @@
 // A writer that is watched, and remembers whether a write of it failed.
-ghost use Rattle.std.specs.Prelude.{◌≡◌, ◌||◌, OnOk, false, MatchResult};
+ghost use Rattle.std.specs.Prelude.{◌≡◌, ◌||◌, ℕ, List, OnOk, false, MatchResult};
 ghost use Rattle.std.specs.Io.{WritesAtMost};
 ghost use Rattle.std.specs.Io.KnownBytes.{Keeps, Appends, WriteAppends};
 ghost use Rattle.tera_report.specs.Watch.{has_failed, writer_loan, watched_writer, held};
-ghost use Rattle.tera_report.specs.Watch.{SameWriter, WatchedTakes, WatchedFails};
+ghost use Rattle.tera_report.specs.declared.watch.Watched.{Watched};
+ghost use Rattle.tera_report.specs.Sink.{Sends};
+ghost use Rattle.tera_report.specs.Watch.{SameWriter, WatchedTakes, WatchedFails, WatchedFlushes};
 ghost use Rattle.tera_report.specs.Writer.{is_fault};
 
 pub use crate::writer::Writer;
@@ -37,12 +39,39 @@ impl<'a, W: Writer> Watched<'a, W> {
     {
         self.failed
     }
+
+    // All of the bytes, by as many writes as it takes. A write that was interrupted is tried again.
+    #[cold]
+    #[inline(never)]
+    fn write_rest(&mut self, bytes: &[u8]) -> io::Result<()>
+        ensures { MatchResult result
+            (λ _. WatchedTakes W.contents W.wrote self.old bytes.now self.new)
+            (λ _. WatchedFails W.contents W.wrote self.old bytes.now self.new) }
+    {
+        let mut rest = bytes;
+        for turn in 0..u64::MAX {
+            if rest.is_empty() {
+                return Ok(());
+            }
+            match self.write(rest) {
+                Ok(0) => return Err(io::Error::from(ErrorKind::WriteZero)),
+                Ok(taken) => rest = &rest[taken..],
+                Err(e) => {
+                    if e.kind() != ErrorKind::Interrupted {
+                        return Err(e);
+                    }
+                }
+            }
+        }
+        Err(io::Error::from(ErrorKind::TimedOut))
+    }
 }
 
 impl<W: Writer> Write for Watched<'_, W> {
     ghost contents = { held W.contents };
 
     // One write of the writer with the same bytes, and its answer.
+    #[inline(always)]
     fn write(&mut self, buf: &[u8]) -> io::Result<usize>
         ensures bound { WritesAtMost result buf.now }
         ensures bytes { WriteAppends (held W.contents self.old)
@@ -70,7 +99,8 @@ impl<W: Writer> Write for Watched<'_, W> {
         self.writer.flush_once()
     }
 
-    // All of the bytes, by as many writes as it takes. A write that was interrupted is tried again.
+    // All of the bytes: mostly one write takes them, and else as many as it takes.
+    #[inline(always)]
     fn write_all(&mut self, buf: &[u8]) -> io::Result<()>
         ensures bytes { OnOk result
             (Appends (held W.contents self.old) (held W.contents self.new) buf.now) }
@@ -78,21 +108,23 @@ impl<W: Writer> Write for Watched<'_, W> {
             (λ _. WatchedTakes W.contents W.wrote self.old buf.now self.new)
             (λ _. WatchedFails W.contents W.wrote self.old buf.now self.new) }
     {
-        let mut rest = buf;
-        for turn in 0..u64::MAX {
-            if rest.is_empty() {
-                return Ok(());
-            }
-            match self.write(rest) {
-                Ok(0) => return Err(io::Error::from(ErrorKind::WriteZero)),
-                Ok(taken) => rest = &rest[taken..],
-                Err(e) => {
-                    if e.kind() != ErrorKind::Interrupted {
-                        return Err(e);
-                    }
-                }
-            }
+        if buf.is_empty() {
+            return Ok(());
         }
-        Err(io::Error::from(ErrorKind::TimedOut))
+        match self.write(buf) {
+            Ok(0) => Err(io::Error::from(ErrorKind::WriteZero)),
+            Ok(taken) if taken == buf.len() => Ok(()),
+            Ok(taken) => self.write_rest(&buf[taken..]),
+            Err(e) if e.kind() == ErrorKind::Interrupted => self.write_rest(buf),
+            Err(e) => Err(e),
+        }
     }
 }
+
+/// What is sent to a watched writer, by puts with or without flushes between them, is appended to
+/// what its writer holds.
+pub fn what_is_sent_is_appended<W: Writer>()
+    ensures { (old : Watched W) (bytes : List ℕ) (new : Watched W)
+        → Sends (WatchedTakes W.contents W.wrote) (WatchedFlushes W.contents W.flushed) old bytes new
+        → Appends (held W.contents old) (held W.contents new) bytes }
+{}

@@ -42,6 +42,7 @@ impl<W: Write> Writer for W {
 
     ghost flushed = { λ old _ new. Keeps (W.contents old) (W.contents new) };
 
+    #[inline(always)]
     fn write_once(&mut self, bytes: &[u8]) -> io::Result<usize> {
         self.write(bytes)
     }

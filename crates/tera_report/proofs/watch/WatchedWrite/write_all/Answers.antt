@@ -1,75 +1,56 @@
-use Rattle.std.proofs.Common.{◌≡◌, ◌-◌, ◌++◌, true, Ok, Err, length, take, drop, ap, sym, ◌∙◌, refl, subst, append-nil, rules, IsTrue, []}
-use Rattle.std.specs.Io.KnownBytes.{Appends}
+-- One write took all of the bytes, or failed, or more writes took the rest.
+use Rattle.std.proofs.Common.{◌≡◌, ◌-◌, ◌++◌, [], true, Ok, Err, length, take, drop, ap, sym, ◌∙◌, refl, subst, rules, take-append-drop}
+use Rattle.std.proofs.Math.Seq.{take-length}
+use Rattle.std.proofs.lemmas.List.{take_rest}
+use Rattle.std.proofs.lemmas.Result.{MatchResult-weaker}
 use Rattle.std.specs.declared.io.Error.{Error}
-use Rattle.std.proofs.KnownBytes.{Appends-trans}
-use Rattle.tera_report.specs.Watch.{watched_writer}
-use Rattle.tera_report.specs.Writer.{is_fault, once, all_taken, has_fault}
-use Rattle.tera_report.specs.WriterLaws.{goes_more, taken_more, faults_more}
-use Rattle.tera_report.proofs.WatchLemmas.{kept_by_or, quiet_before, not_quiet, loud_more, split_later, turn_took_one, keeps_appends, failed_here, not_false}
+use Rattle.tera_report.specs.SinkLaws.{appends_nothing, keeps_appends, watched_joined, watched_later}
+use Rattle.tera_report.specs.Watch.{WatchedTakes, WatchedFails}
+use Rattle.tera_report.specs.Writer.{is_fault}
+use Rattle.tera_report.proofs.WatchLemmas.{failed_here, took_once}
 use Rattle.tera_report.proofs.watch.WatchedWrite.write_all.Goals as goal
-use Rattle.tera_report.proofs.watch.WatchedWrite.write_all.Goals.{in-Ok, in-Err+else-ne}
 
 pub returns-in-Ok-eq0-clause-told : goal.returns-in-Ok-eq0-clause-told
 returns-in-Ok-eq0-clause-told g c =
-    let (attempts, calls, split, bytes, same, kept, loud, told) = c.loop-turn.invariant in
-    let e = c.in-Ok-eq0.ensures in
-    failed_here g.W.Writer.contents g.W.Writer.wrote _ c.loop-turn.self _ attempts _ c.loop-turn.rest.now (Ok c.in-Ok-eq0.field-0) calls split bytes same e.wrote e.bytes e.same e.told
-    (subst (λ n. is_fault {E = Error} (Ok n) c.loop-turn.rest.now ≡ true) (sym c.in-Ok-eq0.field-0-test) (search rules))
-    (subst (λ n. take n c.loop-turn.rest.now ≡ []) (sym c.in-Ok-eq0.field-0-test) refl)
+    let e = c.write.ensures in
+    let buf = c.args.buf.now in
+    failed_here g.W.Writer.contents g.W.Writer.wrote c.args.self.now c.args.self.now c.write.new.self [] buf buf (Ok c.in-Ok-eq0.field-0) refl refl
+    (appends_nothing _) refl (rw c.in-Ok-eq0.is at e.wrote) (rw c.in-Ok-eq0.is at e.bytes) e.same (rw c.in-Ok-eq0.is at e.told)
+    (subst (λ n. is_fault {E = Error} (Ok n) buf ≡ true) (sym c.in-Ok-eq0.field-0-test) (search rules))
+    (subst (λ n. take n buf ≡ []) (sym c.in-Ok-eq0.field-0-test) refl)
 
-pub returns-then-ne-clause-told : goal.returns-then-ne-clause-told
-returns-then-ne-clause-told g c =
-    let (attempts, calls, split, bytes, same, kept, loud, told) = c.loop-turn.invariant in
+pub returns-in-Ok-clause-told : goal.returns-in-Ok-clause-told
+returns-in-Ok-clause-told g c =
+    let e = c.in-Ok.ensures in
+    let buf = c.args.buf.now in
+    let all : take c.in-Ok.taken buf ≡ buf = ap (λ n. take n buf) c.if-taken-buf.true ∙ take-length buf in
+    subst (λ l. WatchedTakes g.W.Writer.contents g.W.Writer.wrote c.args.self.now l c.write.new.self) all
+    (took_once g.W.Writer.contents g.W.Writer.wrote c.args.self.now c.write.new.self buf (Ok c.in-Ok.taken) e.wrote e.bytes e.same e.told)
+
+pub returns-in-Ok-2-clause-told : goal.returns-in-Ok-2-clause-told
+returns-in-Ok-2-clause-told g c =
+    let e = c.in-Ok.ensures in
+    let buf = c.args.buf.now in
+    let n = c.in-Ok.taken in
+    let rest = take (length buf - n) (drop n buf) in
+    let whole : take n buf ++ rest ≡ buf = ap (λ l. take n buf ++ l) (take_rest buf n) ∙ take-append-drop n buf in
+    let first = took_once g.W.Writer.contents g.W.Writer.wrote c.args.self.now c.write.new.self buf (Ok n) e.wrote e.bytes e.same e.told in
+    MatchResult-weaker c.write_rest.result c.write_rest.ensures
+    (λ _ more. subst (λ l. WatchedTakes g.W.Writer.contents g.W.Writer.wrote c.args.self.now l c.write_rest.new.self) whole (watched_joined _ _ _ (take n buf) _ rest _ first more))
+    (λ _ bad. subst (λ l. WatchedFails g.W.Writer.contents g.W.Writer.wrote c.args.self.now l c.write_rest.new.self) whole (watched_later _ _ _ (take n buf) _ rest _ first bad))
+
+pub returns-in-Err-clause-told : goal.returns-in-Err-clause-told
+returns-in-Err-clause-told g c =
     let e = c.in-Err.ensures in
-    failed_here g.W.Writer.contents g.W.Writer.wrote _ c.loop-turn.self _ attempts _ c.loop-turn.rest.now (Err c.in-Err.e) calls split bytes same e.wrote (keeps_appends _ _ e.bytes) e.same e.told refl refl
+    let buf = c.args.buf.now in
+    let first = took_once g.W.Writer.contents g.W.Writer.wrote c.args.self.now c.write.new.self buf (Err c.in-Err.e) e.wrote (keeps_appends _ _ e.bytes) e.same e.told in
+    MatchResult-weaker c.write_rest-in-Err.result c.write_rest-in-Err.ensures
+    (λ _ more. watched_joined _ _ _ [] _ buf _ first more)
+    (λ _ bad. watched_later _ _ _ [] _ buf _ first bad)
 
-pub loop-turn-preserved : goal.loop-turn-preserved
-loop-turn-preserved g c =
-    let (attempts, calls, split, bytes, same, kept, loud, told) = c.loop-turn.invariant in
-    let rest = c.loop-turn.rest.now in
-    let more = goes_more g.W.Writer.wrote (watched_writer c.args.self.now) attempts (watched_writer c.loop-turn.self) rest in
-    elim c.match-write.branch [
-      | in-Ok w ↦
-          let n = w.in-Ok.taken in
-          let e = w.in-Ok.ensures in
-          let left : c.match-write.rest.now ≡ take (length rest - n) (drop n rest) = ap (λ r. r.now) w.rest-is in
-          let taken = taken_more attempts rest (Ok n) in
-          let faults = faults_more attempts rest (Ok n) in
-          rw left (
-            attempts ++ once rest (Ok n),
-            more (Ok n) _ calls e.wrote,
-            split_later _ (all_taken attempts) rest n split ∙ ap (λ l. l ++ take (length rest - n) (drop n rest)) (sym taken),
-            subst (Appends _ _) (sym taken) (Appends-trans _ _ _ _ _ bytes e.bytes),
-            e.same ∙ same,
-            (λ h. kept_by_or _ _ _ e.told (kept h)),
-            (λ h. loud_more _ _ (is_fault {E = Error} (Ok n) rest) _ _ e.told faults loud h),
-            (λ h. turn_took_one rest _ n _ w.in-Ok.taken-test.1 e.bound (told (quiet_before _ _ (is_fault {E = Error} (Ok n) rest) faults h))),
-          )
-      | in-Err+else-ne w ↦
-          let e = w.in-Err.ensures in
-          let left : c.match-write.rest.now ≡ rest = ap (λ r. r.now) w.rest-is in
-          let answer = Err w.in-Err.e in
-          let taken = taken_more attempts rest answer in
-          let faults = faults_more attempts rest answer in
-          rw left (
-            attempts ++ once rest answer,
-            more answer _ calls e.wrote,
-            split ∙ ap (λ l. l ++ rest) (sym (taken ∙ append-nil (all_taken attempts))),
-            subst (Appends _ _) (sym taken) (Appends-trans _ _ _ _ _ bytes (keeps_appends _ _ e.bytes)),
-            e.same ∙ same,
-            (λ h. kept_by_or _ _ _ e.told (kept h)),
-            (λ h. loud_more _ _ true _ _ e.told faults loud h),
-            (λ h. not_quiet _ _ faults h),
-          )
-    ]
-
-pub returns-clause-told : goal.returns-clause-told
-returns-clause-told g c =
-    let (attempts, calls, split, bytes, same, kept, loud, told) = c.loop-turn.invariant in
-    let fault : IsTrue (has_fault attempts) = not_false _ (λ h. let late = told h in search rules) in
-    record {
-      same = same;
-      told = loud fault;
-      broke = record { attempts = attempts; calls = calls; fault = fault; rest = c.loop-turn.rest.now; part = sym split };
-      grows = bytes;
-    }
+pub returns-in-Err-2-clause-told : goal.returns-in-Err-2-clause-told
+returns-in-Err-2-clause-told g c =
+    let e = c.in-Err-2.ensures in
+    let buf = c.args.buf.now in
+    failed_here g.W.Writer.contents g.W.Writer.wrote c.args.self.now c.args.self.now c.write.new.self [] buf buf (Err c.in-Err-2.e) refl refl
+    (appends_nothing _) refl e.wrote (keeps_appends _ _ e.bytes) e.same e.told refl refl

@@ -1,7 +1,0 @@
-pub mod Script
-pub mod Reply
-pub mod Stated
-pub mod Replay
-pub mod Source
-pub mod Stretch
-pub mod Place

@@ -1,0 +1,16 @@
+pub mod ReplyLemmas
+pub mod StatedLemmas
+pub mod StatusLemmas
+pub mod PutLemmas
+pub mod RunLemmas
+pub mod ScriptLemmas
+pub mod SourceLemmas
+pub mod SplitLemmas
+pub mod StretchLemmas
+pub mod EndLemmas
+pub mod LineLemmas
+pub mod FeedLemmas
+pub mod PieceLemmas
+pub mod InputLemmas
+pub mod ReplayLemmas
+pub mod WatchedLemmas

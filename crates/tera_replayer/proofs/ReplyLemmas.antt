@@ -1,0 +1,103 @@
+-- How a value that is found is written.
+use Rattle.std.proofs.Common.{◌≡◌, ℕ, List, [], ◌++◌, codes, decimal, true, false, sym, ◌∙◌, ap, subst, refl}
+use Rattle.std.specs.Prelude.{Option, Some, None, Ok, Err, IfSome, IsSome, IsTrue}
+use Rattle.tera_report.specs.Refusal.{text_of}
+use Rattle.tera_meaning.specs.Answer
+use Rattle.tera_meaning.specs.Form.{Form}
+use Rattle.tera_meaning.specs.Kind.{kind_in, kind_name, undefined_kind, none_kind}
+use Rattle.tera_meaning.specs.Meaning.{plain}
+use Rattle.tera_meaning.specs.Outcome.{Outcome}
+use Rattle.tera_meaning.specs.Printed.{quoted, printed_with, is_exact_inside, PrintsInside}
+use Rattle.tera_meaning.specs.Tree.{undefined, none, truth, number, text, bytes, array, object}
+use Rattle.tera_replayer.specs.Reply.{IsFormOf, IsReply, IsFixedReply, order_name}
+
+pub undefined_form : (v : Form) → kind_in v ≡ undefined_kind → IsFormOf v (codes "undefined")
+undefined_form undefined e = refl
+undefined_form none e = cc
+undefined_form (truth b) e = cc
+undefined_form (number n) e = cc
+undefined_form (text t) e = cc
+undefined_form (bytes bs) e = cc
+undefined_form (array xs) e = cc
+undefined_form (object ps) e = cc
+
+pub none_form : (v : Form) → kind_in v ≡ none_kind → IsFormOf v (codes "none")
+none_form undefined e = cc
+none_form none e = refl
+none_form (truth b) e = cc
+none_form (number n) e = cc
+none_form (text t) e = cc
+none_form (bytes bs) e = cc
+none_form (array xs) e = cc
+none_form (object ps) e = cc
+
+pub other_form : (v : Form) (form : List ℕ) → (kind_in v ≡ undefined_kind → ⊥) → (kind_in v ≡ none_kind → ⊥) → PrintsInside (plain v) form → IsFormOf v form
+other_form undefined form d n h = absurd (d refl)
+other_form none form d n h = absurd (n refl)
+other_form (truth b) form d n h = h
+other_form (number m) form d n h = h
+other_form (text t) form d n h = h
+other_form (bytes bs) form d n h = h
+other_form (array xs) form d n h = h
+other_form (object ps) form d n h = h
+
+pub value_reply : (outcome : Outcome) (v : Form) (form : List ℕ) → outcome ≡ Ok (Answer.found (Some v)) → IsFormOf v form → IsReply outcome (codes "value " ++ form)
+value_reply outcome v form is h =
+    let P : Outcome → Type 0 = λ o. IsReply o (codes "value " ++ form) in
+    subst P (sym is) (form, h, refl)
+
+pub some_form : (v : Form) → (form : List ℕ) × IsFormOf v form
+some_form undefined = (codes "undefined", refl)
+some_form none = (codes "none", refl)
+some_form (truth b) = (printed_with quoted (plain (truth b)), λ exact. refl)
+some_form (number n) = (printed_with quoted (plain (number n)), λ exact. refl)
+some_form (text t) = (printed_with quoted (plain (text t)), λ exact. refl)
+some_form (bytes bs) = (printed_with quoted (plain (bytes bs)), λ exact. refl)
+some_form (array xs) = (printed_with quoted (plain (array xs)), λ exact. refl)
+some_form (object ps) = (printed_with quoted (plain (object ps)), λ exact. refl)
+
+-- some text is as known, where one is known
+abbrev some_text : (known : Option (List ℕ)) → (words : List ℕ) × IfSome known (λ t. words ≡ t)
+some_text None = ([], tt)
+some_text (Some t) = (t, refl)
+
+one_text : (known : Option (List ℕ)) (words other : List ℕ) → IsSome known → IfSome known (λ t. words ≡ t)
+    → IfSome known (λ t. other ≡ t) → words ≡ other
+one_text None words other fixed h g = absurd (cc)
+one_text (Some t) words other fixed h g = h ∙ sym g
+
+pub some_reply : (outcome : Outcome) → (line : List ℕ) × IsReply outcome line
+some_reply (Ok Answer.done) = (codes "ok", refl)
+some_reply (Ok (Answer.truth true)) = (codes "true", refl)
+some_reply (Ok (Answer.truth false)) = (codes "false", refl)
+some_reply (Ok (Answer.order order)) = (order_name order, refl)
+some_reply (Ok (Answer.found None)) = (codes "nothing", refl)
+some_reply (Ok (Answer.found (Some v))) = let form = some_form v in (codes "value " ++ form.0, (form.0, form.1, refl))
+some_reply (Ok (Answer.size None)) = (codes "nothing", refl)
+some_reply (Ok (Answer.size (Some n))) = (codes "size " ++ decimal n, refl)
+some_reply (Ok (Answer.kind kind)) = (codes "kind " ++ kind_name kind, refl)
+some_reply (Ok (Answer.text printed)) = (codes "text " ++ printed, refl)
+some_reply (Err refusal) = let told = some_text (text_of refusal) in (codes "error: " ++ told.0, (told.0, told.1, refl))
+
+one_form : (v : Form) (form other : List ℕ) → IsTrue (is_exact_inside (plain v)) → IsFormOf v form → IsFormOf v other → form ≡ other
+one_form undefined form other exact h g = h ∙ sym g
+one_form none form other exact h g = h ∙ sym g
+one_form (truth b) form other exact h g = h exact ∙ sym (g exact)
+one_form (number n) form other exact h g = h exact ∙ sym (g exact)
+one_form (text t) form other exact h g = h exact ∙ sym (g exact)
+one_form (bytes bs) form other exact h g = h exact ∙ sym (g exact)
+one_form (array xs) form other exact h g = h exact ∙ sym (g exact)
+one_form (object ps) form other exact h g = h exact ∙ sym (g exact)
+
+pub one_reply : (outcome : Outcome) (line other : List ℕ) → IsFixedReply outcome → IsReply outcome line → IsReply outcome other → line ≡ other
+one_reply (Ok Answer.done) line other fixed h g = h ∙ sym g
+one_reply (Ok (Answer.truth true)) line other fixed h g = h ∙ sym g
+one_reply (Ok (Answer.truth false)) line other fixed h g = h ∙ sym g
+one_reply (Ok (Answer.order order)) line other fixed h g = h ∙ sym g
+one_reply (Ok (Answer.found None)) line other fixed h g = h ∙ sym g
+one_reply (Ok (Answer.found (Some v))) line other fixed h g = h.2 ∙ ap (λ (form : List ℕ). codes "value " ++ form) (one_form v h.0 g.0 fixed h.1 g.1) ∙ sym g.2
+one_reply (Ok (Answer.size None)) line other fixed h g = h ∙ sym g
+one_reply (Ok (Answer.size (Some n))) line other fixed h g = h ∙ sym g
+one_reply (Ok (Answer.kind kind)) line other fixed h g = h ∙ sym g
+one_reply (Ok (Answer.text printed)) line other fixed h g = h ∙ sym g
+one_reply (Err refusal) line other fixed h g = h.2 ∙ ap (λ (words : List ℕ). codes "error: " ++ words) (one_text (text_of refusal) h.0 g.0 fixed h.1 g.1) ∙ sym g.2

@@ -1,0 +1,57 @@
+-- What is put is the reply, and a line feed.
+use Rattle.std.proofs.Common.{rules, refl, ◌++◌, codes, Ok}
+use Rattle.tera_context.specs.Call.{answer_of}
+use Rattle.tera_replayer.specs.Reply.{IsReplyLine, IsValueLine}
+use Rattle.tera_replayer.specs.Script.{ended}
+use Rattle.tera_replayer.proofs.PutLemmas.{puts_these, puts_weaker}
+use Rattle.tera_replayer.proofs.ReplyLemmas.{value_reply}
+use Rattle.tera_replayer.proofs.answer.put_answer.Goals as goal
+
+pub returns-in-Done : goal.returns-in-Done
+returns-in-Done g c =
+    puts_these g.W.Sink.takes g.W.Sink.fails (IsReplyLine (Ok (answer_of c.args.answer.now))) c.put.result (codes "ok\n") _ _
+    (codes "ok", search rules, refl) c.put.ensures
+
+pub returns-in-Truth-true : goal.returns-in-Truth-true
+returns-in-Truth-true g c =
+    puts_these g.W.Sink.takes g.W.Sink.fails (IsReplyLine (Ok (answer_of c.args.answer.now))) c.put-in-Truth-true.result (codes "true\n") _ _
+    (codes "true", search rules, refl) c.put-in-Truth-true.ensures
+
+pub returns-in-Truth-false : goal.returns-in-Truth-false
+returns-in-Truth-false g c =
+    puts_these g.W.Sink.takes g.W.Sink.fails (IsReplyLine (Ok (answer_of c.args.answer.now))) c.put-in-Truth-false.result (codes "false\n") _ _
+    (codes "false", search rules, refl) c.put-in-Truth-false.ensures
+
+pub returns-in-Found-None : goal.returns-in-Found-None
+returns-in-Found-None g c =
+    puts_these g.W.Sink.takes g.W.Sink.fails (IsReplyLine (Ok (answer_of c.args.answer.now))) c.put-in-Found-None.result (codes "nothing\n") _ _
+    (codes "nothing", search rules, refl) c.put-in-Found-None.ensures
+
+pub returns-in-Found-Some : goal.returns-in-Found-Some
+returns-in-Found-Some g c =
+    let value = c.in-Found-Some.value in
+    puts_weaker g.W.Sink.takes g.W.Sink.fails (IsValueLine value) (IsReplyLine (Ok (answer_of c.args.answer.now))) c.put_value.result _ _
+    (λ line h. (codes "value " ++ h.0, value_reply (Ok (answer_of c.args.answer.now)) value h.0 (search rules) h.1, h.2)) c.put_value.ensures
+
+pub returns-in-Size-None : goal.returns-in-Size-None
+returns-in-Size-None g c =
+    puts_these g.W.Sink.takes g.W.Sink.fails (IsReplyLine (Ok (answer_of c.args.answer.now))) c.put-in-Size-None.result (codes "nothing\n") _ _
+    (codes "nothing", search rules, refl) c.put-in-Size-None.ensures
+
+pub returns-in-Size-Some : goal.returns-in-Size-Some
+returns-in-Size-Some g c =
+    let line = codes "size " ++ c.format.result.now in
+    puts_these g.W.Sink.takes g.W.Sink.fails (IsReplyLine (Ok (answer_of c.args.answer.now))) c.put_line.result (ended line) _ _
+    (line, search rules, refl) c.put_line.ensures
+
+pub returns-in-Kind : goal.returns-in-Kind
+returns-in-Kind g c =
+    let line = codes "kind " ++ c.name.result.now in
+    puts_these g.W.Sink.takes g.W.Sink.fails (IsReplyLine (Ok (answer_of c.args.answer.now))) c.put_line-in-Kind.result (ended line) _ _
+    (line, search rules, refl) c.put_line-in-Kind.ensures
+
+pub returns-in-Text : goal.returns-in-Text
+returns-in-Text g c =
+    let line = codes "text " ++ c.as_str.result.now in
+    puts_these g.W.Sink.takes g.W.Sink.fails (IsReplyLine (Ok (answer_of c.args.answer.now))) c.put_line-in-Text.result (ended line) _ _
+    (line, search rules, refl) c.put_line-in-Text.ensures

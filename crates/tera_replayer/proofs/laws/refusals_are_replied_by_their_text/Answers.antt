@@ -1,0 +1,11 @@
+use Rattle.std.proofs.Common.{codes, refl}
+use Rattle.tera_replayer.proofs.laws.refusals_are_replied_by_their_text.Goals as goal
+
+pub returns-clause-zero : goal.returns-clause-zero
+returns-clause-zero c = (codes "Cannot divide by 0", refl, refl)
+
+pub returns-clause-memory : goal.returns-clause-memory
+returns-clause-memory c = (codes "Out of memory", refl, refl)
+
+pub returns-clause-failed : goal.returns-clause-failed
+returns-clause-failed c kind words = (words, tt, refl)

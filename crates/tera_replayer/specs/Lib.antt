@@ -1,0 +1,8 @@
+pub mod Script
+pub mod Reply
+pub mod Stated
+pub mod Replay
+pub mod Output
+pub mod Source
+pub mod Stretch
+pub mod Place

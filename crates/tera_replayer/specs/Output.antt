@@ -1,0 +1,34 @@
+-- What is written to gets from a replay.
+use Rattle.std.specs.Prelude.{ℕ, ◌⊎◌, List, Option, Result}
+use Rattle.std.specs.declared.io.Error.{Error}
+use Rattle.std.specs.Io.KnownBytes.{Appends}
+use Rattle.tera_report.specs.Sink.{Delivers, Broke}
+use Rattle.tera_report.specs.Writer.{Passes, Breaks, Flushes, FlushFails}
+
+-- the text was put, or putting it failed
+abbrev pub TakesOrFails : {S : Type 0} → (S → List ℕ → S → Type 0) → (S → List ℕ → S → Type 0)
+    → S → List ℕ → S → Type 0
+TakesOrFails takes fails old text new = takes old text new ⊎ fails old text new
+
+-- a writer was given these bytes by its writes, with a flush behind them, and what it holds grew by
+-- them
+abbrev pub WriterGets : {W : Type 0} → (W → Option (List ℕ))
+    → (W → List ℕ → Result ℕ Error → W → Type 0) → (W → Result (Unit {0}) Error → W → Type 0)
+    → W → List ℕ → W → Type 0
+WriterGets contents wrote flushed old bytes new =
+    Appends (contents old) (contents new) bytes
+    × Delivers (Passes wrote) (Flushes flushed) old bytes new
+
+-- a write of the writer was a fault, or a flush of it failed
+abbrev pub WriterBroke : {W : Type 0} → (W → List ℕ → Result ℕ Error → W → Type 0)
+    → (W → Result (Unit {0}) Error → W → Type 0) → W → W → Type 0
+WriterBroke wrote flushed old new =
+    Broke (Passes wrote) (Breaks wrote) (Flushes flushed) (FlushFails flushed) old new
+
+-- a writer was given these bytes by its writes, and what it holds grew by them; or one of these
+-- writes was a fault
+abbrev pub WriterTakesOrFails : {W : Type 0} → (W → Option (List ℕ))
+    → (W → List ℕ → Result ℕ Error → W → Type 0) → W → List ℕ → W → Type 0
+WriterTakesOrFails contents wrote old text new =
+    (Appends (contents old) (contents new) text × Passes wrote old text new)
+    ⊎ Breaks wrote old text new

@@ -1,0 +1,130 @@
+// The line that answers a call.
+ghost use Rattle.std.specs.Prelude.{◌≡◌, ℕ, List, [], ◌++◌, Ok, Err, IfErr, OnOk};
+ghost use Rattle.tera_report.specs.Errors.{kind_of, refusal_of};
+ghost use Rattle.tera_report.specs.Sink.{Broke, Puts, PutsThese, Sends};
+ghost use Rattle.tera_meaning.specs.Outcome.{is_want};
+ghost use Rattle.tera_context.specs.Call.{answer_of};
+ghost use Rattle.tera_replayer.specs.Reply.{IsFormOf, IsReplyLine, IsValueLine, order_name};
+ghost use Rattle.tera_replayer.specs.Script.{ended};
+ghost use Rattle.tera_replayer.specs.Stated.{outcome_stated};
+ghost use Rattle.tera_replayer.specs.Stretch.{ReplyStops};
+
+use crate::fault::{Fault, written};
+use itoa::Buffer;
+use std::alloc::Global;
+use std::cmp::Ordering;
+use tera_context::Answer;
+use tera_report::sink::Sink;
+use tera_report::{Error, ErrorKind, TeraResult};
+use tera_values::Value;
+
+/// Writes the line that answers a call, with its line feed. Takes memory for the text of a refusal
+/// alone, and for none where the refusal is want of memory.
+pub fn write_answer<W: Sink>(
+    alloc: Global,
+    answer: &TeraResult<Answer>,
+    out: &mut W,
+) -> Result<(), Fault>
+    ensures ok { OnOk result ((line : List ℕ) × IsReplyLine (outcome_stated answer.now) line
+        × Sends W.takes W.flushes out.old line out.new) }
+    ensures err { IfErr result (ReplyStops (outcome_stated answer.now)
+        (Sends W.takes W.flushes out.old [] out.new)
+        (Broke W.takes W.fails W.flushes W.flush_fails out.old out.new)) }
+{
+    match answer {
+        Ok(answer) => written(put_answer(answer, out)),
+        Err(error) => write_refusal(alloc, error, out),
+    }
+}
+
+/// Whether the answer is want of memory. No other refusal is.
+pub fn is_want(answer: &TeraResult<Answer>) -> bool
+    ensures { result ≡ is_want (outcome_stated answer.now) }
+{
+    match answer {
+        Ok(_) => false,
+        Err(error) => matches!(error.kind(), ErrorKind::OutOfMemory),
+    }
+}
+
+// Puts the line for what is given where nothing is refused.
+fn put_answer<W: Sink>(answer: &Answer, out: &mut W) -> Result<(), W::Fault>
+    ensures { Puts W.takes W.fails result
+        (IsReplyLine (Ok (answer_of answer.now))) out.old out.new }
+{
+    match answer {
+        Answer::Done => out.put("ok\n"),
+        Answer::Truth(true) => out.put("true\n"),
+        Answer::Truth(false) => out.put("false\n"),
+        Answer::Order(order) => out.put(order_line(*order)),
+        Answer::Found(None) => out.put("nothing\n"),
+        Answer::Found(Some(value)) => put_value(value, out),
+        Answer::Size(None) => out.put("nothing\n"),
+        Answer::Size(Some(size)) => put_line("size ", Buffer::new().format(*size), out),
+        Answer::Kind(kind) => put_line("kind ", kind.name(), out),
+        Answer::Text(text) => put_line("text ", text.as_str(), out),
+    }
+}
+
+fn order_line(order: Option<Ordering>) -> &'static str
+    ensures { result.now ≡ ended (order_name order) }
+{
+    match order {
+        None => "undecided\n",
+        Some(Ordering::Less) => "less\n",
+        Some(Ordering::Equal) => "equal\n",
+        Some(Ordering::Greater) => "greater\n",
+    }
+}
+
+// Puts the line for a value.
+#[inline(never)]
+fn put_value<W: Sink>(value: &Value, out: &mut W) -> Result<(), W::Fault>
+    ensures { Puts W.takes W.fails result (IsValueLine value.now) out.old out.new }
+{
+    out.put("value ")?;
+    put_form(value, out)?;
+    out.put("\n")
+}
+
+// Puts a value: undefined and none by their names, and any other as it prints inside an array.
+fn put_form<W: Sink>(value: &Value, out: &mut W) -> Result<(), W::Fault>
+    ensures { Puts W.takes W.fails result (IsFormOf value.now) out.old out.new }
+{
+    if value.is_undefined() {
+        return out.put("undefined");
+    }
+    if value.is_none() {
+        return out.put("none");
+    }
+    value.print_inside_to(out)
+}
+
+// Writes a refusal. Want of memory takes none, so that its reply fails only where a write does.
+#[inline(never)]
+fn write_refusal<W: Sink>(alloc: Global, error: &Error, out: &mut W) -> Result<(), Fault>
+    ensures ok { OnOk result ((line : List ℕ)
+        × IsReplyLine (Err (refusal_of (kind_of error.now))) line
+        × Sends W.takes W.flushes out.old line out.new) }
+    ensures err { IfErr result (ReplyStops (Err (refusal_of (kind_of error.now)))
+        (Sends W.takes W.flushes out.old [] out.new)
+        (Broke W.takes W.fails W.flushes W.flush_fails out.old out.new)) }
+{
+    match error.kind() {
+        ErrorKind::OutOfMemory => written(out.put("error: Out of memory\n")),
+        _ => {
+            let text = error.to_string(alloc)?;
+            written(put_line("error: ", text.as_str(), out))
+        }
+    }
+}
+
+// Puts a text as it is behind a word, line feeds and all.
+#[inline(always)]
+pub(crate) fn put_line<W: Sink>(word: &str, text: &str, out: &mut W) -> Result<(), W::Fault>
+    ensures { PutsThese W.takes W.fails result (ended (word.now ++ text.now)) out.old out.new }
+{
+    out.put(word)?;
+    out.put(text)?;
+    out.put("\n")
+}

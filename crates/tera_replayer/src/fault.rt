@@ -1,0 +1,45 @@
+// Why a replay ends before its input does.
+ghost use Rattle.std.specs.Prelude.{◌≡◌, Ok, Err, MatchResult};
+ghost use Rattle.tera_replayer.specs.declared.fault.Fault.TheVariants.{ReadFailed, WriteFailed};
+ghost use Rattle.tera_replayer.specs.declared.fault.Fault.TheVariants.{OutOfMemory};
+
+use std::alloc::AllocError;
+
+/// What ends a replay before its input ends.
+#[derive(Debug, Drop)]
+pub enum Fault {
+    /// The line of that number is bad.
+    BadLine(u128),
+    /// A read failed.
+    ReadFailed,
+    /// A write of an answer failed, or a flush behind it.
+    WriteFailed,
+    /// The program itself found no memory.
+    OutOfMemory,
+}
+
+impl From<AllocError> for Fault {
+    ghost from_gives = { λ _ fault. fault ≡ OutOfMemory };
+
+    fn from(_refused: AllocError) -> Fault {
+        Fault::OutOfMemory
+    }
+}
+
+impl From<crate::source::ReadError> for Fault {
+    ghost from_gives = { λ _ fault. fault ≡ ReadFailed };
+
+    fn from(_failed: crate::source::ReadError) -> Fault {
+        Fault::ReadFailed
+    }
+}
+
+/// What was put, or that a write failed.
+pub(crate) fn written<E: Drop>(put: Result<(), E>) -> Result<(), Fault>
+    ensures { MatchResult put (λ _. result ≡ Ok tt) (λ _. result ≡ Err WriteFailed) }
+{
+    match put {
+        Ok(()) => Ok(()),
+        Err(_) => Err(Fault::WriteFailed),
+    }
+}
