@@ -1,16 +1,14 @@
-//! Tests of values, keys and maps through their public calls: values from outside, printed texts,
-//! and faults of writers.
+//! Tests of values through their public calls: how they compare, what is read of them, and that
+//! calls which take memory find it.
 #![tactic(auto)]
 
 #[cfg(test)]
-mod keys;
-#[cfg(test)]
-mod lists;
+mod made;
 #[cfg(test)]
 mod maps;
 #[cfg(test)]
-mod quoted;
+mod order;
 #[cfg(test)]
-mod values;
+mod read;
 #[cfg(test)]
-mod writer;
+mod sizes;

@@ -1,7 +1,8 @@
 //! A text in an array is in the debug form that the library gives it, past ASCII too.
 
+use crate::made::{one_item, text};
+use std::process::Abort;
 use std::test::Fail;
-use tera_values::Value;
 
 // The characters of that page of 256, with an apostrophe after each third.
 fn page(rt: &HostRuntime, number: u32) -> Result<String, Fail> {
@@ -17,19 +18,28 @@ fn page(rt: &HostRuntime, number: u32) -> Result<String, Fail> {
     Ok(text)
 }
 
+// What the library makes of it.
+fn debug_form(rt: &impl AllocGlobal, text: &str) -> Result<String, Fail> {
+    Ok(format!(in rt.alloc(); "[{text:?}]")?)
+}
+
+// What is printed of an array of that text.
+fn printed(rt: &HostRuntime, of: &str) -> Result<String, Fail> {
+    let array = one_item(rt, text(rt, of)?)?;
+    Ok(array.to_text(rt.alloc())?)
+}
+
+fn are_equal(rt: &impl Abort, left: &str, right: &str) {
+    assert!(rt; left == right, "{left} and {right}");
+}
+
 #[test]
 fn texts_in_arrays_are_in_debug_form(rt: HostRuntime) -> Result<(), Fail> {
-    let alloc = rt.alloc();
     for number in [0, 1, 3, 0x20, 0x30, 0xD7, 0xE0, 0xFE, 0xFF, 0x1F6, 0x10FF] {
         let text = page(&rt, number)?;
-        let mut items = Vec::new(alloc);
-        items.push(Value::normal_string(alloc, text.as_str())?)?;
-        let shown = text.as_str();
-        let wanted = format!(in alloc; "[{shown:?}]")?;
-        assert_eq!(rt;
-            Value::of_array(items).to_text(alloc)?.as_str(),
-            wanted.as_str()
-        );
+        let found = printed(&rt, text.as_str())?;
+        let wanted = debug_form(&rt, text.as_str())?;
+        are_equal(&rt, found.as_str(), wanted.as_str());
     }
     Ok(())
 }
