@@ -7,7 +7,8 @@ use Rattle.tera_meaning.specs.Form.{Form}
 use Rattle.tera_meaning.specs.Kind.{kind_in, kind_name, undefined_kind, none_kind}
 use Rattle.tera_meaning.specs.Meaning.{plain}
 use Rattle.tera_meaning.specs.Outcome.{Outcome}
-use Rattle.tera_meaning.specs.Printed.{quoted, printed_with, is_exact_inside, PrintsInside}
+use Rattle.tera_report.specs.Quoted.{quoted}
+use Rattle.tera_meaning.specs.Printed.{printed_with, is_exact_inside, PrintsInside}
 use Rattle.tera_meaning.specs.Tree.{undefined, none, truth, number, text, bytes, array, object}
 use Rattle.tera_replayer.specs.Reply.{IsFormOf, IsReply, IsFixedReply, order_name}
 
