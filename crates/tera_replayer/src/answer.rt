@@ -1,5 +1,6 @@
 // The line that answers a call.
 ghost use Rattle.std.specs.Prelude.{◌≡◌, ℕ, List, [], ◌++◌, Ok, Err, IfErr, OnOk};
+ghost use Rattle.std.specs.Prelude.{codes, decimal};
 ghost use Rattle.tera_report.specs.Errors.{kind_of, refusal_of};
 ghost use Rattle.tera_report.specs.Sink.{Broke, Puts, PutsThese, Sends};
 ghost use Rattle.tera_meaning.specs.Outcome.{is_want};
@@ -60,7 +61,7 @@ fn put_answer<W: Sink>(answer: &Answer, out: &mut W) -> Result<(), W::Fault>
         Answer::Found(None) => out.put("nothing\n"),
         Answer::Found(Some(value)) => put_value(value, out),
         Answer::Size(None) => out.put("nothing\n"),
-        Answer::Size(Some(size)) => put_line("size ", Buffer::new().format(*size), out),
+        Answer::Size(Some(size)) => put_size(*size, out),
         Answer::Kind(kind) => put_line("kind ", kind.name(), out),
         Answer::Text(text) => put_line("text ", text.as_str(), out),
     }
@@ -75,6 +76,16 @@ fn order_line(order: Option<Ordering>) -> &'static str
         Some(Ordering::Equal) => "equal\n",
         Some(Ordering::Greater) => "greater\n",
     }
+}
+
+// Puts the line for a length.
+#[inline(never)]
+fn put_size<W: Sink>(size: usize, out: &mut W) -> Result<(), W::Fault>
+    ensures { PutsThese W.takes W.fails result
+        (ended (codes "size " ++ decimal size)) out.old out.new }
+{
+    let mut digits = Buffer::new();
+    put_line("size ", digits.format(size), out)
 }
 
 // Puts the line for a value.

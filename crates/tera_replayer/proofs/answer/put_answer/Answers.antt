@@ -1,5 +1,5 @@
 -- What is put is the reply, and a line feed.
-use Rattle.std.proofs.Common.{rules, refl, ◌++◌, codes, Ok}
+use Rattle.std.proofs.Common.{rules, refl, ◌++◌, codes, decimal, Ok}
 use Rattle.tera_context.specs.Call.{answer_of}
 use Rattle.tera_replayer.specs.Reply.{IsReplyLine, IsValueLine}
 use Rattle.tera_replayer.specs.Script.{ended}
@@ -40,15 +40,15 @@ returns-in-Size-None g c =
 
 pub returns-in-Size-Some : goal.returns-in-Size-Some
 returns-in-Size-Some g c =
-    let line = codes "size " ++ c.format.result.now in
-    puts_these g.W.Sink.takes g.W.Sink.fails (IsReplyLine (Ok (answer_of c.args.answer.now))) c.put_line.result (ended line) _ _
-    (line, search rules, refl) c.put_line.ensures
+    let line = codes "size " ++ decimal c.in-Size-Some.size in
+    puts_these g.W.Sink.takes g.W.Sink.fails (IsReplyLine (Ok (answer_of c.args.answer.now))) c.put_size.result (ended line) _ _
+    (line, search rules, refl) c.put_size.ensures
 
 pub returns-in-Kind : goal.returns-in-Kind
 returns-in-Kind g c =
     let line = codes "kind " ++ c.name.result.now in
-    puts_these g.W.Sink.takes g.W.Sink.fails (IsReplyLine (Ok (answer_of c.args.answer.now))) c.put_line-in-Kind.result (ended line) _ _
-    (line, search rules, refl) c.put_line-in-Kind.ensures
+    puts_these g.W.Sink.takes g.W.Sink.fails (IsReplyLine (Ok (answer_of c.args.answer.now))) c.put_line.result (ended line) _ _
+    (line, search rules, refl) c.put_line.ensures
 
 pub returns-in-Text : goal.returns-in-Text
 returns-in-Text g c =
