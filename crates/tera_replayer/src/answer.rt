@@ -10,7 +10,7 @@ ghost use Rattle.tera_replayer.specs.Script.{ended};
 ghost use Rattle.tera_replayer.specs.Stated.{outcome_stated};
 ghost use Rattle.tera_replayer.specs.Stretch.{ReplyStops};
 
-use crate::fault::{Fault, written};
+use crate::fault::{Fault, WriteError, put, written};
 use itoa::Buffer;
 use std::alloc::Global;
 use std::cmp::Ordering;
@@ -49,18 +49,18 @@ pub fn is_want(answer: &TeraResult<Answer>) -> bool
 }
 
 // Puts the line for what is given where nothing is refused.
-fn put_answer<W: Sink>(answer: &Answer, out: &mut W) -> Result<(), W::Fault>
+fn put_answer<W: Sink>(answer: &Answer, out: &mut W) -> Result<(), WriteError>
     ensures { Puts W.takes W.fails result
         (IsReplyLine (Ok (answer_of answer.now))) out.old out.new }
 {
     match answer {
-        Answer::Done => out.put("ok\n"),
-        Answer::Truth(true) => out.put("true\n"),
-        Answer::Truth(false) => out.put("false\n"),
-        Answer::Order(order) => out.put(order_line(*order)),
-        Answer::Found(None) => out.put("nothing\n"),
+        Answer::Done => put("ok\n", out),
+        Answer::Truth(true) => put("true\n", out),
+        Answer::Truth(false) => put("false\n", out),
+        Answer::Order(order) => put(order_line(*order), out),
+        Answer::Found(None) => put("nothing\n", out),
         Answer::Found(Some(value)) => put_value(value, out),
-        Answer::Size(None) => out.put("nothing\n"),
+        Answer::Size(None) => put("nothing\n", out),
         Answer::Size(Some(size)) => put_size(*size, out),
         Answer::Kind(kind) => put_line("kind ", kind.name(), out),
         Answer::Text(text) => put_line("text ", text.as_str(), out),
@@ -80,7 +80,7 @@ fn order_line(order: Option<Ordering>) -> &'static str
 
 // Puts the line for a length.
 #[inline(never)]
-fn put_size<W: Sink>(size: usize, out: &mut W) -> Result<(), W::Fault>
+fn put_size<W: Sink>(size: usize, out: &mut W) -> Result<(), WriteError>
     ensures { PutsThese W.takes W.fails result
         (ended (codes "size " ++ decimal size)) out.old out.new }
 {
@@ -90,25 +90,28 @@ fn put_size<W: Sink>(size: usize, out: &mut W) -> Result<(), W::Fault>
 
 // Puts the line for a value.
 #[inline(never)]
-fn put_value<W: Sink>(value: &Value, out: &mut W) -> Result<(), W::Fault>
+fn put_value<W: Sink>(value: &Value, out: &mut W) -> Result<(), WriteError>
     ensures { Puts W.takes W.fails result (IsValueLine value.now) out.old out.new }
 {
-    out.put("value ")?;
+    put("value ", out)?;
     put_form(value, out)?;
-    out.put("\n")
+    put("\n", out)
 }
 
 // Puts a value: undefined and none by their names, and any other as it prints inside an array.
-fn put_form<W: Sink>(value: &Value, out: &mut W) -> Result<(), W::Fault>
+fn put_form<W: Sink>(value: &Value, out: &mut W) -> Result<(), WriteError>
     ensures { Puts W.takes W.fails result (IsFormOf value.now) out.old out.new }
 {
     if value.is_undefined() {
-        return out.put("undefined");
+        return put("undefined", out);
     }
     if value.is_none() {
-        return out.put("none");
+        return put("none", out);
     }
-    value.print_inside_to(out)
+    match value.print_inside_to(out) {
+        Ok(()) => Ok(()),
+        Err(_) => Err(WriteError),
+    }
 }
 
 // Writes a refusal. Want of memory takes none, so that its reply fails only where a write does.
@@ -122,7 +125,7 @@ fn write_refusal<W: Sink>(alloc: Global, error: &Error, out: &mut W) -> Result<(
         (Broke W.takes W.fails W.flushes W.flush_fails out.old out.new)) }
 {
     match error.kind() {
-        ErrorKind::OutOfMemory => written(out.put("error: Out of memory\n")),
+        ErrorKind::OutOfMemory => written(put("error: Out of memory\n", out)),
         _ => {
             let text = error.to_string(alloc)?;
             written(put_line("error: ", text.as_str(), out))
@@ -132,10 +135,10 @@ fn write_refusal<W: Sink>(alloc: Global, error: &Error, out: &mut W) -> Result<(
 
 // Puts a text as it is behind a word, line feeds and all.
 #[inline(always)]
-pub(crate) fn put_line<W: Sink>(word: &str, text: &str, out: &mut W) -> Result<(), W::Fault>
+pub(crate) fn put_line<W: Sink>(word: &str, text: &str, out: &mut W) -> Result<(), WriteError>
     ensures { PutsThese W.takes W.fails result (ended (word.now ++ text.now)) out.old out.new }
 {
-    out.put(word)?;
-    out.put(text)?;
-    out.put("\n")
+    put(word, out)?;
+    put(text, out)?;
+    put("\n", out)
 }

@@ -1,9 +1,11 @@
 // Why a replay ends before its input does.
 ghost use Rattle.std.specs.Prelude.{◌≡◌, Ok, Err, MatchResult};
+ghost use Rattle.tera_report.specs.Sink.{PutsThese};
 ghost use Rattle.tera_replayer.specs.declared.fault.Fault.TheVariants.{ReadFailed, WriteFailed};
 ghost use Rattle.tera_replayer.specs.declared.fault.Fault.TheVariants.{OutOfMemory};
 
 use std::alloc::AllocError;
+use tera_report::sink::Sink;
 
 /// What ends a replay before its input ends.
 #[derive(Debug, Drop)]
@@ -17,6 +19,10 @@ pub enum Fault {
     /// The program itself found no memory.
     OutOfMemory,
 }
+
+/// A write failed. It is as small as can be, since each reply is put in several parts.
+#[derive(Drop)]
+pub(crate) struct WriteError;
 
 impl From<AllocError> for Fault {
     ghost from_gives = { λ _ fault. fault ≡ OutOfMemory };
@@ -41,5 +47,16 @@ pub(crate) fn written<E: Drop>(put: Result<(), E>) -> Result<(), Fault>
     match put {
         Ok(()) => Ok(()),
         Err(_) => Err(Fault::WriteFailed),
+    }
+}
+
+/// Puts a text.
+#[inline(always)]
+pub(crate) fn put<W: Sink>(text: &str, out: &mut W) -> Result<(), WriteError>
+    ensures { PutsThese W.takes W.fails result text.now out.old out.new }
+{
+    match out.put(text) {
+        Ok(()) => Ok(()),
+        Err(_) => Err(WriteError),
     }
 }

@@ -8,7 +8,7 @@ ghost use Rattle.tera_replayer.specs.Replay.{Replays, report};
 ghost use Rattle.tera_replayer.specs.Stretch.{Ends, EndsFlushed, status_at, told};
 
 use crate::answer::put_line;
-use crate::fault::{Fault, written};
+use crate::fault::{Fault, WriteError, put, written};
 use crate::feed::Feed;
 use crate::source::Source;
 use itoa::Buffer;
@@ -106,20 +106,20 @@ fn flush_last<W: Sink>(answered: Result<bool, Fault>, out: &mut W) -> Result<boo
 }
 
 // Puts what is to be said about the end.
-fn tell<E: Sink>(ending: &Result<bool, Fault>, err: &mut E) -> Result<(), E::Fault>
+fn tell<E: Sink>(ending: &Result<bool, Fault>, err: &mut E) -> Result<(), WriteError>
     ensures puts { PutsThese E.takes E.fails result (told ending.now) err.old err.new }
     ensures silent { IsOk ending.now → err.new ≡ err.old }
 {
     match ending {
         Ok(_) => Ok(()),
         Err(Fault::BadLine(number)) => tell_bad_line(*number, err),
-        Err(Fault::ReadFailed) => err.put("error: reading failed\n"),
-        Err(Fault::WriteFailed) => err.put("error: writing failed\n"),
-        Err(Fault::OutOfMemory) => err.put("error: Out of memory\n"),
+        Err(Fault::ReadFailed) => put("error: reading failed\n", err),
+        Err(Fault::WriteFailed) => put("error: writing failed\n", err),
+        Err(Fault::OutOfMemory) => put("error: Out of memory\n", err),
     }
 }
 
-fn tell_bad_line<E: Sink>(number: u128, err: &mut E) -> Result<(), E::Fault>
+fn tell_bad_line<E: Sink>(number: u128, err: &mut E) -> Result<(), WriteError>
     ensures { PutsThese E.takes E.fails result (report (Some number)) err.old err.new }
 {
     let mut digits = Buffer::new();

@@ -125,6 +125,7 @@ impl<W: Writer> Write for Watched<'_, W> {
 /// what its writer holds.
 pub fn what_is_sent_is_appended<W: Writer>()
     ensures { (old : Watched W) (bytes : List ℕ) (new : Watched W)
-        → Sends (WatchedTakes W.contents W.wrote) (WatchedFlushes W.contents W.flushed) old bytes new
+        → Sends (WatchedTakes W.contents W.wrote) (WatchedFlushes W.contents W.flushed)
+        old bytes new
         → Appends (held W.contents old) (held W.contents new) bytes }
 {}

@@ -11,7 +11,7 @@ pub returns-in_err-put : goal.returns-in_err-put
 returns-in_err-put g c =
     let (form, is) = some_form c.args.value.now in
     let failed = g.met.W.Sink.failed_early _ (codes "value ") _ (ended form) c.in_err-put.ensures in
-    let bad : OfSome g.W.Sink.fails (IsValueLine c.args.value.now) c.args.out.now c.put.new.self = (codes "value " ++ ended form, (form, is, sym (append_assoc (codes "value ") form (codes "\n"))), failed) in
+    let bad : OfSome g.W.Sink.fails (IsValueLine c.args.value.now) c.args.out.now c.put.new.out = (codes "value " ++ ended form, (form, is, sym (append_assoc (codes "value ") form (codes "\n"))), failed) in
     search rules
 
 pub returns-in_err-put_form : goal.returns-in_err-put_form

@@ -10,9 +10,9 @@ pub returns-in-OutOfMemory : goal.returns-in-OutOfMemory
 returns-in-OutOfMemory g c =
     let sink = g.W.Sink in
     let outcome = Err (refusal_of (kind_of c.args.error.now)) in
-    let put = puts_these sink.takes sink.fails (IsReplyLine outcome) c.put.result (codes "error: Out of memory\n") c.args.out.now c.put.new.self
+    let put = puts_these sink.takes sink.fails (IsReplyLine outcome) c.put.result (codes "error: Out of memory\n") c.args.out.now c.put.new.out
     (codes "error: Out of memory", (codes "Out of memory", search rules, refl), refl) c.put.ensures in
-    let told = replied sink.takes sink.fails sink.flushes sink.flush_fails outcome (IsReplyLine outcome) c.put.result c.written.result c.args.out.now c.put.new.self c.written.ensures put in
+    let told = replied sink.takes sink.fails sink.flushes sink.flush_fails outcome (IsReplyLine outcome) c.put.result c.written.result c.args.out.now c.put.new.out c.written.ensures put in
     record { ok = told.0; err = told.1 }
 
 pub returns-in_ok-text-in_default : goal.returns-in_ok-text-in_default
