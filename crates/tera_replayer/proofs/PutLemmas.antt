@@ -1,6 +1,6 @@
 -- What was put, and what a failed put stands for.
 use Rattle.std.proofs.Common.{◌≡◌, ℕ, List, [], sym, subst}
-use Rattle.std.specs.Prelude.{Result, Ok, Err, MatchResult, OnOk, IfErr}
+use Rattle.std.specs.Prelude.{Result, Ok, Err, MatchResult, OnOk, IfOk, IfErr, IsErrAnd}
 use Rattle.tera_meaning.specs.Outcome.{Outcome}
 use Rattle.tera_report.specs.Sink.{Puts, PutsThese, Sends, Broke}
 use Rattle.tera_report.specs.SentLaws.{sends_put, broke_put}
@@ -19,6 +19,18 @@ module _ {S E : Type 0} (takes fails : S → List ℕ → S → Type 0) where
       → Puts takes fails result P old new → Puts takes fails result Q old new
   puts_weaker P Q (Ok done) old new weaker (bytes, has, h) = (bytes, weaker bytes has, h)
   puts_weaker P Q (Err fault) old new weaker (bytes, has, h) = (bytes, weaker bytes has, h)
+
+-- a fault that is passed on is the one that was met
+pub fault_passed : {T : Type 0} (result : Result T Fault) (fault : Fault) (P : Fault → Type 0)
+    → IsErrAnd result (λ passed. passed ≡ fault) → P fault → IfErr result P
+fault_passed (Ok done) fault P is has = absurd is
+fault_passed (Err passed) fault P is has = subst P (sym is) has
+
+-- what stands of each answer, where one stands of it
+pub answered : {T E : Type 0} (result : Result T E) (P Q : T → Type 0) → ((answer : T) → P answer → Q answer)
+    → IfOk result P → IfOk result Q
+answered (Ok answer) P Q then has = then answer has
+answered (Err fault) P Q then has = tt
 
 -- a reply was put, or a write failed
 module _ {S : Type 0} (takes fails : S → List ℕ → S → Type 0) (flushes flush_fails : S → S → Type 0) where

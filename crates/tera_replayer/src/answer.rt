@@ -1,5 +1,5 @@
 // The line that answers a call.
-ghost use Rattle.std.specs.Prelude.{◌≡◌, ℕ, List, [], ◌++◌, Ok, Err, IfErr, OnOk};
+ghost use Rattle.std.specs.Prelude.{◌≡◌, ℕ, List, [], ◌++◌, Ok, Err, IfOk, IfErr, OnOk};
 ghost use Rattle.std.specs.Prelude.{codes, decimal};
 ghost use Rattle.tera_report.specs.Errors.{kind_of, refusal_of};
 ghost use Rattle.tera_report.specs.Sink.{Broke, Puts, PutsThese, Sends};
@@ -19,33 +19,39 @@ use tera_report::sink::Sink;
 use tera_report::{Error, ErrorKind, TeraResult};
 use tera_values::Value;
 
-/// Writes the line that answers a call, with its line feed. Takes memory for the text of a refusal
-/// alone, and for none where the refusal is want of memory.
+/// Writes the line that answers a call, with its line feed, and says whether the answer is want of
+/// memory. Takes memory for the text of a refusal alone, and for none where the refusal is want of
+/// memory.
 pub fn write_answer<W: Sink>(
     alloc: Global,
-    answer: &TeraResult<Answer>,
+    answer: TeraResult<Answer>,
     out: &mut W,
-) -> Result<(), Fault>
-    ensures ok { OnOk result ((line : List ℕ) × IsReplyLine (outcome_stated answer.now) line
-        × Sends W.takes W.flushes out.old line out.new) }
-    ensures err { IfErr result (ReplyStops (outcome_stated answer.now)
+) -> Result<bool, Fault>
+    ensures ok { IfOk result (λ wanted. (line : List ℕ)
+        × IsReplyLine (outcome_stated answer) line
+        × Sends W.takes W.flushes out.old line out.new
+        × (wanted ≡ is_want (outcome_stated answer))) }
+    ensures err { IfErr result (ReplyStops (outcome_stated answer)
         (Sends W.takes W.flushes out.old [] out.new)
         (Broke W.takes W.fails W.flushes W.flush_fails out.old out.new)) }
 {
     match answer {
-        Ok(answer) => written(put_answer(answer, out)),
-        Err(error) => write_refusal(alloc, error, out),
+        Ok(answer) => {
+            written(put_answer(&answer, out))?;
+            Ok(false)
+        }
+        Err(error) => {
+            write_refusal(alloc, &error, out)?;
+            Ok(is_want(&error))
+        }
     }
 }
 
-/// Whether the answer is want of memory. No other refusal is.
-pub fn is_want(answer: &TeraResult<Answer>) -> bool
-    ensures { result ≡ is_want (outcome_stated answer.now) }
+// Whether the error is want of memory. No other is.
+fn is_want(error: &Error) -> bool
+    ensures { result ≡ is_want (Err (refusal_of (kind_of error.now))) }
 {
-    match answer {
-        Ok(_) => false,
-        Err(error) => matches!(error.kind(), ErrorKind::OutOfMemory),
-    }
+    matches!(error.kind(), ErrorKind::OutOfMemory)
 }
 
 // Puts the line for what is given where nothing is refused.

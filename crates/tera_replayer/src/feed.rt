@@ -6,7 +6,7 @@ ghost use Rattle.tera_report.specs.Sink.{Broke, Sends};
 ghost use Rattle.tera_replayer.specs.Script.{HasNoLineFeed, without_return, last_line, ended};
 ghost use Rattle.tera_replayer.specs.Stretch.{Place, Goes, Runs, Stops, LineStops, start};
 
-use crate::answer::{is_want, write_answer};
+use crate::answer::write_answer;
 use crate::fault::Fault;
 use memchr::memchr;
 use std::alloc::Global;
@@ -159,11 +159,7 @@ fn answer_line<W: Sink>(
     match read_line(alloc, line)? {
         Reading::Skipped => Ok(false),
         Reading::Bad => Err(Fault::BadLine(number)),
-        Reading::Says(call) => {
-            let answer = step(context, call);
-            write_answer(alloc, &answer, out)?;
-            Ok(is_want(&answer))
-        }
+        Reading::Says(call) => write_answer(alloc, step(context, call), out),
     }
 }
 

@@ -1,4 +1,4 @@
-use crate::answer::{is_want, write_answer};
+use crate::answer::write_answer;
 use crate::{Pieces, replay, replay_from};
 use std::alloc::Global;
 use std::io::{BufWriter, Error, ErrorKind, Read, Result, Write};
@@ -190,8 +190,8 @@ fn a_refusal_is_answered_by_its_text(rt: HostRuntime) -> std::result::Result<(),
     ] {
         let mut out = Growing::new(alloc);
         let answer: TeraResult<Answer> = Err(refused);
-        write_answer(alloc, &answer, &mut out)?;
-        assert_eq!(rt; is_want(&answer), want, "{line:?}");
+        let wanted = write_answer(alloc, answer, &mut out)?;
+        assert_eq!(rt; wanted, want, "{line:?}");
         assert_eq!(rt; out.as_str().as_bytes(), line);
     }
     Ok(())

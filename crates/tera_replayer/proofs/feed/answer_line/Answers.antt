@@ -8,6 +8,7 @@ use Rattle.tera_report.specs.SentLaws.{sends_nothing}
 use Rattle.tera_replayer.specs.Script.{ended}
 use Rattle.tera_replayer.specs.Stretch.{Runs}
 use Rattle.tera_replayer.proofs.LineLemmas.{Runs-skipped, Runs-says}
+use Rattle.tera_replayer.proofs.PutLemmas.{answered}
 use Rattle.tera_replayer.proofs.StatedLemmas.{reply_shown, want_shown}
 use Rattle.tera_replayer.proofs.feed.answer_line.Goals as goal
 
@@ -15,18 +16,17 @@ pub returns-in-Skipped-clause-ok : goal.returns-in-Skipped-clause-ok
 returns-in-Skipped-clause-ok g c =
     ([], Runs-skipped _ _ _ (rw c.in-Skipped.is at c.in_ok-read_line.ensures.reading), sends_nothing _ _ _)
 
-pub returns-in_ok-write_answer-in-Says-clause-ok :
-    goal.returns-in_ok-write_answer-in-Says-clause-ok
-returns-in_ok-write_answer-in-Says-clause-ok g c =
+pub returns-in-Says-clause-ok : goal.returns-in-Says-clause-ok
+returns-in-Says-clause-ok g c =
     let old = c.args.context.now in
-    let new = c.step-answer.new.context in
-    let answer = c.step-answer.result in
+    let new = c.step.new.context in
+    let answer = c.step.result in
     let command = command_of c.in-Says.call in
-    let shown = shown_outcome answer (λ (outcome : Outcome). IsStep old command outcome new) c.step-answer.ensures in
-    let written = c.in_ok-write_answer-in-Says.ensures.ok in
-    let (text, reply, ended_is) = written.1 in
-    let replied = reply_shown answer shown.0 text shown.1 reply in
-    let P : List ℕ → Bool → Type 0 = λ line w. Runs c.args.number old (c.args.line.now ∷ []) line w new in
+    let shown = shown_outcome answer (λ (outcome : Outcome). IsStep old command outcome new) c.step.ensures in
     let says = rw c.in-Says.is at c.in_ok-read_line.ensures.reading in
+    let P : List ℕ → Bool → Type 0 = λ line w. Runs c.args.number old (c.args.line.now ∷ []) line w new in
+    answered c.write_answer.result _ _ (λ wanted (line, (text, reply, ended_is), sent, is).
+    let replied = reply_shown answer shown.0 text shown.1 reply in
     let runs = Runs-says c.args.number old new c.args.line.now text command shown.0 says shown.2 replied in
-    (written.0, subst (λ (line : List ℕ). P line c.is_want.result) (sym ended_is) (subst (P (ended text)) (sym (want_shown answer shown.0 shown.1) ∙ sym c.is_want.ensures) runs), written.2)
+    let stated : P (ended text) wanted = subst (P (ended text)) (sym (want_shown answer shown.0 shown.1) ∙ sym is) runs in
+    (line, subst (λ (l : List ℕ). P l wanted) (sym ended_is) stated, sent)) c.write_answer.ensures.ok
