@@ -27,6 +27,19 @@ pub fn two_items(rt: &HostRuntime, first: Value, second: Value) -> Result<Value,
     Ok(Value::of_array(items))
 }
 
+pub fn three_items(
+    rt: &HostRuntime,
+    first: Value,
+    second: Value,
+    third: Value,
+) -> Result<Value, Fail> {
+    let mut items = Vec::new(rt.alloc());
+    items.push(first)?;
+    items.push(second)?;
+    items.push(third)?;
+    Ok(Value::of_array(items))
+}
+
 // The map with that pair.
 pub fn with(map: Map, key: Key<'static>, value: Value) -> Result<Map, Fail> {
     let mut map = map;

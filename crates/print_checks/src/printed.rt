@@ -1,5 +1,5 @@
 //! What values print.
-use crate::made::{bytes, no_items, one_item, text, two_items, with};
+use crate::made::{bytes, no_items, one_item, text, three_items, two_items, with};
 use std::process::Abort;
 use std::test::Fail;
 use tera_values::{Key, Map, Value};
@@ -66,6 +66,20 @@ fn arrays_print_their_items(rt: HostRuntime) -> Result<(), Fail> {
     prints(&rt, one_item(&rt, no_items(&rt))?, "[[]]")?;
     let numbers = two_items(&rt, Value::from(1i64), Value::undefined())?;
     prints(&rt, numbers, "[1, ]")
+}
+
+// None prints nothing between its commas.
+#[test]
+fn none_prints_nothing_in_an_array(rt: HostRuntime) -> Result<(), Fail> {
+    let gap = three_items(&rt, Value::from(1u8), Value::none(), Value::from(2u8))?;
+    prints(&rt, gap, "[1, , 2]")
+}
+
+// Of a text, bytes and an array, the text alone is quoted.
+#[test]
+fn texts_alone_are_quoted_in_an_array(rt: HostRuntime) -> Result<(), Fail> {
+    let mixed = three_items(&rt, text(&rt, "a")?, bytes(&rt, b"hi")?, no_items(&rt))?;
+    prints(&rt, mixed, "[\"a\", hi, []]")
 }
 
 #[test]
