@@ -5,7 +5,8 @@ ghost use Rattle.std.specs.Option.{option_map};
 ghost use Rattle.tera_meaning.specs.Integer.{i128 as kind_i128};
 ghost use Rattle.tera_script.specs.Number.{signed};
 ghost use Rattle.tera_script.specs.Readers.{Stops, BeginsWithDigit, digits_at, suffix_in, integer_of, is_of_kind};
-ghost use Rattle.tera_script.specs.Readers.{unsigned_in, number_in, number_rest, integer_held, suffix_kind};
+ghost use Rattle.tera_script.specs.Readers.{unsigned_in, number_in, number_rest, integer_held};
+ghost use Rattle.tera_script.specs.Readers.{suffix_kind};
 ghost use Rattle.tera_meaning.specs.Tree.{number};
 
 use tera_values::Value;

@@ -1,6 +1,7 @@
 // The texts of refusals, tried on numbers and names from outside. Each function here does nothing:
 // its clauses are the rows.
-ghost use Rattle.std.specs.Prelude.{◌≡◌, ◌↔◌, ◌^◌, ◌-◌, ◌++◌, ℕ, ℤ, List, [], codes, pos, negsuc, Some};
+ghost use Rattle.std.specs.Prelude.{◌≡◌, ◌↔◌, ◌^◌, ◌-◌, ◌++◌, ℕ, ℤ, List, [], codes, pos};
+ghost use Rattle.std.specs.Prelude.{negsuc, Some};
 ghost use Rattle.tera_report.specs.Refusal.{not_a_number, operand_outside_i128, not_exact};
 ghost use Rattle.tera_report.specs.Refusal.{divided_by_zero, exponent_outside_u32};
 ghost use Rattle.tera_report.specs.Refusal.{negation_outside_i128, negated_no_number, not_a_key};
