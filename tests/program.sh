@@ -30,11 +30,6 @@ status=$?
 [ "$status" -eq 1 ] && [ "$(cat "$work/err")" = "error: writing failed" ]
 tell "a full device is a failed write" $?
 
-./replay <examples/first.replay >"$work/out" 2>/dev/full
-status=$?
-[ "$status" -eq 0 ] && cmp -s "$work/out" examples/first.answers
-tell "a full device for reports changes nothing" $?
-
 printf 'eq a b\nfrob\n' | ./replay >"$work/out" 2>/dev/full
 status=$?
 [ "$status" -eq 2 ] && [ "$(cat "$work/out")" = "true" ]
@@ -42,8 +37,85 @@ tell "a report that cannot be written changes nothing" $?
 
 printf 'eq a b\nfrob\neq a b\n' | ./replay >"$work/out" 2>"$work/err"
 status=$?
-[ "$status" -eq 2 ] && [ "$(cat "$work/out")" = "true" ] && [ "$(cat "$work/err")" = "bad line 2" ]
+[ "$status" -eq 2 ] && [ "$(cat "$work/out")" = "true" ] && [ "$(cat "$work/err")" = "$(printf 'error: bad line\n --> line 2:1:1\n  |\n1 | frob\n  | ^^^^')" ]
 tell "a bad line ends the run" $?
+
+# Whether each line of standard input, behind this word, is bad: no answer, and the report of it.
+are_bad() {
+    while IFS= read -r line; do
+        line=${1:+$1 }$line
+        printf '%s\n' "$line" | "$program" >"$work/out" 2>"$work/err"
+        [ $? -eq 2 ] && [ ! -s "$work/out" ] || return 1
+        printf 'error: bad line\n --> line 1:1:1\n  |\n1 | %s\n  | %s\n' "$line" \
+            "$(printf %s "$line" | sed 's/./^/g')" | cmp -s - "$work/err" || return 1
+    done
+}
+are_bad "" <<'LINES'
+set 1a 1
+set a
+set a 1 2
+set a "x
+set a "\q"
+set a "\u{d800}"
+set a "\u{}"
+set a x"0"
+set a [1,]
+set a -1u64
+set a 340282366920938463463374607431768211456
+set a -170141183460469231731687303715884105729
+slice a 1 2
+slice a _ _ 170141183460469231731687303715884105728
+eq a b -> c
+get a ->
+path a s"x"
+LINES
+tell "bad lines have their reports" $?
+# No literal is written so.
+are_bad "set a" <<'LITERALS'
+18446744073709551616u64
+{1}
+{none: 1}
+{undefined: 1}
+{s"k": 1}
+{x"6b": 1}
+{[]: 1}
+{{}: 1}
+{"a": 1,}
+{, "a": 1}
+{,}
+{"a" 1}
+{"a":}
+{"a":: 1}
+{"a": 1 "b": 2}
+{"a": 1; "b": 2}
+{"a": 1
+{"a": 1]
+["a": 1]
+{"a": 1}}
+{"a": 1} 2
+{a: 1}
+{-1u64: 1}
+{256u8: 1}
+{"a: 1}
+{"\x": 1}
+{true1: 1}
+{truefalse: 1}
+LITERALS
+tell "what is no literal is a bad line" $?
+are_bad extend <<'SOURCES'
+{1: 2}
+{"a": 1, true: 2}
+{"1": 1, 1: 2}
+{s"a": 1}
+[]
+"a"
+none
+{"a": 1} -> b
+{"a": 1} {}
+a {"a": 1}
+{"a": 1
+SOURCES
+tell "what is no map of texts is no source" $?
 
 ./replay <"$work" >"$work/out" 2>"$work/err"
 status=$?
@@ -66,6 +138,19 @@ python3 -c 'print("ok\ntext " + "long text, " * 100000)' >"$work/wanted"
 status=$?
 [ "$status" -eq 0 ] && [ ! -s "$work/err" ] && cmp -s "$work/out" "$work/wanted"
 tell "a text of a megabyte" $?
+
+python3 tests/ample.py "$program" >"$work/out" 2>"$work/err"
+tell "each line on operands of 0, 1 and 1,000 parts, with ample memory" $?
+
+python3 tests/fuzz.py "$program" --seed 1 --lines 20000 >"$work/out" 2>"$work/err"
+tell "a second implementation answers 20,000 lines in the same way" $?
+
+python3 -c 'print("set l [0]\npath l \"" + ".".join(["0"] * 10000) + "\"")' >"$work/script"
+printf 'ok\nnothing\n' >"$work/wanted"
+"$program" <"$work/script" >"$work/out" 2>"$work/err"
+status=$?
+[ "$status" -eq 0 ] && [ ! -s "$work/err" ] && cmp -s "$work/out" "$work/wanted"
+tell "a path of 10,000 elements" $?
 
 # Each request for memory is refused in turn. Either the program itself found no memory, and what it
 # wrote is a beginning of the answers, or a step did, and the run went on.
@@ -99,9 +184,137 @@ LD_PRELOAD="$work/refuse.so" REFUSE=1 "$program" <examples/first.replay >"$work/
 status=$?
 [ "$status" -eq 1 ] && [ ! -s "$work/out" ] && [ "$(cat "$work/err")" = "error: Out of memory" ]
 tell "no memory for the answers' buffer is told" $?
-for script in examples/first.replay examples/calls.replay; do
+for script in first calls maps look_ups slices arithmetic worked; do
+    script=examples/$script.replay
     refusals "$script"
     tell "$script with each request for memory refused in turn" $?
 done
+
+# Where memory is refused while names are taken over, the names before stand, or none; else all are
+# taken over. Some refusal leaves one of the two.
+begun() {
+    turn=1
+    parts=0
+    while [ "$turn" -le 2000 ]; do
+        LD_PRELOAD="$work/refuse.so" REFUSE=$turn "$program" <examples/extends.replay >"$work/out" 2>"$work/err"
+        status=$?
+        if [ "$status" -eq 0 ]; then
+            [ "$parts" -gt 0 ]
+            return
+        fi
+        if [ ! -s "$work/err" ]; then
+            case $(sed -n '16,18p' "$work/out" | tr '\n' ' ') in
+                "ok value 100 value [1, \"two\"] ") ;;
+                "ok error: Out of memory value [1, \"two\"] ") ;;
+                "ok value 100 error: Out of memory ") ;;
+                "error: Out of memory value 1 nothing ") ;;
+                "error: Out of memory value 100 nothing ") parts=$((parts + 1)) ;;
+                *) return 1 ;;
+            esac
+        fi
+        turn=$((turn + 1))
+    done
+    return 1
+}
+begun
+tell "some first names of a source are taken over where memory is refused" $?
+
+# Where memory is refused while a bad line is answered, that is the program's own want of it.
+bad_line_refused() {
+    printf 'set a [1]\nprint a\nfrob\n' >"$work/script"
+    "$program" <"$work/script" >"$work/answers" 2>"$work/report"
+    turn=1
+    own=0
+    while [ "$turn" -le 200 ]; do
+        LD_PRELOAD="$work/refuse.so" REFUSE=$turn "$program" <"$work/script" >"$work/out" 2>"$work/err"
+        status=$?
+        if [ "$status" -eq 1 ]; then
+            [ "$(cat "$work/err")" = "error: Out of memory" ] || return 1
+            cmp -s "$work/out" "$work/answers" && own=$((own + 1))
+        else
+            [ "$status" -eq 2 ] && cmp -s "$work/err" "$work/report" || return 1
+            cmp -s "$work/out" "$work/answers" && break
+        fi
+        turn=$((turn + 1))
+    done
+    [ "$own" -ge 3 ] && [ "$turn" -le 200 ]
+}
+bad_line_refused
+tell "a bad line with each request for memory refused in turn" $?
+
+# Cut at any byte, a script answers its whole lines as before, and ends with status 0 or 2.
+cut_anywhere() {
+    size=$(wc -c <"$1.replay")
+    at=0
+    while [ "$at" -le "$size" ]; do
+        head -c "$at" "$1.replay" >"$work/script"
+        "$program" <"$work/script" >"$work/out" 2>"$work/err"
+        status=$?
+        [ "$status" -eq 0 ] || [ "$status" -eq 2 ] || return 1
+        calls=$(head -n "$(wc -l <"$work/script")" "$work/script" | grep -c '^[^#]')
+        head -n "$calls" "$1.answers" >"$work/wanted"
+        head -n "$calls" "$work/out" | cmp -s - "$work/wanted" || return 1
+        at=$((at + 1))
+    done
+}
+cut_anywhere examples/worked
+tell "the worked script cut at every byte" $?
+
+# Builds the calls that take memory, where they are not built.
+calls=crates/memory_calls/out/memory_calls
+calls_answers=crates/memory_calls/stdout
+. tests/fresh.sh
+is_fresh "$calls" || (cd crates/memory_calls && rt run && touch out/memory_calls) </dev/null >"$work/build" 2>&1
+"$calls" </dev/null >"$work/out" 2>"$work/err"
+cmp -s "$work/out" "$calls_answers"
+tell "the calls that take memory are answered" $?
+
+# Each line is the answer or want of memory, which so many lines at most are, and none is left out.
+is_answered() {
+    awk -v most="$1" 'NR == FNR { wanted[NR] = $0; count = NR; next }
+        $0 == wanted[FNR] { next }
+        $0 == "error: Out of memory" { wants++; next }
+        { bad = 1 }
+        END { exit bad || wants > most || FNR != count }' "$calls_answers" "$work/out"
+}
+
+# Each request for memory is refused in turn, until a run meets no refusal: one answer at most is
+# want of memory, and in the end each was so once. What takes no memory is answered as ever.
+calls_refused() {
+    : >"$work/refused_lines"
+    turn=1
+    while [ "$turn" -le 2000 ]; do
+        rm -f "$work/refused"
+        LD_PRELOAD="$work/refuse.so" REFUSE=$turn REFUSED="$work/refused" \
+            "$calls" >"$work/out" 2>"$work/err" && is_answered 1 || return 1
+        if [ ! -e "$work/refused" ]; then
+            cmp -s "$work/out" "$calls_answers" || return 1
+            [ "$(sort -u "$work/refused_lines" | wc -l)" -eq "$(wc -l <"$calls_answers")" ]
+            return
+        fi
+        grep -n '^error: Out of memory$' "$work/out" >>"$work/refused_lines"
+        turn=$((turn + 1))
+    done
+    return 1
+}
+calls_refused
+tell "the calls that take memory with each request for it refused in turn" $?
+
+# From each request on all are refused: from the line of the first on, no more lines are answered
+# than before, and what takes no memory is answered as ever.
+all_refused() {
+    lines=$(wc -l <"$calls_answers")
+    turn=1
+    while [ "$turn" -le 2000 ]; do
+        rm -f "$work/refused"
+        LD_PRELOAD="$work/refuse.so" REFUSE=$turn ONWARDS=1 REFUSED="$work/refused" \
+            "$calls" >"$work/out" 2>"$work/err" && is_answered "$lines" || return 1
+        [ -e "$work/refused" ] || return 0
+        turn=$((turn + 1))
+    done
+    return 1
+}
+all_refused
+tell "the calls that take memory with all memory refused from a request on" $?
 
 echo "program tests: end"

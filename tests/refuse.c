@@ -1,13 +1,20 @@
-/* Preloaded: refuses the request for memory whose number the variable REFUSE gives. */
+/* Preloaded: refuses the request for memory whose number the variable REFUSE gives, and where
+   ONWARDS is set all after it, and then makes the file that REFUSED names, if it names one. */
 #define _GNU_SOURCE
 #include <dlfcn.h>
+#include <fcntl.h>
 #include <stdlib.h>
+#include <unistd.h>
 
 static long asked;
 
 static int refused(void) {
     const char *number = getenv("REFUSE");
-    return number && ++asked == atol(number);
+    if (!number || ++asked < atol(number)) return 0;
+    if (asked > atol(number) && !getenv("ONWARDS")) return 0;
+    const char *told = getenv("REFUSED");
+    if (told) close(creat(told, 0600));
+    return 1;
 }
 
 void *malloc(size_t size) {

@@ -2,14 +2,16 @@
 """Tries the wrong bodies crates/NAME/wrong/SUBJECT/FUNCTION/EDIT.edit: the prover must refuse each by the contract.
 
 An edit is written as those of must-fail/ are: a line 'file: src/SUBJECT.rt', and pairs of lines 'old: TEXT' and
-'new: TEXT', where each old text stands in that file exactly once. FUNCTION is the name of its function, with its type and
-trait as the prover spells them ('Value.format', 'ValueFromU8.from'), or that of a constant or another item.
+'new: TEXT', where each old text stands in that file, or in that function, exactly once. FUNCTION is the name of its
+function, with its type and trait as the prover spells them ('Value.format', 'ValueFromU8.from'), or that of a constant or
+another item.
 
-A check takes an edit of each of many functions. An edit is refused where a goal of its function's contract is not proved:
-a return's, or an invariant's, but not that a sum fits, that a call is allowed or that a loop ends. What a shared check
-does not show to be refused is tried alone. Where a proof by hand names what the edit took away, it is tried without that
-part; a goal that is then open counts only where the prover finds values at which it is false, or where it is proved of
-the right body without that part.
+A check takes an edit of each of many functions, and the edits of a large crate are tried in several lists at once. An
+edit is refused where a goal of its function's contract is not proved: a return's, or an invariant's, but not that a sum
+fits, that a call is allowed or that a loop ends. What a shared check does not show to be refused is tried alone, and
+then from nothing. Where a proof by hand names what the edit took away, it is tried without that part; a goal that is
+then open counts only where the prover finds values at which it is false, or where it is proved of the right body
+without that part.
 
 Prints a line 'pass ..' or 'FAIL ..' for each edit, and 'wrong bodies: end'. It uses the libraries that `rt ci` built, and
 begins with a copy of the work that checks kept in out/.
@@ -76,13 +78,22 @@ def is_within(goal, other):
     return goal == other or goal.startswith(f"{other}-")
 
 
-def spelled(kind, parameters):
-    """A type as the prover spells it in an impl's name: 'FmtFormatter' of 'fmt::Formatter<W>', 'RefStr' of '&str'."""
-    bare = re.sub(r"'\w+|\bmut ", "", kind.partition("<")[0]).strip()
+def spelled(kind, parameters, joint=""):
+    """A type as the prover spells it in an impl's name: 'FmtFormatter' of 'fmt::Formatter<W>', 'RefStr' of '&str',
+    'ResultError' of 'Result<T, Error>'. Parameters and lifetimes behind the name are left out."""
+    name, _, behind = kind.partition("<")
+    bare = re.sub(r"'\w+|\bmut ", "", name).strip()
     if bare in parameters or bare == "()":
         return "Unit" if bare == "()" else "Any"
-    words = [it for it in re.findall(r"&|\w+", bare) if it not in ("crate", "self", "super")]
-    return "".join("Ref" if it == "&" else it[0].upper() + it[1:] for it in words)
+    words = [it for it in re.findall(r"&|\[|\w+", bare) if it not in ("crate", "self", "super")]
+    own = "".join({"&": "Ref", "[": "Slice"}.get(it) or it[0].upper() + it[1:] for it in words)
+    return joint.join([own, *arguments(behind, parameters)])
+
+
+def arguments(behind, parameters):
+    """The types between a name's angle brackets, as the prover spells them."""
+    given = re.sub("<.*>", "", behind.strip().removesuffix(">")).split(",")
+    return [spelled(it, parameters) for it in map(str.strip, given) if it not in ("", "'_", *parameters) and it[0] != "'"]
 
 
 def block_of(header):
@@ -91,9 +102,10 @@ def block_of(header):
         return re.search(r"trait (\w+)", header)[1], True
     generics, trait, kind = IMPL.match(header.replace("->", "").split(" where ")[0]).groups()
     parameters = re.findall(r"[<,] ?(\w+)(?=[:,>])", generics or "")
-    name, _, given = (trait or "").partition("<")
-    given = re.sub("<.*>", "", given.removesuffix(">")).split(",")
-    return "".join([spelled(kind, parameters), name.split("::")[-1], *(spelled(it, parameters) for it in given)]), bool(trait)
+    name, _, behind = (trait or "").partition("<")
+    own = spelled(kind, parameters, "" if trait else "+")
+    # a trait's argument that is the type itself is left out too
+    return "".join([own, name.split("::")[-1], *(it for it in arguments(behind, parameters) if it != own)]), bool(trait)
 
 
 def end_of(lines, first, margin, is_function):
@@ -143,19 +155,36 @@ class Edit:
         if not self.changes or not self.file.startswith("src/"):
             return "it changes no file of src/"
         self.text = read(f"{crate.folder}/{self.file}")
-        for old, _ in self.changes:
-            if self.text.count(old) != 1:
-                return f"this stands {self.text.count(old)} times in its file: {old}"
         lines = self.text.split("\n")
-        places = [place_of(lines, self.text[: self.text.index(old)].count("\n")) for old, _ in self.changes]
+        self.at = []
+        for old, _ in self.changes:
+            at = [it.start() for it in re.finditer(re.escape(old), self.text)]
+            if len(at) > 1:
+                at = [it for it in at if self.is_at_home(lines, it)]
+            if len(at) != 1:
+                return f"this stands {len(at)} times in its file or function: {old}"
+            self.at += at
+        places = [self.place(lines, at) for at in self.at]
         if not places[0] or {*places} - {places[0], None}:
             return "it stands in several functions" if places[0] else "its first change stands in no function or constant"
-        self.first, self.last = places[0]
-        subject = self.file.removeprefix("src/").removesuffix(".rt")
-        self.home = f"{subject}/{self.named(lines, [it for it in subject.split('/') if it not in ('lib', 'main')])}"
+        self.home = self.home_of(lines, places[0])
         while lines[self.first - 1].lstrip().startswith("#["):
             self.first -= 1
         return None if os.path.dirname(self.path) == self.home else f"it belongs in {self.home}/"
+
+    def place(self, lines, at):
+        return place_of(lines, self.text[:at].count("\n"))
+
+    def home_of(self, lines, place):
+        """Where the edits of the item at a place stand: its file, then its name."""
+        self.first, self.last = place
+        subject = self.file.removeprefix("src/").removesuffix(".rt")
+        return f"{subject}/{self.named(lines, [it for it in subject.split('/') if it not in ('lib', 'main')])}"
+
+    def is_at_home(self, lines, at):
+        """Whether a place stands in the function that the edit's folder names."""
+        place = self.place(lines, at)
+        return bool(place) and os.path.dirname(self.path) == self.home_of(lines, place)
 
     def named(self, lines, modules):
         """The item's name. Finds the function's paths."""
@@ -170,7 +199,7 @@ class Edit:
             tail = f"{block}::{tail}"
             # a type's own function has its path below the type's module, which may be another
             before = before if is_trait else r"(?:\w+::)*"
-        self.own = re.compile(rf"{before}(?:{tail}|fn::{tail}::.*)$")
+        self.own = re.compile(rf"{before}(?:{re.escape(tail)}|fn::{re.escape(tail)}::.*)$")
         self.only = tail if "(" in before else before + tail
         return tail.replace("::", ".")
 
@@ -235,7 +264,7 @@ def edited(edits):
     texts = {it.file: it.text for it in edits}
     for file in texts:
         here = [it for it in edits if it.file == file]
-        places = sorted((it.text.index(old), old, new) for it in here for old, new in it.changes)
+        places = sorted((at, old, new) for it in here for at, (old, new) in zip(it.at, it.changes))
         for at, old, new in reversed(places):
             texts[file] = texts[file][:at] + new + texts[file][at + len(old) :]
     return texts
@@ -248,18 +277,22 @@ def left_out(text, goals):
     return text
 
 
+def flags_of(edits):
+    """The flags of a check of the edits' functions, or of the whole crate where an edit stands in none."""
+    only = [f"--only={it.only}" for it in edits if it.only]
+    return ["--jobs", "1", *(dict.fromkeys(only) if len(only) == len(edits) else [])]
+
+
 class Trial:
-    """The checks of a crate's edits, and how many edits are refused and are not."""
+    """The checks of a crate's edits, each over the work of those before it, and how many edits are refused and are not."""
 
     def __init__(self, rt, crate, kept, told):
         self.rt, self.crate, self.kept, self.told, self.counts = rt, crate, kept, told, [0, 0]
 
     def checked(self, title, edits, proofs=None):
         """The lines of a check of the edits' functions, or of the whole crate where an edit stands in none."""
-        start, only = time.monotonic(), [f"--only={it.only}" for it in edits if it.only]
-        flags = ["--jobs", "1", *(only if len(only) == len(edits) else [])]
-        texts = {**({} if title.endswith("as it was") else edited(edits)), **(proofs or {})}
-        said = self.rt.checked(self.crate, texts, flags, self.kept).stdout
+        start, texts = time.monotonic(), {**({} if title.endswith("as it was") else edited(edits)), **(proofs or {})}
+        said = self.rt.checked(self.crate, texts, flags_of(edits), self.kept).stdout
         if self.told:
             with open(self.told, "a", encoding="utf-8") as it:
                 it.write(f"== {title} ({time.monotonic() - start:.0f} s)\n{said}\n")
@@ -290,7 +323,8 @@ class Trial:
                     alone.append((said.edit, said if said.lost else None))
             edits = [it for it in edits if it not in batch or it in waiting]
         for edit, said in alone:
-            self.settle(edit, *self.judged(edit, said))
+            goals, fault = self.judged(edit, said)
+            self.settle(edit, *((goals, fault) if goals else self.judged_anew(edit)))
 
     @staticmethod
     def is_to_come(said):
@@ -298,6 +332,11 @@ class Trial:
         if not said.reached:
             return not any(said.edit.is_around(PLACE.match(it)) for it in said.lines)
         return not (said.refused_by() or said.lost or said.open) and bool(WAITS.search(" ".join(said.statuses)))
+
+    def judged_anew(self, edit):
+        """The same as `judged`, from nothing: what earlier checks kept is not why an edit is not refused."""
+        with tempfile.TemporaryDirectory(prefix="wrong-") as room:
+            return Trial(self.rt, self.crate, room, self.told).judged(edit, None)
 
     def judged(self, edit, said):
         """The goals that an edit is refused by where it is tried alone, or else why it is not refused."""
@@ -322,6 +361,31 @@ def edits_below(folder, crate):
     return [Edit(it, folder, crate) for it in paths]
 
 
+def shares(edits, most=120):
+    """The edits in as few lists of about that many as can be, those of one function in one list."""
+    functions = [*dict.fromkeys(os.path.dirname(it.path) for it in edits)]
+    parts = -(-len(edits) // most)
+    return [[it for it in edits if functions.index(os.path.dirname(it.path)) % parts == part] for part in range(parts)]
+
+
+def tried(rt, edits, given):
+    """Tries the crates' edits side by side, and returns for each list of them how many are refused and how many are not."""
+
+    def counted(crate, some, kept):
+        if not os.path.isdir(kept) and os.path.isdir(f"{crate.folder}/out/incremental"):
+            shutil.copytree(f"{crate.folder}/out/incremental", kept)
+        os.makedirs(kept, exist_ok=True)
+        trial = Trial(rt, crate, kept, given.told)
+        trial.run(some)
+        return trial.counts
+
+    with tempfile.TemporaryDirectory(prefix="wrong-") as room, ThreadPoolExecutor(rt.processors()) as lanes:
+        above = os.path.abspath(given.kept) if given.kept else room
+        lists = [(crate, part, some) for crate in edits for part, some in enumerate(shares(edits[crate]))]
+        counts = [lanes.submit(counted, crate, some, f"{above}/{crate.name}-{part}") for crate, part, some in lists]
+        return [it.result() for it in counts]
+
+
 def main():
     words = argparse.ArgumentParser(description=__doc__, formatter_class=argparse.RawDescriptionHelpFormatter)
     words.add_argument("names", nargs="*", metavar="NAME", help="the crates; without names all")
@@ -333,25 +397,13 @@ def main():
     rt = kit()
     rt.rtlib.guarded()
     crates = [it for it in rt.rtlib.crates_below(os.getcwd()) if not given.names or it.name in given.names]
-    edits = {it.name: edits_below(f"{it.folder}/{given.folder}", it) for it in crates}
-    crates = sorted((it for it in crates if edits[it.name]), key=lambda it: -len(edits[it.name]))
-    below = {low.name: low for it in crates for low in it.below()}.values()
+    edits = {it: edits_below(f"{it.folder}/{given.folder}", it) for it in crates}
+    edits = {it: edits[it] for it in sorted(crates, key=lambda it: -len(edits[it])) if edits[it]}
+    below = {low.name: low for it in edits for low in it.below()}.values()
     for low in sorted(below, key=lambda it: len(it.below())):
         if not is_current(low) and low.build_rlib(["--jobs", "1"], anew=False):
             sys.exit(f"{low.name} is not proved")
-
-    def counted(crate):
-        with tempfile.TemporaryDirectory(prefix="wrong-") as room:
-            kept = os.path.join(os.path.abspath(given.kept) if given.kept else room, crate.name)
-            if not os.path.isdir(kept) and os.path.isdir(f"{crate.folder}/out/incremental"):
-                shutil.copytree(f"{crate.folder}/out/incremental", kept)
-            os.makedirs(kept, exist_ok=True)
-            trial = Trial(rt, crate, kept, given.told)
-            trial.run(edits[crate.name])
-            return trial.counts
-
-    with ThreadPoolExecutor(rt.processors()) as lanes:
-        counts = [*lanes.map(counted, crates)]
+    counts = tried(rt, edits, given)
     print("wrong bodies: end")
     return 1 if any(failed for _, failed in counts) else 0
 

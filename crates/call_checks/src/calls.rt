@@ -1,214 +1,155 @@
 //! Calls on the values of a context, and what they keep.
+use crate::held::hold;
+use crate::made::{answers, equal, has, kept, name, plain, with};
+use made_values::text;
+use std::alloc::Global;
+use tera_context::{Call, Context};
+use tera_values::Value;
 
-use std::test::Fail;
-use tera_context::{Answer, Call, Context, Step, step};
-use tera_values::{Value, ValueKind};
-
-fn name(rt: &HostRuntime, text: &str) -> Result<String, Fail> {
-    Ok(String::from_str(rt.alloc(), text)?)
+fn is_safe(alloc: Global, context: &mut Context, of: &str, wanted: &str) -> bool {
+    let of = name(alloc, of);
+    answers(alloc, context, plain(Call::IsSafe { of }), wanted)
 }
 
-fn ask(context: &mut Context, call: Call) -> Result<Answer, Fail> {
-    Ok(step(context, Step { call, into: None })?)
-}
-
-fn keep(rt: &HostRuntime, context: &mut Context, call: Call, into: &str) -> Result<Answer, Fail> {
-    let into = Some(name(rt, into)?);
-    Ok(step(context, Step { call, into })?)
-}
-
-fn set(rt: &HostRuntime, context: &mut Context, to: &str, value: Value) -> Result<(), Fail> {
-    let name = name(rt, to)?;
-    ask(context, Call::Set { name, value })?;
-    Ok(())
-}
-
-fn has(rt: &HostRuntime, context: &mut Context, of: &str) -> Result<bool, Fail> {
-    let name = name(rt, of)?;
-    Ok(matches!(ask(context, Call::Has { name })?, Answer::Truth(true)))
-}
-
-fn is_safe(rt: &HostRuntime, context: &mut Context, of: &str) -> Result<bool, Fail> {
-    let of = name(rt, of)?;
-    Ok(matches!(ask(context, Call::IsSafe { of })?, Answer::Truth(true)))
-}
-
-// Marks what a name holds, in its place or under another name, and says whether that was done.
-fn mark(
-    rt: &HostRuntime,
-    context: &mut Context,
-    of: &str,
-    into: Option<&str>,
-) -> Result<bool, Fail> {
-    let of = name(rt, of)?;
-    let into = match into {
-        Some(into) => Some(name(rt, into)?),
-        None => None,
-    };
-    let answer = step(
-        context,
-        Step {
-            call: Call::MarkSafe { of },
-            into,
-        },
-    )?;
-    Ok(matches!(answer, Answer::Done))
-}
-
-fn are_equal(
-    rt: &HostRuntime,
-    context: &mut Context,
-    left: &str,
-    right: &str,
-) -> Result<bool, Fail> {
-    let left = name(rt, left)?;
-    let right = name(rt, right)?;
-    Ok(matches!(
-        ask(context, Call::Equal { left, right })?,
-        Answer::Truth(true)
-    ))
+// A call that marks what a name has.
+fn mark(alloc: Global, of: &str) -> Call {
+    let of = name(alloc, of);
+    Call::MarkSafe { of }
 }
 
 // A context in which `t` is a text that is not marked.
-fn with_a_text(rt: &HostRuntime, text: &str) -> Result<Context, Fail> {
-    let mut context = Context::new(rt.alloc());
-    set(
-        rt,
-        &mut context,
-        "t",
-        Value::normal_string(rt.alloc(), text)?,
-    )?;
-    Ok(context)
+fn with_a_text(alloc: Global, of: &str) -> Context {
+    with(alloc, "t", text(alloc, of))
 }
 
 #[test]
-fn a_marked_copy_is_kept_elsewhere(rt: HostRuntime) -> Result<(), Fail> {
-    let mut context = with_a_text(&rt, "<")?;
-    assert!(rt; mark(&rt, &mut context, "t", Some("u"))?);
-    assert!(rt; !is_safe(&rt, &mut context, "t")?);
-    assert!(rt; is_safe(&rt, &mut context, "u")?);
-    assert!(rt; are_equal(&rt, &mut context, "t", "u")?);
-    Ok(())
+fn a_marked_copy_is_kept_elsewhere(rt: HostRuntime) {
+    let alloc = rt.alloc();
+    let mut context = with_a_text(alloc, "<");
+    let marked = kept(alloc, mark(alloc, "t"), "u");
+    hold(
+        &rt,
+        &[
+            answers(alloc, &mut context, marked, "Ok(Done)"),
+            is_safe(alloc, &mut context, "t", "Ok(Truth(false))"),
+            is_safe(alloc, &mut context, "u", "Ok(Truth(true))"),
+            answers(
+                alloc,
+                &mut context,
+                equal(alloc, "t", "u"),
+                "Ok(Truth(true))",
+            ),
+        ],
+    );
 }
 
 #[test]
-fn a_text_is_marked_in_its_place(rt: HostRuntime) -> Result<(), Fail> {
-    let mut context = with_a_text(&rt, "<")?;
-    assert!(rt; mark(&rt, &mut context, "t", None)?);
-    assert!(rt; is_safe(&rt, &mut context, "t")?);
-    Ok(())
+fn a_text_is_marked_in_its_place(rt: HostRuntime) {
+    let alloc = rt.alloc();
+    let mut context = with_a_text(alloc, "<");
+    let marked = plain(mark(alloc, "t"));
+    assert!(rt; answers(alloc, &mut context, marked, "Ok(Done)"));
+    assert!(rt; is_safe(alloc, &mut context, "t", "Ok(Truth(true))"));
 }
 
 #[test]
-fn an_absent_name_stays_absent_when_marked(rt: HostRuntime) -> Result<(), Fail> {
-    let mut context = Context::new(rt.alloc());
-    assert!(rt; mark(&rt, &mut context, "nope", None)?);
-    assert!(rt; mark(&rt, &mut context, "nope", Some("v"))?);
-    assert!(rt; !has(&rt, &mut context, "nope")?);
-    assert!(rt; has(&rt, &mut context, "v")?);
-    Ok(())
+fn an_absent_name_stays_absent_when_marked(rt: HostRuntime) {
+    let alloc = rt.alloc();
+    let mut context = Context::new(alloc);
+    let marked = plain(mark(alloc, "nope"));
+    let copied = kept(alloc, mark(alloc, "nope"), "v");
+    hold(
+        &rt,
+        &[
+            answers(alloc, &mut context, marked, "Ok(Done)"),
+            answers(alloc, &mut context, copied, "Ok(Done)"),
+            answers(alloc, &mut context, has(alloc, "nope"), "Ok(Truth(false))"),
+            answers(alloc, &mut context, has(alloc, "v"), "Ok(Truth(true))"),
+        ],
+    );
 }
 
-fn get(rt: &HostRuntime, of: &str) -> Result<Call, Fail> {
-    let name = name(rt, of)?;
-    Ok(Call::Get { name })
+fn get(alloc: Global, of: &str) -> Call {
+    let name = name(alloc, of);
+    Call::Get { name }
 }
 
-fn len(rt: &HostRuntime, of: &str) -> Result<Call, Fail> {
-    let of = name(rt, of)?;
-    Ok(Call::Len { of })
+fn len(alloc: Global, of: &str) -> Call {
+    let of = name(alloc, of);
+    Call::Len { of }
 }
 
-fn is_found(answer: &Answer, value: &Value) -> bool {
-    matches!(answer, Answer::Found(Some(found)) if found == value)
-}
+const SEVEN: &str = "Ok(Found(Some(Value { inner: U64(7) })))";
 
-fn is_nothing(answer: &Answer) -> bool {
-    matches!(answer, Answer::Found(None))
-}
-
-fn is_size(answer: &Answer, size: Option<usize>) -> bool {
-    matches!(answer, Answer::Size(n) if *n == size)
-}
-
-fn is_kind(answer: &Answer, kind: ValueKind) -> bool {
-    matches!(answer, Answer::Kind(k) if *k == kind)
-}
-
-fn is_text(answer: &Answer, text: &str) -> bool {
-    matches!(answer, Answer::Text(t) if t.as_str() == text)
-}
-
-// Whether the name is found to hold that value.
-fn finds(rt: &HostRuntime, context: &mut Context, of: &str, value: &Value) -> Result<bool, Fail> {
-    let found = ask(context, get(rt, of)?)?;
-    Ok(is_found(&found, value))
-}
-
-// Keeps what a name holds under another name, and says whether that was done.
-fn copy(rt: &HostRuntime, context: &mut Context, of: &str, into: &str) -> Result<bool, Fail> {
-    let answer = keep(rt, context, get(rt, of)?, into)?;
-    Ok(matches!(answer, Answer::Done))
+#[test]
+fn what_is_found_is_answered_or_kept(rt: HostRuntime) {
+    let alloc = rt.alloc();
+    let mut context = with(alloc, "a", Value::from(7u64));
+    let copied = kept(alloc, get(alloc, "a"), "b");
+    hold(
+        &rt,
+        &[
+            answers(alloc, &mut context, plain(get(alloc, "a")), SEVEN),
+            answers(alloc, &mut context, copied, "Ok(Done)"),
+            answers(alloc, &mut context, plain(get(alloc, "b")), SEVEN),
+        ],
+    );
 }
 
 #[test]
-fn what_is_found_is_answered_or_kept(rt: HostRuntime) -> Result<(), Fail> {
-    let mut context = Context::new(rt.alloc());
-    set(&rt, &mut context, "a", Value::from(7u64))?;
-    assert!(rt; finds(&rt, &mut context, "a", &Value::from(7u64))?);
-    assert!(rt; copy(&rt, &mut context, "a", "b")?);
-    assert!(rt; finds(&rt, &mut context, "b", &Value::from(7u64))?);
-    Ok(())
+fn nothing_is_kept_where_nothing_is_found(rt: HostRuntime) {
+    let alloc = rt.alloc();
+    let mut context = Context::new(alloc);
+    let absent = kept(alloc, get(alloc, "x"), "c");
+    assert!(rt; answers(alloc, &mut context, absent, "Ok(Found(None))"));
+    assert!(rt; answers(alloc, &mut context, has(alloc, "c"), "Ok(Truth(false))"));
 }
 
 #[test]
-fn nothing_is_kept_where_nothing_is_found(rt: HostRuntime) -> Result<(), Fail> {
-    let mut context = Context::new(rt.alloc());
-    let absent = keep(&rt, &mut context, get(&rt, "x")?, "c")?;
-    assert!(rt; is_nothing(&absent));
-    assert!(rt; !has(&rt, &mut context, "c")?);
-    Ok(())
+fn a_length_is_kept_nowhere(rt: HostRuntime) {
+    let alloc = rt.alloc();
+    let mut context = Context::new(alloc);
+    let size = kept(alloc, len(alloc, "a"), "c");
+    assert!(rt; answers(alloc, &mut context, size, "Ok(Size(None))"));
+    assert!(rt; answers(alloc, &mut context, has(alloc, "c"), "Ok(Truth(false))"));
 }
 
 #[test]
-fn a_length_is_kept_nowhere(rt: HostRuntime) -> Result<(), Fail> {
-    let mut context = Context::new(rt.alloc());
-    let size = keep(&rt, &mut context, len(&rt, "a")?, "c")?;
-    assert!(rt; is_size(&size, None));
-    assert!(rt; !has(&rt, &mut context, "c")?);
-    Ok(())
+fn a_name_is_taken_away_once(rt: HostRuntime) {
+    let alloc = rt.alloc();
+    let mut context = with(alloc, "a", Value::from(7u64));
+    let removed = Call::Remove {
+        name: name(alloc, "a"),
+    };
+    assert!(rt; answers(alloc, &mut context, plain(removed), SEVEN));
+    assert!(rt; answers(alloc, &mut context, has(alloc, "a"), "Ok(Truth(false))"));
 }
 
 #[test]
-fn a_name_is_taken_away_once(rt: HostRuntime) -> Result<(), Fail> {
-    let mut context = Context::new(rt.alloc());
-    set(&rt, &mut context, "a", Value::from(7u64))?;
-    let name = name(&rt, "a")?;
-    let removed = ask(&mut context, Call::Remove { name })?;
-    assert!(rt; is_found(&removed, &Value::from(7i64)));
-    assert!(rt; !has(&rt, &mut context, "a")?);
-    Ok(())
-}
-
-#[test]
-fn lengths_and_truth_of_texts(rt: HostRuntime) -> Result<(), Fail> {
-    let mut context = with_a_text(&rt, "é<")?;
-    let size = ask(&mut context, len(&rt, "t")?)?;
-    assert!(rt; is_size(&size, Some(2)));
-    let of = name(&rt, "t")?;
-    let truthy = ask(&mut context, Call::Truthy { of })?;
-    assert!(rt; matches!(truthy, Answer::Truth(true)));
-    Ok(())
-}
-
-#[test]
-fn kinds_and_escapes_of_texts(rt: HostRuntime) -> Result<(), Fail> {
-    let mut context = with_a_text(&rt, "é<")?;
-    let of = name(&rt, "t")?;
-    let kind = ask(&mut context, Call::Kind { of })?;
-    assert!(rt; is_kind(&kind, ValueKind::String));
-    let of = name(&rt, "t")?;
-    let escaped = ask(&mut context, Call::Escape { of })?;
-    assert!(rt; is_text(&escaped, "é&lt;"));
-    Ok(())
+fn what_is_asked_of_a_text(rt: HostRuntime) {
+    let alloc = rt.alloc();
+    let mut context = with_a_text(alloc, "é<");
+    let truthy = Call::Truthy {
+        of: name(alloc, "t"),
+    };
+    let kind = Call::Kind {
+        of: name(alloc, "t"),
+    };
+    let escaped = Call::Escape {
+        of: name(alloc, "t"),
+    };
+    hold(
+        &rt,
+        &[
+            answers(
+                alloc,
+                &mut context,
+                plain(len(alloc, "t")),
+                "Ok(Size(Some(2)))",
+            ),
+            answers(alloc, &mut context, plain(truthy), "Ok(Truth(true))"),
+            answers(alloc, &mut context, plain(kind), "Ok(Kind(String))"),
+            answers(alloc, &mut context, plain(escaped), "Ok(Text(\"é&lt;\"))"),
+        ],
+    );
 }

@@ -1,160 +1,123 @@
 //! Contexts and runs.
-
-use std::cmp::Ordering;
-use std::test::Fail;
-use tera_context::{Answer, Call, Context, Step, run, step};
+use crate::held::hold;
+use crate::made::{answers, compare, equal, name, plain, print, set, with};
+use made_values::{no_pairs, safe, shows};
+use std::alloc::Global;
+use tera_context::{Call, Context, Step, run};
 use tera_values::Value;
 
-fn name(rt: &HostRuntime, text: &str) -> Result<String, Fail> {
-    Ok(String::from_str(rt.alloc(), text)?)
+#[test]
+fn an_empty_run_answers_nothing(rt: HostRuntime) {
+    let alloc = rt.alloc();
+    let mut context = with(alloc, "a", Value::from(1u64));
+    let answers = run(&mut context, Vec::new(alloc));
+    assert!(rt; shows(alloc, &answers, "Ok([])"));
+    assert!(rt; context.get("a").is_some() && context.get("b").is_none());
 }
 
-fn plain_step(call: Call) -> Step {
-    Step { call, into: None }
+// The steps and one more.
+fn and(steps: Vec<Step>, step: Step) -> Vec<Step> {
+    let mut steps = steps;
+    let _ = steps.push(step);
+    steps
 }
 
-fn set(rt: &HostRuntime, to: &str, value: Value) -> Result<Step, Fail> {
-    let name = name(rt, to)?;
-    Ok(plain_step(Call::Set { name, value }))
+// Two numbers that are equal, compared twice.
+fn numbers(alloc: Global) -> Vec<Step> {
+    let steps = and(Vec::new(alloc), set(alloc, "a", Value::from(1u64)));
+    let steps = and(steps, set(alloc, "b", Value::from(1i128)));
+    let steps = and(steps, equal(alloc, "a", "b"));
+    and(steps, compare(alloc, "a", "b"))
 }
 
-fn equal(rt: &HostRuntime, left: &str, right: &str) -> Result<Step, Fail> {
-    let left = name(rt, left)?;
-    let right = name(rt, right)?;
-    Ok(plain_step(Call::Equal { left, right }))
-}
-
-fn compare(rt: &HostRuntime, left: &str, right: &str) -> Result<Step, Fail> {
-    let left = name(rt, left)?;
-    let right = name(rt, right)?;
-    Ok(plain_step(Call::Compare { left, right }))
-}
-
-fn print(rt: &HostRuntime, of: &str) -> Result<Step, Fail> {
-    let of = name(rt, of)?;
-    Ok(plain_step(Call::Print { of }))
-}
-
-fn is_done(answer: &Answer) -> bool {
-    matches!(answer, Answer::Done)
-}
-
-fn is_truth(answer: &Answer, b: bool) -> bool {
-    matches!(answer, Answer::Truth(c) if *c == b)
-}
-
-fn is_order(answer: &Answer, order: Ordering) -> bool {
-    matches!(answer, Answer::Order(Some(o)) if *o == order)
-}
-
-fn is_text(answer: &Answer, text: &str) -> bool {
-    matches!(answer, Answer::Text(t) if t.as_str() == text)
+// These, and a text that is printed and compared.
+fn with_text(alloc: Global) -> Vec<Step> {
+    let steps = and(numbers(alloc), set(alloc, "c", safe(alloc, "<x>")));
+    let steps = and(steps, print(alloc, "c"));
+    and(steps, compare(alloc, "b", "c"))
 }
 
 #[test]
-fn an_empty_run_answers_nothing(rt: HostRuntime) -> Result<(), Fail> {
-    let mut context = Context::new(rt.alloc());
-    step(&mut context, set(&rt, "a", Value::from(1u64))?)?;
-    let answers = run(&mut context, Vec::new(rt.alloc()))?;
-    assert!(rt; answers.is_empty());
-    assert!(rt; context.get("a").is_some());
-    assert!(rt; context.get("b").is_none());
-    Ok(())
+fn a_first_run(rt: HostRuntime) {
+    let alloc = rt.alloc();
+    let mut context = Context::new(alloc);
+    let answers = run(&mut context, with_text(alloc));
+    let wanted = "Ok([Ok(Done), Ok(Done), Ok(Truth(true)), Ok(Order(Some(Equal))), Ok(Done), \
+        Ok(Text(\"<x>\")), Ok(Order(Some(Less)))])";
+    assert!(rt; shows(alloc, &answers, wanted));
 }
 
-#[test]
-fn a_first_run(rt: HostRuntime) -> Result<(), Fail> {
-    let mut steps = Vec::new(rt.alloc());
-    steps.push(set(&rt, "a", Value::from(1u64))?)?;
-    steps.push(set(&rt, "b", Value::from(1i128))?)?;
-    steps.push(equal(&rt, "a", "b")?)?;
-    steps.push(compare(&rt, "a", "b")?)?;
-    steps.push(set(&rt, "c", Value::safe_string(rt.alloc(), "<x>")?)?)?;
-    steps.push(print(&rt, "c")?)?;
-    steps.push(compare(&rt, "b", "c")?)?;
-    let mut context = Context::new(rt.alloc());
-    let answers = run(&mut context, steps)?;
-    let mut told = Vec::new(rt.alloc());
-    for answer in answers {
-        told.push(answer?)?;
-    }
-    assert_eq!(rt; told.len(), 7);
-    assert!(rt; is_done(&told[0]) && is_done(&told[1]) && is_done(&told[4]));
-    assert!(rt; is_truth(&told[2], true));
-    assert!(rt; is_order(&told[3], Ordering::Equal));
-    assert!(rt; is_text(&told[5], "<x>"));
-    assert!(rt; is_order(&told[6], Ordering::Less));
-    Ok(())
-}
+const EQUAL: &str = "Ok(Order(Some(Equal)))";
+
+const LESS: &str = "Ok(Order(Some(Less)))";
+
+const GREATER: &str = "Ok(Order(Some(Greater)))";
+
+const UNDECIDED: &str = "Ok(Order(None))";
 
 #[test]
-fn absent_names_are_undefined(rt: HostRuntime) -> Result<(), Fail> {
-    let mut context = Context::new(rt.alloc());
-    assert!(rt; is_truth(&step(&mut context, equal(&rt, "x", "y")?)?, true));
-    assert!(rt;
-        is_order(
-            &step(&mut context, compare(&rt, "x", "y")?)?,
-            Ordering::Equal
-        )
+fn absent_names_are_undefined(rt: HostRuntime) {
+    let alloc = rt.alloc();
+    let mut context = with(alloc, "n", Value::none());
+    hold(
+        &rt,
+        &[
+            answers(
+                alloc,
+                &mut context,
+                equal(alloc, "x", "y"),
+                "Ok(Truth(true))",
+            ),
+            answers(alloc, &mut context, compare(alloc, "x", "y"), EQUAL),
+            answers(alloc, &mut context, print(alloc, "n"), "Ok(Text(\"\"))"),
+            answers(alloc, &mut context, compare(alloc, "n", "m"), LESS),
+        ],
     );
-    step(&mut context, set(&rt, "n", Value::none())?)?;
-    assert!(rt; is_text(&step(&mut context, print(&rt, "n")?)?, ""));
-    assert!(rt;
-        is_order(
-            &step(&mut context, compare(&rt, "n", "m")?)?,
-            Ordering::Less
-        )
-    );
-    Ok(())
 }
 
 #[test]
-fn a_later_value_replaces_the_first(rt: HostRuntime) -> Result<(), Fail> {
-    let mut context = Context::new(rt.alloc());
-    step(&mut context, set(&rt, "a", Value::from(1u64))?)?;
-    step(&mut context, set(&rt, "a", Value::from(2u64))?)?;
-    assert!(rt; is_text(&step(&mut context, print(&rt, "a")?)?, "2"));
-    Ok(())
+fn a_later_value_replaces_the_first(rt: HostRuntime) {
+    let alloc = rt.alloc();
+    let mut context = with(alloc, "a", Value::from(1u64));
+    let later = set(alloc, "a", Value::from(2u64));
+    assert!(rt; answers(alloc, &mut context, later, "Ok(Done)"));
+    assert!(rt; answers(alloc, &mut context, print(alloc, "a"), "Ok(Text(\"2\"))"));
 }
 
-// What `try_cmp` answers of the two names.
-fn tried(rt: &HostRuntime, context: &mut Context, names: [&str; 2]) -> Result<Answer, Fail> {
+// `try_cmp` of the two names is answered so.
+fn tries(alloc: Global, context: &mut Context, names: [&str; 2], wanted: &str) -> bool {
     let [left, right] = names;
-    let left = name(rt, left)?;
-    let right = name(rt, right)?;
-    Ok(step(context, plain_step(Call::TryCompare { left, right }))?)
+    let left = name(alloc, left);
+    let right = name(alloc, right);
+    answers(
+        alloc,
+        context,
+        plain(Call::TryCompare { left, right }),
+        wanted,
+    )
+}
+
+// The names `one`, `two` and `map` for these.
+fn of_three_names(alloc: Global) -> Vec<Step> {
+    let steps = and(Vec::new(alloc), set(alloc, "one", Value::from(1u64)));
+    let steps = and(steps, set(alloc, "two", Value::from(2i128)));
+    and(steps, set(alloc, "map", no_pairs(alloc)))
 }
 
 #[test]
-fn the_partial_order_leaves_ranks_and_maps_undecided(rt: HostRuntime) -> Result<(), Fail> {
-    let mut context = Context::new(rt.alloc());
-    step(&mut context, set(&rt, "one", Value::from(1u64))?)?;
-    step(&mut context, set(&rt, "two", Value::from(2i128))?)?;
-    step(&mut context, set(&rt, "map", Value::empty_map(rt.alloc()))?)?;
-    assert!(rt; is_order(&tried(&rt, &mut context, ["one", "two"])?, Ordering::Less));
-    assert!(rt;
-        is_order(
-            &tried(&rt, &mut context, ["two", "one"])?,
-            Ordering::Greater
-        )
+fn the_partial_order_leaves_ranks_and_maps_undecided(rt: HostRuntime) {
+    let alloc = rt.alloc();
+    let mut context = Context::new(alloc);
+    let made = run(&mut context, of_three_names(alloc));
+    hold(
+        &rt,
+        &[
+            made.is_ok(),
+            tries(alloc, &mut context, ["one", "two"], LESS),
+            tries(alloc, &mut context, ["two", "one"], GREATER),
+            tries(alloc, &mut context, ["nope", "none"], EQUAL),
+            tries(alloc, &mut context, ["map", "map"], UNDECIDED),
+            tries(alloc, &mut context, ["one", "map"], UNDECIDED),
+        ],
     );
-    assert!(rt;
-        is_order(
-            &tried(&rt, &mut context, ["nope", "none"])?,
-            Ordering::Equal
-        )
-    );
-    assert!(rt;
-        matches!(
-            tried(&rt, &mut context, ["map", "map"])?,
-            Answer::Order(None)
-        )
-    );
-    assert!(rt;
-        matches!(
-            tried(&rt, &mut context, ["one", "map"])?,
-            Answer::Order(None)
-        )
-    );
-    Ok(())
 }

@@ -1,88 +1,102 @@
-//! A fault of the writer is told, wherever it comes, and none is made up.
-use crate::made::{bytes, text, two_items, with};
+//! A fault of the writer is told, wherever it comes, with the beginning that was written, and none
+//! is made up.
 use crate::writer::Narrow;
+use made_values::{bytes, no_pairs, text, two_items, with};
+use std::alloc::Global;
 use std::process::Abort;
-use std::test::Fail;
-use tera_values::{Key, Map, Value};
+use tera_values::{Key, Value, maps};
 
-// What a writer with that much room holds of the printed text, and whether `format` told a fault.
-fn printed_into(rt: &impl AllocGlobal, value: &Value, room: usize) -> (Vec<u8>, bool) {
-    let mut out = Narrow {
+// A writer with that much room.
+fn narrow(alloc: Global, room: usize) -> Narrow {
+    Narrow {
         room,
-        taken: Vec::new(rt.alloc()),
-    };
+        taken: Vec::new(alloc),
+    }
+}
+
+// A writer with that much room took what fits of the text, and a fault is told where not all does.
+fn breaks_there(text: &[u8], room: usize, taken: &[u8], told: bool) -> bool {
+    let fits = room.min(text.len());
+    taken == &text[..fits] && told == (fits < text.len())
+}
+
+// `format` of the value breaks there.
+fn format_breaks(alloc: Global, value: &Value, text: &str, room: usize) -> bool {
+    let mut out = narrow(alloc, room);
     let told = value.format(&mut out).is_err();
-    let Narrow { room: _, taken } = out;
-    (taken, told)
+    breaks_there(text.as_bytes(), room, out.taken.as_slice(), told)
 }
 
-// A fault is told at each room that is too small; and where there is room, all is written.
-fn tells(rt: &(impl Abort + AllocGlobal), value: Value) -> Result<(), Fail> {
-    let text = value.to_text(rt.alloc())?;
-    for room in 0..text.len() {
-        assert!(rt; printed_into(rt, &value, room).1, "room for {room}");
+// A fault is told at each room that is too small for its text; and where there is room, all is
+// written.
+fn tells(rt: &(impl Abort + AllocGlobal), value: Value, text: &str) {
+    for room in 0..text.len() + 1 {
+        assert!(rt;
+            format_breaks(rt.alloc(), &value, text, room),
+            "room for {room}"
+        );
     }
-    let (taken, told) = printed_into(rt, &value, text.len());
-    assert!(rt; !told);
-    assert!(rt; taken.as_slice() == text.as_bytes());
-    Ok(())
 }
 
 #[test]
-fn format_of_a_scalar_answers_its_writers_error(rt: HostRuntime) -> Result<(), Fail> {
-    tells(&rt, Value::from(true))?;
-    tells(&rt, Value::from(-12345i128))?;
-    tells(&rt, text(&rt, "texté")?)?;
-    tells(&rt, Value::none())
+fn format_of_a_scalar_answers_its_writers_error(rt: HostRuntime) {
+    tells(&rt, Value::from(true), "true");
+    tells(&rt, Value::from(-12345i128), "-12345");
+    tells(&rt, text(rt.alloc(), "texté"), "texté");
+    tells(&rt, Value::none(), "");
 }
 
 #[test]
-fn format_of_an_array_answers_its_writers_error(rt: HostRuntime) -> Result<(), Fail> {
-    let inner = two_items(&rt, bytes(&rt, b"\xff")?, Value::from(7u8))?;
-    tells(&rt, two_items(&rt, text(&rt, "é\n")?, inner)?)
+fn format_of_an_array_answers_its_writers_error(rt: HostRuntime) {
+    let alloc = rt.alloc();
+    let inner = two_items(alloc, bytes(alloc, b"\xff"), Value::from(7u8));
+    let outer = two_items(alloc, text(alloc, "é\n"), inner);
+    tells(&rt, outer, "[\"é\\n\", [\u{fffd}, 7]]");
 }
 
 #[test]
-fn format_of_a_map_answers_its_writers_error(rt: HostRuntime) -> Result<(), Fail> {
-    let one = with(Map::new(rt.alloc()), Key::Str("é"), Value::from(2u8))?;
-    let two = with(one, Key::U64(7), Value::empty_map(rt.alloc()))?;
-    tells(&rt, Value::of_map(two))
+fn format_of_a_map_answers_its_writers_error(rt: HostRuntime) {
+    let alloc = rt.alloc();
+    let one = with(maps::new(alloc), Key::Str("é"), Value::from(2u8));
+    let two = with(one, Key::U64(7), no_pairs(alloc));
+    tells(&rt, Value::of_map(two), "{7: {}, \"é\": 2}");
 }
 
-// Whether `format_inside` tells a fault of a writer with that much room.
-fn tells_inside(rt: &impl AllocGlobal, value: &Value, room: usize) -> bool {
-    let mut out = Narrow {
-        room,
-        taken: Vec::new(rt.alloc()),
-    };
-    value.format_inside(&mut out).is_err()
+// `format_inside` of the value breaks there.
+fn quoting_breaks(alloc: Global, value: &Value, text: &str, room: usize) -> bool {
+    let mut out = narrow(alloc, room);
+    let told = value.format_inside(&mut out).is_err();
+    breaks_there(text.as_bytes(), room, out.taken.as_slice(), told)
 }
 
 #[test]
-fn inside_an_array_a_text_is_quoted_and_faults_are_told(rt: HostRuntime) -> Result<(), Fail> {
-    let value = text(&rt, "a\"b")?;
-    for room in 0..6 {
-        assert!(rt; tells_inside(&rt, &value, room), "room for {room}");
+fn inside_an_array_a_text_is_quoted_and_faults_are_told(rt: HostRuntime) {
+    let value = text(rt.alloc(), "a\"b");
+    for room in 0..8 {
+        assert!(rt;
+            quoting_breaks(rt.alloc(), &value, "\"a\\\"b\"", room),
+            "room for {room}"
+        );
     }
-    assert!(rt; !tells_inside(&rt, &value, 6));
-    Ok(())
 }
 
-// Whether a key's `format` tells a fault of a writer with that much room.
-fn tells_key(rt: &impl AllocGlobal, key: &Key<'_>, room: usize) -> bool {
-    let mut out = Narrow {
-        room,
-        taken: Vec::new(rt.alloc()),
-    };
-    key.format(&mut out).is_err()
+// `format` of the key breaks there.
+fn key_breaks(alloc: Global, key: &Key<'_>, text: &str, room: usize) -> bool {
+    let mut out = narrow(alloc, room);
+    let told = key.format(&mut out).is_err();
+    breaks_there(text.as_bytes(), room, out.taken.as_slice(), told)
 }
 
 #[test]
 fn keys_tell_faults_of_their_writer(rt: HostRuntime) {
-    for room in 0..3 {
-        assert!(rt; tells_key(&rt, &Key::Str("key"), room), "room for {room}");
-        assert!(rt; tells_key(&rt, &Key::I64(-12), room), "room for {room}");
+    for room in 0..5 {
+        assert!(rt;
+            key_breaks(rt.alloc(), &Key::Str("key"), "key", room),
+            "room for {room}"
+        );
+        assert!(rt;
+            key_breaks(rt.alloc(), &Key::I64(-12), "-12", room),
+            "room for {room}"
+        );
     }
-    assert!(rt; !tells_key(&rt, &Key::Str("key"), 3));
-    assert!(rt; !tells_key(&rt, &Key::I64(-12), 3));
 }

@@ -2,9 +2,11 @@
 #![tactic(auto)]
 
 #[cfg(test)]
+mod debug;
+#[cfg(test)]
 mod faults;
 #[cfg(test)]
-mod made;
+mod held;
 #[cfg(test)]
 mod printed;
 #[cfg(test)]

@@ -1,121 +1,172 @@
 //! What values print.
-use crate::made::{bytes, no_items, one_item, text, three_items, two_items, with};
-use std::process::Abort;
-use std::test::Fail;
-use tera_values::{Key, Map, Value};
+use crate::held::hold;
+use made_values::{and, bytes, no_items, no_pairs, one_item, printed, safe, text, two_items, with};
+use std::alloc::Global;
+use tera_values::{Key, Value, maps};
 
 // What `{}` makes of it at a width and a fill.
-fn widely(rt: &impl AllocGlobal, value: &Value) -> Result<String, Fail> {
-    Ok(format!(in rt.alloc(); "{value:#<60}")?)
+fn widely(alloc: Global, value: &Value) -> String {
+    format!(in alloc; "{value:#<60}").unwrap_or(String::new(alloc))
 }
 
-// What `format` makes of it.
-fn formatted(rt: &impl AllocGlobal, value: &Value) -> Result<Vec<u8>, Fail> {
-    let mut out = Vec::new(rt.alloc());
-    value.format(&mut out)?;
-    Ok(out)
+// `format` writes that.
+fn formats_to(alloc: Global, value: &Value, wanted: &str) -> bool {
+    let mut out = Vec::new(alloc);
+    let is_told = value.format(&mut out).is_ok();
+    is_told && out.as_slice() == wanted.as_bytes()
 }
 
 // It prints that: as a text of its own, by `{}` at any width and fill, and to a writer.
-fn prints(rt: &(impl Abort + AllocGlobal), value: Value, printed: &str) -> Result<(), Fail> {
-    assert!(rt; value.to_text(rt.alloc())?.as_str() == printed);
-    assert!(rt; widely(rt, &value)?.as_str() == printed);
-    assert!(rt; formatted(rt, &value)?.as_slice() == printed.as_bytes());
-    Ok(())
+fn prints(alloc: Global, value: Value, wanted: &str) -> bool {
+    let plain = printed(alloc, &value);
+    let wide = widely(alloc, &value);
+    plain.as_str() == wanted && wide.as_str() == wanted && formats_to(alloc, &value, wanted)
 }
 
 #[test]
-fn single_values_print(rt: HostRuntime) -> Result<(), Fail> {
-    prints(&rt, Value::undefined(), "")?;
-    prints(&rt, Value::none(), "")?;
-    prints(&rt, Value::from(()), "")?;
-    prints(&rt, Value::from(true), "true")?;
-    prints(&rt, Value::from(false), "false")?;
-    prints(&rt, Value::from(0u64), "0")?;
-    prints(&rt, Value::from(-0i64), "0")
-}
-
-#[test]
-fn the_greatest_and_least_numbers_print(rt: HostRuntime) -> Result<(), Fail> {
-    prints(&rt, Value::from(u64::MAX), "18446744073709551615")?;
-    prints(&rt, Value::from(i64::MIN), "-9223372036854775808")?;
-    prints(
+fn single_values_print(rt: HostRuntime) {
+    let alloc = rt.alloc();
+    hold(
         &rt,
-        Value::from(u128::MAX),
-        "340282366920938463463374607431768211455",
-    )?;
-    prints(
+        &[
+            prints(alloc, Value::undefined(), ""),
+            prints(alloc, Value::none(), ""),
+            prints(alloc, Value::from(()), ""),
+            prints(alloc, Value::from(true), "true"),
+            prints(alloc, Value::from(false), "false"),
+            prints(alloc, Value::from(0u64), "0"),
+            prints(alloc, Value::from(-0i64), "0"),
+        ],
+    );
+}
+
+#[test]
+fn the_greatest_and_least_numbers_print(rt: HostRuntime) {
+    let alloc = rt.alloc();
+    let greatest = "340282366920938463463374607431768211455";
+    let least = "-170141183460469231731687303715884105728";
+    hold(
         &rt,
-        Value::from(i128::MIN),
-        "-170141183460469231731687303715884105728",
-    )
+        &[
+            prints(alloc, Value::from(u64::MAX), "18446744073709551615"),
+            prints(alloc, Value::from(i64::MIN), "-9223372036854775808"),
+            prints(alloc, Value::from(u128::MAX), greatest),
+            prints(alloc, Value::from(i128::MIN), least),
+        ],
+    );
+}
+
+// A value of that text, handed over.
+fn owned(alloc: Global, of: &str) -> Value {
+    Value::from(String::from_str(alloc, of).unwrap_or(String::new(alloc)))
 }
 
 #[test]
-fn texts_print_as_they_are(rt: HostRuntime) -> Result<(), Fail> {
-    prints(&rt, text(&rt, "a\"é\u{1f}")?, "a\"é\u{1f}")?;
-    prints(&rt, Value::safe_string(rt.alloc(), "<&>")?, "<&>")?;
-    let owned = String::from_str(rt.alloc(), "owned")?;
-    prints(&rt, Value::from(owned), "owned")
+fn texts_print_as_they_are(rt: HostRuntime) {
+    let alloc = rt.alloc();
+    hold(
+        &rt,
+        &[
+            prints(alloc, text(alloc, "a\"é\u{1f}"), "a\"é\u{1f}"),
+            prints(alloc, safe(alloc, "<&>"), "<&>"),
+            prints(alloc, owned(alloc, "owned"), "owned"),
+        ],
+    );
 }
 
 #[test]
-fn arrays_print_their_items(rt: HostRuntime) -> Result<(), Fail> {
-    prints(&rt, no_items(&rt), "[]")?;
-    prints(&rt, one_item(&rt, Value::none())?, "[]")?;
-    prints(&rt, one_item(&rt, no_items(&rt))?, "[[]]")?;
-    let numbers = two_items(&rt, Value::from(1i64), Value::undefined())?;
-    prints(&rt, numbers, "[1, ]")
+fn arrays_print_their_items(rt: HostRuntime) {
+    let alloc = rt.alloc();
+    let numbers = two_items(alloc, Value::from(1i64), Value::undefined());
+    hold(
+        &rt,
+        &[
+            prints(alloc, no_items(alloc), "[]"),
+            prints(alloc, one_item(alloc, Value::none()), "[]"),
+            prints(alloc, one_item(alloc, no_items(alloc)), "[[]]"),
+            prints(alloc, numbers, "[1, ]"),
+        ],
+    );
+}
+
+fn three_items(alloc: Global, first: Value, second: Value, third: Value) -> Value {
+    let two = and(and(Vec::new(alloc), first), second);
+    Value::of_array(and(two, third))
 }
 
 // None prints nothing between its commas.
 #[test]
-fn none_prints_nothing_in_an_array(rt: HostRuntime) -> Result<(), Fail> {
-    let gap = three_items(&rt, Value::from(1u8), Value::none(), Value::from(2u8))?;
-    prints(&rt, gap, "[1, , 2]")
+fn none_prints_nothing_in_an_array(rt: HostRuntime) {
+    let alloc = rt.alloc();
+    let gap = three_items(alloc, Value::from(1u8), Value::none(), Value::from(2u8));
+    assert!(rt; prints(alloc, gap, "[1, , 2]"));
 }
 
 // Of a text, bytes and an array, the text alone is quoted.
 #[test]
-fn texts_alone_are_quoted_in_an_array(rt: HostRuntime) -> Result<(), Fail> {
-    let mixed = three_items(&rt, text(&rt, "a")?, bytes(&rt, b"hi")?, no_items(&rt))?;
-    prints(&rt, mixed, "[\"a\", hi, []]")
+fn texts_alone_are_quoted_in_an_array(rt: HostRuntime) {
+    let alloc = rt.alloc();
+    let mixed = three_items(
+        alloc,
+        text(alloc, "a"),
+        bytes(alloc, b"hi"),
+        no_items(alloc),
+    );
+    assert!(rt; prints(alloc, mixed, "[\"a\", hi, []]"));
 }
 
 #[test]
-fn texts_in_arrays_are_quoted(rt: HostRuntime) -> Result<(), Fail> {
-    let controls = one_item(&rt, text(&rt, "a\"\u{1f}\u{7f}'")?)?;
-    prints(&rt, controls, "[\"a\\\"\\u{1f}\\u{7f}'\"]")?;
-    let named = one_item(&rt, text(&rt, "\\\n\r\t\0")?)?;
-    prints(&rt, named, "[\"\\\\\\n\\r\\t\\0\"]")?;
-    let safe = one_item(&rt, text(&rt, "a")?.mark_safe())?;
-    prints(&rt, safe, "[\"a\"]")
+fn texts_in_arrays_are_quoted(rt: HostRuntime) {
+    let alloc = rt.alloc();
+    let controls = one_item(alloc, text(alloc, "a\"\u{1f}\u{7f}'"));
+    let named = one_item(alloc, text(alloc, "\\\n\r\t\0"));
+    hold(
+        &rt,
+        &[
+            prints(alloc, controls, "[\"a\\\"\\u{1f}\\u{7f}'\"]"),
+            prints(alloc, named, "[\"\\\\\\n\\r\\t\\0\"]"),
+            prints(alloc, one_item(alloc, safe(alloc, "a")), "[\"a\"]"),
+        ],
+    );
 }
 
 #[test]
-fn bytes_print_as_the_text_that_they_are(rt: HostRuntime) -> Result<(), Fail> {
-    prints(&rt, bytes(&rt, b"\xffa\xc3\xa9")?, "\u{fffd}aé")?;
-    prints(&rt, one_item(&rt, bytes(&rt, b"hi")?)?, "[hi]")?;
-    let pieces = one_item(&rt, bytes(&rt, b"\xe2\x82A\xf0\x80\x80")?)?;
-    prints(&rt, pieces, "[\u{fffd}A\u{fffd}\u{fffd}\u{fffd}]")
+fn bytes_print_as_the_text_that_they_are(rt: HostRuntime) {
+    let alloc = rt.alloc();
+    let pieces = one_item(alloc, bytes(alloc, b"\xe2\x82A\xf0\x80\x80"));
+    hold(
+        &rt,
+        &[
+            prints(alloc, bytes(alloc, b"\xffa\xc3\xa9"), "\u{fffd}aé"),
+            prints(alloc, one_item(alloc, bytes(alloc, b"hi")), "[hi]"),
+            prints(alloc, pieces, "[\u{fffd}A\u{fffd}\u{fffd}\u{fffd}]"),
+        ],
+    );
+}
+
+// A text and a number at two texts.
+fn greeting(alloc: Global) -> Value {
+    let word = with(maps::new(alloc), Key::Str("other"), Value::from(2u8));
+    Value::of_map(with(word, Key::Str("hello"), text(alloc, "world")))
+}
+
+// Keys of each rank, the last first.
+fn ranks(alloc: Global) -> Value {
+    let last = with(maps::new(alloc), Key::Str("1"), Value::from(3u8));
+    let later = with(last, Key::U64(1), Value::from(2u8));
+    Value::of_map(with(later, Key::Bool(true), Value::from(1u8)))
 }
 
 #[test]
-fn maps_print_along_their_keys(rt: HostRuntime) -> Result<(), Fail> {
-    prints(&rt, Value::empty_map(rt.alloc()), "{}")?;
-    let word = with(Map::new(rt.alloc()), Key::Str("other"), Value::from(2u8))?;
-    let words = with(word, Key::Str("hello"), text(&rt, "world")?)?;
-    let printed = "{\"hello\": \"world\", \"other\": 2}";
-    prints(&rt, Value::of_map(words), printed)?;
-    let last = with(Map::new(rt.alloc()), Key::Str("1"), Value::from(3u8))?;
-    let later = with(last, Key::U64(1), Value::from(2u8))?;
-    let ranks = with(later, Key::Bool(true), Value::from(1u8))?;
-    prints(&rt, Value::of_map(ranks), "{true: 1, 1: 2, \"1\": 3}")
-}
-
-#[test]
-fn debug_names_the_kind(rt: HostRuntime) -> Result<(), Fail> {
-    let text = format!(in rt.alloc(); "{:?}", Value::from(7u64))?;
-    assert!(rt; text.as_str().contains("U64(7)"), "{text}");
-    Ok(())
+fn maps_print_along_their_keys(rt: HostRuntime) {
+    let alloc = rt.alloc();
+    let words = "{\"hello\": \"world\", \"other\": 2}";
+    hold(
+        &rt,
+        &[
+            prints(alloc, no_pairs(alloc), "{}"),
+            prints(alloc, greeting(alloc), words),
+            prints(alloc, ranks(alloc), "{true: 1, 1: 2, \"1\": 3}"),
+        ],
+    );
 }

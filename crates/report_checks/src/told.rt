@@ -1,43 +1,76 @@
-// What is told piece by piece, into a text that grows and into a room.
-use crate::report::names;
+//! What is told piece by piece, into a text that grows and into a room.
+use crate::held::hold;
+use crate::made::names;
+use std::alloc::Global;
 use std::io;
-use std::process::Abort;
-use std::test::Fail;
 use tera_report::quote::{put_quoted, put_quoted_list};
 use tera_report::sink::{Growing, Room};
 use tera_report::{Error, ErrorKind};
 
-fn tells(rt: &(impl Abort + AllocGlobal), error: &Error, expected: &str) -> Result<(), Fail> {
-    let mut made = Growing::new(rt.alloc());
-    error.tell_to(&mut made)?;
-    assert_eq!(rt; made.as_str(), expected);
-    let mut room = Room::new(rt.alloc(), expected.len())?;
-    assert!(rt; error.kind().tell_to(&mut room).is_ok());
-    assert_eq!(rt; room.as_str(), expected);
-    assert!(rt; error.tell_to(&mut room).is_err());
-    Ok(())
+// It is told as that into a text that grows.
+fn grows(alloc: Global, error: &Error, wanted: &str) -> bool {
+    let mut made = Growing::new(alloc);
+    error.tell_to(&mut made).is_ok() && made.as_str() == wanted
+}
+
+// Its kind is told as that into a room of just that size, which then has none for more.
+fn fills(alloc: Global, error: &Error, wanted: &str) -> bool {
+    match Room::new(alloc, wanted.len()) {
+        Ok(room) => fills_room(error, wanted, room),
+        Err(_) => false,
+    }
+}
+
+fn fills_room(error: &Error, wanted: &str, room: Room) -> bool {
+    let mut room = room;
+    let is_told = error.kind().tell_to(&mut room).is_ok();
+    is_told && room.as_str() == wanted && error.tell_to(&mut room).is_err()
+}
+
+fn tells(alloc: Global, error: Error, wanted: &str) -> bool {
+    grows(alloc, &error, wanted) && fills(alloc, &error, wanted)
 }
 
 #[test]
-fn texts_that_no_clause_says(rt: HostRuntime) -> Result<(), Fail> {
+fn texts_that_no_clause_says(rt: HostRuntime) {
     let alloc = rt.alloc();
-    let error = Error::new(ErrorKind::Io(io::ErrorKind::NotFound));
-    let expected = "Io error while writing rendered value to output: NotFound";
-    tells(&rt, &error, expected)?;
-    let error = Error::circular_extend(alloc, "é", names(alloc, &["é\"", "'", ""])?);
-    let expected =
+    let writing = Error::new(ErrorKind::Io(io::ErrorKind::NotFound));
+    let not_found = "Io error while writing rendered value to output: NotFound";
+    let extend = Error::circular_extend(alloc, "é", names(alloc, &["é\"", "'", ""]));
+    let chain =
         "Circular extend detected for template 'é'. Inheritance chain: `[\"é\\\"\", \"'\", \"\"]`";
-    tells(&rt, &error, expected)
+    hold(
+        &rt,
+        &[
+            tells(alloc, writing, not_found),
+            tells(alloc, extend, chain),
+        ],
+    );
+}
+
+// A text is put in debug form as that.
+fn quotes(alloc: Global, text: &str, wanted: &str) -> bool {
+    let mut made = Growing::new(alloc);
+    put_quoted(text, &mut made).is_ok() && made.as_str() == wanted
+}
+
+// Texts are put in debug form as that.
+fn quotes_list(alloc: Global, texts: &[&str], wanted: &str) -> bool {
+    let mut made = Growing::new(alloc);
+    let texts = names(alloc, texts);
+    put_quoted_list(texts.as_slice(), &mut made).is_ok() && made.as_str() == wanted
 }
 
 #[test]
-fn texts_that_are_quoted(rt: HostRuntime) -> Result<(), Fail> {
+fn texts_that_are_quoted(rt: HostRuntime) {
     let alloc = rt.alloc();
-    let mut made = Growing::new(alloc);
-    put_quoted("a\\\u{7f}é\u{301}\u{200b}", &mut made)?;
-    assert_eq!(rt; made.as_str(), "\"a\\\\\\u{7f}é\\u{301}\\u{200b}\"");
-    let mut made = Growing::new(alloc);
-    put_quoted_list(names(alloc, &["a", "b"])?.as_slice(), &mut made)?;
-    assert_eq!(rt; made.as_str(), "[\"a\", \"b\"]");
-    Ok(())
+    let text = "a\\\u{7f}é\u{301}\u{200b}";
+    let quoted = "\"a\\\\\\u{7f}é\\u{301}\\u{200b}\"";
+    hold(
+        &rt,
+        &[
+            quotes(alloc, text, quoted),
+            quotes_list(alloc, &["a", "b"], "[\"a\", \"b\"]"),
+        ],
+    );
 }

@@ -1,4 +1,6 @@
 pub mod Names
 pub mod Runs
 pub mod Shown
+mod Extends
+mod Found
 mod Made

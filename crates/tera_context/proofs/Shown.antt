@@ -1,17 +1,17 @@
 -- What results show of the model's outcomes.
-use Rattle.std.specs.Prelude.{◌≡◌, ℕ, List, Option, Result, Ok, Err, IsErrAnd, refl}
+use Rattle.std.specs.Prelude.{◌≡◌, ℕ, List, Bool, true, false, is_ok, Option, Result, Ok, Err, IsErrAnd, IsOk, IsErr, refl}
+use Rattle.std.proofs.lemmas.Bool.{false≢true}
 use Rattle.std.proofs.Common.{sym, ◌∙◌, ap, subst, inl, inr}
 use Rattle.tera_report.specs.declared.errors.Error.{Error}
-use Rattle.tera_report.specs.Errors.{Shows, IsOutOfMemory}
+use Rattle.tera_report.specs.Errors.{Shows, Refuses, IsOutOfMemory}
 use Rattle.tera_report.specs.Refusal.{Refusal, memory_refused}
 use Rattle.tera_meaning.specs.Outcome.{Outcome, out_of_memory}
-use Rattle.tera_meaning.specs.Request.{find}
-use Rattle.tera_meaning.specs.Search.{Search}
-use Rattle.tera_meaning.specs.State.{State}
-use Rattle.tera_meaning.specs.Step.{found_or_kept, keeping, IsStep}
-use Rattle.tera_meaning.proofs.StepLaws.{refused_answer, refused_left}
+use Rattle.tera_meaning.specs.Request.{weigh}
+use Rattle.tera_meaning.specs.State.{State, form_at}
+use Rattle.tera_meaning.specs.Weighing.{Weighing, weighed, truth_told}
+use Rattle.tera_meaning.specs.Step.{IsStep}
 use Rattle.tera_context.specs.declared.call.Answer.{Answer}
-use Rattle.tera_context.specs.Steps.{ShowsOutcome, ShowsOneOf, ShowsFound}
+use Rattle.tera_context.specs.Steps.{ShowsOutcome, ShowsOneOf}
 
 pub want_shows : (e : Error) → IsOutOfMemory e → Shows memory_refused e
 want_shows e is = subst (Shows memory_refused) (sym is) (record { kind = refl; source = refl })
@@ -39,14 +39,19 @@ pub shown_outcome : (r : Result Answer Error) (P : Outcome → Type 0) → Shows
 shown_outcome (Ok answer) P holds = (_, refl, holds)
 shown_outcome (Err e) P (refusal, shows, holds) = (Err refusal, (refusal, shows, refl), holds)
 
--- a search that was refused, or that wanted memory, changes nothing
-pub search_refused : (r : Result Answer Error) (e : Error) (state : State) (search : Search) (into : Option (List ℕ))
-    → IsErrAnd r (λ f. f ≡ e) → ShowsFound (Err e) state search
-    → ShowsOneOf r (λ outcome. IsStep state (record { request = find search; into = into }) outcome state)
-search_refused r e state search into passed (inl (refusal, shows, found)) =
-    refusal_shown r e _ passed refusal shows (inl (
-      sym (ap (found_or_kept into) found ∙ refused_answer into refusal),
-      sym (ap (keeping state into) found ∙ refused_left state into refusal),
-    ))
-search_refused r e state search into passed (inr (is, why)) =
-    want_shown r e _ passed is (inr (inr why, refl, refl))
+-- what a weighing refuses, or want of memory for its text
+pub weighing_refused : (r : Result Answer Error) (e : Error) (state : State) (weighing : Weighing) (left right : List ℕ)
+    (into : Option (List ℕ)) (given : Result Bool Refusal) → IsErrAnd r (λ f. f ≡ e) → IsErr given → Refuses given e
+    → weighed weighing (form_at state left) (form_at state right) ≡ truth_told given
+    → ShowsOneOf r (λ outcome. IsStep state (record { request = weigh weighing left right; into = into }) outcome state)
+weighing_refused r e state weighing left right into (Ok b) passed is refuses told = absurd (cc)
+weighing_refused r e state weighing left right into (Err refusal) passed is (inl shows) told =
+    refusal_shown r e _ passed refusal shows (inl (sym told, refl))
+weighing_refused r e state weighing left right into (Err refusal) passed is (inr want) told =
+    want_shown r e _ passed want (inr (subst IsErr (sym told) refl, refl, refl))
+
+-- an answer that is given where a call succeeds is refused where it does not
+pub not_given : {X : Type 0} (given : Result X Refusal) (r : Result X Error) (e : Error) → r ≡ Err e
+    → (IsOk given → IsOk r) → IsErr given
+not_given (Ok x) r e is succeeds = let none : false ≡ true = ap is_ok (sym is) ∙ succeeds refl in absurd (false≢true none)
+not_given (Err refusal) r e is succeeds = refl

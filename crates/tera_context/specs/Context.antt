@@ -1,9 +1,11 @@
 -- From the code's map of names to a state.
 use Rattle.std.specs.Prelude.{ℕ, List, map, String}
+use Rattle.std.specs.Cmp.{IsPartialEquivalence}
 use Rattle.std.specs.FinMap.{from_entries}
 use Rattle.std.specs.String.{string_bytes}
 use Rattle.tera_meaning.specs.Form.{Form}
-use Rattle.tera_meaning.specs.State.{State}
+use Rattle.tera_meaning.proofs.EqualLaws.{states_equal_laws}
+use Rattle.tera_meaning.specs.State.{State, states_equal}
 
 -- the pairs, each name by its bytes
 abbrev pub named : {A : Type 0} → List (String A × Form) → List (List ℕ × Form)
@@ -11,3 +13,7 @@ named pairs = map (λ p. (string_bytes p.0, p.1)) pairs
 
 abbrev pub state_of : {A : Type 0} → List (String A × Form) → State
 state_of pairs = from_entries (named pairs)
+
+-- the laws of `==` of contexts
+pub equal_laws : IsPartialEquivalence states_equal
+equal_laws = states_equal_laws

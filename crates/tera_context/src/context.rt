@@ -1,15 +1,23 @@
 //! The values that a template's names stand for.
-ghost use Rattle.std.specs.Prelude.{◌≡◌, MatchOption, None, Some, OnOk, OnErr};
+ghost use Rattle.std.specs.Prelude.{◌≡◌, ◌⊎◌, ◌↔◌, IfOk, IfErr, IsOk, IsTrue, MatchOption, None};
+ghost use Rattle.std.specs.Prelude.{Some, OnOk, OnErr};
 ghost use Rattle.std.specs.FinMap.{empty, get, contains_key, insert, remove};
 ghost use Rattle.std.specs.String.{string_bytes};
+ghost use Rattle.tera_meaning.specs.Alike.{MeanTheSame};
+ghost use Rattle.tera_meaning.specs.Form.{Form};
 ghost use Rattle.tera_meaning.specs.Read.{marked_safe};
+ghost use Rattle.tera_meaning.specs.State.{State, extended, IsProperBeginning, states_equal};
 ghost use Rattle.tera_meaning.specs.Step.{marking};
 ghost use Rattle.tera_meaning.specs.WellMade.{IsWellMadeState};
+ghost use Rattle.tera_report.specs.Errors.{IsOutOfMemory};
+ghost use Rattle.tera_context.specs.Context.{equal_laws};
 
 use std::alloc::{AllocError, Global};
 use std::collections::BTreeMap;
 use std::marker::Model;
 use std::mem;
+use tera_conversions::ToValue;
+use tera_report::TeraResult;
 use tera_values::{Value, is_well_made};
 
 /// Finitely many names, and a value for each. Mirrors `tera::Context`.
@@ -32,6 +40,22 @@ impl Model for Context {
     ghost view = { λ c. state_of c.values.entries };
 }
 
+/// Two contexts are equal where they hold the same names, and each means the same: the kinds of
+/// integers and the safe flags do not count. Mirrors `PartialEq` of `tera::Context`. Takes no
+/// memory.
+impl PartialEq for Context {
+    ghost eq = { states_equal };
+
+    ghost laws = { equal_laws };
+
+    fn eq(&self, other: &Context) -> bool
+        ensures value { result ≡ states_equal self.now other.now }
+        ensures meaning { IsTrue result ↔ MeanTheSame self.now other.now }
+    {
+        self.values.len() == other.values.len() && self.values == other.values
+    }
+}
+
 impl Context {
     /// No names at all. Mirrors `Context::new`. Takes no memory; what is kept later takes it from
     /// the allocator.
@@ -42,6 +66,67 @@ impl Context {
             alloc,
             values: BTreeMap::new(alloc),
         }
+    }
+
+    /// Keeps what the source gives under the name, in the place of what was there. Mirrors
+    /// `Context::insert`.
+    ///
+    /// The error is that of the source, or `Out of memory`; then nothing has changed. Takes memory.
+    pub fn insert<T: ToValue>(&mut self, name: &str, source: T) -> TeraResult<()>
+        ensures ok { OnOk result ((value : Form) × T.gives source value
+            × (self.new ≡ insert self.old name.now value)) }
+        ensures err { IfErr result (λ e. IsOutOfMemory e ⊎ T.refuses source e) }
+        ensures unchanged { OnErr result (self.new ≡ self.old) }
+    {
+        let value = source.to_value(self.alloc)?;
+        self.insert_value(name, value)
+    }
+
+    /// Keeps the value under the name, in the place of what was there. Mirrors
+    /// `Context::insert_value`.
+    ///
+    /// The only error is `Out of memory`, and then nothing has changed. Takes memory.
+    pub fn insert_value(&mut self, name: &str, value: Value) -> TeraResult<()>
+        ensures ok { OnOk result (self.new ≡ insert self.old name.now value) }
+        ensures err { IfErr result IsOutOfMemory }
+        ensures unchanged { OnErr result (self.new ≡ self.old) }
+    {
+        let name = String::from_str(self.alloc, name)?;
+        self.keep(name, value)?;
+        Ok(())
+    }
+
+    /// Takes over each name of the source with its value, in the place of what was there. Mirrors
+    /// `Context::extend`. The source is consumed.
+    ///
+    /// The only error is `Out of memory`. Then some first names of the source, in the order of
+    /// their bytes, were taken over, and nothing else has changed. Takes memory.
+    pub fn extend(&mut self, source: Context) -> TeraResult<()>
+        ensures ok { OnOk result (self.new ≡ extended self.old source) }
+        ensures err { IfErr result IsOutOfMemory }
+        ensures part { OnErr result ((part : State) × IsProperBeginning part source
+            × (self.new ≡ extended self.old part)) }
+    {
+        for (name, value) in source.values {
+            self.keep(name, value)?;
+        }
+        Ok(())
+    }
+
+    /// A copy, with the kinds of integers and the safe flags. Mirrors `Clone` of `tera::Context`.
+    ///
+    /// The only error is `Out of memory`. Takes memory, but where no name is held.
+    pub fn clone(&self) -> TeraResult<Context>
+        ensures ok { IfOk result (λ copy. copy ≡ self.now) }
+        ensures err { IfErr result IsOutOfMemory }
+        ensures nothing { self.now ≡ empty → IsOk result }
+    {
+        let mut copy = Context::new(self.alloc);
+        for (name, value) in &self.values {
+            let value = value.clone(self.alloc)?;
+            copy.insert_value(name, value)?;
+        }
+        Ok(copy)
     }
 
     /// The value of a name, lent. Mirrors `Context::get`. Takes no memory.

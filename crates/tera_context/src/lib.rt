@@ -1,10 +1,20 @@
-//! Contexts, and the calls that run over them.
+//! Contexts, and the calls that run over them; and what functions of templates take and give.
 #![tactic(auto)]
 
+mod asks;
 mod call;
+mod computes;
 mod context;
+mod entries;
+mod finds;
 mod steps;
 
 pub use call::{Answer, Call, Step};
 pub use context::Context;
 pub use steps::{run, step};
+pub use tera_arguments::{
+    ArgFromValue, Autoescape, Kwargs, KwargsIter, KwargsOf, Parts, StringInput,
+};
+pub use tera_conversions::{FunctionResult, ToKey, ToValue};
+pub use tera_numbers::BinaryOp;
+pub use tera_values::IntType;

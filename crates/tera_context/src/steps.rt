@@ -1,35 +1,34 @@
 //! One step, and whole runs.
-ghost use Rattle.std.specs.Prelude.{◌≡◌, ℕ, List, map, unwrap_or, IfOk, IfErr, OnErr};
-ghost use Rattle.std.specs.FinMap.{get};
+ghost use Rattle.std.specs.Prelude.{◌≡◌, List, map, IfOk, IfErr, OnErr};
 ghost use Rattle.std.specs.List.{AllZip};
-ghost use Rattle.std.specs.Mem.{manually_drop_value};
 ghost use Rattle.std.specs.Option.{option_map};
 ghost use Rattle.std.specs.String.{string_bytes};
-ghost use Rattle.tera_meaning.specs.Form.{Form};
 ghost use Rattle.tera_meaning.specs.Outcome.{Outcome};
-ghost use Rattle.tera_meaning.specs.Question;
-ghost use Rattle.tera_meaning.specs.Request.{set, mark_safe, ask, find, asking};
+ghost use Rattle.tera_meaning.specs.Request.{set, extend, mark_safe, asking};
 ghost use Rattle.tera_meaning.specs.Run.{IsRun};
-ghost use Rattle.tera_meaning.specs.Search;
-ghost use Rattle.tera_meaning.specs.Search.{Search};
-ghost use Rattle.tera_meaning.specs.State.{form_at};
 ghost use Rattle.tera_meaning.specs.Step.{IsStep};
-ghost use Rattle.tera_meaning.specs.Tree.{undefined};
 ghost use Rattle.tera_report.specs.Errors.{IsOutOfMemory};
 ghost use Rattle.tera_context.specs.Call.{command_of};
-ghost use Rattle.tera_context.specs.Steps.{ShowsOutcome, ShowsOneOf, ShowsFound};
+ghost use Rattle.tera_context.specs.Steps.{ShowsOutcome, ShowsOneOf};
 
+use crate::asks::{
+    absent_value, compare, contains, equal, escape, fields, print, try_compare, value_at,
+};
 use crate::call::{Answer, Call, Step};
+use crate::computes::{calculate, negate, read};
 use crate::context::Context;
-use std::mem::ManuallyDrop;
-use tera_report::{TeraResult, escape_text};
+use crate::finds::{attr, get, item, path, reverse, slice};
+use tera_report::TeraResult;
 use tera_values::Value;
 
 /// One step: its answer, with what it changes of the context; or its refusal, and then nothing has
-/// changed.
+/// changed. Only `Extend` that finds no memory has taken over some first names of its source, in
+/// the order of their bytes, and nothing else.
 ///
-/// `Out of memory` may be answered by `Set`, `Get`, `Print`, `Escape`, and `MarkSafe` where `into`
-/// is given; the other calls take no memory.
+/// `Out of memory` may be answered by `Set` and `Extend`, by `MarkSafe` where `into` is given, by
+/// what finds something (`Get`, `Path`, `Attr`, `Item`, `Slice`, `Reverse`), by `Print`, `Escape`
+/// and `Fields`; and by `Contains`, `Binary`, `Negate` and `Read` for the text of a refusal, by
+/// the last three also where `into` is given. The other calls take no memory.
 pub fn step(context: &mut Context, step: Step) -> TeraResult<Answer>
     ensures { ShowsOneOf result (λ outcome.
         IsStep context.old (command_of step) outcome context.new) }
@@ -38,6 +37,7 @@ pub fn step(context: &mut Context, step: Step) -> TeraResult<Answer>
     let absent = absent_value();
     match call {
         Call::Set { name, value } => set(context, name, value),
+        Call::Extend { source } => extend(context, source),
         Call::Remove { name } => Ok(Answer::Found(context.remove(&name))),
         Call::MarkSafe { of } => mark_safe(context, &of, into),
         Call::Has { name } => Ok(Answer::Truth(context.contains_key(&name))),
@@ -47,38 +47,26 @@ pub fn step(context: &mut Context, step: Step) -> TeraResult<Answer>
         Call::Kind { of } => Ok(Answer::Kind(value_at(context, &of, &absent).kind())),
         Call::Print { of } => print(context, &of),
         Call::Escape { of } => escape(context, &of),
-        Call::Equal { left, right } => {
-            let left = value_at(context, &left, &absent);
-            Ok(Answer::Truth(left == value_at(context, &right, &absent)))
-        }
-        Call::Compare { left, right } => {
-            let left = value_at(context, &left, &absent);
-            let order = left.cmp(value_at(context, &right, &absent));
-            Ok(Answer::Order(Some(order)))
-        }
-        Call::TryCompare { left, right } => {
-            let left = value_at(context, &left, &absent);
-            Ok(Answer::Order(left.try_compare(value_at(context, &right, &absent))))
-        }
-        Call::Get { name } => {
-            let found = copy(context, &name);
-            keep_or_answer(context, found, into)
-        }
+        Call::Fields { of } => fields(context, &of),
+        Call::Equal { left, right } => Ok(Answer::Truth(equal(context, &left, &right))),
+        Call::Compare { left, right } => Ok(Answer::Order(Some(compare(context, &left, &right)))),
+        Call::TryCompare { left, right } => Ok(Answer::Order(try_compare(context, &left, &right))),
+        Call::Contains { of, needle } => contains(context, &of, &needle),
+        Call::Get { name } => get(context, &name, into),
+        Call::Path { of, path: to } => path(context, &of, &to, into),
+        Call::Attr { of, attr: name } => attr(context, &of, &name, into),
+        Call::Item { of, item: at } => item(context, &of, &at, into),
+        Call::Slice {
+            of,
+            start,
+            end,
+            step,
+        } => slice(context, &of, start, end, step, into),
+        Call::Reverse { of } => reverse(context, &of, into),
+        Call::Binary { op, left, right } => calculate(context, op, &left, &right, into),
+        Call::Negate { of } => negate(context, &of, into),
+        Call::Read { of, to } => read(context, &of, to, into),
     }
-}
-
-// What a name that isn't there reads as. It holds nothing that would have to be dropped.
-fn absent_value() -> ManuallyDrop<Value>
-    ensures { manually_drop_value result ≡ undefined }
-{
-    ManuallyDrop::new(Value::undefined())
-}
-
-// The value of a name, and the absent one where there is none.
-fn value_at<'a>(context: &'a Context, name: &str, absent: &'a Value) -> &'a Value
-    ensures { result.now ≡ unwrap_or (get context.now name.now) absent.now }
-{
-    context.get(name).unwrap_or(absent)
 }
 
 // Keeps the value under the name.
@@ -87,6 +75,15 @@ fn set(context: &mut Context, name: String, value: Value) -> TeraResult<Answer>
         IsStep context.old (asking (set (string_bytes name) value)) outcome context.new) }
 {
     context.keep(name, value)?;
+    Ok(Answer::Done)
+}
+
+// Takes over what the source holds.
+fn extend(context: &mut Context, source: Context) -> TeraResult<Answer>
+    ensures { ShowsOneOf result (λ outcome.
+        IsStep context.old (asking (extend source)) outcome context.new) }
+{
+    context.extend(source)?;
     Ok(Answer::Done)
 }
 
@@ -108,56 +105,6 @@ fn mark_safe(context: &mut Context, name: &str, into: Option<String>) -> TeraRes
             context.mark_safe(name);
             Ok(Answer::Done)
         }
-    }
-}
-
-// The printed text of the value of a name.
-fn print(context: &Context, name: &str) -> TeraResult<Answer>
-    ensures { ShowsOneOf result (λ outcome.
-        IsStep context.now (asking (ask Question.print name.now)) outcome context.now) }
-{
-    let absent = absent_value();
-    let value = value_at(context, name, &absent);
-    Ok(Answer::Text(value.to_text(context.allocator())?))
-}
-
-// The same, escaped.
-fn escape(context: &Context, name: &str) -> TeraResult<Answer>
-    ensures { ShowsOneOf result (λ outcome.
-        IsStep context.now (asking (ask Question.escape name.now)) outcome context.now) }
-{
-    let absent = absent_value();
-    let text = value_at(context, name, &absent).to_text(context.allocator())?;
-    Ok(Answer::Text(escape_text(context.allocator(), &text)?))
-}
-
-// A clone of the value of a name, if there is one.
-fn copy(context: &Context, name: &str) -> TeraResult<Option<Value>>
-    ensures { ShowsFound result context.now (Search.get name.now) }
-{
-    match context.get(name) {
-        Some(value) => Ok(Some(value.clone(context.allocator())?)),
-        None => Ok(None),
-    }
-}
-
-// Keeps what was found under `into`, if that is given, or answers it. A refusal is passed on.
-fn keep_or_answer(
-    context: &mut Context,
-    found: TeraResult<Option<Value>>,
-    into: Option<String>,
-) -> TeraResult<Answer>
-    ensures { (search : Search) → ShowsFound found context.old search
-        → ShowsOneOf result (λ outcome. IsStep context.old
-        (record { request = find search; into = option_map string_bytes into })
-        outcome context.new) }
-{
-    match (found?, into) {
-        (Some(value), Some(into)) => {
-            context.keep(into, value)?;
-            Ok(Answer::Done)
-        }
-        (found, _) => Ok(Answer::Found(found)),
     }
 }
 

@@ -15,14 +15,24 @@ use Rattle.tera_meaning.specs.Read.{marked_safe, size_in, truthy_in}
 use Rattle.tera_meaning.specs.State.{State, read, form_at, meaning_at}
 use Rattle.tera_meaning.specs.Alike.{MeanTheSame, RequestTheSame, AskTheSame, AllAskTheSame, IsSettled, AreAlike}
 use Rattle.tera_meaning.specs.Answer
-use Rattle.tera_meaning.specs.Search.{Search, Found, found_at}
+use Rattle.tera_meaning.specs.Search.{Search, Found, found_at, one_found}
+use Rattle.tera_meaning.specs.Arithmetic.{calculated, negated}
+use Rattle.tera_meaning.specs.Conversion.{read_as}
+use Rattle.tera_meaning.proofs.ArithmeticLaws.{calculated_by_meaning, negated_by_meaning, held_by_meaning}
+use Rattle.tera_meaning.specs.Lookup
+use Rattle.tera_meaning.specs.Lookup.{holds, seen_by}
+use Rattle.tera_meaning.specs.Slice.{reversed, shape_of}
+use Rattle.tera_meaning.specs.Walk.{sliced}
+use Rattle.tera_meaning.proofs.LookedUp.{attr_by_meaning, path_by_meaning, item_by_meaning, holds_by_meaning, fields_by_meaning}
+use Rattle.tera_meaning.proofs.SlicedLaws.{sliced_is, sliced_alike, reversed_alike}
 use Rattle.tera_meaning.specs.Outcome.{Outcome, shape}
 use Rattle.tera_meaning.specs.Question.{Question, IsAnswered, IsSettledAnswer}
-use Rattle.tera_meaning.specs.Request.{Request, set, remove, mark_safe, ask, weigh, find, Command}
+use Rattle.tera_meaning.proofs.ExtendLaws.{extended_alike}
+use Rattle.tera_meaning.specs.Request.{Request, set, extend, remove, mark_safe, ask, weigh, find, Command}
 use Rattle.tera_meaning.specs.Run.{AreOutcomes, state_after_all}
 use Rattle.tera_meaning.specs.Step.{found_or_kept, keeping, marking, marking_into, ComesTo, IsOutcome, leaves, state_after}
 use Rattle.tera_meaning.specs.Tree.{undefined, none, truth, number, text, bytes, array, object}
-use Rattle.tera_meaning.specs.Weighing.{Weighing, weighed}
+use Rattle.tera_meaning.specs.Weighing.{Weighing, weighed, truth_told}
 
 -- marking changes no meaning
 pub plain_marked : (value : Form) → plain (marked_safe value) ≡ plain value
@@ -61,6 +71,14 @@ same_found : (o p : Option Form) → ◌≡◌ {A = Result (Option Meaning) Refu
     → option_map plain o ≡ option_map plain p
 same_found o p e = cc
 
+-- a value that is found, or a refusal
+some_alike : (a b : Result Form Refusal) → shape_of a ≡ shape_of b → found_shape (one_found a) ≡ found_shape (one_found b)
+unfolding found_shape
+some_alike (Ok v) (Ok w) e = let same : plain v ≡ plain w = cc in λ i. Ok (Some (same i))
+some_alike (Err r) (Err q) e = let same : refusal_shape r ≡ refusal_shape q = cc in λ i. Err (same i)
+some_alike (Ok v) (Err q) e = cc
+some_alike (Err r) (Ok w) e = cc
+
 kept_shape : (into : Option (List ℕ)) (found also : Found) → found_shape found ≡ found_shape also
     → shape (found_or_kept into found) ≡ shape (found_or_kept into also)
 unfolding found_shape
@@ -96,13 +114,23 @@ asked_alike Question.print held also o p h (t, prints, e) (u, again, d) s =
     both e d (λ i. Ok (Answer.text (text_alike (plain (read held)) (plain (read also)) t u (read_alike held also h) prints again s i)))
 asked_alike Question.escape held also o p h (t, v, prints, spells, e) (u, w, again, spelled, d) s =
     both e d (λ i. Ok (Answer.text (word_alike v w t u (text_alike (plain (read held)) (plain (read also)) t u (read_alike held also h) prints again s) spells spelled i)))
+asked_alike Question.fields held also o p h e d s =
+    both e d (λ i. Ok (Answer.texts (fields_by_meaning (read held) (read also) (read_alike held also h) i)))
 asked_alike Question.is_safe held also o p h e d s = absurd s
 asked_alike Question.kind held also o p h e d s = absurd s
+
+-- what is told of two values
+truth_alike : (a c : Result Bool Refusal) → seen_by (λ b. b) a ≡ seen_by (λ b. b) c → shape (truth_told a) ≡ shape (truth_told c)
+truth_alike (Ok a) (Ok b) e = let same : a ≡ b = cc in λ i. Ok (Answer.truth (same i))
+truth_alike (Err r) (Err q) e = let same : refusal_shape r ≡ refusal_shape q = cc in λ i. Err (same i)
+truth_alike (Ok a) (Err q) e = cc
+truth_alike (Err r) (Ok b) e = cc
 
 -- how values of one meaning are weighed
 weighed_alike : (weighing : Weighing) (v w x y : Form) → plain v ≡ plain x → plain w ≡ plain y
     → shape (weighed weighing v w) ≡ shape (weighed weighing x y)
 weighed_alike Weighing.equal v w x y e d = rw (e, d) refl
+weighed_alike Weighing.contains v w x y e d = truth_alike (holds v w) (holds x y) (holds_by_meaning v x w y e d)
 weighed_alike weighing v w x y e d = rw (e, d) refl
 
 module _ (f g : State) (h : MeanTheSame f g) where
@@ -113,10 +141,29 @@ module _ (f g : State) (h : MeanTheSame f g) where
   found_alike : (search : Search) → found_shape (found_at f search) ≡ found_shape (found_at g search)
   unfolding found_shape
   found_alike (Search.get name) = λ i. Ok (h name i)
+  found_alike (Search.path name p) = λ i. Ok (path_by_meaning (form_at f name) (form_at g name) p (meaning_alike name) i)
+  found_alike (Search.attr name t) = λ i. Ok (attr_by_meaning (form_at f name) (form_at g name) t (meaning_alike name) i)
+  found_alike (Search.item name i) =
+      some_alike (Lookup.item (form_at f name) (form_at f i)) (Lookup.item (form_at g name) (form_at g i))
+      (item_by_meaning (form_at f name) (form_at g name) (form_at f i) (form_at g i) (meaning_alike name) (meaning_alike i))
+  found_alike (Search.slice name start end step) =
+      some_alike (sliced (form_at f name) start end step) (sliced (form_at g name) start end step)
+      (sliced_alike (form_at f name) (form_at g name) start end step _ _ (meaning_alike name) (sliced_is (form_at f name) start end step) (sliced_is (form_at g name) start end step))
+  found_alike (Search.reverse name) =
+      some_alike (reversed (form_at f name)) (reversed (form_at g name)) (reversed_alike (form_at f name) (form_at g name) (meaning_alike name))
+  found_alike (Search.calculate operator left right) =
+      some_alike (calculated operator (form_at f left) (form_at f right)) (calculated operator (form_at g left) (form_at g right))
+      (calculated_by_meaning operator (form_at f left) (form_at f right) (form_at g left) (form_at g right) (meaning_alike left) (meaning_alike right))
+  found_alike (Search.negate name) =
+      some_alike (negated (form_at f name)) (negated (form_at g name)) (negated_by_meaning (form_at f name) (form_at g name) (meaning_alike name))
+  found_alike (Search.read type name) =
+      some_alike (read_as type (form_at f name)) (read_as type (form_at g name))
+      (held_by_meaning type (form_at f name) (form_at g name) (meaning_alike name))
 
   outcomes_same : (request : Request) (into : Option (List ℕ)) (o p : Outcome) → ComesTo f request into o
       → ComesTo g request into p → IsSettled f request → shape o ≡ shape p
   outcomes_same (set name value) into o p e d s = both e d refl
+  outcomes_same (extend source) into o p e d s = both e d refl
   outcomes_same (remove name) into o p e d s = both e d (λ i. Ok (Answer.found (h name i)))
   outcomes_same (mark_safe name) into o p e d s = both e d refl
   outcomes_same (ask question name) into o p e d s =
@@ -129,6 +176,7 @@ module _ (f g : State) (h : MeanTheSame f g) where
   outcomes_alike : (q r : Request) (into : Option (List ℕ)) (o p : Outcome) → RequestTheSame q r → ComesTo f q into o
       → ComesTo g r into p → IsSettled f q → shape o ≡ shape p
   outcomes_alike (set m v) (set n w) into o p a e d s = both e d refl
+  outcomes_alike (extend source) (extend other) into o p a e d s = both e d refl
   outcomes_alike q r into o p a e d s = outcomes_same q into o p e (subst (λ k. ComesTo g k into p) (sym a) d) s
 
 chosen_alike : (b : Bool) (o p u w : Option Form) → option_map plain u ≡ option_map plain w
@@ -180,6 +228,7 @@ module _ (f g : State) (h : MeanTheSame f g) where
 
   states_same : (request : Request) (into : Option (List ℕ)) → MeanTheSame (leaves f request into) (leaves g request into)
   states_same (set name value) into = set_alike f g name value value h refl
+  states_same (extend source) into = extended_alike f g source source h (λ name. refl)
   states_same (remove name) into = removed_alike f g name h
   states_same (mark_safe name) into = marked_alike name into
   states_same (ask question name) into = h
@@ -190,6 +239,7 @@ module _ (f g : State) (h : MeanTheSame f g) where
       → MeanTheSame (leaves f q into) (leaves g r into)
   states_left_alike (set m v) (set n w) into a =
       subst (λ k. MeanTheSame (insert f m v) (insert g k w)) a.0 (set_alike f g m v w h a.1)
+  states_left_alike (extend source) (extend other) into a = extended_alike f g source other h a
   states_left_alike q r into a = subst (λ k. MeanTheSame (leaves f q into) (leaves g k into)) a (states_same q into)
 
   pub outcome_alike : (c d : Command) (o p : Outcome) → AskTheSame c d → IsOutcome f c o → IsOutcome g d p
@@ -204,6 +254,7 @@ module _ (f g : State) (h : MeanTheSame f g) where
 -- each command asks the same as itself
 request_same : (request : Request) → RequestTheSame request request
 request_same (set name value) = (refl, refl)
+request_same (extend source) = λ name. refl
 request_same (remove name) = refl
 request_same request = refl
 

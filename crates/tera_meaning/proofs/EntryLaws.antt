@@ -67,15 +67,6 @@ compare_forms xs ys =
     ∙ members_by_first_difference (map pair_meaning xs) (map pair_meaning ys)
     ∙ slice_read key_meaning plain key_order compare xs ys
 
--- the same of pair lists that rise
-pub rising_forms_decide : (ps qs : List (KeyForm × Form)) (k : KeyForm) → Rises key_form_order ps → Rises key_form_order qs → IsLeastDifference key_form_order (on plain compare) ps qs k
-    → compare (plain (object (members ps))) (plain (object (members qs))) ≡ order_at key_form_order (on plain compare) ps qs k
-rising_forms_decide ps qs k h g least = compare_forms ps qs ∙ difference_decides key_form_order (on_total key_meaning key_total) (on plain compare) ps qs k h g least
-
-pub rising_forms_tie : (ps qs : List (KeyForm × Form)) → Rises key_form_order ps → Rises key_form_order qs → AgreeEverywhere key_form_order (on plain compare) ps qs
-    → compare (plain (object (members ps))) (plain (object (members qs))) ≡ Equal
-rising_forms_tie ps qs h g agree = compare_forms ps qs ∙ agreeing_tie key_form_order (on_total key_meaning key_total) (on plain compare) ps qs h g agree
-
 pub forms_decide : (es fs : List (KeyForm × Form)) (k : KeyForm) → IsLeastDifference key_form_order (on plain compare) es fs k
     → compare (map_meaning es) (map_meaning fs) ≡ order_at key_form_order (on plain compare) es fs k
 forms_decide es fs k least = compare_forms (pairs_of es) (pairs_of fs) ∙ entries_decide key_form_order (on_total key_meaning key_total) (on plain compare) es fs k least

@@ -1,4 +1,6 @@
 mod AlikeLaws
+pub mod ExtendLaws
+pub mod EqualLaws
 mod ApartLaws
 pub mod DecidedLaws
 pub mod DifferenceLaws
@@ -8,6 +10,15 @@ mod MeantLaws
 mod PrintedLaws
 pub mod UniqueLaws
 mod RunLaws
+pub mod SliceLaws
+pub mod SlicedLaws
 pub mod StepLaws
 mod Utf8Laws
 mod WellMadeLaws
+pub mod WantLaws
+mod LookedUp
+mod PathLaws
+mod FoundLaws
+mod ArithmeticLaws
+mod DivisionLaws
+pub mod PowerLaws

@@ -1,23 +1,28 @@
 -- The outcomes of runs, in which some steps may want memory.
-use Rattle.std.specs.Prelude.{◌≡◌, ◌≢◌, ℕ, Bool, true, false, List, [], ◌∷◌, ◌++◌, length, Option, Some, None, Ok, Err, refl}
+use Rattle.std.specs.Prelude.{◌≡◌, ◌≢◌, ℕ, pos, Bool, true, false, List, [], ◌∷◌, ◌++◌, length, Option, Some, None, Result, Ok, Err, IfErr, refl}
 use Rattle.std.proofs.Common.{sym, ◌∙◌, ap, subst, inl, inr, arith}
 use Rattle.tera_report.specs.Escaping.{escaped}
 use Rattle.tera_report.specs.Refusal.{Refusal, memory_refused}
 use Rattle.tera_report.proofs.EscapeLemmas.{Spells-escaped}
 use Rattle.tera_meaning.specs.Answer
-use Rattle.tera_meaning.specs.Search.{Search, Found, found_at}
+use Rattle.std.specs.Option.{unwrap_or}
+use Rattle.tera_meaning.specs.Search.{Search, Found, found_at, one_found}
+use Rattle.tera_meaning.specs.Arithmetic.{calculated, negated}
+use Rattle.tera_meaning.specs.Conversion.{read_as}
+use Rattle.tera_meaning.proofs.ArithmeticLaws.{no_calculation_wants, no_negation_wants, no_conversion_wants}
 use Rattle.tera_meaning.specs.Form.{Form}
 use Rattle.tera_meaning.specs.Meaning.{plain}
 use Rattle.tera_meaning.specs.Outcome.{Outcome, out_of_memory, is_want}
 use Rattle.tera_meaning.specs.Printed.{printed}
 use Rattle.tera_meaning.specs.Question.{Question, IsAnswered, IsFixedAnswer}
-use Rattle.tera_meaning.specs.Request.{Request, set, remove, mark_safe, ask, weigh, find, Command}
+use Rattle.tera_meaning.specs.Request.{Request, set, extend, remove, mark_safe, ask, weigh, find, Command, asking}
 use Rattle.tera_meaning.specs.State.{State, read, form_at}
-use Rattle.tera_meaning.specs.Step.{found_or_kept, ComesTo, IsOutcome, IsFixed, IsStep, state_after}
-use Rattle.tera_meaning.specs.Run.{IsRun, AreOutcomes, AreFixed, state_after_all, commands_with_memory, outcomes_with_memory, NoneWantsMemory, IsAmpleRun}
+use Rattle.tera_meaning.specs.Step.{found_or_kept, ComesTo, IsOutcome, IsFixed, LeavesInWant, IsStep, state_after}
+use Rattle.tera_meaning.specs.Run.{IsRun, AreOutcomes, AreFixed, state_after_all, WasDoneInWant, IsDoneOf, NoneWantsMemory, IsAmpleRun}
 use Rattle.tera_meaning.specs.Alike.{MeanTheSame, AllAskTheSame, AreAlike, meaning_held}
 use Rattle.tera_meaning.specs.Weighing.{Weighing, weighed}
 use Rattle.tera_meaning.proofs.StepLaws.{refused_answer}
+use Rattle.tera_meaning.proofs.WantLaws.{no_item_wants, no_slice_wants, no_reversal_wants, no_container_wants}
 use Rattle.tera_meaning.proofs.AlikeLaws.{word_alike, all_outcomes_alike, states_alike}
 
 -- no request comes to want of memory
@@ -28,10 +33,28 @@ never_asked question held e = cc
 
 never_weighed : (weighing : Weighing) (v w : Form) → out_of_memory ≡ weighed weighing v w → ⊥
 never_weighed Weighing.equal v w e = cc
+never_weighed Weighing.contains v w e = no_container_wants v w e
 never_weighed weighing v w e = cc
+
+-- a value that is found is no want of memory, and no other refusal is
+no_want_found : (found : Result Form Refusal) → IfErr found (λ refusal. refusal ≡ memory_refused → ⊥)
+    → one_found found ≡ Err memory_refused → ⊥
+no_want_found (Ok value) h e = cc
+no_want_found (Err refusal) h e = h cc
 
 never_searched : (state : State) (search : Search) → found_at state search ≡ Err memory_refused → ⊥
 never_searched state (Search.get name) e = cc
+never_searched state (Search.path name p) e = cc
+never_searched state (Search.attr name t) e = cc
+never_searched state (Search.item name i) e = no_item_wants (form_at state name) (form_at state i) e
+never_searched state (Search.slice name start end step) e = no_slice_wants (form_at state name) start end (unwrap_or step (pos 1)) e
+never_searched state (Search.reverse name) e = no_reversal_wants (form_at state name) e
+never_searched state (Search.calculate operator left right) e =
+    no_want_found (calculated operator (form_at state left) (form_at state right)) (no_calculation_wants operator (form_at state left) (form_at state right)) e
+never_searched state (Search.negate name) e =
+    no_want_found (negated (form_at state name)) (no_negation_wants (form_at state name)) e
+never_searched state (Search.read type name) e =
+    no_want_found (read_as type (form_at state name)) (no_conversion_wants type (form_at state name)) e
 
 want_is : (refusal : Refusal) → ◌≡◌ {A = Outcome} (Err memory_refused) (Err refusal) → refusal ≡ memory_refused
 want_is refusal e = cc
@@ -46,6 +69,7 @@ never_found (Some into) (Ok (Some value)) n e = cc
 pub never_wanted : (state : State) (request : Request) (into : Option (List ℕ))
     → ComesTo state request into out_of_memory → ⊥
 never_wanted state (set name value) into e = cc
+never_wanted state (extend source) into e = cc
 never_wanted state (remove name) into e = cc
 never_wanted state (mark_safe name) into e = cc
 never_wanted state (ask question name) into e = never_asked question _ e
@@ -65,6 +89,7 @@ pub some_outcome : (state : State) (request : Request) (into : Option (List ℕ)
     → (outcome : Outcome) × ComesTo state request into outcome
 some_outcome state (ask question name) into = some_answer question _
 some_outcome state (set name value) into = (_, refl)
+some_outcome state (extend source) into = (_, refl)
 some_outcome state (remove name) into = (_, refl)
 some_outcome state (mark_safe name) into = (_, refl)
 some_outcome state (weigh weighing left right) into = (_, refl)
@@ -83,6 +108,7 @@ pub one_outcome : (state : State) (request : Request) (into : Option (List ℕ))
     → ComesTo state request into o → ComesTo state request into p → o ≡ p
 one_outcome state (ask question name) into o p f e d = one_answer question _ o p f e d
 one_outcome state (set name value) into o p f e d = e ∙ sym d
+one_outcome state (extend source) into o p f e d = e ∙ sym d
 one_outcome state (remove name) into o p f e d = e ∙ sym d
 one_outcome state (mark_safe name) into o p f e d = e ∙ sym d
 one_outcome state (weigh weighing left right) into o p f e d = e ∙ sym d
@@ -106,11 +132,11 @@ one_outcomes state [] [] (p ∷ ps) f e d = absurd d
 one_outcomes state (command ∷ commands) [] ps f e d = absurd e
 one_outcomes state (command ∷ commands) (o ∷ os) [] f e d = absurd d
 
--- a step that wants memory changes nothing, and any other is the command's outcome
-pub want_changes_nothing : (old : State) (command : Command) (new : State) → IsStep old command out_of_memory new
-    → new ≡ old
-want_changes_nothing old command new (inl given) = absurd (never_wanted old command.request command.into given.0)
-want_changes_nothing old command new (inr wanted) = wanted.2
+-- what a step that wants memory leaves, and any other is the command's outcome
+pub left_in_want : (old : State) (command : Command) (new : State) → IsStep old command out_of_memory new
+    → LeavesInWant old command.request new
+left_in_want old command new (inl given) = absurd (never_wanted old command.request command.into given.0)
+left_in_want old command new (inr wanted) = wanted.2
 
 pub given_step : (old : State) (command : Command) (outcome : Outcome) (new : State) → IsStep old command outcome new
     → outcome ≢ out_of_memory → IsOutcome old command outcome × (new ≡ state_after old command)
@@ -126,38 +152,56 @@ is_out_of_memory (Err refusal) h = cc
 no_want : (outcome : Outcome) → is_want outcome ≡ false → outcome ≢ out_of_memory
 no_want outcome h e = let yes : is_want outcome ≡ true = ap is_want e in cc
 
--- the steps that want memory can be left out
-left_first : (old : State) (command : Command) (commands : List Command) (outcome : Outcome) (outcomes : List Outcome)
+-- what was done of a run in which steps may want memory, and the run of that alone
+abbrev DoneRun : State → List Command → List Outcome → State → Type 0
+DoneRun old commands outcomes new =
+    (done : List Command) × (answers : List Outcome) × IsDoneOf commands outcomes done answers
+    × IsAmpleRun old done answers new
+
+-- a step that wants memory, before what was done next
+abbrev DoneFirst : State → Request → List Command → List Outcome → State → Type 0
+DoneFirst old request next others new =
+    (done : List Command) × (answers : List Outcome) × WasDoneInWant request done answers next others
+    × IsAmpleRun old done answers new
+
+none_next : (outcome : Outcome) (others : List Outcome) → outcome ≢ out_of_memory → NoneWantsMemory others
+    → NoneWantsMemory (outcome ∷ others)
+none_next outcome others n none = (n, none)
+
+done_in_want : (old mid : State) (request : Request) (next : List Command) (others : List Outcome) (new : State)
+    → LeavesInWant old request mid → IsAmpleRun mid next others new → DoneFirst old request next others new
+done_in_want old mid (extend source) next others new (part, is, left) run = (
+  asking (extend part) ∷ next,
+  Ok Answer.done ∷ others,
+  (part, is, refl, refl),
+  ((mid, inl (refl, left), run.0), ((λ e. cc), run.1)),
+)
+done_in_want old mid (set name value) next others new left run = (next, others, (refl, refl), subst (λ state. IsAmpleRun state next others new) left run)
+done_in_want old mid (remove name) next others new left run = (next, others, (refl, refl), subst (λ state. IsAmpleRun state next others new) left run)
+done_in_want old mid (mark_safe name) next others new left run = (next, others, (refl, refl), subst (λ state. IsAmpleRun state next others new) left run)
+done_in_want old mid (ask question name) next others new left run = (next, others, (refl, refl), subst (λ state. IsAmpleRun state next others new) left run)
+done_in_want old mid (weigh weighing left right) next others new same run = (next, others, (refl, refl), subst (λ state. IsAmpleRun state next others new) same run)
+done_in_want old mid (find search) next others new left run = (next, others, (refl, refl), subst (λ state. IsAmpleRun state next others new) left run)
+
+done_first : (old : State) (command : Command) (commands : List Command) (outcome : Outcome) (outcomes : List Outcome)
     (mid new : State) (b : Bool) → is_want outcome ≡ b → IsStep old command outcome mid
-    → IsRun mid (commands_with_memory commands outcomes) (outcomes_with_memory outcomes) new
-    → IsRun old (commands_with_memory (command ∷ commands) (outcome ∷ outcomes)) (outcomes_with_memory (outcome ∷ outcomes)) new
-left_first old command commands outcome outcomes mid new true h step rest =
-    rw h (subst (λ state. IsRun state (commands_with_memory commands outcomes) (outcomes_with_memory outcomes) new)
-    (want_changes_nothing old command mid (subst (λ o. IsStep old command o mid) (is_out_of_memory outcome h) step)) rest)
-left_first old command commands outcome outcomes mid new false h step rest = rw h (mid, step, rest)
+    → DoneRun mid commands outcomes new → DoneRun old (command ∷ commands) (outcome ∷ outcomes) new
+done_first old command commands outcome outcomes mid new true h step (next, others, are, run) =
+    let want : outcome ≡ out_of_memory = is_out_of_memory outcome h in
+    let left : LeavesInWant old command.request mid = left_in_want old command mid (subst (λ o. IsStep old command o mid) want step) in
+    let first = done_in_want old mid command.request next others new left run in
+    (first.0, first.1, (next, others, inr (want, first.2), are), first.3)
+done_first old command commands outcome outcomes mid new false h step (next, others, are, run) =
+    let found : outcome ≢ out_of_memory = no_want outcome h in
+    (command ∷ next, outcome ∷ others, (next, others, inl (found, refl, refl), are), ((mid, step, run.0), (found, run.1)))
 
-pub left_out : (old : State) (commands : List Command) (outcomes : List Outcome) (new : State)
-    → IsRun old commands outcomes new
-    → IsRun old (commands_with_memory commands outcomes) (outcomes_with_memory outcomes) new
-left_out old [] [] new run = run
-left_out old (command ∷ commands) (outcome ∷ outcomes) new (mid, step, run) =
-    left_first old command commands outcome outcomes mid new (is_want outcome) refl step (left_out mid commands outcomes new run)
-left_out old [] (outcome ∷ outcomes) new run = absurd run
-left_out old (command ∷ commands) [] new run = absurd run
-
-none_first : (outcome : Outcome) (outcomes : List Outcome) (b : Bool) → is_want outcome ≡ b
-    → NoneWantsMemory (outcomes_with_memory outcomes) → NoneWantsMemory (outcomes_with_memory (outcome ∷ outcomes))
-none_first outcome outcomes true h none = rw h none
-none_first outcome outcomes false h none = rw h (no_want outcome h, none)
-
-pub none_left : (outcomes : List Outcome) → NoneWantsMemory (outcomes_with_memory outcomes)
-none_left [] = tt
-none_left (outcome ∷ outcomes) = none_first outcome outcomes (is_want outcome) refl (none_left outcomes)
-
-pub ample_left : (old : State) (commands : List Command) (outcomes : List Outcome) (new : State)
-    → IsRun old commands outcomes new
-    → IsAmpleRun old (commands_with_memory commands outcomes) (outcomes_with_memory outcomes) new
-ample_left old commands outcomes new run = (left_out old commands outcomes new run, none_left outcomes)
+pub done_of_run : (old : State) (commands : List Command) (outcomes : List Outcome) (new : State)
+    → IsRun old commands outcomes new → DoneRun old commands outcomes new
+done_of_run old [] [] new run = ([], [], (refl, refl), (run, tt))
+done_of_run old (command ∷ commands) (outcome ∷ outcomes) new (mid, step, run) =
+    done_first old command commands outcome outcomes mid new (is_want outcome) refl step (done_of_run mid commands outcomes new run)
+done_of_run old [] (outcome ∷ outcomes) new run = absurd run
+done_of_run old (command ∷ commands) [] new run = absurd run
 
 -- a run in which no step wants memory gives outcomes of its commands, and the state that they leave
 pub ample_outcomes : (old : State) (commands : List Command) (outcomes : List Outcome) (new : State)

@@ -1,6 +1,6 @@
 -- A pair list has just the entries, and is the only rising list that has.
-use Rattle.std.specs.Prelude.{◌≡◌, ◌↔◌, ◌⊎◌, zero, suc, true, false, cond, List, [], ◌∷◌, Some, None, refl}
-use Rattle.std.proofs.Common.{sym, ◌∙◌, ap, inl, inr, arith}
+use Rattle.std.specs.Prelude.{◌≡◌, ◌↔◌, ◌⊎◌, false, cond, List, [], ◌∷◌, Some, None, refl}
+use Rattle.std.proofs.Common.{sym, ◌∙◌, ap, inl, inr}
 use Rattle.std.specs.BTreeMap.{insert_entry}
 use Rattle.std.specs.Cmp.{IsTotalOrder, tied_itself}
 use Rattle.std.specs.List.{Contains, IsDistinct, AllByRecursion}
@@ -10,45 +10,22 @@ use Rattle.std.specs.Ordering.{ordering_reverse, eq_by_cmp, is_eq, match_orderin
 use Rattle.std.specs.declared.cmp.Ordering.{Ordering}
 use Rattle.std.specs.declared.cmp.Ordering.TheVariants.{Less, Equal, Greater}
 use Rattle.std.proofs.lemmas.List.Sorted.{IsPermutation-refl, IsPermutation-sym, IsPermutation-trans, IsPermutation-cons, IsPermutation-insert, Contains-permutation}
+use Rattle.tera_meaning.specs.Among.{Among, among, contained}
+use Rattle.tera_meaning.specs.Chained.{greater_less}
 use Rattle.tera_meaning.specs.Pairs.{Rises, HasDistinctKeys, rising, value_at}
 use Rattle.tera_meaning.proofs.PairLaws.{Below, rising_rises, found_rising}
-
--- ---- being one of a list, by recursion
-
-Among : {X : Type 0} → List X → X → Type 0
-Among [] x = ⊥
-Among (y ∷ ys) x = (x ≡ y) ⊎ Among ys x
-
-among : {X : Type 0} (xs : List X) (x : X) → Contains xs x → Among xs x
-unfolding Among
-among [] x (k, below, is) = absurd (omega arith)
-among (y ∷ ys) x (zero, below, is) = inl (sym is)
-among (y ∷ ys) x (suc k, below, is) = inr (among ys x (k, omega arith, is))
-
-contained : {X : Type 0} (xs : List X) (x : X) → Among xs x → Contains xs x
-unfolding Among
-contained [] x a = absurd a
-contained (y ∷ ys) x (inl e) = (0, omega arith, sym e)
-contained (y ∷ ys) x (inr a) = let c : Contains ys x = contained ys x a in (suc c.0, omega (arith, c.1), c.2)
 
 less_equal : Less ≡ Equal → ⊥
 less_equal e = cc
 
-greater_less : Greater ≡ Less → ⊥
-greater_less e = cc
-
 some_none : {X : Type 0} (x : X) → Some x ≡ None → ⊥
 some_none x e = cc
-
-true_false : true ≡ false → ⊥
-true_false e = cc
 
 module _ {K V : Type 0} (order : K → K → Ordering) (total : IsTotalOrder order) where
   not_less : (e d : K × V) → e ≡ d → order d.0 e.0 ≡ Less → ⊥
   not_less e d is p = less_equal (sym p ∙ ap (λ x. order d.0 x.0) is ∙ tied_itself total d.0)
 
   below_among : (k : K) (es : List (K × V)) (e : K × V) → Below order k es → Among es e → order k e.0 ≡ Less
-  unfolding Among
   below_among k [] e h a = absurd a
   below_among k (x ∷ xs) e h (inl is) = ap (λ y. order k y.0) is ∙ h.0
   below_among k (x ∷ xs) e h (inr a) = below_among k xs e h.1 a
@@ -66,7 +43,7 @@ module _ {K V : Type 0} (order : K → K → Ordering) (total : IsTotalOrder ord
   later p q e qs m is (inr a) = a
 
   one_list : (ps qs : List (K × V)) → Rises order ps → Rises order qs → ((e : K × V) → Among ps e → Among qs e) → ((e : K × V) → Among qs e → Among ps e) → ps ≡ qs
-  unfolding IsStrictlySortedBy Among
+  unfolding IsStrictlySortedBy
   one_list [] [] h g there back = refl
   one_list [] (q ∷ qs) h g there back = absurd (back q (inl refl))
   one_list (p ∷ ps) [] h g there back = absurd (there p (inl refl))
@@ -111,10 +88,6 @@ module _ {K V : Type 0} (order : K → K → Ordering) (total : IsTotalOrder ord
       one_list ps (rising order es) rises (rising_rises order total es)
       (λ e a. among (rising order es) e ((rising_has es e h).1 ((has e).0 (contained ps e a))))
       (λ e a. among ps e ((has e).1 ((rising_has es e h).0 (contained (rising order es) e a))))
-
-  -- a list that rises is its own
-  pub rising_itself : (ps : List (K × V)) → HasDistinctKeys order ps → Rises order ps → rising order ps ≡ ps
-  rising_itself ps h rises = sym (only_rising ps ps h rises (λ e. (λ a. a, λ a. a)))
 
   pub rising_permuted : (es fs : List (K × V)) → HasDistinctKeys order es → HasDistinctKeys order fs → IsPermutation es fs → rising order es ≡ rising order fs
   rising_permuted es fs h g same =

@@ -1,7 +1,7 @@
 -- What is held stays well made.
-use Rattle.std.specs.Prelude.{◌≡◌, ℕ, ℤ, pos, negsuc, Bool, true, false, cond, IfSome, IsSome, List, [], ◌∷◌, Option, Some, None, Ok, Err, IfOk, refl}
+use Rattle.std.specs.Prelude.{◌≡◌, ℕ, ℤ, pos, negsuc, Bool, true, false, cond, IfSome, IsSome, List, [], ◌∷◌, Option, Some, None, Result, Ok, Err, IfOk, refl}
 use Rattle.std.proofs.Common.{sym, subst, inl, inr, arith}
-use Rattle.std.specs.Option.{unwrap_or}
+use Rattle.std.specs.Option.{unwrap_or, option_or}
 use Rattle.std.specs.Ordering.{nat_cmp, eq_by_cmp}
 use Rattle.std.specs.Cmp.{Equal-is}
 use Rattle.std.specs.Cmp.Lexicographic.{slice_cmp, nat_list_cmp_total}
@@ -19,11 +19,21 @@ use Rattle.tera_meaning.specs.Outcome.{Outcome}
 use Rattle.tera_meaning.specs.Pairs.{Rises, key_form_order}
 use Rattle.tera_meaning.specs.Read.{marked_safe}
 use Rattle.tera_meaning.specs.Run.{IsRun, state_after_all}
-use Rattle.tera_meaning.specs.State.{State, form_at, meaning_at}
+use Rattle.tera_meaning.specs.State.{State, form_at, meaning_at, extended, IsProperBeginning}
 use Rattle.tera_meaning.specs.StateLaws.{held_empty, name_exact}
-use Rattle.tera_meaning.specs.Search.{Search, Found, found_at}
-use Rattle.tera_meaning.specs.Request.{Command, Request, set, remove, mark_safe, ask, weigh, find}
-use Rattle.tera_meaning.specs.Step.{keeping, marking, marking_into, leaves, IsStep, state_after}
+use Rattle.tera_meaning.specs.Lookup
+use Rattle.tera_meaning.specs.Search.{Search, Found, found_at, one_found}
+use Rattle.tera_meaning.specs.Arithmetic.{calculated, negated}
+use Rattle.tera_meaning.specs.Conversion.{read_as}
+use Rattle.tera_meaning.proofs.ArithmeticLaws.{calculated_well, negated_well, converted_well}
+use Rattle.tera_meaning.specs.Slice.{reversed}
+use Rattle.tera_meaning.specs.Walk.{sliced}
+use Rattle.tera_report.specs.Refusal.{Refusal}
+use Rattle.tera_meaning.proofs.FoundLaws.{sound_attr, sound_path, sound_item}
+use Rattle.tera_meaning.proofs.SlicedLaws.{sliced_is, sliced_well, reversed_well}
+use Rattle.tera_meaning.proofs.ExtendLaws.{get_extended, beginning_held}
+use Rattle.tera_meaning.specs.Request.{Command, Request, set, extend, remove, mark_safe, ask, weigh, find}
+use Rattle.tera_meaning.specs.Step.{keeping, marking, marking_into, leaves, LeavesInWant, IsStep, state_after}
 use Rattle.tera_meaning.specs.Tree.{Items, Members, undefined, none, truth, number, text, bytes, array, object, no_items, item, no_members, member, members_list, relabeled_items, relabeled_members}
 use Rattle.tera_meaning.specs.WellMade.{IsWellMade, IsWellMadeKey, AreWellMade, AreWellMadeMembers, IsWellMadeMeaning, IsWellMadeKeyMeaning, AreWellMadeMeanings, AreWellMadePairs, IsWellMadeState, BringsWellMade, AllBringWellMade}
 
@@ -52,6 +62,10 @@ name_well name (Some value) h is = h.0
 pub empty_well : IsWellMadeState empty
 empty_well name = subst (IsHeldWell name) (sym (held_empty name)) tt
 
+some_well : (found : Result Form Refusal) → IfOk found IsWellMade → IfOk (one_found found) (λ o. IfSome o IsWellMade)
+some_well (Ok value) h = h
+some_well (Err refusal) h = tt
+
 module _ (state : State) (h : IsWellMadeState state) where
   pub form_at_well : (name : List ℕ) → IsWellMade (form_at state name)
   form_at_well name = form_well name (held_at state name) (h name)
@@ -75,6 +89,14 @@ module _ (state : State) (h : IsWellMadeState state) where
       subst (IsHeldWell other) (sym (get-remove nat_list_cmp_total state name other))
       (chosen_well name other None (eq_by_cmp (slice_cmp nat_cmp) other name) refl tt)
 
+  either_well : (name : List ℕ) (o p : Option Form) → IsHeldWell name o → IsHeldWell name p → IsHeldWell name (option_or o p)
+  either_well name (Some value) p well rest = well
+  either_well name None p well rest = rest
+
+  pub extended_well : (source : State) → IsWellMadeState source → IsWellMadeState (extended state source)
+  extended_well source brought name =
+      subst (IsHeldWell name) (sym (get_extended state source name)) (either_well name (held_at source name) (held_at state name) (brought name) (h name))
+
   kept_well : (into : Option (List ℕ)) (found : Found) → IfSome into IsUtf8 → IfOk found (λ o. IfSome o IsWellMade)
       → IsWellMadeState (keeping state into found)
   kept_well None found utf8 well = h
@@ -88,6 +110,18 @@ module _ (state : State) (h : IsWellMadeState state) where
 
   found_well : (search : Search) → IfOk (found_at state search) (λ o. IfSome o IsWellMade)
   found_well (Search.get name) = value_well name (held_at state name) (h name)
+  found_well (Search.path name p) = sound_path (form_at state name) p (form_at_well name)
+  found_well (Search.attr name t) = sound_attr (form_at state name) t (form_at_well name)
+  found_well (Search.item name i) = some_well (Lookup.item (form_at state name) (form_at state i)) (sound_item (form_at state name) (form_at state i) (form_at_well name))
+  found_well (Search.slice name start end step) =
+      some_well (sliced (form_at state name) start end step)
+      (sliced_well (form_at state name) start end step _ (form_at_well name) (sliced_is (form_at state name) start end step))
+  found_well (Search.reverse name) = some_well (reversed (form_at state name)) (reversed_well (form_at state name) (form_at_well name))
+  found_well (Search.calculate operator left right) =
+      some_well (calculated operator (form_at state left) (form_at state right)) (calculated_well operator (form_at state left) (form_at state right))
+  found_well (Search.negate name) = some_well (negated (form_at state name)) (negated_well (form_at state name))
+  found_well (Search.read type name) =
+      some_well (read_as type (form_at state name)) (converted_well type (form_at state name))
 
   marked_place_well : (name : List ℕ) (o : Option Form) → IsHeldWell name o → IsWellMadeState (marking state name o)
   marked_place_well name None well = h
@@ -102,6 +136,7 @@ module _ (state : State) (h : IsWellMadeState state) where
   left_well : (request : Request) (into : Option (List ℕ)) → BringsWellMade request → IfSome into IsUtf8
       → IsWellMadeState (leaves state request into)
   left_well (set name value) into well utf8 = set_well name value well.0 well.1
+  left_well (extend source) into well utf8 = extended_well source well
   left_well (remove name) into well utf8 = removed_well name
   left_well (mark_safe name) into well utf8 = marked_into_well name into utf8
   left_well (ask question name) into well utf8 = h
@@ -114,12 +149,32 @@ all_left_well state [] h brought = h
 all_left_well state (command ∷ commands) h brought =
     all_left_well (state_after state command) commands (left_well state h command.request command.into brought.0.0 brought.0.1) brought.1
 
--- a step that wants memory changes nothing
+-- what begins a source that is well made is too
+part_held_well : (name : List ℕ) (o p : Option Form) → (IsSome o → p ≡ o) → IsHeldWell name p → IsHeldWell name o
+part_held_well name None p same well = tt
+part_held_well name (Some value) p same well = subst (IsHeldWell name) (same refl) well
+
+beginning_well : (part whole : State) → IsProperBeginning part whole → IsWellMadeState whole → IsWellMadeState part
+beginning_well part whole is h name =
+    part_held_well name (held_at part name) (held_at whole name) (beginning_held part whole name is) (h name)
+
+-- and so is what want of memory leaves
+want_well : (old new : State) (request : Request) → IsWellMadeState old → BringsWellMade request
+    → LeavesInWant old request new → IsWellMadeState new
+want_well old new (extend source) h brings (part, is, left) =
+    subst IsWellMadeState (sym left) (extended_well old h part (beginning_well part source is brings))
+want_well old new (set name value) h brings left = subst IsWellMadeState (sym left) h
+want_well old new (remove name) h brings left = subst IsWellMadeState (sym left) h
+want_well old new (mark_safe name) h brings left = subst IsWellMadeState (sym left) h
+want_well old new (ask question name) h brings left = subst IsWellMadeState (sym left) h
+want_well old new (weigh weighing left right) h brings same = subst IsWellMadeState (sym same) h
+want_well old new (find search) h brings left = subst IsWellMadeState (sym left) h
+
 step_well : (old : State) (command : Command) (outcome : Outcome) (new : State) → IsWellMadeState old
     → BringsWellMade command.request → IfSome command.into IsUtf8 → IsStep old command outcome new → IsWellMadeState new
 step_well old command outcome new h brings utf8 (inl given) =
     subst IsWellMadeState (sym given.1) (left_well old h command.request command.into brings utf8)
-step_well old command outcome new h brings utf8 (inr wanted) = subst IsWellMadeState (sym wanted.2) h
+step_well old command outcome new h brings utf8 (inr wanted) = want_well old new command.request h brings wanted.2
 
 pub run_well : (old : State) (commands : List Command) (outcomes : List Outcome) (new : State) → IsWellMadeState old
     → AllBringWellMade commands → IsRun old commands outcomes new → IsWellMadeState new

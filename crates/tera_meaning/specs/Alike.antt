@@ -8,7 +8,7 @@ use Rattle.tera_meaning.specs.Meaning.{Meaning, plain}
 use Rattle.tera_meaning.specs.Outcome.{Outcome, shape}
 use Rattle.tera_meaning.specs.Question
 use Rattle.tera_meaning.specs.Question.{IsSettledAnswer}
-use Rattle.tera_meaning.specs.Request.{Request, set, remove, mark_safe, ask, weigh, find, Command, asking}
+use Rattle.tera_meaning.specs.Request.{Request, set, extend, remove, mark_safe, ask, weigh, find, Command, asking}
 use Rattle.tera_meaning.specs.Run.{AreOutcomes, IsAmpleRun}
 use Rattle.tera_meaning.specs.State.{State, meaning_at}
 use Rattle.tera_meaning.specs.Step.{state_after}
@@ -22,9 +22,10 @@ meaning_held state name = option_map plain (held_at state name)
 abbrev pub MeanTheSame : State → State → Type 0
 MeanTheSame f g = (name : List ℕ) → meaning_held f name ≡ meaning_held g name
 
--- the same request; and where it keeps a value, one of the same meaning
+-- the same request; and where it keeps values, these of the same meaning
 abbrev pub RequestTheSame : Request → Request → Type 0
 RequestTheSame (set m v) (set n w) = (m ≡ n) × (plain v ≡ plain w)
+RequestTheSame (extend source) (extend other) = MeanTheSame source other
 RequestTheSame request also = request ≡ also
 
 -- the same request, and what it finds is to be kept under the same name
@@ -38,6 +39,7 @@ AllAskTheSame asked also = AllZip AskTheSame asked also
 -- meanings alone settle the outcome, where it is one
 abbrev pub IsSettled : State → Request → Type 0
 IsSettled state (set name value) = ⊤
+IsSettled state (extend source) = ⊤
 IsSettled state (remove name) = ⊤
 IsSettled state (mark_safe name) = ⊤
 IsSettled state (ask question name) = IsSettledAnswer question (meaning_at state name)

@@ -12,3 +12,4 @@ pub data AnswerOf (V : Type 0) : Type 0 where
   size : Option ℕ → AnswerOf V
   kind : Kind → AnswerOf V
   text : List ℕ → AnswerOf V
+  texts : List (List ℕ) → AnswerOf V

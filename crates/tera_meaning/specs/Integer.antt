@@ -1,5 +1,5 @@
 -- Whole numbers, and the four kinds in which a value holds one.
-use Rattle.std.specs.Prelude.{◌^◌, ◌<◌, ℤ, pos, negsuc}
+use Rattle.std.specs.Prelude.{◌^◌, ◌<◌, nat_lt, Bool, ℤ, pos, negsuc}
 
 -- The kinds of integers
 pub data IntegerKind : Type 0 where
@@ -18,10 +18,10 @@ abbrev pub IsWide : ℤ → Type 0
 IsWide (pos n) = n < 2 ^ 128
 IsWide (negsuc n) = n < 2 ^ 127
 
--- from -2^127 to 2^127 - 1: what arithmetic computes with
-abbrev pub IsSmall : ℤ → Type 0
-IsSmall (pos n) = n < 2 ^ 127
-IsSmall (negsuc n) = n < 2 ^ 127
+-- whether a number is from -2^127 to 2^127 - 1: one that arithmetic computes with
+abbrev pub is_small : ℤ → Bool
+is_small (pos n) = nat_lt n (2 ^ 127)
+is_small (negsuc n) = nat_lt n (2 ^ 127)
 
 -- the numbers of a kind. `negsuc n` is -(n + 1)
 abbrev pub IsOfKind : IntegerKind → ℤ → Type 0

@@ -9,6 +9,13 @@ pub mod Kind
 pub mod Read
 pub mod Stored
 pub mod State
+pub mod Lookup
+pub mod Path
+pub mod Fields
+pub mod Slice
+pub mod Walk
+pub mod Arithmetic
+pub mod Conversion
 pub mod Answer
 pub mod Outcome
 pub mod Question
@@ -28,3 +35,6 @@ pub mod Decided
 pub mod StateLaws
 pub mod Rows
 pub mod TreeLaws
+pub mod LookupLaws
+pub mod Among
+pub mod FieldLaws

@@ -1,5 +1,5 @@
 -- What a step comes to: an answer, or a refusal.
-use Rattle.std.specs.Prelude.{Bool, true, false, Option, Result, Ok, Err}
+use Rattle.std.specs.Prelude.{Bool, true, false, Result, Ok, Err}
 use Rattle.std.specs.Option.{option_map}
 use Rattle.tera_report.specs.Refusal.{Refusal, memory_refused, shape as refusal_shape}
 use Rattle.tera_meaning.specs.Answer
@@ -30,6 +30,7 @@ answer_shape (Answer.found value) = Answer.found (option_map plain value)
 answer_shape (Answer.size n) = Answer.size n
 answer_shape (Answer.kind k) = Answer.kind k
 answer_shape (Answer.text t) = Answer.text t
+answer_shape (Answer.texts ts) = Answer.texts ts
 
 -- an outcome with what is found by its meaning, and a refusal without the name of a value's kind
 abbrev pub shape : Outcome → OutcomeOf Meaning

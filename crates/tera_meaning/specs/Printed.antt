@@ -1,11 +1,9 @@
 -- What a meaning prints.
-use Rattle.std.specs.Prelude.{◌≡◌, ℕ, Bool, true, false, ◌&&◌, if◌then◌else◌, IsTrue, List, [], ◌∷◌, ◌++◌, ℤ, flat_map, codes}
-use Rattle.std.specs.Char.{is_ascii}
-use Rattle.std.specs.Fmt.{signed_decimal, debug_escape}
-use Rattle.std.specs.List.{list_all}
+use Rattle.std.specs.Prelude.{◌≡◌, ℕ, Bool, true, false, ◌&&◌, if◌then◌else◌, IsTrue, List, [], ◌++◌, ℤ, codes}
+use Rattle.std.specs.Fmt.{signed_decimal}
 use Rattle.std.specs.Str.Lossy.{utf8_lossy}
 use Rattle.tera_report.specs.Escaping.{escaped}
-use Rattle.tera_report.specs.Quoted.{quoted}
+use Rattle.tera_report.specs.Quoted.{quoted, is_ascii_text}
 use Rattle.tera_meaning.specs.Form.{Form}
 use Rattle.tera_meaning.specs.KeyMeaning.{KeyMeaning, truth_key, number_key, text_key}
 use Rattle.tera_meaning.specs.Meaning.{Meaning, plain}
@@ -16,6 +14,13 @@ abbrev pub printed_truth : Bool → List ℕ
 printed_truth true = codes "true"
 printed_truth false = codes "false"
 
+-- what a key prints by itself: a text as itself
+abbrev pub shown_key : KeyMeaning → List ℕ
+shown_key (truth_key b) = printed_truth b
+shown_key (number_key z) = signed_decimal z
+shown_key (text_key t) = t
+
+-- and in a map, where a text is quoted
 abbrev pub printed_key : KeyMeaning → List ℕ
 printed_key (truth_key b) = printed_truth b
 printed_key (number_key z) = signed_decimal z
@@ -56,7 +61,7 @@ printed x = printed_with (λ t. t) x
 abbrev pub is_exact_key : KeyMeaning → Bool
 is_exact_key (truth_key b) = true
 is_exact_key (number_key z) = true
-is_exact_key (text_key t) = list_all is_ascii t
+is_exact_key (text_key t) = is_ascii_text t
 
 -- whether each text that is quoted where the meaning stands in an array or map is ASCII
 abbrev mutual
@@ -65,7 +70,7 @@ abbrev mutual
   is_exact_inside none = true
   is_exact_inside (truth b) = true
   is_exact_inside (number z) = true
-  is_exact_inside (text t) = list_all is_ascii t
+  is_exact_inside (text t) = is_ascii_text t
   is_exact_inside (bytes bs) = true
   is_exact_inside (array xs) = are_exact_items xs
   is_exact_inside (object ps) = are_exact_members ps

@@ -2,6 +2,7 @@
 use Rattle.std.specs.Prelude.{◌≡◌, ⊤, ℕ, List, Option, Ok, is_some}
 use Rattle.tera_report.specs.Escaping.{Spells}
 use Rattle.tera_meaning.specs.Answer
+use Rattle.tera_meaning.specs.Fields
 use Rattle.tera_meaning.specs.Form.{Form}
 use Rattle.tera_meaning.specs.Kind.{kind_in}
 use Rattle.tera_meaning.specs.Meaning.{Meaning, plain}
@@ -18,6 +19,7 @@ pub data Question : Type 0 where
   kind : Question
   print : Question
   escape : Question
+  fields : Question
 
 -- what is answered of what a name holds, which reads as undefined where it holds nothing. What is printed is some text,
 -- and one text alone where the meaning is exact
@@ -31,6 +33,7 @@ IsAnswered print held outcome =
     (text : List ℕ) × Prints (plain (read held)) text × (outcome ≡ Ok (Answer.text text))
 IsAnswered escape held outcome =
     (text word : List ℕ) × Prints (plain (read held)) text × Spells word text × (outcome ≡ Ok (Answer.text word))
+IsAnswered fields held outcome = outcome ≡ Ok (Answer.texts (Fields.fields (read held)))
 
 -- the answer is one: what is printed for it, if anything, is exact
 abbrev pub IsFixedAnswer : Question → Meaning → Type 0
@@ -41,6 +44,7 @@ IsFixedAnswer len x = ⊤
 IsFixedAnswer kind x = ⊤
 IsFixedAnswer print x = IsExact x
 IsFixedAnswer escape x = IsExact x
+IsFixedAnswer fields x = ⊤
 
 -- the meaning alone settles the answer, where it is one: not those that read the form
 abbrev pub IsSettledAnswer : Question → Meaning → Type 0
@@ -51,6 +55,7 @@ IsSettledAnswer truthy x = ⊤
 IsSettledAnswer len x = ⊤
 IsSettledAnswer print x = IsExact x
 IsSettledAnswer escape x = IsExact x
+IsSettledAnswer fields x = ⊤
 
 -- the questions whose answers take memory
 abbrev pub TakesMemory : Question → Type 0
@@ -61,3 +66,4 @@ TakesMemory len = ⊥
 TakesMemory kind = ⊥
 TakesMemory print = ⊤
 TakesMemory escape = ⊤
+TakesMemory fields = ⊤

@@ -3,12 +3,14 @@ use Rattle.std.specs.Prelude.{ℕ, Bool, true, false, List, Option, Some, None}
 use Rattle.tera_meaning.specs.Search.{Search}
 use Rattle.tera_meaning.specs.Form.{Form}
 use Rattle.tera_meaning.specs.Question.{Question}
+use Rattle.tera_meaning.specs.State.{State}
 use Rattle.tera_meaning.specs.Weighing.{Weighing}
 
--- It keeps a value, takes a name away, marks a value in its place, asks one value, weighs two, or finds something. Names
--- stand as bytes and values as forms
+-- It keeps a value, takes over all that a source holds, takes a name away, marks a value in its place, asks one value,
+-- weighs two, or finds something. Names stand as bytes and values as forms
 pub data Request : Type 0 where
   set : (name : List ℕ) (value : Form) → Request
+  extend : (source : State) → Request
   remove : (name : List ℕ) → Request
   mark_safe : (name : List ℕ) → Request
   ask : (question : Question) (name : List ℕ) → Request
@@ -30,6 +32,7 @@ asking_into request into = record { request = request; into = Some into }
 -- the requests that heed the name under which what they find, or mark, is to be kept
 abbrev pub heeds_into : Request → Bool
 heeds_into (set name value) = false
+heeds_into (extend source) = false
 heeds_into (remove name) = false
 heeds_into (mark_safe name) = true
 heeds_into (ask question name) = false

@@ -1,14 +1,15 @@
 -- Small meanings, on which the definitions are tried.
-use Rattle.std.specs.Prelude.{◌≡◌, ℕ, Bool, true, false, ◌&&◌, pos, List, [], ◌∷◌, None, is_none}
+use Rattle.std.specs.Prelude.{◌≡◌, ◌-◌, ◌^◌, ℕ, Bool, true, false, ◌&&◌, ℤ, pos, negsuc, List, [], ◌∷◌, Option, None, is_none}
 use Rattle.std.specs.List.{list_all}
 use Rattle.std.specs.Ordering.{is_lt}
 use Rattle.std.specs.declared.cmp.Ordering.{Ordering}
 use Rattle.tera_meaning.specs.Decided.{decided}
 use Rattle.tera_meaning.specs.Form.{Form}
 use Rattle.tera_meaning.specs.Integer.{IntegerKind}
-use Rattle.tera_meaning.specs.KeyMeaning.{KeyMeaning, KeyForm, number_key}
+use Rattle.tera_meaning.specs.KeyMeaning.{KeyMeaning, KeyForm, number_key, text_key, owned}
 use Rattle.tera_meaning.specs.Meaning.{Meaning}
 use Rattle.tera_meaning.specs.Order.{compare}
+use Rattle.tera_meaning.specs.Slice.{IsSliceOf}
 use Rattle.tera_meaning.specs.Tree.{Tree, none, number, text, array, object, items, members}
 
 abbrev pub count : ℕ → Meaning
@@ -36,6 +37,20 @@ normal t = text (record { spelled = t; safe = false })
 abbrev pub marked : List ℕ → Form
 marked t = text (record { spelled = t; safe = true })
 
+-- a number as a form, and one that is not below 0
+abbrev pub integer : IntegerKind → ℤ → Form
+integer kind z = number (record { kind = kind; value = z })
+
+abbrev pub held : IntegerKind → ℕ → Form
+held kind n = integer kind (pos n)
+
+-- the least number of an i128, and the greatest
+abbrev pub least : ℤ
+least = negsuc (2 ^ 127 - 1)
+
+abbrev pub greatest : ℤ
+greatest = pos (2 ^ 127 - 1)
+
 -- a number as a key holds it
 abbrev pub key_of : IntegerKind → ℕ → KeyForm
 key_of kind n = number_key (record { kind = kind; value = pos n })
@@ -48,3 +63,22 @@ ComparesUndecided x y answer = (compare x y ≡ answer) × (decided x y ≡ None
 abbrev pub undecided : List Meaning → Bool
 undecided [] = true
 undecided (x ∷ xs) = list_all (λ y. is_none (decided x y)) xs && undecided xs
+
+-- a list of numbers is the slice of another
+abbrev pub SlicesTo : List ℕ → Option ℤ → Option ℤ → ℤ → List ℕ → Type 0
+SlicesTo xs start end step ys = IsSliceOf xs start end step ys
+
+-- a text as a key holds it
+abbrev pub named : List ℕ → KeyForm
+named t = text_key (owned t)
+
+-- an array and a map of forms
+abbrev pub listed : List Form → Form
+listed xs = array (items xs)
+
+abbrev pub mapped : List (KeyForm × Form) → Form
+mapped ps = object (members ps)
+
+-- a map that holds a value at one text
+abbrev pub at_name : List ℕ → Form → Form
+at_name t value = mapped ((named t, value) ∷ [])

@@ -1,9 +1,10 @@
 -- Whole runs.
-use Rattle.std.specs.Prelude.{◌≡◌, ◌≢◌, not, ⊤, List, [], ◌∷◌, map}
-use Rattle.std.specs.List.{AllByRecursion, filter, fold, zip}
-use Rattle.tera_meaning.specs.State.{State}
-use Rattle.tera_meaning.specs.Outcome.{Outcome, out_of_memory, is_want}
-use Rattle.tera_meaning.specs.Request.{Command}
+use Rattle.std.specs.Prelude.{◌≡◌, ◌≢◌, ◌⊎◌, ⊤, List, [], ◌∷◌, Ok}
+use Rattle.std.specs.List.{AllByRecursion, fold}
+use Rattle.tera_meaning.specs.Answer
+use Rattle.tera_meaning.specs.State.{State, IsProperBeginning}
+use Rattle.tera_meaning.specs.Outcome.{Outcome, out_of_memory}
+use Rattle.tera_meaning.specs.Request.{Command, Request, extend, asking}
 use Rattle.tera_meaning.specs.Step.{IsOutcome, IsFixed, IsStep, state_after}
 
 -- from old the commands come to these outcomes, one each, one step after another, and leave new
@@ -31,12 +32,27 @@ AreFixed state (command ∷ commands) = IsFixed state command.request × AreFixe
 abbrev pub state_after_all : State → List Command → State
 state_after_all state commands = fold state_after state commands
 
--- the commands that found memory, and what these came to
-abbrev pub commands_with_memory : List Command → List Outcome → List Command
-commands_with_memory commands outcomes = map (λ p. p.0) (filter (λ p. not (is_want p.1)) (zip commands outcomes))
+-- what was done where a request wanted memory, before what was done next: nothing; but of `extend` one of some first
+-- names of its source, fewer than all, which was done
+abbrev pub WasDoneInWant : Request → List Command → List Outcome → List Command → List Outcome → Type 0
+WasDoneInWant (extend source) done answers next others =
+    (part : State) × IsProperBeginning part source
+    × (done ≡ asking (extend part) ∷ next) × (answers ≡ Ok Answer.done ∷ others)
+WasDoneInWant _ done answers next others = (done ≡ next) × (answers ≡ others)
 
-abbrev pub outcomes_with_memory : List Outcome → List Outcome
-outcomes_with_memory outcomes = filter (λ outcome. not (is_want outcome)) outcomes
+-- what was done of a command, before what was done next: all of it, but where it wanted memory
+abbrev pub WasDone : Command → Outcome → List Command → List Outcome → List Command → List Outcome → Type 0
+WasDone command outcome done answers next others =
+    ((outcome ≢ out_of_memory) × (done ≡ command ∷ next) × (answers ≡ outcome ∷ others))
+    ⊎ ((outcome ≡ out_of_memory) × WasDoneInWant command.request done answers next others)
+
+-- what was done of commands that came to these outcomes, and the answers to it
+abbrev pub IsDoneOf : List Command → List Outcome → List Command → List Outcome → Type 0
+IsDoneOf [] [] done answers = (done ≡ []) × (answers ≡ [])
+IsDoneOf (command ∷ commands) (outcome ∷ outcomes) done answers =
+    (next : List Command) × (others : List Outcome)
+    × WasDone command outcome done answers next others × IsDoneOf commands outcomes next others
+IsDoneOf _ _ done answers = ⊥
 
 abbrev pub NoneWantsMemory : List Outcome → Type 0
 NoneWantsMemory outcomes = AllByRecursion (λ outcome. outcome ≢ out_of_memory) outcomes

@@ -1,20 +1,57 @@
 -- What is found in a state.
-use Rattle.std.specs.Prelude.{⊤, ℕ, List, Option, Result, Ok}
+use Rattle.std.specs.Prelude.{⊤, ℕ, ℤ, List, Option, Some, Result, Ok, Err}
 use Rattle.std.specs.FinMap.{get as held_at}
-use Rattle.tera_report.specs.Refusal.{Refusal}
+use Rattle.tera_report.specs.Refusal.{Refusal, Operator}
+use Rattle.tera_meaning.specs.Arithmetic.{calculated, negated}
+use Rattle.tera_meaning.specs.Conversion.{IntegerType, read_as}
 use Rattle.tera_meaning.specs.Form.{Form}
-use Rattle.tera_meaning.specs.State.{State}
+use Rattle.tera_meaning.specs.Lookup
+use Rattle.tera_meaning.specs.Path
+use Rattle.tera_meaning.specs.Slice.{reversed}
+use Rattle.tera_meaning.specs.State.{State, form_at}
+use Rattle.tera_meaning.specs.Walk.{sliced}
 
+-- a value, or a part of one, or what is made of it
 pub data Search : Type 0 where
-  get : List ℕ → Search
+  get : (name : List ℕ) → Search
+  path : (name path : List ℕ) → Search
+  attr : (name attr : List ℕ) → Search
+  item : (name item : List ℕ) → Search
+  slice : (name : List ℕ) (start end step : Option ℤ) → Search
+  reverse : (name : List ℕ) → Search
+  calculate : (operator : Operator) (left right : List ℕ) → Search
+  negate : (name : List ℕ) → Search
+  read : (type : IntegerType) (name : List ℕ) → Search
 
 -- a refusal, or what is found, which may be nothing
 abbrev pub Found : Type 0
 Found = Result (Option Form) Refusal
 
+-- a value that is there, or its refusal
+abbrev pub one_found : Result Form Refusal → Found
+one_found (Ok value) = Ok (Some value)
+one_found (Err refusal) = Err refusal
+
 abbrev pub found_at : State → Search → Found
 found_at state (get name) = Ok (held_at state name)
+found_at state (path name p) = Ok (Path.path (form_at state name) p)
+found_at state (attr name t) = Ok (Lookup.attr (form_at state name) t)
+found_at state (item name i) = one_found (Lookup.item (form_at state name) (form_at state i))
+found_at state (slice name start end step) = one_found (sliced (form_at state name) start end step)
+found_at state (reverse name) = one_found (reversed (form_at state name))
+found_at state (calculate operator left right) =
+    one_found (calculated operator (form_at state left) (form_at state right))
+found_at state (negate name) = one_found (negated (form_at state name))
+found_at state (read type name) = one_found (read_as type (form_at state name))
 
--- what is found is a copy, which takes memory
+-- what is found is a copy, which takes memory, but for numbers
 abbrev pub IsCopy : Search → Type 0
 IsCopy (get name) = ⊤
+IsCopy (path name p) = ⊤
+IsCopy (attr name t) = ⊤
+IsCopy (item name i) = ⊤
+IsCopy (slice name start end step) = ⊤
+IsCopy (reverse name) = ⊤
+IsCopy (calculate operator left right) = ⊥
+IsCopy (negate name) = ⊥
+IsCopy (read type name) = ⊥

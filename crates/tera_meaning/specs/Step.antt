@@ -1,5 +1,5 @@
 -- One step of the model: what a request comes to, and what it leaves.
-use Rattle.std.specs.Prelude.{◌≡◌, ◌⊎◌, ⊤, ℕ, List, Option, Some, None, Result, Ok, Err, IsSome, IsErr}
+use Rattle.std.specs.Prelude.{◌≡◌, ◌⊎◌, ⊤, ℕ, List, Option, Some, None, Ok, Err, IsSome, IsErr}
 use Rattle.std.specs.FinMap.{get as held_at, insert, remove as without}
 use Rattle.tera_meaning.specs.Answer
 use Rattle.tera_meaning.specs.Search.{Found, found_at, IsCopy}
@@ -7,8 +7,8 @@ use Rattle.tera_meaning.specs.Form.{Form}
 use Rattle.tera_meaning.specs.Outcome.{Outcome, out_of_memory}
 use Rattle.tera_meaning.specs.Question.{IsAnswered, IsFixedAnswer, TakesMemory}
 use Rattle.tera_meaning.specs.Read.{marked_safe}
-use Rattle.tera_meaning.specs.Request.{Request, set, remove, mark_safe, ask, weigh, find, Command, asking}
-use Rattle.tera_meaning.specs.State.{State, form_at, meaning_at}
+use Rattle.tera_meaning.specs.Request.{Request, set, extend, remove, mark_safe, ask, weigh, find, Command, asking}
+use Rattle.tera_meaning.specs.State.{State, form_at, meaning_at, extended, IsProperBeginning}
 use Rattle.tera_meaning.specs.Weighing.{weighed}
 
 -- what is found is kept where a name for it is given, and is else the answer itself. A refusal is passed on
@@ -35,6 +35,7 @@ marking_into state name (Some into) = insert state into (marked_safe (form_at st
 -- what a request comes to
 abbrev pub ComesTo : State → Request → Option (List ℕ) → Outcome → Type 0
 ComesTo state (set name value) into outcome = outcome ≡ Ok Answer.done
+ComesTo state (extend source) into outcome = outcome ≡ Ok Answer.done
 ComesTo state (remove name) into outcome = outcome ≡ Ok (Answer.found (held_at state name))
 ComesTo state (mark_safe name) into outcome = outcome ≡ Ok Answer.done
 ComesTo state (ask question name) into outcome = IsAnswered question (held_at state name) outcome
@@ -48,6 +49,7 @@ IsOutcome state command outcome = ComesTo state command.request command.into out
 -- the outcome is one: what is printed for it, if anything, is exact
 abbrev pub IsFixed : State → Request → Type 0
 IsFixed state (set name value) = ⊤
+IsFixed state (extend source) = ⊤
 IsFixed state (remove name) = ⊤
 IsFixed state (mark_safe name) = ⊤
 IsFixed state (ask question name) = IsFixedAnswer question (meaning_at state name)
@@ -61,6 +63,7 @@ ComesOnlyTo state request outcome = (given : Outcome) → IsOutcome state (askin
 -- what the request leaves
 abbrev pub leaves : State → Request → Option (List ℕ) → State
 leaves state (set name value) into = insert state name value
+leaves state (extend source) into = extended state source
 leaves state (remove name) into = without state name
 leaves state (mark_safe name) into = marking_into state name into
 leaves state (ask question name) into = state
@@ -70,10 +73,11 @@ leaves state (find search) into = keeping state into (found_at state search)
 abbrev pub state_after : State → Command → State
 state_after state command = leaves state command.request command.into
 
--- the requests that may want memory: to keep a value or a copy, for an answer that takes memory, and for the text of a
+-- the requests that may want memory: to keep values or a copy, for an answer that takes memory, and for the text of a
 -- refusal
 abbrev pub MayWant : State → Request → Option (List ℕ) → Type 0
 MayWant state (set name value) into = ⊤
+MayWant state (extend source) into = ⊤
 MayWant state (remove name) into = ⊥
 MayWant state (mark_safe name) into = IsSome into
 MayWant state (ask question name) into = TakesMemory question
@@ -83,8 +87,14 @@ MayWant state (find search) into = IsSome into ⊎ (IsCopy search ⊎ IsErr (fou
 abbrev pub MayWantMemory : State → Command → Type 0
 MayWantMemory state command = MayWant state command.request command.into
 
--- the command's outcome and the state after it; or, of one that may want memory, want of it, and then nothing has changed
+-- what want of memory leaves: the state as it was; but of `extend` some first names of its source are taken over, fewer
+-- than all
+abbrev pub LeavesInWant : State → Request → State → Type 0
+LeavesInWant old (extend source) new = (part : State) × IsProperBeginning part source × (new ≡ extended old part)
+LeavesInWant old _ new = new ≡ old
+
+-- the command's outcome and the state after it; or, of one that may want memory, want of it, and what this leaves
 abbrev pub IsStep : State → Command → Outcome → State → Type 0
 IsStep old command outcome new =
     (IsOutcome old command outcome × (new ≡ state_after old command))
-    ⊎ (MayWantMemory old command × (outcome ≡ out_of_memory) × (new ≡ old))
+    ⊎ (MayWantMemory old command × (outcome ≡ out_of_memory) × LeavesInWant old command.request new)

@@ -43,10 +43,3 @@ HasOneStep request answer after =
 -- the same of a request that leaves the state as it was
 abbrev pub HasOneAnswer : (List ℕ → Request) → (State → List ℕ → AnswerOf Form) → Type 0
 HasOneAnswer request answer = HasOneStep request answer (λ old name. old)
-
--- the same of a request of two names
-abbrev pub WeighsToOneAnswer : (List ℕ → List ℕ → Request) → (State → List ℕ → List ℕ → AnswerOf Form) → Type 0
-WeighsToOneAnswer request answer =
-    (old new : State) (left right : List ℕ) (into : Option (List ℕ)) (outcome : Outcome)
-    → IsStep old (record { request = request left right; into = into }) outcome new
-    → (outcome ≡ Ok (answer old left right)) × (new ≡ old)

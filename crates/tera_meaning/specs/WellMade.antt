@@ -8,7 +8,7 @@ use Rattle.tera_meaning.specs.Integer.{Integer, IsOfKind, IsWide}
 use Rattle.tera_meaning.specs.KeyMeaning.{KeyForm, KeyMeaning, truth_key, number_key, text_key, key_order, key_text}
 use Rattle.tera_meaning.specs.Meaning.{Meaning}
 use Rattle.tera_meaning.specs.Pairs.{Rises, key_form_order}
-use Rattle.tera_meaning.specs.Request.{Command, Request, set, remove, mark_safe, ask, weigh, find}
+use Rattle.tera_meaning.specs.Request.{Command, Request, set, extend, remove, mark_safe, ask, weigh, find}
 use Rattle.tera_meaning.specs.State.{State}
 use Rattle.tera_meaning.specs.Tree.{Items, Members, undefined, none, truth, number, text, bytes, array, object, no_items, item, no_members, member, members_list}
 
@@ -71,10 +71,11 @@ abbrev mutual
 abbrev pub IsWellMadeState : State → Type 0
 IsWellMadeState state = (name : List ℕ) → IfSome (held_at state name) (λ value. IsUtf8 name × IsWellMade value)
 
--- a value that the request brings is well made, and the name that it is set under spells
+-- the values that the request brings are well made, and the names that they are set under spell
 -- characters in UTF-8
 abbrev pub BringsWellMade : Request → Type 0
 BringsWellMade (set name value) = IsUtf8 name × IsWellMade value
+BringsWellMade (extend source) = IsWellMadeState source
 BringsWellMade (remove name) = ⊤
 BringsWellMade (mark_safe name) = ⊤
 BringsWellMade (ask question name) = ⊤

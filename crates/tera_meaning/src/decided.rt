@@ -10,8 +10,10 @@ ghost use Rattle.tera_meaning.specs.KeyMeaning.{KeyMeaning, truth_key, number_ke
 ghost use Rattle.tera_meaning.specs.Meaning.{Meaning};
 ghost use Rattle.tera_meaning.specs.Order.{compare, rank};
 ghost use Rattle.tera_meaning.specs.Pairs.{map_meaning};
-ghost use Rattle.tera_meaning.specs.Rows.{count, list_of, map_of, normal, marked, key_of, ComparesUndecided, undecided};
-ghost use Rattle.tera_meaning.specs.Tree.{none, undefined, truth, text, bytes, array, object, items, members};
+ghost use Rattle.tera_meaning.specs.Rows.{count, list_of, map_of, normal, marked, key_of};
+ghost use Rattle.tera_meaning.specs.Rows.{ComparesUndecided, undecided};
+ghost use Rattle.tera_meaning.specs.Tree.{none, undefined, truth, text, bytes, array, object};
+ghost use Rattle.tera_meaning.specs.Tree.{items, members};
 
 use std::cmp::Ordering;
 

@@ -3,7 +3,8 @@ ghost use Rattle.std.specs.Prelude.{◌≡◌, ℕ, ◌<◌, ◌↔◌, Bool, �
 ghost use Rattle.std.specs.Ordering.{eq_by_cmp, bool_cmp, int_cmp, nat_cmp};
 ghost use Rattle.std.specs.Cmp.{IsTotalOrder, IsEquivalence};
 ghost use Rattle.std.specs.Cmp.Lexicographic.{slice_cmp};
-ghost use Rattle.tera_meaning.specs.KeyMeaning.{KeyMeaning, truth_key, number_key, text_key, key_rank, key_order};
+ghost use Rattle.tera_meaning.specs.KeyMeaning.{KeyMeaning, truth_key, number_key, text_key};
+ghost use Rattle.tera_meaning.specs.KeyMeaning.{key_rank, key_order};
 
 use std::cmp::Ordering;
 

@@ -2,8 +2,11 @@
 #![tactic(auto)]
 
 pub mod alike;
+pub mod arithmetic;
 pub mod decided;
 pub mod keys;
+pub mod looked_up;
+pub mod lookups;
 pub mod marks;
 pub mod order;
 pub mod pairs;
@@ -11,6 +14,7 @@ pub mod printed;
 pub mod rows;
 pub mod runs;
 pub mod scripts;
+pub mod slices;
 pub mod state;
 pub mod steps;
 pub mod well_made;

@@ -8,10 +8,14 @@ ghost use Rattle.std.specs.Ordering.{on};
 ghost use Rattle.std.specs.Cmp.Lexicographic.{slice_cmp};
 ghost use Rattle.tera_meaning.specs.Form.{Form};
 ghost use Rattle.tera_meaning.specs.Integer.{u64, i64, i128};
-ghost use Rattle.tera_meaning.specs.KeyMeaning.{KeyForm, KeyMeaning, truth_key, number_key, text_key, owned, borrowed, key_order};
+ghost use Rattle.tera_meaning.specs.KeyMeaning.{KeyForm, KeyMeaning, truth_key, number_key};
+ghost use Rattle.tera_meaning.specs.KeyMeaning.{text_key, owned, borrowed, key_order};
 ghost use Rattle.tera_meaning.specs.Meaning.{Meaning, plain};
 ghost use Rattle.tera_meaning.specs.Order.{compare};
-ghost use Rattle.tera_meaning.specs.Pairs.{Rises, HasDistinctKeys, rising, value_at, goes_on, entry_order, agree_at, AgreeEverywhere, IsLeastDifference, order_at, key_form_order, pairs_of, pair_meaning, map_meaning};
+ghost use Rattle.tera_meaning.specs.Pairs.{Rises, HasDistinctKeys, rising, value_at, goes_on};
+ghost use Rattle.tera_meaning.specs.Pairs.{entry_order, agree_at, AgreeEverywhere};
+ghost use Rattle.tera_meaning.specs.Pairs.{IsLeastDifference, order_at, key_form_order, pairs_of};
+ghost use Rattle.tera_meaning.specs.Pairs.{pair_meaning, map_meaning};
 ghost use Rattle.tera_meaning.specs.Rows.{count, key_of};
 ghost use Rattle.tera_meaning.specs.Tree.{object, members};
 

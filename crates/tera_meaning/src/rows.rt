@@ -1,17 +1,20 @@
 //! The definitions at work on small meanings. Each function here does nothing: its clauses are the
 //! rows.
-ghost use Rattle.std.specs.Prelude.{◌≡◌, ℕ, ℤ, Bool, ◌-◌, ◌^◌, codes, true, false, pos, negsuc, List, [], ◌∷◌, IsTrue};
+ghost use Rattle.std.specs.Prelude.{◌≡◌, ℕ, ℤ, Bool, ◌-◌, ◌^◌, codes, true, false, pos, negsuc};
+ghost use Rattle.std.specs.Prelude.{List, [], ◌∷◌, IsTrue};
 ghost use Rattle.tera_report.specs.Escaping.{escaped};
 ghost use Rattle.tera_meaning.specs.Form.{Form, MarkedText};
 ghost use Rattle.tera_meaning.specs.Integer.{Integer, u64, i64, u128, i128};
-ghost use Rattle.tera_meaning.specs.KeyMeaning.{KeyForm, truth_key, number_key, text_key, owned, borrowed};
+ghost use Rattle.tera_meaning.specs.KeyMeaning.{KeyForm, truth_key, number_key, text_key, owned};
+ghost use Rattle.tera_meaning.specs.KeyMeaning.{borrowed};
 ghost use Rattle.tera_meaning.specs.Kind.{kind_in, kind_name};
 ghost use Rattle.tera_meaning.specs.Meaning.{plain};
 ghost use Rattle.tera_meaning.specs.Order.{compare, same};
 ghost use Rattle.tera_meaning.specs.Printed.{is_exact, printed, shown_in_page};
 ghost use Rattle.tera_meaning.specs.Read.{safe_in, size_in, truthy_in};
 ghost use Rattle.tera_meaning.specs.Rows.{count, list_of, map_of, map_at, marked, normal, rises};
-ghost use Rattle.tera_meaning.specs.Tree.{undefined, none, truth, number, text, bytes, array, object, items, members};
+ghost use Rattle.tera_meaning.specs.Tree.{undefined, none, truth, number, text, bytes, array};
+ghost use Rattle.tera_meaning.specs.Tree.{object, items, members};
 
 use std::cmp::Ordering;
 

@@ -4,7 +4,7 @@ ghost use Rattle.tera_meaning.specs.Alike.{MeanTheSame, AllAskTheSame, AreAlike}
 ghost use Rattle.tera_meaning.specs.Outcome.{Outcome};
 ghost use Rattle.tera_meaning.specs.Request.{Command};
 ghost use Rattle.tera_meaning.specs.Run.{IsRun, IsAmpleRun, AreOutcomes, AreFixed, state_after_all};
-ghost use Rattle.tera_meaning.specs.Run.{commands_with_memory, outcomes_with_memory};
+ghost use Rattle.tera_meaning.specs.Run.{IsDoneOf};
 ghost use Rattle.tera_meaning.specs.State.{State};
 ghost use Rattle.tera_meaning.specs.Step.{IsOutcome, IsFixed, IsStep};
 
@@ -28,13 +28,14 @@ pub fn each_outcome_is_that_of_its_command()
         × IsRun next later ps new }
 {}
 
-/// A run with the steps that want memory left out is a run in which no step does, to the same
-/// state; the other outcomes are unchanged.
+/// A run with the steps that want memory left out, an `extend` among them replaced by one of just
+/// the names that it took over, is a run in which no step does, to the same state; the other
+/// outcomes are unchanged.
 pub fn wants_of_memory_can_be_left_out()
     ensures { (old : State) (commands : List Command) (outcomes : List Outcome) (new : State)
         → IsRun old commands outcomes new
-        → IsAmpleRun old
-        (commands_with_memory commands outcomes) (outcomes_with_memory outcomes) new }
+        → (done : List Command) × (answers : List Outcome) × IsDoneOf commands outcomes done answers
+        × IsAmpleRun old done answers new }
 {}
 
 /// A run in which no step wants memory gives outcomes of its commands, one after another, and

@@ -1,14 +1,14 @@
 //! Small runs, from a context that holds nothing. Each function here does nothing: its clauses are
 //! the runs.
 ghost use Rattle.std.specs.Prelude.{codes, true, false, [], ◌∷◌, Ok, Some, None};
-ghost use Rattle.std.specs.FinMap.{empty};
+ghost use Rattle.std.specs.FinMap.{empty, insert};
 ghost use Rattle.tera_meaning.specs.Kind.{text_kind, undefined_kind};
 ghost use Rattle.tera_meaning.specs.Rows.{normal, marked};
 ghost use Rattle.tera_meaning.specs.Answer;
 ghost use Rattle.tera_meaning.specs.Search;
 ghost use Rattle.tera_meaning.specs.Question;
-ghost use Rattle.tera_meaning.specs.Request.{set, remove, mark_safe, ask, weigh, find, asking};
-ghost use Rattle.tera_meaning.specs.Request.{asking_into};
+ghost use Rattle.tera_meaning.specs.Request.{set, extend, remove, mark_safe, ask, weigh, find};
+ghost use Rattle.tera_meaning.specs.Request.{asking, asking_into};
 ghost use Rattle.tera_meaning.specs.Run.{AreOutcomes};
 ghost use Rattle.tera_meaning.specs.Weighing;
 
@@ -46,4 +46,20 @@ pub fn copies_keep_their_flags()
         ∷ asking (ask Question.kind (codes "u")) ∷ [])
         (Ok Answer.done ∷ Ok Answer.done ∷ Ok (Answer.found (Some (marked (codes "<"))))
         ∷ Ok (Answer.truth true) ∷ Ok (Answer.found None) ∷ Ok (Answer.kind text_kind) ∷ []) }
+{}
+
+/// What is taken over replaces what was there, and all else stays.
+pub fn what_is_taken_over_replaces()
+    ensures { AreOutcomes empty
+        (asking (set (codes "a") (normal (codes "1")))
+        ∷ asking (set (codes "b") (normal (codes "2")))
+        ∷ asking (extend (insert (insert empty (codes "b") (normal (codes "3")))
+        (codes "d") (normal (codes "4"))))
+        ∷ asking (find (Search.get (codes "a")))
+        ∷ asking (find (Search.get (codes "b")))
+        ∷ asking (find (Search.get (codes "d"))) ∷ [])
+        (Ok Answer.done ∷ Ok Answer.done ∷ Ok Answer.done
+        ∷ Ok (Answer.found (Some (normal (codes "1"))))
+        ∷ Ok (Answer.found (Some (normal (codes "3"))))
+        ∷ Ok (Answer.found (Some (normal (codes "4")))) ∷ []) }
 {}

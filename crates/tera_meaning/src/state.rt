@@ -1,11 +1,13 @@
 //! The laws of what a context holds. Each function here does nothing: its clauses are the law.
-ghost use Rattle.std.specs.Prelude.{◌≡◌, ◌≢◌, ℕ, List};
+ghost use Rattle.std.specs.Prelude.{◌≡◌, ◌≢◌, ◌<◌, ◌↔◌, ℕ, IsTrue, List, None, IsSome};
 ghost use Rattle.std.specs.Cmp.Lexicographic.{slice_cmp};
-ghost use Rattle.std.specs.FinMap.{empty, get, insert, remove};
+ghost use Rattle.std.specs.FinMap.{empty, get, insert, len, remove};
 ghost use Rattle.std.specs.Ordering.{nat_cmp};
+ghost use Rattle.tera_meaning.specs.Alike.{MeanTheSame};
 ghost use Rattle.tera_meaning.specs.Form.{Form};
 ghost use Rattle.tera_meaning.specs.Meaning.{plain};
-ghost use Rattle.tera_meaning.specs.State.{State, meaning_at};
+ghost use Rattle.tera_meaning.specs.State.{State, states_equal, extended, IsProperBeginning};
+ghost use Rattle.tera_meaning.specs.State.{meaning_at};
 ghost use Rattle.tera_meaning.specs.Tree.{undefined};
 
 /// After a value is set the name holds it, and each other name what it held.
@@ -37,8 +39,31 @@ pub fn setting_gives_the_meaning()
     ensures nothing { (name : List ℕ) → get {X = Form} {R = slice_cmp nat_cmp} empty name ≡ None }
 {}
 
+/// After a state takes over what a source holds, each name of the source has the source's value,
+/// and each other name what it had.
+pub fn extending_gives_the_values_of_the_source()
+    ensures source { (state source : State) (name : List ℕ) → IsSome (get source name)
+        → get (extended state source) name ≡ get source name }
+    ensures others { (state source : State) (name : List ℕ) → get source name ≡ None
+        → get (extended state source) name ≡ get state name }
+{}
+
+/// A state has a beginning of each number of names below its own, and this holds nothing that the
+/// state does not hold.
+pub fn states_have_beginnings()
+    ensures some { (whole : State) (n : ℕ) → n < len whole
+        → (part : State) × IsProperBeginning part whole × (len part ≡ n) }
+    ensures held { (part whole : State) (name : List ℕ) → IsProperBeginning part whole
+        → IsSome (get part name) → get whole name ≡ get part name }
+{}
+
+/// States are equal exactly where they hold the same names and each means the same.
+pub fn equal_states_mean_the_same()
+    ensures { (f g : State) → IsTrue (states_equal f g) ↔ MeanTheSame f g }
+{}
+
 /// Two states that hold the same at each name are one state.
-pub fn states_that_answer_alike_are_equal()
+pub fn states_that_hold_the_same_are_equal()
     ensures { (left right : State) → ((name : List ℕ) → get left name ≡ get right name)
         → left ≡ right }
 {}

@@ -19,11 +19,11 @@ ghost use Rattle.tera_meaning.specs.Question.{Question, IsAnswered, TakesMemory}
 ghost use Rattle.tera_meaning.specs.Request.{Request, Command, set, remove, mark_safe, ask, weigh};
 ghost use Rattle.tera_meaning.specs.Request.{find, heeds_into, asking, asking_into};
 ghost use Rattle.tera_meaning.specs.State.{State, form_at, meaning_at};
-ghost use Rattle.tera_meaning.specs.Step.{ComesTo, ComesOnlyTo, IsOutcome, IsStep, MayWantMemory};
-ghost use Rattle.tera_meaning.specs.Step.{leaves, marking, state_after};
+ghost use Rattle.tera_meaning.specs.Step.{ComesTo, ComesOnlyTo, IsOutcome, IsStep};
+ghost use Rattle.tera_meaning.specs.Step.{leaves, LeavesInWant, marking, MayWantMemory};
+ghost use Rattle.tera_meaning.specs.Step.{state_after};
 ghost use Rattle.tera_meaning.specs.Steps.{AbsentAnswers, BothAbsentAnswer, ExactAnswers};
 ghost use Rattle.tera_meaning.specs.Steps.{HasOneAnswer, HasOneStep, HeldAnswers};
-ghost use Rattle.tera_meaning.specs.Steps.{WeighsToOneAnswer};
 ghost use Rattle.tera_meaning.specs.Tree.{undefined};
 ghost use Rattle.tera_meaning.specs.Weighing;
 ghost use Rattle.tera_meaning.specs.Weighing.{Weighing, weighed};
@@ -153,14 +153,15 @@ pub fn what_is_marked_is_kept()
         ≡ held_at state other }
 {}
 
-/// Want of memory changes nothing, and only a command that may want it comes to it.
+/// Only a command that may want memory comes to want of it. This changes nothing; but of `extend`
+/// some first names of its source are taken over, fewer than all.
 pub fn wants_of_memory_change_nothing()
     ensures { (old new : State) (command : Command) → IsStep old command out_of_memory new
-        → MayWantMemory old command × (new ≡ old) }
+        → MayWantMemory old command × LeavesInWant old command.request new }
 {}
 
 /// These never want memory, whatever name is given for what they find: each has one answer and
-/// leaves one state.
+/// leaves one state. Marking wants none in place.
 pub fn these_requests_never_want_memory()
     ensures remove { HasOneStep remove (λ old name. Answer.found (held_at old name))
         (λ old name. without old name) }
@@ -174,17 +175,14 @@ pub fn these_requests_never_want_memory()
         (λ old name. Answer.kind (kind_in (form_at old name))) }
     ensures safe { HasOneAnswer (ask Question.is_safe)
         (λ old name. Answer.truth (safe_in (form_at old name))) }
-    ensures equal { WeighsToOneAnswer (weigh Weighing.equal)
-        (λ old left right. Answer.truth (same (meaning_at old left) (meaning_at old right))) }
-    ensures compare { WeighsToOneAnswer (weigh Weighing.compare)
-        (λ old left right. Answer.order
-        (Some (compare (meaning_at old left) (meaning_at old right)))) }
     ensures ask { (question : Question) → (TakesMemory question → ⊥) → (old new : State)
-        (name : List ℕ) (outcome : Outcome) → IsStep old (asking (ask question name)) outcome new
+        (name : List ℕ) (into : Option (List ℕ)) (outcome : Outcome)
+        → IsStep old (record { request = ask question name; into = into }) outcome new
         → IsAnswered question (held_at old name) outcome × (new ≡ old) }
     ensures weigh { (weighing : Weighing) (old new : State) (left right : List ℕ)
-        (outcome : Outcome) → IsOk (weighed weighing (form_at old left) (form_at old right))
-        → IsStep old (asking (weigh weighing left right)) outcome new
+        (into : Option (List ℕ)) (outcome : Outcome)
+        → IsOk (weighed weighing (form_at old left) (form_at old right))
+        → IsStep old (record { request = weigh weighing left right; into = into }) outcome new
         → (outcome ≡ weighed weighing (form_at old left) (form_at old right)) × (new ≡ old) }
     ensures mark { (old new : State) (name : List ℕ) (outcome : Outcome)
         → IsStep old (asking (mark_safe name)) outcome new

@@ -6,10 +6,11 @@ use Rattle.std.proofs.lemmas.List.{length-map, map-append}
 use Rattle.tera_meaning.specs.State.{State}
 use Rattle.tera_meaning.specs.Request.{Command}
 use Rattle.tera_script.specs.Line.{IsBad}
+use Rattle.tera_report.specs.Report.{Report, report_text}
 use Rattle.tera_replayer.specs.Script.{Script, without_return, last_line, ended, line_feed}
-use Rattle.tera_replayer.specs.Replay.{lines_given, AllAnswered, ReadingFailed, MemoryFailed, AreAnswered, report, SourceMayFail}
-use Rattle.tera_replayer.specs.Source.{EndIsTold}
-use Rattle.tera_replayer.specs.Stretch.{Runs, Place, Goes, StopsAtBad, Begins, start}
+use Rattle.tera_replayer.specs.Replay.{lines_given, AllAnswered, ReadingFailed, MemoryFailed, AreAnswered, report}
+use Rattle.tera_replayer.specs.Source.{EndIsTold, MayErr}
+use Rattle.tera_replayer.specs.Stretch.{bad_at, Runs, Place, Goes, StopsAtBad, Begins, start}
 use Rattle.tera_replayer.proofs.RunLemmas.{Runs-append, Script-append}
 use Rattle.tera_replayer.proofs.SplitLemmas.{Splits-more, splits, split_line}
 
@@ -32,10 +33,10 @@ first_given (Some false) xs ys part = (last_line part, ap (λ (zs : List (List �
 first_given None xs ys part = (last_line part, ap (λ (zs : List (List ℕ)). zs ++ last_line part) (map-append without_return xs ys) ∙ append_assoc (map without_return xs) (map without_return ys) (last_line part))
 
 -- a script ends at its first bad line
-Script-bad : (n m : ℕ) (xs : List (List ℕ)) (line : List ℕ) (ys : List (List ℕ)) (cs : List Command) → Script n xs cs None → m ≡ n + length xs → IsBad line → Script n (xs ++ line ∷ ys) cs (Some m)
+Script-bad : (n m : ℕ) (xs : List (List ℕ)) (line : List ℕ) (ys : List (List ℕ)) (cs : List Command) → Script n xs cs None → m ≡ n + length xs → IsBad line → Script n (xs ++ line ∷ ys) cs (Some (bad_at m line))
 Script-bad n m xs line ys cs s e bad =
-    let P : List Command → Type 0 = λ c. Script n (xs ++ line ∷ ys) c (Some m) in
-    subst P (append-nil cs) (Script-append n xs (line ∷ ys) cs [] (Some m) s m e (inr (inr (bad, refl, refl))))
+    let P : List Command → Type 0 = λ c. Script n (xs ++ line ∷ ys) c (Some (bad_at m line)) in
+    subst P (append-nil cs) (Script-append n xs (line ∷ ys) cs [] (Some (bad_at m line)) s m e (inr (inr (bad, refl, refl))))
 
 counted : (bytes text : List ℕ) (p : Place) (g : Goes start bytes text p) → p.number ≡ 1 + length (map without_return g.lines)
 counted bytes text p g = omega (arith, g.number_is, length-map g.lines without_return)
@@ -63,40 +64,40 @@ at_end bytes text more fails p v new told g h =
     }
 
 -- a line that ends with a line feed is bad
-pub at_bad : (bytes text : List ℕ) (fails : Option Bool) (n : ℕ) → StopsAtBad start bytes n text → AllAnswered bytes fails text (report (Some n)) 2
-at_bad bytes text fails n s =
+pub at_bad : (bytes text : List ℕ) (fails : Option Bool) (report : Report) → StopsAtBad start bytes report text → AllAnswered bytes fails text (ended (report_text report)) 2
+at_bad bytes text fails report s =
     let g = s.goes in
     let t = split_line s.place.part s.unread g.rest in
     let given = first_given fails g.lines (s.place.part ∷ t.0) t.1 in
-    let P : List (List ℕ) → Type 0 = λ ls. Script 1 ls g.runs.commands (Some n) in
-    let numbered : n ≡ 1 + length (map without_return g.lines) = s.number_is ∙ counted s.read text s.place g in
+    let P : List (List ℕ) → Type 0 = λ ls. Script 1 ls g.runs.commands (Some (bad_at s.place.number (without_return s.place.part))) in
+    let numbered = counted s.read text s.place g in
     record {
       lines = g.lines ++ s.place.part ∷ t.0;
       part = t.1;
-      bad = Some n;
+      bad = Some (bad_at s.place.number (without_return s.place.part));
       outcomes = g.runs.outcomes;
       split = Splits-more (s.place.part ++ line_feed ∷ s.unread) bytes (s.place.part ∷ t.0) g.lines t.1 g.each t.2 (regrouped bytes s.read (line_feed ∷ s.unread) text s.place g s.bytes_are);
       answers = record {
         commands = g.runs.commands;
         state = s.place.state;
-        script = subst P (sym given.1) (Script-bad 1 n (map without_return g.lines) (without_return s.place.part) (map without_return t.0 ++ given.0) g.runs.commands g.runs.script numbered s.bad);
+        script = subst P (sym given.1) (Script-bad 1 s.place.number (map without_return g.lines) (without_return s.place.part) (map without_return t.0 ++ given.0) g.runs.commands g.runs.script numbered s.bad);
         run = g.runs.run;
       };
       ended = λ is. refl;
       replied = g.runs.replied;
-      err_is = refl;
+      err_is = ap (λ r. ended (report_text r)) s.report_is;
       status_is = refl;
     }
 
 -- what follows the last line feed is bad
-pub at_bad_end : (bytes text : List ℕ) (fails : Option Bool) (p : Place) → EndIsTold fails → Goes start bytes text p → last_line p.part ≡ p.part ∷ [] → IsBad p.part → AllAnswered bytes fails text (report (Some p.number)) 2
+pub at_bad_end : (bytes text : List ℕ) (fails : Option Bool) (p : Place) → EndIsTold fails → Goes start bytes text p → last_line p.part ≡ p.part ∷ [] → IsBad p.part → AllAnswered bytes fails text (report (Some (bad_at p.number p.part))) 2
 at_bad_end bytes text fails p told g whole bad =
-    let P : List (List ℕ) → Type 0 = λ ls. Script 1 ls g.runs.commands (Some p.number) in
+    let P : List (List ℕ) → Type 0 = λ ls. Script 1 ls g.runs.commands (Some (bad_at p.number p.part)) in
     let given : lines_given fails g.lines p.part ≡ map without_return g.lines ++ p.part ∷ [] = all_given fails g.lines p.part told ∙ ap (λ (zs : List (List ℕ)). map without_return g.lines ++ zs) whole in
     record {
       lines = g.lines;
       part = p.part;
-      bad = Some p.number;
+      bad = Some (bad_at p.number p.part);
       outcomes = g.runs.outcomes;
       split = record { whole = g.split; each = g.each; rest = g.rest };
       answers = record {
@@ -136,7 +137,7 @@ at_memory bytes text fails s =
     }
 
 -- reading failed
-pub at_failure : (bytes given rest text : List ℕ) (fails : Option Bool) (p : Place) → bytes ≡ given ++ rest → SourceMayFail fails rest ⊎ (2 ^ 64 - 1 ≤ length given) → Goes start given text p → ReadingFailed bytes fails text (codes "error: reading failed\n") 1
+pub at_failure : (bytes given rest text : List ℕ) (fails : Option Bool) (p : Place) → bytes ≡ given ++ rest → MayErr fails (Some rest) ⊎ (2 ^ 64 - 1 ≤ length given) → Goes start given text p → ReadingFailed bytes fails text (codes "error: reading failed\n") 1
 at_failure bytes given rest text fails p e cause g = record {
   given = given;
   rest = rest;

@@ -1,13 +1,15 @@
 -- The whole input, piece by piece.
-use Rattle.std.proofs.Common.{◌≡◌, ℕ, ◌+◌, ◌-◌, ◌^◌, ◌<◌, ◌≤◌, Bool, true, false, ◌||◌, inl, inr, List, [], ◌∷◌, ◌++◌, length, Option, None, Some, Result, Ok, Err, IfSome, IfOk, IfErr, cond, sym, ◌∙◌, ap, subst, refl, append_assoc, append-nil, length-append, arith}
-use Rattle.std.specs.Io.KnownBytes.{Consumes, IsAtEnd, Keeps}
+use Rattle.std.proofs.Common.{◌≡◌, ℕ, ◌+◌, ◌-◌, ◌^◌, ◌<◌, ◌≤◌, Bool, ◌||◌, inl, inr, List, [], ◌∷◌, ◌++◌, length, Option, None, Some, Result, Ok, Err, IfSome, IfOk, IfErr, cond, sym, ◌∙◌, ap, subst, refl, append_assoc, append-nil, length-append, arith}
+use Rattle.std.specs.Io.KnownBytes.{Consumes, IsAtEnd}
 use Rattle.tera_meaning.specs.State.{State}
+use Rattle.tera_report.specs.Errors.{report_of}
+use Rattle.tera_report.specs.Report.{Report, report_text}
 use Rattle.tera_report.specs.Sink.{Sends, Broke}
 use Rattle.tera_report.specs.SentLaws.{sends_nothing, sends_joined, sends_flush, broke_later, broke_flush}
 use Rattle.tera_replayer.specs.declared.fault.Fault.{Fault}
 use Rattle.tera_replayer.specs.declared.fault.Fault.TheVariants.{BadLine, ReadFailed, WriteFailed, OutOfMemory}
-use Rattle.tera_replayer.specs.Script.{last_line, line_feed}
-use Rattle.tera_replayer.specs.Replay.{AllAnswered, SourceMayFail, report}
+use Rattle.tera_replayer.specs.Script.{ended, last_line, line_feed}
+use Rattle.tera_replayer.specs.Replay.{AllAnswered}
 use Rattle.tera_replayer.specs.Source.{EndIsTold, MayErr}
 use Rattle.tera_replayer.specs.Stretch.{Place, Goes, Runs, StopsAtBad, Begins, Stops, LineStops, Ends, start}
 use Rattle.tera_replayer.proofs.StretchLemmas.{Goes-append, Goes-none}
@@ -31,16 +33,6 @@ Consumes-append None b c xs ys g h = tt
 Consumes-append (Some hs) None c xs ys g h = absurd g
 Consumes-append (Some hs) (Some bs) None xs ys g h = absurd h
 Consumes-append (Some hs) (Some bs) (Some cs) xs ys g h = g ∙ ap (λ (zs : List ℕ). xs ++ zs) h ∙ sym (append_assoc xs ys cs)
-
-pub Consumes-keeps : (a b : Option (List ℕ)) → Keeps a b → Consumes a b []
-Consumes-keeps None b h = tt
-Consumes-keeps (Some hs) None h = absurd h
-Consumes-keeps (Some hs) (Some bs) h = sym h
-
-source_may_fail : (fails : Option Bool) (rest : List ℕ) → MayErr fails (Some rest) → SourceMayFail fails rest
-source_may_fail (Some true) rest h = h
-source_may_fail (Some false) rest h = h
-source_may_fail None rest h = h
 
 -- how the whole went, where it is known what the source had
 abbrev pub EndsKnown : Option (List ℕ) → Option Bool → (List ℕ → Type 0) → Type 0 → Result Bool Fault → Type 0
@@ -115,7 +107,7 @@ module _ {S : Type 0} (takes fails_on : S → List ℕ → S → Type 0) (flushe
   Fed-failed None left fails turn now before after f may = tt
   Fed-failed (Some bytes) None fails turn now before after f may = absurd f.consumed
   Fed-failed (Some bytes) (Some rest) fails turn now before after f may =
-      (f.text, at_failure bytes f.given rest f.text fails now f.consumed (inl (source_may_fail fails rest may)) f.goes, f.sent)
+      (f.text, at_failure bytes f.given rest f.text fails now f.consumed (inl may) f.goes, f.sent)
 
   -- there were too many reads
   pub Fed-too_long : (first left : Option (List ℕ)) (fails : Option Bool) (turn : ℕ) (now : Place) (before after : S) → Fed takes flushes first left turn now before after → 2 ^ 64 - 1 ≤ turn → EndsKnown first fails (Sent before after) (IsBroken before after) (Err ReadFailed)
@@ -130,19 +122,19 @@ module _ {S : Type 0} (takes fails_on : S → List ℕ → S → Type 0) (flushe
   Fed-stops None left later fails turn now piece before mid after fault f h stops = tt
   Fed-stops (Some bytes) None later fails turn now piece before mid after fault f h stops = absurd f.consumed
   Fed-stops (Some bytes) (Some left) None fails turn now piece before mid after fault f h stops = absurd h
-  Fed-stops (Some bytes) (Some left) (Some later) fails turn now piece before mid after (BadLine n) f h stops =
+  Fed-stops (Some bytes) (Some left) (Some later) fails turn now piece before mid after (BadLine e) f h stops =
       let s = stops.1 in
       let text = f.text ++ stops.0 in
-      let at : StopsAtBad start bytes n text = record {
+      let at : StopsAtBad start bytes (report_of e.value) text = record {
         read = f.given ++ s.read;
         unread = s.unread ++ later;
         place = s.place;
         bytes_are = f.consumed ∙ ap (λ (zs : List ℕ). f.given ++ zs) (h ∙ ap (λ (zs : List ℕ). zs ++ later) s.bytes_are ∙ append_assoc s.read (line_feed ∷ s.unread) later) ∙ sym (append_assoc f.given s.read (line_feed ∷ s.unread ++ later));
         goes = Goes-append start now s.place f.given s.read f.text stops.0 f.goes s.goes;
         bad = s.bad;
-        number_is = s.number_is;
+        report_is = s.report_is;
       } in
-      (text, at_bad bytes text fails n at, sends_joined takes flushes before f.text mid stops.0 after f.sent stops.2)
+      (text, at_bad bytes text fails (report_of e.value) at, sends_joined takes flushes before f.text mid stops.0 after f.sent stops.2)
   Fed-stops (Some bytes) (Some left) (Some later) fails turn now piece before mid after ReadFailed f h stops = absurd stops
   Fed-stops (Some bytes) (Some left) (Some later) fails turn now piece before mid after WriteFailed f h stops =
       broke_later takes flushes fails_on flush_fails before f.text mid after f.sent stops
@@ -176,8 +168,8 @@ module _ {S : Type 0} (takes fails_on : S → List ℕ → S → Type 0) (flushe
       let P : Bool → Type 0 = λ w. AllAnswered bytes fails (f.text ++ ok.0) [] (cond w 1 0) in
       let all = at_end bytes f.text ok.0 fails now ok.1 new told (all_given bytes rest turn now before mid f end) ok.2 in
       (f.text ++ ok.0, subst P (sym ok.3) all, sends_joined takes flushes before f.text mid ok.0 after f.sent ok.4)
-  Fed-all (Some bytes) (Some rest) fails turn now new before mid after (Err (BadLine n)) f end told ok err =
-      let P : ℕ → Type 0 = λ m. AllAnswered bytes fails f.text (report (Some m)) 2 in
+  Fed-all (Some bytes) (Some rest) fails turn now new before mid after (Err (BadLine e)) f end told ok err =
+      let P : Report → Type 0 = λ r. AllAnswered bytes fails f.text (ended (report_text r)) 2 in
       let all = at_bad_end bytes f.text fails now told (all_given bytes rest turn now before mid f end) err.0 err.1.1 in
       (f.text, subst P (sym err.1.0) all, sent_still f.text before mid after f.sent err.1.2)
   Fed-all (Some bytes) (Some rest) fails turn now new before mid after (Err ReadFailed) f end told ok err = absurd err.1

@@ -9,7 +9,6 @@ pub mod SplitLemmas
 pub mod StretchLemmas
 pub mod EndLemmas
 pub mod LineLemmas
-pub mod FeedLemmas
 pub mod PieceLemmas
 pub mod InputLemmas
 pub mod ReplayLemmas

@@ -1,5 +1,5 @@
 -- One line, and the carriage return at its end.
-use Rattle.std.proofs.Common.{◌≡◌, ℕ, suc, zero, Bool, true, false, ◌||◌, List, [], ◌∷◌, length, get_or, take, cond, inl, inr, sym, ap, refl, append-nil, arith, eq-eqb}
+use Rattle.std.proofs.Common.{◌≡◌, ℕ, suc, zero, Bool, false, List, [], ◌∷◌, length, get_or, take, cond, inl, inr, sym, ap, refl, append-nil, arith, eq-eqb}
 use Rattle.std.proofs.lemmas.Bool.{ne_eqb}
 use Rattle.tera_meaning.specs.State.{State}
 use Rattle.tera_meaning.specs.Outcome.{Outcome, is_want}
@@ -9,6 +9,7 @@ use Rattle.tera_script.specs.Line.{Says, IsSkipped}
 use Rattle.tera_replayer.specs.Reply.{IsReply}
 use Rattle.tera_replayer.specs.Script.{without_return, carriage_return, ended}
 use Rattle.tera_replayer.specs.Stretch.{Runs}
+use Rattle.tera_replayer.proofs.RunLemmas.{or_false}
 
 -- a carriage return at the end is dropped
 pub without_return-last : (xs : List ℕ) (n : ℕ) → length xs ≡ suc n → get_or xs n 0 ≡ carriage_return → take n xs ≡ without_return xs
@@ -25,10 +26,6 @@ without_return-other (b ∷ []) zero e h = ap (λ (t : Bool). cond t [] (b ∷ [
 without_return-other (b ∷ []) (suc n) e h = absurd (omega arith)
 without_return-other (b ∷ c ∷ bs) zero e h = absurd (omega arith)
 without_return-other (b ∷ c ∷ bs) (suc n) e h = ap (λ (ys : List ℕ). b ∷ ys) (without_return-other (c ∷ bs) n (omega arith) h)
-
-pub or_false : (a : Bool) → a ≡ (a || false)
-or_false true = refl
-or_false false = refl
 
 pub Runs-skipped : (n : ℕ) (state : State) (line : List ℕ) → IsSkipped line → Runs n state (line ∷ []) [] false state
 Runs-skipped n state line skipped = record {

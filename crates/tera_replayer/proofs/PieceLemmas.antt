@@ -50,11 +50,11 @@ module _ {S : Type 0} (takes fails : S → List ℕ → S → Type 0) (flushes f
   pub Progress-stops : (old now : Place) (piece rest line later : List ℕ) (before mid after : S) (fault : Fault) → Progress takes flushes old piece rest now before mid → HasNoLineFeed now.part → HasNoLineFeed line → rest ≡ ended line ++ later
       → LineStops now.number (without_return (now.part ++ line)) (Sends takes flushes mid [] after) (Broke takes fails flushes flush_fails mid after) fault
       → Stops old piece (λ text. Sends takes flushes before text after) (Broke takes fails flushes flush_fails before after) fault
-  Progress-stops old now piece rest line later before mid after (BadLine n) p part_in line_in e h =
+  Progress-stops old now piece rest line later before mid after (BadLine report) p part_in line_in e h =
       let here : Place = record now { part = now.part ++ line } in
       let goes = Goes-part now here line part_in line_in refl refl refl refl in
       let q = Progress-more old now here piece rest (line_feed ∷ later) line [] before mid after p (e ∙ append_assoc line (line_feed ∷ []) later) goes h.2 in
-      (q.text, record { read = q.read; unread = later; place = here; bytes_are = q.piece_is; goes = q.goes; bad = h.1; number_is = h.0 }, q.sent)
+      (q.text, record { read = q.read; unread = later; place = here; bytes_are = q.piece_is; goes = q.goes; bad = h.1; report_is = h.0 }, q.sent)
   Progress-stops old now piece rest line later before mid after ReadFailed p part_in line_in e h = absurd h
   Progress-stops old now piece rest line later before mid after WriteFailed p part_in line_in e h =
       broke_later takes flushes fails flush_fails before p.text mid after p.sent h

@@ -1,20 +1,13 @@
 -- What was put, and what a failed put stands for.
-use Rattle.std.proofs.Common.{◌≡◌, ℕ, List, [], sym, subst}
+use Rattle.std.proofs.Common.{◌≡◌, ℕ, List, sym, subst}
 use Rattle.std.specs.Prelude.{Result, Ok, Err, MatchResult, OnOk, IfOk, IfErr, IsErrAnd}
-use Rattle.tera_meaning.specs.Outcome.{Outcome}
-use Rattle.tera_report.specs.Sink.{Puts, PutsThese, Sends, Broke}
+use Rattle.tera_report.specs.Sink.{Puts, Sends, Broke}
 use Rattle.tera_report.specs.SentLaws.{sends_put, broke_put}
 use Rattle.tera_replayer.specs.declared.fault.Fault.{Fault}
 use Rattle.tera_replayer.specs.declared.fault.Fault.TheVariants.{WriteFailed}
 use Rattle.tera_replayer.specs.Stretch.{ReplyStops}
 
 module _ {S E : Type 0} (takes fails : S → List ℕ → S → Type 0) where
-  -- bytes with a property were put
-  pub puts_these : (P : List ℕ → Type 0) (result : Result (Unit {0}) E) (bytes : List ℕ) (old new : S) → P bytes
-      → PutsThese takes fails result bytes old new → Puts takes fails result P old new
-  puts_these P (Ok done) bytes old new has h = (bytes, has, h)
-  puts_these P (Err fault) bytes old new has h = (bytes, has, h)
-
   pub puts_weaker : (P Q : List ℕ → Type 0) (result : Result (Unit {0}) E) (old new : S) → ((bytes : List ℕ) → P bytes → Q bytes)
       → Puts takes fails result P old new → Puts takes fails result Q old new
   puts_weaker P Q (Ok done) old new weaker (bytes, has, h) = (bytes, weaker bytes has, h)
@@ -34,14 +27,14 @@ answered (Err fault) P Q then has = tt
 
 -- a reply was put, or a write failed
 module _ {S : Type 0} (takes fails : S → List ℕ → S → Type 0) (flushes flush_fails : S → S → Type 0) where
-  abbrev pub Replied : Outcome → (List ℕ → Type 0) → S → S → Result (Unit {0}) Fault → Type 0
-  Replied outcome P old new result =
+  abbrev pub Replied : (List ℕ → Type 0) → S → S → Result (Unit {0}) Fault → Type 0
+  Replied P old new result =
       OnOk result ((line : List ℕ) × P line × Sends takes flushes old line new)
-      × IfErr result (ReplyStops outcome (Sends takes flushes old [] new) (Broke takes fails flushes flush_fails old new))
+      × IfErr result (ReplyStops (Broke takes fails flushes flush_fails old new))
 
-  pub replied : {E : Type 0} (outcome : Outcome) (P : List ℕ → Type 0) (put : Result (Unit {0}) E) (result : Result (Unit {0}) Fault) (old new : S)
-      → MatchResult put (λ _. result ≡ Ok tt) (λ _. result ≡ Err WriteFailed) → Puts takes fails put P old new → Replied outcome P old new result
-  replied outcome P (Ok done) result old new is (bytes, has, h) =
-      subst (Replied outcome P old new) (sym is) ((bytes, has, sends_put takes flushes old bytes new h), tt)
-  replied outcome P (Err fault) result old new is (bytes, has, h) =
-      subst (Replied outcome P old new) (sym is) (tt, broke_put takes flushes fails flush_fails old bytes new h)
+  pub replied : {E : Type 0} (P : List ℕ → Type 0) (put : Result (Unit {0}) E) (result : Result (Unit {0}) Fault) (old new : S)
+      → MatchResult put (λ _. result ≡ Ok tt) (λ _. result ≡ Err WriteFailed) → Puts takes fails put P old new → Replied P old new result
+  replied P (Ok done) result old new is (bytes, has, h) =
+      subst (Replied P old new) (sym is) ((bytes, has, sends_put takes flushes old bytes new h), tt)
+  replied P (Err fault) result old new is (bytes, has, h) =
+      subst (Replied P old new) (sym is) (tt, broke_put takes flushes fails flush_fails old bytes new h)

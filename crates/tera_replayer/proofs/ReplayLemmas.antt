@@ -10,7 +10,7 @@ use Rattle.tera_replayer.specs.Stretch.{Ends, EndsFlushed, told, status_at}
 
 ends_replays : (bytes : List ℕ) (fails : Option Bool) (OutGets : List ℕ → Type 0) (OutBroke : Type 0) (ErrGets : List ℕ → Type 0) (result : Result Bool Fault) → Ends bytes fails OutGets OutBroke result → ErrGets (told result) → Replays bytes fails OutGets OutBroke ErrGets (status_at result)
 ends_replays bytes fails OutGets OutBroke ErrGets (Ok wanted) h told = inl (h.0, _, inl h.1, h.2, told)
-ends_replays bytes fails OutGets OutBroke ErrGets (Err (BadLine n)) h told = inl (h.0, _, inl h.1, h.2, told)
+ends_replays bytes fails OutGets OutBroke ErrGets (Err (BadLine report)) h told = inl (h.0, _, inl h.1, h.2, told)
 ends_replays bytes fails OutGets OutBroke ErrGets (Err ReadFailed) h told = inl (h.0, _, inr (inl h.1), h.2, told)
 ends_replays bytes fails OutGets OutBroke ErrGets (Err WriteFailed) h told = inr (h, refl, told)
 ends_replays bytes fails OutGets OutBroke ErrGets (Err OutOfMemory) h told = inl (h.0, _, inr (inr h.1), h.2, told)
@@ -30,7 +30,7 @@ module _ {S : Type 0} (takes fails_on : S → List ℕ → S → Type 0) (flushe
   -- a last flush went well
   flushed_well : (bytes : List ℕ) (fails : Option Bool) (old mid new : S) (ending : Result Bool Fault) → Answered bytes fails old mid ending → flushes mid new → (ending ≡ Err WriteFailed → ⊥) → Delivered bytes fails old new ending
   flushed_well bytes fails old mid new (Ok wanted) h f other = (h.0, h.1, (mid, h.2, f))
-  flushed_well bytes fails old mid new (Err (BadLine n)) h f other = (h.0, h.1, (mid, h.2, f))
+  flushed_well bytes fails old mid new (Err (BadLine report)) h f other = (h.0, h.1, (mid, h.2, f))
   flushed_well bytes fails old mid new (Err ReadFailed) h f other = (h.0, h.1, (mid, h.2, f))
   flushed_well bytes fails old mid new (Err WriteFailed) h f other = absurd (other refl)
   flushed_well bytes fails old mid new (Err OutOfMemory) h f other = (h.0, h.1, (mid, h.2, f))
@@ -38,7 +38,7 @@ module _ {S : Type 0} (takes fails_on : S → List ℕ → S → Type 0) (flushe
   -- it failed
   flushed_badly : (bytes : List ℕ) (fails : Option Bool) (old mid new : S) (ending : Result Bool Fault) → Answered bytes fails old mid ending → flush_fails mid new → (ending ≡ Err WriteFailed → ⊥) → Broke takes fails_on flushes flush_fails old new
   flushed_badly bytes fails old mid new (Ok wanted) h f other = broke_later takes flushes fails_on flush_fails old h.0 mid new h.2 (broke_flush takes flushes fails_on flush_fails mid new f)
-  flushed_badly bytes fails old mid new (Err (BadLine n)) h f other = broke_later takes flushes fails_on flush_fails old h.0 mid new h.2 (broke_flush takes flushes fails_on flush_fails mid new f)
+  flushed_badly bytes fails old mid new (Err (BadLine report)) h f other = broke_later takes flushes fails_on flush_fails old h.0 mid new h.2 (broke_flush takes flushes fails_on flush_fails mid new f)
   flushed_badly bytes fails old mid new (Err ReadFailed) h f other = broke_later takes flushes fails_on flush_fails old h.0 mid new h.2 (broke_flush takes flushes fails_on flush_fails mid new f)
   flushed_badly bytes fails old mid new (Err WriteFailed) h f other = absurd (other refl)
   flushed_badly bytes fails old mid new (Err OutOfMemory) h f other = broke_later takes flushes fails_on flush_fails old h.0 mid new h.2 (broke_flush takes flushes fails_on flush_fails mid new f)

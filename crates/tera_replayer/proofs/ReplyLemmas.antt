@@ -1,51 +1,26 @@
 -- How a value that is found is written.
-use Rattle.std.proofs.Common.{◌≡◌, ℕ, List, [], ◌++◌, codes, decimal, true, false, sym, ◌∙◌, ap, subst, refl}
+use Rattle.std.proofs.Common.{◌≡◌, ℕ, List, ◌++◌, codes, decimal, true, false, sym, ◌∙◌, ap, subst, refl}
 use Rattle.std.specs.Prelude.{Option, Some, None, Ok, Err, IfSome, IsSome, IsTrue}
+use Rattle.std.specs.Fmt.{debug_list, debug_str}
+use Rattle.tera_report.specs.Quoted.{QuotesList}
 use Rattle.tera_report.specs.Refusal.{text_of}
 use Rattle.tera_meaning.specs.Answer
 use Rattle.tera_meaning.specs.Form.{Form}
-use Rattle.tera_meaning.specs.Kind.{kind_in, kind_name, undefined_kind, none_kind}
+use Rattle.tera_meaning.specs.Kind.{kind_name}
 use Rattle.tera_meaning.specs.Meaning.{plain}
 use Rattle.tera_meaning.specs.Outcome.{Outcome}
 use Rattle.tera_report.specs.Quoted.{quoted}
-use Rattle.tera_meaning.specs.Printed.{printed_with, is_exact_inside, PrintsInside}
+use Rattle.tera_meaning.specs.Printed.{printed_with, is_exact_inside}
 use Rattle.tera_meaning.specs.Tree.{undefined, none, truth, number, text, bytes, array, object}
+use Rattle.tera_report.proofs.PutLemmas.{some_text}
+use Rattle.tera_report.proofs.TellLemmas.{some_telling, told_known}
 use Rattle.tera_replayer.specs.Reply.{IsFormOf, IsReply, IsFixedReply, order_name}
 
-pub undefined_form : (v : Form) → kind_in v ≡ undefined_kind → IsFormOf v (codes "undefined")
-undefined_form undefined e = refl
-undefined_form none e = cc
-undefined_form (truth b) e = cc
-undefined_form (number n) e = cc
-undefined_form (text t) e = cc
-undefined_form (bytes bs) e = cc
-undefined_form (array xs) e = cc
-undefined_form (object ps) e = cc
-
-pub none_form : (v : Form) → kind_in v ≡ none_kind → IsFormOf v (codes "none")
-none_form undefined e = cc
-none_form none e = refl
-none_form (truth b) e = cc
-none_form (number n) e = cc
-none_form (text t) e = cc
-none_form (bytes bs) e = cc
-none_form (array xs) e = cc
-none_form (object ps) e = cc
-
-pub other_form : (v : Form) (form : List ℕ) → (kind_in v ≡ undefined_kind → ⊥) → (kind_in v ≡ none_kind → ⊥) → PrintsInside (plain v) form → IsFormOf v form
-other_form undefined form d n h = absurd (d refl)
-other_form none form d n h = absurd (n refl)
-other_form (truth b) form d n h = h
-other_form (number m) form d n h = h
-other_form (text t) form d n h = h
-other_form (bytes bs) form d n h = h
-other_form (array xs) form d n h = h
-other_form (object ps) form d n h = h
-
-pub value_reply : (outcome : Outcome) (v : Form) (form : List ℕ) → outcome ≡ Ok (Answer.found (Some v)) → IsFormOf v form → IsReply outcome (codes "value " ++ form)
-value_reply outcome v form is h =
-    let P : Outcome → Type 0 = λ o. IsReply o (codes "value " ++ form) in
-    subst P (sym is) (form, h, refl)
+-- the reply to an outcome is that to the same one
+pub same_reply : (outcome other : Outcome) (line : List ℕ) → outcome ≡ other → IsReply other line → IsReply outcome line
+same_reply outcome other line is h =
+    let P : Outcome → Type 0 = λ o. IsReply o line in
+    subst P (sym is) h
 
 pub some_form : (v : Form) → (form : List ℕ) × IsFormOf v form
 some_form undefined = (codes "undefined", refl)
@@ -57,15 +32,13 @@ some_form (bytes bs) = (printed_with quoted (plain (bytes bs)), λ exact. refl)
 some_form (array xs) = (printed_with quoted (plain (array xs)), λ exact. refl)
 some_form (object ps) = (printed_with quoted (plain (object ps)), λ exact. refl)
 
--- some text is as known, where one is known
-abbrev some_text : (known : Option (List ℕ)) → (words : List ℕ) × IfSome known (λ t. words ≡ t)
-some_text None = ([], tt)
-some_text (Some t) = (t, refl)
-
 one_text : (known : Option (List ℕ)) (words other : List ℕ) → IsSome known → IfSome known (λ t. words ≡ t)
     → IfSome known (λ t. other ≡ t) → words ≡ other
 one_text None words other fixed h g = absurd (cc)
 one_text (Some t) words other fixed h g = h ∙ sym g
+
+pub some_list : (texts : List (List ℕ)) → (listed : List ℕ) × QuotesList texts listed
+some_list texts = some_text (debug_list debug_str texts)
 
 pub some_reply : (outcome : Outcome) → (line : List ℕ) × IsReply outcome line
 some_reply (Ok Answer.done) = (codes "ok", refl)
@@ -78,7 +51,8 @@ some_reply (Ok (Answer.size None)) = (codes "nothing", refl)
 some_reply (Ok (Answer.size (Some n))) = (codes "size " ++ decimal n, refl)
 some_reply (Ok (Answer.kind kind)) = (codes "kind " ++ kind_name kind, refl)
 some_reply (Ok (Answer.text printed)) = (codes "text " ++ printed, refl)
-some_reply (Err refusal) = let told = some_text (text_of refusal) in (codes "error: " ++ told.0, (told.0, told.1, refl))
+some_reply (Ok (Answer.texts texts)) = let listed = some_list texts in (codes "fields " ++ listed.0, (listed.0, listed.1, refl))
+some_reply (Err refusal) = let told = some_telling refusal in (codes "error: " ++ told.0, (told.0, told.1, refl))
 
 one_form : (v : Form) (form other : List ℕ) → IsTrue (is_exact_inside (plain v)) → IsFormOf v form → IsFormOf v other → form ≡ other
 one_form undefined form other exact h g = h ∙ sym g
@@ -101,4 +75,5 @@ one_reply (Ok (Answer.size None)) line other fixed h g = h ∙ sym g
 one_reply (Ok (Answer.size (Some n))) line other fixed h g = h ∙ sym g
 one_reply (Ok (Answer.kind kind)) line other fixed h g = h ∙ sym g
 one_reply (Ok (Answer.text printed)) line other fixed h g = h ∙ sym g
-one_reply (Err refusal) line other fixed h g = h.2 ∙ ap (λ (words : List ℕ). codes "error: " ++ words) (one_text (text_of refusal) h.0 g.0 fixed h.1 g.1) ∙ sym g.2
+one_reply (Ok (Answer.texts texts)) line other fixed h g = h.2 ∙ ap (λ (listed : List ℕ). codes "fields " ++ listed) (one_text (debug_list debug_str texts) h.0 g.0 fixed h.1 g.1) ∙ sym g.2
+one_reply (Err refusal) line other fixed h g = h.2 ∙ ap (λ (words : List ℕ). codes "error: " ++ words) (one_text (text_of refusal) h.0 g.0 fixed (told_known refusal h.0 h.1) (told_known refusal g.0 g.1)) ∙ sym g.2

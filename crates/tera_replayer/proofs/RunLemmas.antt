@@ -7,7 +7,7 @@ use Rattle.tera_meaning.specs.Outcome.{Outcome, is_want}
 use Rattle.tera_meaning.specs.Request.{Command}
 use Rattle.std.specs.List.{AllZip}
 use Rattle.tera_meaning.specs.Run.{IsRun}
-use Rattle.tera_replayer.specs.Script.{Script, ended}
+use Rattle.tera_replayer.specs.Script.{BadLine, Script, ended}
 use Rattle.tera_replayer.specs.Reply.{IsReply, AreReplies}
 use Rattle.tera_replayer.specs.Stretch.{Runs}
 
@@ -18,7 +18,7 @@ IsRun-append a b c [] ys (o ∷ os) ps h g = absurd h
 IsRun-append a b c (x ∷ xs) ys [] ps h g = absurd h
 
 -- with no bad line among the first ones, a script goes on
-pub Script-append : (n : ℕ) (xs ys : List (List ℕ)) (cs ds : List Command) (bad : Option ℕ) → Script n xs cs None → (m : ℕ) → m ≡ n + length xs → Script m ys ds bad → Script n (xs ++ ys) (cs ++ ds) bad
+pub Script-append : (n : ℕ) (xs ys : List (List ℕ)) (cs ds : List Command) (bad : Option BadLine) → Script n xs cs None → (m : ℕ) → m ≡ n + length xs → Script m ys ds bad → Script n (xs ++ ys) (cs ++ ds) bad
 Script-append n [] ys cs ds bad h m e g =
     let P : List Command → Type 0 = λ c. Script n ys (c ++ ds) bad in
     let Q : ℕ → Type 0 = λ k. Script k ys ds bad in
@@ -34,9 +34,13 @@ Script-append n (x ∷ xs) ys cs ds bad h m e g =
       ]
     ]
 
-or_assoc : (a b c : Bool) → ((a || b) || c) ≡ (a || (b || c))
+pub or_assoc : (a b c : Bool) → ((a || b) || c) ≡ (a || (b || c))
 or_assoc true b c = refl
 or_assoc false b c = refl
+
+pub or_false : (a : Bool) → a ≡ (a || false)
+or_false true = refl
+or_false false = refl
 
 AllZip-append : (xs ys : List Outcome) (ss ts : List (List ℕ)) → AllZip IsReply xs ss → AllZip IsReply ys ts → AllZip IsReply (xs ++ ys) (ss ++ ts)
 AllZip-append [] ys [] ts h g = g

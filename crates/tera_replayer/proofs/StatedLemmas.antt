@@ -1,22 +1,16 @@
 -- What an answer states is replied, and wants memory, as what it shows.
-use Rattle.std.specs.Prelude.{◌≡◌, ℕ, List, Option, Result, Ok, Err, IfSome, refl}
+use Rattle.std.specs.Prelude.{◌≡◌, ℕ, List, Result, Ok, Err, refl}
 use Rattle.std.proofs.Common.{sym, ◌∙◌, ap, subst}
 use Rattle.tera_report.specs.declared.errors.Error.{Error}
-use Rattle.tera_report.specs.Errors.{kind_of, refusal_of}
-use Rattle.tera_report.specs.Refusal.{Refusal, message, number_out_of_range, stated, text_of}
+use Rattle.tera_report.specs.Refusal.{Refusal, message, stated, Tells}
+use Rattle.tera_report.proofs.TellLemmas.{telling_stated}
 use Rattle.tera_meaning.specs.Outcome.{Outcome, is_want}
 use Rattle.tera_context.specs.declared.call.Answer.{Answer}
 use Rattle.tera_context.specs.Steps.{ShowsOutcome}
 use Rattle.tera_replayer.specs.Reply.{IsReply}
 use Rattle.tera_replayer.specs.Stated.{outcome_stated}
 
--- what the error of a refusal states has the text of that refusal, and is want of memory just where
--- that is
-text_stated : (refusal : Refusal) → text_of (stated refusal) ≡ text_of refusal
-text_stated (message words) = refl
-text_stated (number_out_of_range number target) = refl
-text_stated refusal = refl
-
+-- what the error of a refusal states is want of memory just where the refusal is
 want_stated : (refusal : Refusal) → is_want (Err (stated refusal)) ≡ is_want (Err refusal)
 want_stated (message words) = refl
 want_stated refusal = refl
@@ -27,10 +21,9 @@ pub reply_shown : (answer : Result Answer Error) (outcome : Outcome) (line : Lis
 reply_shown (Ok answer) outcome line shows reply =
     subst (λ (o : Outcome). IsReply o line) (sym shows) reply
 reply_shown (Err e) outcome line (refusal, shows, is) (text, told, written) =
-    let P : Option (List ℕ) → Type 0 = λ known. IfSome known (λ t. text ≡ t) in
-    let same : text_of (refusal_of (kind_of e)) ≡ text_of refusal =
-    ap text_of shows.kind ∙ text_stated refusal in
-    subst (λ (o : Outcome). IsReply o line) (sym is) (text, subst P same told, written)
+    let P : Refusal → Type 0 = λ r. Tells r text in
+    let tells : Tells refusal text = (telling_stated refusal text).0 (subst P shows.kind told) in
+    subst (λ (o : Outcome). IsReply o line) (sym is) (text, tells, written)
 
 pub want_shown : (answer : Result Answer Error) (outcome : Outcome) → ShowsOutcome answer outcome
     → is_want (outcome_stated answer) ≡ is_want outcome

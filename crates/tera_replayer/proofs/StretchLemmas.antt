@@ -1,5 +1,5 @@
 -- One stretch after another.
-use Rattle.std.proofs.Common.{◌≡◌, ◌≢◌, ℕ, ◌+◌, Bool, true, false, ◌||◌, List, [], ◌∷◌, ◌++◌, length, map, sym, ◌∙◌, ap, subst, refl, append_assoc, append-nil, arith}
+use Rattle.std.proofs.Common.{◌≡◌, ◌≢◌, ℕ, ◌+◌, Bool, false, ◌||◌, List, [], ◌∷◌, ◌++◌, length, map, sym, ◌∙◌, ap, subst, append_assoc, append-nil, arith}
 use Rattle.std.specs.List.{flat_map}
 use Rattle.std.proofs.lemmas.List.{length-append, length-map, map-append}
 use Rattle.std.proofs.lemmas.List.Concat.{flat_map-append}
@@ -7,15 +7,7 @@ use Rattle.std.proofs.lemmas.List.Elements.{All-append, All-cons, All-nil}
 use Rattle.tera_meaning.specs.State.{State}
 use Rattle.tera_replayer.specs.Script.{HasNoLineFeed, without_return, ended, line_feed}
 use Rattle.tera_replayer.specs.Stretch.{Runs, Place, Goes}
-use Rattle.tera_replayer.proofs.RunLemmas.{Runs-append, Runs-none}
-
-or_assoc : (a b c : Bool) → ((a || b) || c) ≡ (a || (b || c))
-or_assoc true b c = refl
-or_assoc false b c = refl
-
-or_false : (a : Bool) → a ≡ (a || false)
-or_false true = refl
-or_false false = refl
+use Rattle.tera_replayer.proofs.RunLemmas.{or_assoc, or_false, Runs-append, Runs-none}
 
 -- two stretches are one
 pub Goes-append : (a b c : Place) (xs ys s t : List ℕ) → Goes a xs s b → Goes b ys t c → Goes a (xs ++ ys) (s ++ t) c

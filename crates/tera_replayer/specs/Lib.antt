@@ -6,3 +6,4 @@ pub mod Output
 pub mod Source
 pub mod Stretch
 pub mod Place
+pub mod Terse

@@ -4,33 +4,63 @@ use Rattle.std.specs.Prelude.{length, codes, decimal, Option, None, Some, IsSome
 use Rattle.std.specs.Prelude.{if◌then◌else◌}
 use Rattle.std.specs.List.{list_any}
 use Rattle.std.specs.FinMap.{empty}
+use Rattle.std.specs.Str.{chars, is_utf8}
+use Rattle.tera_report.specs.declared.span.Span.{Span}
 use Rattle.tera_meaning.specs.State.{State}
 use Rattle.tera_meaning.specs.Outcome.{Outcome, is_want}
 use Rattle.tera_meaning.specs.Request.{Command}
 use Rattle.tera_meaning.specs.Run.{IsRun}
-use Rattle.tera_replayer.specs.Script.{Splits, Script, without_return, last_line, ended}
+use Rattle.tera_report.specs.Report.{Report, report_text}
+use Rattle.tera_replayer.specs.Script.{BadLine, Splits, Script, without_return, last_line, ended}
 use Rattle.tera_replayer.specs.Reply.{AreReplies}
+use Rattle.tera_replayer.specs.Source.{MayErr}
 
 -- some answer was want of memory. No other refusal counts
 abbrev pub wants_memory : List Outcome → Bool
 wants_memory outcomes = list_any is_want outcomes
 
 -- what the lines say up to the first bad line, from an empty context on, comes to these outcomes
-pub record AreAnswered (lines : List (List ℕ)) (bad : Option ℕ) (outcomes : List Outcome)
+pub record AreAnswered (lines : List (List ℕ)) (bad : Option BadLine) (outcomes : List Outcome)
     : Type 0 where
   pub commands : List Command
   pub state : State
   pub script : Script 1 lines commands bad
   pub run : IsRun empty commands outcomes state
 
--- what the program writes about a bad line
-abbrev pub report : Option ℕ → List ℕ
-report None = []
-report (Some n) = ended (codes "bad line " ++ decimal n)
+-- what of a bad line its report shows: all of it, and nothing where it is no UTF-8
+abbrev pub source_of : List ℕ → List ℕ
+source_of line = if is_utf8 line then line else []
 
-abbrev pub status_of : Option ℕ → List Outcome → ℕ
+-- from the first character of the report's one line to its end
+abbrev pub whole_line : List ℕ → Span
+whole_line source =
+    record {
+      start_line = 1;
+      start_col = 0;
+      end_line = 1;
+      end_col = length (chars source);
+      range = record { start = 0; end = length source };
+    }
+
+-- the report of a bad line
+abbrev pub line_report : BadLine → Report
+line_report bad =
+    record {
+      message = codes "bad line";
+      file = codes "line " ++ decimal bad.number;
+      source = source_of bad.line;
+      span = whole_line (source_of bad.line);
+      notes = [];
+    }
+
+-- what the program writes about a bad line
+abbrev pub report : Option BadLine → List ℕ
+report None = []
+report (Some bad) = ended (report_text (line_report bad))
+
+abbrev pub status_of : Option BadLine → List Outcome → ℕ
 status_of None outcomes = if wants_memory outcomes then 1 else 0
-status_of (Some n) outcomes = 2
+status_of (Some bad) outcomes = 2
 
 -- the lines that a source gives whole. What follows the last line feed is one too, unless the
 -- source fails there
@@ -44,7 +74,7 @@ pub record AllAnswered (bytes : List ℕ) (fails : Option Bool) (out err : List 
     : Type 0 where
   pub lines : List (List ℕ)
   pub part : List ℕ
-  pub bad : Option ℕ
+  pub bad : Option BadLine
   pub outcomes : List Outcome
   pub split : Splits bytes lines part
   pub answers : AreAnswered (lines_given fails lines part) bad outcomes
@@ -52,12 +82,6 @@ pub record AllAnswered (bytes : List ℕ) (fails : Option Bool) (out err : List 
   pub replied : AreReplies outcomes out
   pub err_is : err ≡ report bad
   pub status_is : status ≡ status_of bad outcomes
-
--- a source that fails does so once it has given all its bytes
-abbrev pub SourceMayFail : Option Bool → List ℕ → Type 0
-SourceMayFail (Some true) rest = rest ≡ []
-SourceMayFail (Some false) rest = ⊥
-SourceMayFail None rest = Unit {0}
 
 -- Reading failed after the bytes given, or went on past its bound: each line that was given whole
 -- is answered.
@@ -69,7 +93,7 @@ pub record ReadingFailed (bytes : List ℕ) (fails : Option Bool) (out err : Lis
   pub part : List ℕ
   pub outcomes : List Outcome
   pub front : bytes ≡ given ++ rest
-  pub cause : SourceMayFail fails rest ⊎ (2 ^ 64 - 1 ≤ length given)
+  pub cause : MayErr fails (Some rest) ⊎ (2 ^ 64 - 1 ≤ length given)
   pub split : Splits given lines part
   pub answers : AreAnswered (map without_return lines) None outcomes
   pub replied : AreReplies outcomes out

@@ -1,10 +1,12 @@
 -- The line that answers a call.
 use Rattle.std.specs.Prelude.{◌≡◌, ℕ, true, false, List, ◌++◌, codes, decimal, Option, None, Some}
-use Rattle.std.specs.Prelude.{IfSome, IsSome, Ok, Err, IsTrue, ⊤}
+use Rattle.std.specs.Prelude.{IsSome, Ok, Err, IsTrue, ⊤}
+use Rattle.std.specs.Fmt.{debug_list, debug_str}
 use Rattle.std.specs.List.{AllZip, flat_map}
 use Rattle.std.specs.declared.cmp.Ordering.{Ordering}
 use Rattle.std.specs.declared.cmp.Ordering.TheVariants.{Less, Equal, Greater}
-use Rattle.tera_report.specs.Refusal.{Refusal, text_of}
+use Rattle.tera_report.specs.Quoted.{QuotesList}
+use Rattle.tera_report.specs.Refusal.{Tells, text_of}
 use Rattle.tera_meaning.specs.Answer
 use Rattle.tera_meaning.specs.Form.{Form}
 use Rattle.tera_meaning.specs.Kind.{kind_name}
@@ -32,15 +34,6 @@ IsFormOf (bytes bs) form = PrintsInside (plain (bytes bs)) form
 IsFormOf (array xs) form = PrintsInside (plain (array xs)) form
 IsFormOf (object ps) form = PrintsInside (plain (object ps)) form
 
--- the line for a value that is found, with its line feed
-abbrev pub IsValueLine : Form → List ℕ → Type 0
-IsValueLine value written =
-    (form : List ℕ) × IsFormOf value form × (written ≡ ended (codes "value " ++ form))
-
--- what is written for a refusal: its text, where that is known
-abbrev pub TellsRefusal : Refusal → List ℕ → Type 0
-TellsRefusal refusal words = IfSome (text_of refusal) (λ known. words ≡ known)
-
 -- the reply to a call, without its line feed. A text stands there as it is, line feeds and all
 abbrev pub IsReply : Outcome → List ℕ → Type 0
 IsReply (Ok Answer.done) line = line ≡ codes "ok"
@@ -54,16 +47,18 @@ IsReply (Ok (Answer.size None)) line = line ≡ codes "nothing"
 IsReply (Ok (Answer.size (Some n))) line = line ≡ codes "size " ++ decimal n
 IsReply (Ok (Answer.kind kind)) line = line ≡ codes "kind " ++ kind_name kind
 IsReply (Ok (Answer.text printed)) line = line ≡ codes "text " ++ printed
+IsReply (Ok (Answer.texts texts)) line =
+    (listed : List ℕ) × QuotesList texts listed × (line ≡ codes "fields " ++ listed)
 IsReply (Err refusal) line =
-    (words : List ℕ) × TellsRefusal refusal words × (line ≡ codes "error: " ++ words)
+    (words : List ℕ) × Tells refusal words × (line ≡ codes "error: " ++ words)
 
 -- the same with its line feed
 abbrev pub IsReplyLine : Outcome → List ℕ → Type 0
 IsReplyLine outcome written =
     (line : List ℕ) × IsReply outcome line × (written ≡ ended line)
 
--- the reply is one text alone: but where a value is found that quotes a text past ASCII, and where
--- the text of a refusal is not known
+-- the reply is one text alone: but where a value that is found, or a list of texts, quotes a text
+-- past ASCII, and where the text of a refusal is not known
 abbrev pub IsFixedReply : Outcome → Type 0
 IsFixedReply (Ok Answer.done) = ⊤
 IsFixedReply (Ok (Answer.truth b)) = ⊤
@@ -73,6 +68,7 @@ IsFixedReply (Ok (Answer.found (Some value))) = IsTrue (is_exact_inside (plain v
 IsFixedReply (Ok (Answer.size n)) = ⊤
 IsFixedReply (Ok (Answer.kind kind)) = ⊤
 IsFixedReply (Ok (Answer.text printed)) = ⊤
+IsFixedReply (Ok (Answer.texts texts)) = IsSome (debug_list debug_str texts)
 IsFixedReply (Err refusal) = IsSome (text_of refusal)
 
 -- one reply with its line feed for each, in order, and nothing else

@@ -1,12 +1,10 @@
 -- The lines of a script, and what they say.
-use Rattle.std.specs.Prelude.{◌≡◌, ◌≢◌, ℕ, ◌+◌, ◌⊎◌, ◌==◌, List, [], ◌∷◌, ◌++◌, All, Option, None}
+use Rattle.std.specs.Prelude.{◌≡◌, ℕ, ◌+◌, ◌⊎◌, ◌==◌, List, [], ◌∷◌, ◌++◌, All, Option, None}
 use Rattle.std.specs.Prelude.{Some, if◌then◌else◌}
 use Rattle.std.specs.List.{flat_map}
 use Rattle.tera_meaning.specs.Request.{Command}
+pub use Rattle.tera_report.specs.Parts.{line_feed, HasNoLineFeed}
 use Rattle.tera_script.specs.Line.{Says, IsSkipped, IsBad}
-
-abbrev pub line_feed : ℕ
-line_feed = 10
 
 abbrev pub carriage_return : ℕ
 carriage_return = 13
@@ -14,9 +12,6 @@ carriage_return = 13
 -- a line with its line feed
 abbrev pub ended : List ℕ → List ℕ
 ended line = line ++ line_feed ∷ []
-
-abbrev pub HasNoLineFeed : List ℕ → Type 0
-HasNoLineFeed bytes = All (λ byte. byte ≢ line_feed) bytes
 
 -- the bytes are these lines, each with its line feed, and then a part of a line, which may be empty
 pub record Splits (bytes : List ℕ) (lines : List (List ℕ)) (part : List ℕ) : Type 0 where
@@ -35,11 +30,16 @@ abbrev pub last_line : List ℕ → List (List ℕ)
 last_line [] = []
 last_line (byte ∷ bytes) = (byte ∷ bytes) ∷ []
 
--- what the lines say, numbered from n on, up to the first bad line, whose number is `bad`
-abbrev pub Script : ℕ → List (List ℕ) → List Command → Option ℕ → Type 0
+-- a bad line, with its number
+pub record BadLine : Type 0 where
+  pub number : ℕ
+  pub line : List ℕ
+
+-- what the lines say, numbered from n on, up to the first bad line
+abbrev pub Script : ℕ → List (List ℕ) → List Command → Option BadLine → Type 0
 Script n [] commands bad = (commands ≡ []) × (bad ≡ None)
 Script n (line ∷ lines) commands bad =
     (IsSkipped line × Script (n + 1) lines commands bad)
     ⊎ (((first : Command) × (later : List Command) × Says line first × (commands ≡ first ∷ later)
     × Script (n + 1) lines later bad)
-    ⊎ (IsBad line × (commands ≡ []) × (bad ≡ Some n)))
+    ⊎ (IsBad line × (commands ≡ []) × (bad ≡ Some (record { number = n; line = line }))))

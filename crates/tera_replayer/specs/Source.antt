@@ -3,7 +3,7 @@ use Rattle.std.specs.Prelude.{ℕ, Bool, true, false, List, [], ◌∷◌, ◌++
 use Rattle.std.specs.Borrow.{Bor}
 use Rattle.std.specs.Io.KnownBytes.{IsAtEnd}
 use Rattle.std.specs.List.{flat_map}
-use Rattle.tera_replayer.specs.declared.source.Pieces.{Pieces}
+use Rattle.tera_replayer.specs.declared.source.InputPieces.{InputPieces}
 
 -- the bytes of some pieces, joined
 abbrev pub joined : List (Bor (List ℕ)) → List ℕ
@@ -15,10 +15,10 @@ left_of [] given = []
 left_of (first ∷ later) given = drop given first.now ++ joined later
 
 -- the bytes that pieces give from here on, and whether they fail behind these
-abbrev pub bytes_left : Pieces → List ℕ
+abbrev pub bytes_left : InputPieces → List ℕ
 bytes_left p = left_of (drop p.at p.pieces.now) p.given
 
-abbrev pub fails_at_end : Pieces → Bool
+abbrev pub fails_at_end : InputPieces → Bool
 fails_at_end p = p.fails
 
 -- an end is told by no source that fails

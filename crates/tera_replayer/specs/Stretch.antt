@@ -4,18 +4,24 @@ use Rattle.std.specs.Prelude.{length, All}
 use Rattle.std.specs.Prelude.{codes, Option, None, Some, Result, Ok, Err, if◌then◌else◌}
 use Rattle.std.specs.FinMap.{empty}
 use Rattle.std.specs.List.{flat_map}
-use Rattle.tera_report.specs.Refusal.{memory_refused}
 use Rattle.tera_meaning.specs.State.{State}
 use Rattle.tera_meaning.specs.Outcome.{Outcome}
 use Rattle.tera_meaning.specs.Request.{Command}
 use Rattle.tera_meaning.specs.Run.{IsRun}
+use Rattle.tera_report.specs.declared.report.ReportError.{ReportError}
+use Rattle.tera_report.specs.Errors.{report_of}
+use Rattle.tera_report.specs.Report.{Report, report_text}
 use Rattle.tera_replayer.specs.declared.fault.Fault.{Fault}
 use Rattle.tera_replayer.specs.declared.fault.Fault.TheVariants.{BadLine, ReadFailed, WriteFailed}
 use Rattle.tera_replayer.specs.declared.fault.Fault.TheVariants.{OutOfMemory}
 use Rattle.tera_script.specs.Line.{IsBad}
-use Rattle.tera_replayer.specs.Script.{Script, HasNoLineFeed, without_return, ended, line_feed}
+use Rattle.tera_replayer.specs.Script.{BadLine as Bad, Script, HasNoLineFeed, without_return, ended, line_feed}
 use Rattle.tera_replayer.specs.Reply.{AreReplies}
-use Rattle.tera_replayer.specs.Replay.{wants_memory, report, AllAnswered, ReadingFailed, MemoryFailed}
+use Rattle.tera_replayer.specs.Replay.{wants_memory, line_report, AllAnswered, ReadingFailed, MemoryFailed}
+
+-- the bad line of that number
+abbrev pub bad_at : ℕ → List ℕ → Bad
+bad_at n line = record { number = n; line = line }
 
 -- None of the lines, numbered from n on, is bad, and the text answers a run over what they say.
 pub record Runs (n : ℕ) (old : State) (lines : List (List ℕ)) (text : List ℕ) (wanted : Bool)
@@ -49,15 +55,16 @@ pub record Goes (old : Place) (bytes text : List ℕ) (new : Place) : Type 0 whe
   pub wanted_is : new.wanted ≡ (old.wanted || wanted)
   pub runs : Runs old.number old.state (map without_return lines) text wanted new.state
 
--- The same, up to a bad line, of which this is the number.
-pub record StopsAtBad (old : Place) (bytes : List ℕ) (n : ℕ) (text : List ℕ) : Type 0 where
+-- The same, up to a bad line, of which this is the report.
+pub record StopsAtBad (old : Place) (bytes : List ℕ) (report : Report) (text : List ℕ)
+    : Type 0 where
   pub read : List ℕ
   pub unread : List ℕ
   pub place : Place
   pub bytes_are : bytes ≡ read ++ line_feed ∷ unread
   pub goes : Goes old read text place
   pub bad : IsBad (without_return place.part)
-  pub number_is : n ≡ place.number
+  pub report_is : report ≡ line_report (bad_at place.number (without_return place.part))
 
 -- The same of a beginning of the bytes.
 pub record Begins (old : Place) (bytes : List ℕ) (text : List ℕ) : Type 0 where
@@ -69,8 +76,8 @@ pub record Begins (old : Place) (bytes : List ℕ) (text : List ℕ) : Type 0 wh
 
 -- what stands where a fault ended the stretch
 abbrev pub Stops : Place → List ℕ → (List ℕ → Type 0) → Type 0 → Fault → Type 0
-Stops old bytes OutGets OutBroke (BadLine n) =
-    (text : List ℕ) × StopsAtBad old bytes n text × OutGets text
+Stops old bytes OutGets OutBroke (BadLine report) =
+    (text : List ℕ) × StopsAtBad old bytes (report_of report.value) text × OutGets text
 Stops old bytes OutGets OutBroke ReadFailed = ⊥
 Stops old bytes OutGets OutBroke WriteFailed = OutBroke
 Stops old bytes OutGets OutBroke OutOfMemory =
@@ -78,29 +85,26 @@ Stops old bytes OutGets OutBroke OutOfMemory =
 
 -- what stands where a fault ended one line, numbered n
 abbrev pub LineStops : ℕ → List ℕ → Type 0 → Type 0 → Fault → Type 0
-LineStops n line OutStays OutBroke (BadLine m) = (m ≡ n) × IsBad line × OutStays
+LineStops n line OutStays OutBroke (BadLine report) =
+    (report_of report.value ≡ line_report (bad_at n line)) × IsBad line × OutStays
 LineStops n line OutStays OutBroke ReadFailed = ⊥
 LineStops n line OutStays OutBroke WriteFailed = OutBroke
 LineStops n line OutStays OutBroke OutOfMemory = OutStays
 
--- a reply to this outcome may take memory: that of a refusal, but not of want of memory
-abbrev pub TakesMemory : Outcome → Type 0
-TakesMemory (Ok answer) = ⊥
-TakesMemory (Err refusal) = refusal ≢ memory_refused
-
--- what stands where a fault ended the writing of a reply to this outcome
-abbrev pub ReplyStops : Outcome → Type 0 → Type 0 → Fault → Type 0
-ReplyStops outcome OutStays OutBroke (BadLine m) = ⊥
-ReplyStops outcome OutStays OutBroke ReadFailed = ⊥
-ReplyStops outcome OutStays OutBroke WriteFailed = OutBroke
-ReplyStops outcome OutStays OutBroke OutOfMemory = TakesMemory outcome × OutStays
+-- what stands where a fault ended the writing of a reply: a failed write alone does
+abbrev pub ReplyStops : Type 0 → Fault → Type 0
+ReplyStops OutBroke (BadLine report) = ⊥
+ReplyStops OutBroke ReadFailed = ⊥
+ReplyStops OutBroke WriteFailed = OutBroke
+ReplyStops OutBroke OutOfMemory = ⊥
 
 -- how answering all of the input went: whether memory was wanted by an answer, or a fault
 abbrev pub Ends : List ℕ → Option Bool → (List ℕ → Type 0) → Type 0 → Result Bool Fault → Type 0
 Ends bytes fails OutGets OutBroke (Ok wanted) =
     (out : List ℕ) × AllAnswered bytes fails out [] (if wanted then 1 else 0) × OutGets out
-Ends bytes fails OutGets OutBroke (Err (BadLine n)) =
-    (out : List ℕ) × AllAnswered bytes fails out (report (Some n)) 2 × OutGets out
+Ends bytes fails OutGets OutBroke (Err (BadLine report)) =
+    (out : List ℕ) × AllAnswered bytes fails out (ended (report_text (report_of report.value))) 2
+    × OutGets out
 Ends bytes fails OutGets OutBroke (Err ReadFailed) =
     (out : List ℕ) × ReadingFailed bytes fails out (codes "error: reading failed\n") 1 × OutGets out
 Ends bytes fails OutGets OutBroke (Err WriteFailed) = OutBroke
@@ -119,14 +123,14 @@ EndsFlushed flushes flush_fails ending result old new =
 -- what is written about the end
 abbrev pub told : Result Bool Fault → List ℕ
 told (Ok wanted) = []
-told (Err (BadLine n)) = report (Some n)
+told (Err (BadLine report)) = ended (report_text (report_of report.value))
 told (Err ReadFailed) = codes "error: reading failed\n"
 told (Err WriteFailed) = codes "error: writing failed\n"
 told (Err OutOfMemory) = codes "error: Out of memory\n"
 
 abbrev pub status_at : Result Bool Fault → ℕ
 status_at (Ok wanted) = if wanted then 1 else 0
-status_at (Err (BadLine n)) = 2
+status_at (Err (BadLine report)) = 2
 status_at (Err ReadFailed) = 1
 status_at (Err WriteFailed) = 1
 status_at (Err OutOfMemory) = 1

@@ -1,38 +1,37 @@
 // The line that answers a call.
-ghost use Rattle.std.specs.Prelude.{◌≡◌, ℕ, List, [], ◌++◌, Ok, Err, IfOk, IfErr, OnOk};
-ghost use Rattle.std.specs.Prelude.{codes, decimal};
+ghost use Rattle.std.specs.Prelude.{◌≡◌, ℕ, List, ◌++◌, Ok, Err, Some, IfOk, IfErr};
+ghost use Rattle.std.specs.Prelude.{codes, decimal, map};
+ghost use Rattle.std.specs.String.{string_bytes};
 ghost use Rattle.tera_report.specs.Errors.{kind_of, refusal_of};
+ghost use Rattle.tera_report.specs.Quoted.{QuotesList};
+ghost use Rattle.tera_report.specs.Refusal.{Tells};
 ghost use Rattle.tera_report.specs.Sink.{Broke, Puts, PutsThese, Sends};
+ghost use Rattle.tera_meaning.specs.Answer.{found, texts};
 ghost use Rattle.tera_meaning.specs.Outcome.{is_want};
 ghost use Rattle.tera_context.specs.Call.{answer_of};
-ghost use Rattle.tera_replayer.specs.Reply.{IsFormOf, IsReplyLine, IsValueLine, order_name};
+ghost use Rattle.tera_replayer.specs.Reply.{IsFormOf, IsReplyLine, order_name};
 ghost use Rattle.tera_replayer.specs.Script.{ended};
 ghost use Rattle.tera_replayer.specs.Stated.{outcome_stated};
 ghost use Rattle.tera_replayer.specs.Stretch.{ReplyStops};
 
 use crate::fault::{Fault, WriteError, put, written};
+use crate::terse::Terse;
 use itoa::Buffer;
-use std::alloc::Global;
 use std::cmp::Ordering;
 use tera_context::Answer;
+use tera_report::quote::put_quoted_list;
 use tera_report::sink::Sink;
 use tera_report::{Error, ErrorKind, TeraResult};
 use tera_values::Value;
 
 /// Writes the line that answers a call, with its line feed, and says whether the answer is want of
-/// memory. Takes memory for the text of a refusal alone, and for none where the refusal is want of
-/// memory.
-pub fn write_answer<W: Sink>(
-    alloc: Global,
-    answer: TeraResult<Answer>,
-    out: &mut W,
-) -> Result<bool, Fault>
+/// memory. Takes no memory, and fails only where a write does.
+pub fn write_answer<W: Sink>(answer: TeraResult<Answer>, out: &mut W) -> Result<bool, Fault>
     ensures ok { IfOk result (λ wanted. (line : List ℕ)
         × IsReplyLine (outcome_stated answer) line
         × Sends W.takes W.flushes out.old line out.new
         × (wanted ≡ is_want (outcome_stated answer))) }
-    ensures err { IfErr result (ReplyStops (outcome_stated answer)
-        (Sends W.takes W.flushes out.old [] out.new)
+    ensures err { IfErr result (ReplyStops
         (Broke W.takes W.fails W.flushes W.flush_fails out.old out.new)) }
 {
     match answer {
@@ -41,7 +40,7 @@ pub fn write_answer<W: Sink>(
             Ok(false)
         }
         Err(error) => {
-            write_refusal(alloc, &error, out)?;
+            written(put_refusal(&error, out))?;
             Ok(is_want(&error))
         }
     }
@@ -70,6 +69,7 @@ fn put_answer<W: Sink>(answer: &Answer, out: &mut W) -> Result<(), WriteError>
         Answer::Size(Some(size)) => put_size(*size, out),
         Answer::Kind(kind) => put_line("kind ", kind.name(), out),
         Answer::Text(text) => put_line("text ", text.as_str(), out),
+        Answer::Texts(names) => put_fields(names.as_slice(), out),
     }
 }
 
@@ -94,10 +94,30 @@ fn put_size<W: Sink>(size: usize, out: &mut W) -> Result<(), WriteError>
     put_line("size ", digits.format(size), out)
 }
 
+// Puts the line for the names of fields.
+#[inline(never)]
+fn put_fields<W: Sink>(names: &[String], out: &mut W) -> Result<(), WriteError>
+    ensures { Puts W.takes W.fails result
+        (IsReplyLine (Ok (texts (map string_bytes names.now)))) out.old out.new }
+{
+    put("fields ", out)?;
+    put_list(names, out)?;
+    put("\n", out)
+}
+
+// Puts some texts in debug form.
+fn put_list<W: Sink>(texts: &[String], out: &mut W) -> Result<(), WriteError>
+    ensures { Puts W.takes W.fails result
+        (QuotesList (map string_bytes texts.now)) out.old out.new }
+{
+    put_quoted_list(texts, &mut Terse::new(out))
+}
+
 // Puts the line for a value.
 #[inline(never)]
 fn put_value<W: Sink>(value: &Value, out: &mut W) -> Result<(), WriteError>
-    ensures { Puts W.takes W.fails result (IsValueLine value.now) out.old out.new }
+    ensures { Puts W.takes W.fails result
+        (IsReplyLine (Ok (found (Some value.now)))) out.old out.new }
 {
     put("value ", out)?;
     put_form(value, out)?;
@@ -114,29 +134,26 @@ fn put_form<W: Sink>(value: &Value, out: &mut W) -> Result<(), WriteError>
     if value.is_none() {
         return put("none", out);
     }
-    match value.print_inside_to(out) {
-        Ok(()) => Ok(()),
-        Err(_) => Err(WriteError),
-    }
+    value.print_inside_to(&mut Terse::new(out))
 }
 
-// Writes a refusal. Want of memory takes none, so that its reply fails only where a write does.
+// Puts the line for a refusal.
 #[inline(never)]
-fn write_refusal<W: Sink>(alloc: Global, error: &Error, out: &mut W) -> Result<(), Fault>
-    ensures ok { OnOk result ((line : List ℕ)
-        × IsReplyLine (Err (refusal_of (kind_of error.now))) line
-        × Sends W.takes W.flushes out.old line out.new) }
-    ensures err { IfErr result (ReplyStops (Err (refusal_of (kind_of error.now)))
-        (Sends W.takes W.flushes out.old [] out.new)
-        (Broke W.takes W.fails W.flushes W.flush_fails out.old out.new)) }
+fn put_refusal<W: Sink>(error: &Error, out: &mut W) -> Result<(), WriteError>
+    ensures { Puts W.takes W.fails result
+        (IsReplyLine (Err (refusal_of (kind_of error.now)))) out.old out.new }
 {
-    match error.kind() {
-        ErrorKind::OutOfMemory => written(put("error: Out of memory\n", out)),
-        _ => {
-            let text = error.to_string(alloc)?;
-            written(put_line("error: ", text.as_str(), out))
-        }
-    }
+    put("error: ", out)?;
+    put_words(error, out)?;
+    put("\n", out)
+}
+
+// Puts what tells a refusal.
+fn put_words<W: Sink>(error: &Error, out: &mut W) -> Result<(), WriteError>
+    ensures { Puts W.takes W.fails result
+        (Tells (refusal_of (kind_of error.now))) out.old out.new }
+{
+    error.tell_to(&mut Terse::new(out))
 }
 
 // Puts a text as it is behind a word, line feeds and all.

@@ -4,14 +4,15 @@ ghost use Rattle.tera_report.specs.Sink.{PutsThese};
 ghost use Rattle.tera_replayer.specs.declared.fault.Fault.TheVariants.{ReadFailed, WriteFailed};
 ghost use Rattle.tera_replayer.specs.declared.fault.Fault.TheVariants.{OutOfMemory};
 
-use std::alloc::AllocError;
+use std::alloc::{AllocError, AllocFailed};
+use tera_report::ReportError;
 use tera_report::sink::Sink;
 
 /// What ends a replay before its input ends.
 #[derive(Debug, Drop)]
 pub enum Fault {
-    /// The line of that number is bad.
-    BadLine(u128),
+    /// A line is bad, and this is its report.
+    BadLine(Box<ReportError>),
     /// A read failed.
     ReadFailed,
     /// A write of an answer failed, or a flush behind it.
@@ -28,6 +29,14 @@ impl From<AllocError> for Fault {
     ghost from_gives = { λ _ fault. fault ≡ OutOfMemory };
 
     fn from(_refused: AllocError) -> Fault {
+        Fault::OutOfMemory
+    }
+}
+
+impl<T: Drop> From<AllocFailed<T>> for Fault {
+    ghost from_gives = { λ _ fault. fault ≡ OutOfMemory };
+
+    fn from(_refused: AllocFailed<T>) -> Fault {
         Fault::OutOfMemory
     }
 }

@@ -1,17 +1,23 @@
 // From pieces of a script to its lines, each answered once it is whole.
-ghost use Rattle.std.specs.FinMap.{empty};
 ghost use Rattle.std.specs.Prelude.{◌≡◌, ◌+◌, ◌^◌, ◌<◌, ◌≤◌, ℕ, Bool, ◌||◌, List, [], ◌∷◌, ◌++◌};
 ghost use Rattle.std.specs.Prelude.{IfOk, OnOk, IfErr, IfSome, IfNone, length};
 ghost use Rattle.tera_report.specs.Sink.{Broke, Sends};
+ghost use Rattle.tera_report.specs.Errors.{report_of};
+ghost use Rattle.tera_replayer.specs.declared.fault.Fault.TheVariants.{OutOfMemory};
+ghost use Rattle.tera_replayer.specs.Replay.{line_report, source_of, whole_line};
 ghost use Rattle.tera_replayer.specs.Script.{HasNoLineFeed, without_return, last_line, ended};
-ghost use Rattle.tera_replayer.specs.Stretch.{Place, Goes, Runs, Stops, LineStops, start};
+ghost use Rattle.tera_replayer.specs.Stretch.{bad_at, Goes, Runs, Stops, LineStops, start};
 
 use crate::answer::write_answer;
 use crate::fault::Fault;
+use itoa::Buffer;
 use memchr::memchr;
 use std::alloc::Global;
+use std::str::from_utf8;
 use tera_context::{Context, step};
 use tera_report::sink::Sink;
+use tera_report::words::characters;
+use tera_report::{ReportError, Span};
 use tera_script::{Reading, read_line};
 
 /// What a replay keeps between two pieces of its script.
@@ -158,8 +164,47 @@ fn answer_line<W: Sink>(
 {
     match read_line(alloc, line)? {
         Reading::Skipped => Ok(false),
-        Reading::Bad => Err(Fault::BadLine(number)),
-        Reading::Says(call) => write_answer(alloc, step(context, call), out),
+        Reading::Bad => Err(Fault::BadLine(bad_line(alloc, number, line)?)),
+        Reading::Says(call) => write_answer(step(context, call), out),
+    }
+}
+
+// The report of a bad line. A line that is no UTF-8 shows nothing.
+fn bad_line(alloc: Global, number: u128, line: &[u8]) -> Result<Box<ReportError>, Fault>
+    ensures same { IfOk result (λ report.
+        report_of report.value ≡ line_report (bad_at number line.now)) }
+    ensures refused { IfErr result (λ fault. fault ≡ OutOfMemory) }
+{
+    let source = shown_source(line);
+    let span = whole_line(source);
+    let message = String::from_str(alloc, "bad line")?;
+    let filename = ["line ", Buffer::new().format(number)].concat(alloc)?;
+    match ReportError::new(alloc, message, filename.as_str(), source, &span) {
+        Ok(report) => Ok(Box::new(alloc, report)?),
+        Err(_) => Err(Fault::OutOfMemory),
+    }
+}
+
+// What of a bad line its report shows.
+fn shown_source(line: &[u8]) -> &str
+    ensures { result.now ≡ source_of line.now }
+{
+    match from_utf8(line) {
+        Ok(text) => text,
+        Err(_) => "",
+    }
+}
+
+// From the first character of the report's one line to its end.
+fn whole_line(source: &str) -> Span
+    ensures { result ≡ whole_line source.now }
+{
+    Span {
+        start_line: 1,
+        start_col: 0,
+        end_line: 1,
+        end_col: characters(source),
+        range: 0..source.len(),
     }
 }
 

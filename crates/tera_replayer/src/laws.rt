@@ -7,7 +7,7 @@ ghost use Rattle.tera_meaning.specs.Request.{Command};
 ghost use Rattle.tera_meaning.specs.Run.{NoneWantsMemory};
 ghost use Rattle.tera_replayer.specs.Replay.{status_of};
 ghost use Rattle.tera_replayer.specs.Reply.{IsFixedReply, IsReply};
-ghost use Rattle.tera_replayer.specs.Script.{Script, Splits, without_return, last_line};
+ghost use Rattle.tera_replayer.specs.Script.{BadLine, Script, Splits, without_return, last_line};
 
 use tera_script::{one_command, skipped_says_nothing};
 
@@ -26,7 +26,7 @@ pub fn lines_are_split_one_way()
 /// What lines say is one list of commands, up to one first bad line or none.
 pub fn scripts_say_one_thing()
     ensures { (n : ℕ) (lines : List (List ℕ)) (commands others : List Command)
-        (bad other : Option ℕ) → Script n lines commands bad → Script n lines others other →
+        (bad other : Option BadLine) → Script n lines commands bad → Script n lines others other →
         (commands ≡ others) × (bad ≡ other) }
 {
     one_command();
@@ -54,12 +54,13 @@ pub fn outcomes_have_one_reply()
         → IsReply outcome line → IsReply outcome other → line ≡ other }
 {}
 
-/// The reply to a refusal says its text, and begins with `error: ` where that is not known.
+/// The reply to a refusal says its text, and where that is not known what is known of it.
 pub fn refusals_are_replied_by_their_text()
     ensures zero { IsReply (Err divided_by_zero) (codes "error: Cannot divide by 0") }
     ensures memory { IsReply out_of_memory (codes "error: Out of memory") }
-    ensures failed { (kind : ErrorKind) (words : List ℕ)
-        → IsReply (Err (writing_failed kind)) (codes "error: " ++ words) }
+    ensures failed { (kind : ErrorKind) (line : List ℕ) → IsReply (Err (writing_failed kind)) line
+        → (name : List ℕ)
+        × (line ≡ codes "error: Io error while writing rendered value to output: " ++ name) }
 {}
 
 /// Of all outcomes want of memory alone makes the status 1.

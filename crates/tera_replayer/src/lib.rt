@@ -7,9 +7,8 @@ mod feed;
 pub mod laws;
 mod replays;
 mod source;
-#[cfg(test)]
-mod tests;
+mod terse;
 
 pub use fault::Fault;
 pub use replays::{replay, replay_from};
-pub use source::{Pieces, ReadError, Source};
+pub use source::{InputPieces, ReadError, Source};

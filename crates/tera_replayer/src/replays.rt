@@ -4,16 +4,19 @@ ghost use Rattle.tera_report.specs.Sink.{Broke, Delivers, PutsThese, Sends};
 ghost use Rattle.tera_replayer.specs.declared.fault.Fault.TheVariants.{WriteFailed};
 ghost use Rattle.tera_replayer.specs.Output.{TakesOrFails, WriterBroke, WriterGets};
 ghost use Rattle.tera_replayer.specs.Output.{WriterTakesOrFails};
-ghost use Rattle.tera_replayer.specs.Replay.{Replays, report};
+ghost use Rattle.tera_report.specs.Errors.{report_of};
+ghost use Rattle.tera_report.specs.Report.{report_text};
+ghost use Rattle.tera_replayer.specs.Replay.{Replays};
+ghost use Rattle.tera_replayer.specs.Script.{ended};
 ghost use Rattle.tera_replayer.specs.Stretch.{Ends, EndsFlushed, status_at, told};
 
-use crate::answer::put_line;
 use crate::fault::{Fault, WriteError, put, written};
 use crate::feed::Feed;
 use crate::source::Source;
-use itoa::Buffer;
+use crate::terse::Terse;
 use std::alloc::Global;
 use std::io::Read;
+use tera_report::ReportError;
 use tera_report::sink::Sink;
 use tera_report::watch::{Watched, Writer};
 
@@ -23,7 +26,7 @@ const PIECE: usize = 8192;
 /// Reads a script from `input`, writes what its calls answer to `out`, each answer before more is
 /// read, and a report of what ended it early to `err`. Answers the exit status: 0 where each line
 /// is answered and none of the answers is want of memory, 1 where one is, 2 at a bad line
-/// (`bad line N`), and else 1: `error: reading failed`, `error: writing failed` where a write to
+/// (its report), and else 1: `error: reading failed`, `error: writing failed` where a write to
 /// `out` or a flush of it fails, and `error: Out of memory` where the replay itself finds none. A
 /// report that cannot be written changes nothing.
 ///
@@ -112,18 +115,27 @@ fn tell<E: Sink>(ending: &Result<bool, Fault>, err: &mut E) -> Result<(), WriteE
 {
     match ending {
         Ok(_) => Ok(()),
-        Err(Fault::BadLine(number)) => tell_bad_line(*number, err),
+        Err(Fault::BadLine(report)) => tell_bad_line(report, err),
         Err(Fault::ReadFailed) => put("error: reading failed\n", err),
         Err(Fault::WriteFailed) => put("error: writing failed\n", err),
         Err(Fault::OutOfMemory) => put("error: Out of memory\n", err),
     }
 }
 
-fn tell_bad_line<E: Sink>(number: u128, err: &mut E) -> Result<(), WriteError>
-    ensures { PutsThese E.takes E.fails result (report (Some number)) err.old err.new }
+// Puts the report of a bad line, and a line feed.
+fn tell_bad_line<E: Sink>(report: &ReportError, err: &mut E) -> Result<(), WriteError>
+    ensures { PutsThese E.takes E.fails result (ended (report_text (report_of report.now)))
+        err.old err.new }
 {
-    let mut digits = Buffer::new();
-    put_line("bad line ", digits.format(number), err)
+    put_report(report, err)?;
+    put("\n", err)
+}
+
+fn put_report<E: Sink>(report: &ReportError, err: &mut E) -> Result<(), WriteError>
+    ensures { PutsThese E.takes E.fails result (report_text (report_of report.now))
+        err.old err.new }
+{
+    report.tell_to(&mut Terse::new(err))
 }
 
 // The exit status.

@@ -1,7 +1,7 @@
 // Where the script is read from.
-ghost use Rattle.std.specs.Prelude.{◌≡◌, ◌<◌, ◌≤◌, ℕ, Bool, true, false, List, Option, None, Some};
+ghost use Rattle.std.specs.Prelude.{◌≡◌, ◌<◌, ◌≤◌, ℕ, Bool, List, Option, None, Some};
 ghost use Rattle.std.specs.Prelude.{length, IfOk, OnErr};
-ghost use Rattle.std.specs.Io.KnownBytes.{ReadConsumes, IsAtEnd};
+ghost use Rattle.std.specs.Io.KnownBytes.{ReadConsumes};
 ghost use Rattle.tera_replayer.specs.Source.{EndIsTold, MayErr, bytes_left, fails_at_end, joined};
 
 use std::io::Read;
@@ -43,7 +43,7 @@ impl<R: Read> Source for R {
 /// Pieces of bytes, which reads give in turn, and then an end or a failure. A piece for which there
 /// is no room is given in parts, and an empty one is passed over. Takes no memory.
 #[derive(Drop)]
-pub struct Pieces<'a> {
+pub struct InputPieces<'a> {
     pieces: &'a [&'a [u8]],
     /// The place of the piece at hand, and how much of it was given.
     at: usize,
@@ -51,13 +51,13 @@ pub struct Pieces<'a> {
     fails: bool,
 }
 
-impl<'a> Pieces<'a> {
+impl<'a> InputPieces<'a> {
     /// These pieces, and then an end, or a failure where it `fails`.
-    pub fn new(pieces: &'a [&'a [u8]], fails: bool) -> Pieces<'a>
+    pub fn new(pieces: &'a [&'a [u8]], fails: bool) -> InputPieces<'a>
         ensures bytes { bytes_left result ≡ joined pieces.now }
         ensures end { fails_at_end result ≡ fails }
     {
-        Pieces {
+        InputPieces {
             pieces,
             at: 0,
             given: 0,
@@ -66,7 +66,7 @@ impl<'a> Pieces<'a> {
     }
 }
 
-impl Source for Pieces<'_> {
+impl Source for InputPieces<'_> {
     ghost left = { λ pieces. Some (bytes_left pieces) };
 
     ghost fails = { λ pieces. Some (fails_at_end pieces) };

@@ -1,9 +1,10 @@
 -- Kinds are equal exactly where they state one refusal: equality of texts, and refusals of different kinds.
 use lib.Pointwise.{pointwise, bytes_decides}
 use Rattle.std.specs.String.{string_eq}
-use Rattle.std.proofs.Common.{String, Global, string_bytes, Bool, true, false, ◌&&◌, ◌==◌, ◌≡◌, ℕ, List, [], ◌∷◌, map, refl}
+use Rattle.std.proofs.Common.{String, Global, string_bytes, Bool, true, false, ◌&&◌, ◌==◌, ◌≡◌, ℕ, List, [], ◌∷◌, ◌++◌, flat_map, map, append-nil, ap, Bor, refl}
 use Rattle.std.proofs.lemmas.Bool.{eq-eqb}
-use Rattle.tera_report.specs.Refusal.{Refusal, message, circular_extend, circular_include, missing_parent, template_not_found, component_not_found, invalid_argument, missing_argument, out_of_range, writing_failed, not_utf8}
+use Rattle.tera_report.specs.Errors.{joined}
+use Rattle.tera_report.specs.Refusal.{Refusal, message, syntax_error, rendering_error, circular_extend, circular_include, missing_parent, template_not_found, component_not_found, invalid_argument, missing_argument, out_of_range, writing_failed, not_utf8}
 
 -- `==` of two texts, and of two lists of texts, is that of their bytes
 pub same_text : (s t : String Global) → string_eq s t ≡ true → string_bytes s ≡ string_bytes t
@@ -52,10 +53,18 @@ number_of (missing_argument a) = 7
 number_of (out_of_range a b) = 8
 number_of (writing_failed a) = 9
 number_of not_utf8 = 10
-number_of refusal = 11
+number_of (syntax_error a) = 11
+number_of (rendering_error a) = 12
+number_of refusal = 13
 
 pub other_number : {P : Type 0} (m n : ℕ) → (m == n) ≡ false → m ≡ n → P
 other_number m n h e = let same : (m == n) ≡ true = eq-eqb m n e in absurd (cc)
 
 pub no_truth : {P : Type 0} → false ≡ true → P
 no_truth h = absurd (cc)
+
+-- texts that are lent, one behind another
+pub lent_joined : (texts : List (Bor (List ℕ))) → flat_map (λ x. x.now) texts ≡ joined (map (λ text. text.now) texts)
+lent_joined [] = refl
+lent_joined (text ∷ []) = append-nil text.now
+lent_joined (text ∷ (next ∷ texts)) = ap (λ l. text.now ++ l) (lent_joined (next ∷ texts))

@@ -1,9 +1,10 @@
 -- Each text has one spelling, and spelled bytes stand for one text.
 use Rattle.std.proofs.Common.{◌≡◌, ℕ, suc, ◌<◌, ◌≤◌, length, get_or, take, drop, arith, append_assoc, append-nil, Bool, true, false, ◌||◌, ◌==◌, List, [], ◌∷◌, ◌++◌, map, refl, sym, ap, ◌∙◌, subst, if◌then◌else◌}
-use Rattle.std.proofs.lemmas.Bool.{eqb-true, eq-eqb}
+use Rattle.std.proofs.lemmas.Bool.{eqb-true}
 use Rattle.std.proofs.lemmas.List.Concat.{flat_map-append}
 use Rattle.std.proofs.lemmas.List.{length-take, get_or-take, take-append-drop}
 use Rattle.std.specs.List.{flat_map, AllByRecursion}
+use Rattle.tera_report.proofs.ErrorLemmas.{other_number}
 use Rattle.tera_report.specs.Escaping.{Token, itself, ampersand, less_than, greater_than, double_quote, single_quote, spelling, decoding, is_special, IsToken, Spells, token_of, escaped, IsPlain}
 
 -- an ordinary byte's token is the byte itself
@@ -88,9 +89,6 @@ second [] = 0
 second (a ∷ []) = 0
 second (a ∷ b ∷ rest) = b
 
-differ : {P : Type 0} (m n : ℕ) → (m == n) ≡ false → m ≡ n → P
-differ m n h e = let same : (m == n) ≡ true = eq-eqb m n e in absurd (cc)
-
 -- the first token of spelled bytes is determined, and so is what follows it
 first_token : (k l : Token) (a b : List ℕ) → IsToken k → IsToken l → spelling k ++ a ≡ spelling l ++ b → (k ≡ l) × (a ≡ b)
 first_token (itself x) (itself y) a b p q e = ((cc), (cc))
@@ -109,7 +107,7 @@ first_token less_than less_than a b p q e = (refl, (cc))
 first_token greater_than greater_than a b p q e = (refl, (cc))
 first_token double_quote double_quote a b p q e = (refl, (cc))
 first_token single_quote single_quote a b p q e = (refl, (cc))
-first_token k l a b p q e = differ _ _ refl (ap second e)
+first_token k l a b p q e = other_number _ _ refl (ap second e)
 
 no_token : {P : Type 0} (k : Token) (a : List ℕ) → [] ≡ spelling k ++ a → P
 no_token (itself x) a e = absurd (cc)

@@ -1,7 +1,10 @@
+pub mod EqualReports
 pub mod ErrorLemmas
 pub mod EscapeLemmas
 pub mod LaneLemmas
+pub mod PartLemmas
 pub mod PutLemmas
 pub mod QuoteLemmas
+pub mod ReportLemmas
 pub mod TellLemmas
 pub mod WatchLemmas

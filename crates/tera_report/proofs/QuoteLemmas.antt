@@ -2,7 +2,7 @@
 use Rattle.std.proofs.Common.{map, None, Some, if◌then◌else◌, ◌≡◌, ℕ, zero, suc, ◌+◌, ◌-◌, ◌<◌, ◌≤◌, Bool, true, false, not, ◌||◌, ◌==◌, IsTrue, nat_lt, cond, List, [], ◌∷◌, ◌++◌, length, get_or, take, drop, bytes_eq, refl, sym, ap, subst, ◌∙◌, arith, ne_eqb, append-nil, append_assoc, take-append-drop, take_at, ltb-true, encode_utf8_all, IsUtf8, length-append, length-take-le, length-drop}
 use Rattle.std.proofs.lemmas.Bool.{cond-false, and_parts, agree_below_at}
 use Rattle.std.proofs.lemmas.Bool.Decides.{nat_tests}
-use Rattle.std.proofs.lemmas.List.{nil_from_length, get_or-append_right, get_or-take}
+use Rattle.std.proofs.lemmas.List.{get_or-append_right, get_or-take}
 use Rattle.std.proofs.lemmas.List.Concat.{flat_map-append}
 use Rattle.std.proofs.lemmas.List.Folds.{list_all-append}
 use Rattle.std.proofs.Math.Seq.{drop-cons}
@@ -184,13 +184,6 @@ cut_here text run after tail c skips cut run_is ascii =
       whole = ap escapes skips.parts ∙ flat_map-append (debug_escape 34) skips.run after
           ∙ ap (λ l. l ++ escapes after) (skips.plain ∙ sym same) ∙ ap (λ l. run ++ escapes l) first.1;
     }
-
--- a text of which nothing is left past a run that stands for itself
-pub all_plain : (text after : List ℕ) → SkipsPlain text after → length after ≡ 0 → escapes text ≡ text
-all_plain text after skips none =
-    let whole : text ≡ skips.run = skips.parts ∙ ap (λ l. skips.run ++ l) (nil_from_length after none)
-    ∙ append-nil skips.run in
-    ap escapes whole ∙ skips.plain ∙ sym whole
 
 -- one more part of an escape is put
 pub parts_more : (given done rest later : List ℕ) (part : ℕ) → encode_utf8_all given ≡ done ++ encode_utf8_all rest

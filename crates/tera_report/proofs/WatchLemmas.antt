@@ -5,8 +5,8 @@ use Rattle.std.proofs.KnownBytes.{Appends-trans}
 use Rattle.std.specs.Io.KnownBytes.{Appends}
 use Rattle.std.specs.declared.io.Error.{Error}
 use Rattle.tera_report.specs.Watch.{has_failed, held, SameWriter, watched_writer, WatchedTakes, WatchedFails}
-use Rattle.tera_report.specs.Writer.{Attempt, once, is_fault, bytes_taken, all_taken, has_fault, Goes}
-use Rattle.tera_report.specs.WriterLaws.{goes_more, taken_more, faults_more}
+use Rattle.tera_report.specs.Writer.{Attempt, once, is_fault, bytes_taken, all_taken, has_fault, Tries}
+use Rattle.tera_report.specs.WriterLaws.{tries_more, taken_more, faults_more}
 use Rattle.tera_report.specs.declared.watch.Watched.{Watched}
 
 pub kept_by_or : (x a b : Bool) → x ≡ (a || b) → IsTrue a → IsTrue x
@@ -20,10 +20,6 @@ quiet_before x false b e h = refl
 pub not_quiet : {P : Type 0} (x a : Bool) → x ≡ (a || true) → x ≡ false → P
 not_quiet x true e h = absurd (cc)
 not_quiet x false e h = absurd (cc)
-
-pub loud_after : (x a : Bool) → x ≡ (a || true) → IsTrue x
-loud_after x true e = e
-loud_after x false e = e
 
 -- what a slice from n on holds
 pub split_later : (all done rest : List ℕ) (n : ℕ) → all ≡ done ++ rest → all ≡ (done ++ take n rest) ++ take (length rest - n) (drop n rest)
@@ -68,7 +64,7 @@ module _ {W : Type 0} (contents : W → Option (List ℕ)) (wrote : W → List �
 
   -- after some writes one more failed, and took nothing
   pub failed_here : (old mid new : Watched W) (attempts : List Attempt) (buf rest : List ℕ) (answer : Result ℕ Error)
-      → Goes wrote (watched_writer old) attempts (watched_writer mid) → buf ≡ all_taken attempts ++ rest
+      → Tries wrote (watched_writer old) attempts (watched_writer mid) → buf ≡ all_taken attempts ++ rest
       → Appends (held contents old) (held contents mid) (all_taken attempts) → SameWriter old mid
       → wrote (watched_writer mid) rest answer (watched_writer new)
       → Appends (held contents mid) (held contents new) (bytes_taken answer rest) → SameWriter mid new
@@ -82,7 +78,7 @@ module _ {W : Type 0} (contents : W → Option (List ℕ)) (wrote : W → List �
         told = subst IsTrue (sym (told ∙ ap (λ b. has_failed mid || b) fault)) (or_true (has_failed mid));
         broke = record {
           attempts = attempts ++ once rest answer;
-          calls = goes_more wrote (watched_writer old) attempts (watched_writer mid) rest answer (watched_writer new) calls one;
+          calls = tries_more wrote (watched_writer old) attempts (watched_writer mid) rest answer (watched_writer new) calls one;
           fault = subst IsTrue (sym (faults_more attempts rest answer ∙ ap (λ b. has_fault attempts || b) fault)) (or_true (has_fault attempts));
           rest = rest;
           part = ap (λ l. l ++ rest) nothing ∙ sym split;

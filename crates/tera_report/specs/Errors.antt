@@ -1,9 +1,12 @@
 -- What an `Error` holds, and which refusal it is.
-use Rattle.std.specs.Prelude.{◌≡◌, map, Option, None, string_bytes, ◌⊎◌, ⊤}
+use Rattle.std.specs.Prelude.{◌≡◌, ℕ, List, [], ◌∷◌, ◌++◌, map, Option, None, Result, Ok, Err, string_bytes, ◌⊎◌, ⊤}
 use Rattle.anyhow.specs.declared.error.Error.{Error as Cause}
 use Rattle.tera_report.specs.declared.errors.ErrorKind.{ErrorKind}
-use Rattle.tera_report.specs.declared.errors.ErrorKind.TheVariants.{Msg, CircularExtend, CircularInclude, MissingParent, TemplateNotFound, ComponentNotFound, InvalidArgument, MissingArgument, OutOfRangeArgument, Io, Utf8Conversion, OutOfMemory}
+use Rattle.tera_report.specs.declared.errors.ErrorKind.TheVariants.{Msg, SyntaxError, RenderingError, CircularExtend, CircularInclude, MissingParent, TemplateNotFound, ComponentNotFound, InvalidArgument, MissingArgument, OutOfRangeArgument, Io, Utf8Conversion, OutOfMemory}
 use Rattle.tera_report.specs.declared.errors.Error.{Error}
+use Rattle.tera_report.specs.declared.report.Note.{Note as NoteHeld}
+use Rattle.tera_report.specs.declared.report.ReportError.{ReportError}
+use Rattle.tera_report.specs.Report.{Note, Report}
 use Rattle.tera_report.specs.Refusal
 
 -- the kind of an error
@@ -33,9 +36,31 @@ HoldsNoText Utf8Conversion = ⊤
 HoldsNoText OutOfMemory = ⊤
 HoldsNoText kind = ⊥
 
+-- what a note and a report hold
+abbrev pub note_of : NoteHeld → Note
+note_of note =
+    record {
+      label = string_bytes note.label;
+      file = string_bytes note.filename;
+      source = string_bytes note.source;
+      span = note.span;
+    }
+
+abbrev pub report_of : ReportError → Report
+report_of e =
+    record {
+      message = string_bytes e.message;
+      file = string_bytes e.filename;
+      source = string_bytes e.source;
+      span = e.span;
+      notes = map note_of e.notes.items;
+    }
+
 -- the refusal that a kind states
 abbrev pub refusal_of : ErrorKind → Refusal.Refusal
 refusal_of (Msg text) = Refusal.message (string_bytes text)
+refusal_of (SyntaxError report) = Refusal.syntax_error (report_of report.value)
+refusal_of (RenderingError report) = Refusal.rendering_error (report_of report.value)
 refusal_of (CircularExtend tpl chain) = Refusal.circular_extend (string_bytes tpl) (map string_bytes chain.items)
 refusal_of (CircularInclude tpl chain) = Refusal.circular_include (string_bytes tpl) (map string_bytes chain.items)
 refusal_of (MissingParent current parent) = Refusal.missing_parent (string_bytes current) (string_bytes parent)
@@ -47,6 +72,12 @@ refusal_of (OutOfRangeArgument value target) = Refusal.out_of_range (string_byte
 refusal_of (Io kind) = Refusal.writing_failed kind
 refusal_of Utf8Conversion = Refusal.not_utf8
 refusal_of OutOfMemory = Refusal.memory_refused
+
+-- texts one behind another
+abbrev pub joined : List (List ℕ) → List ℕ
+joined [] = []
+joined (text ∷ []) = text
+joined (text ∷ (next ∷ texts)) = text ++ joined (next ∷ texts)
 
 -- the error states this refusal, and this error caused it
 pub record States (refusal : Refusal.Refusal) (cause : Option Cause) (e : Error) : Type 0 where
@@ -60,3 +91,9 @@ Raises refusal e = States refusal None e ⊎ IsOutOfMemory e
 -- the error states just this refusal, without a cause. Want of memory is shown by its own kind alone
 abbrev pub Shows : Refusal.Refusal → Error → Type 0
 Shows refusal e = States (Refusal.stated refusal) None e
+
+-- the error of a call that is to give this: of its refusal, or want of memory in its place; and where nothing is refused
+-- want of memory alone
+abbrev pub Refuses : {X : Type 0} → Result X Refusal.Refusal → Error → Type 0
+Refuses (Ok x) e = IsOutOfMemory e
+Refuses (Err refusal) e = Raises (Refusal.stated refusal) e

@@ -1,9 +1,11 @@
 pub mod Errors
 pub mod Escaping
 pub mod Growing
+pub mod Parts
 pub mod Pieces
 pub mod Quoted
 pub mod Refusal
+pub mod Report
 pub mod Room
 pub mod SentLaws
 pub mod Sink
@@ -11,5 +13,6 @@ pub mod SinkLaws
 pub mod Span
 pub mod Spanned
 pub mod Watch
+pub mod WorkedReports
 pub mod Writer
 pub mod WriterLaws

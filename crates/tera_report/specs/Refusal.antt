@@ -3,6 +3,7 @@ use Rattle.std.specs.Prelude.{◌≡◌, ℕ, ℤ, List, [], ◌++◌, codes, Op
 use Rattle.std.specs.Fmt.{◌++?◌, debug_str, debug_list, signed_decimal}
 use Rattle.std.specs.declared.io.ErrorKind.{ErrorKind}
 use Rattle.tera_report.specs.Quoted.{IsText, QuotesList}
+use Rattle.tera_report.specs.Report.{Report, report_text}
 
 -- The operators of arithmetic, and how each is written
 pub data Operator : Type 0 where
@@ -35,6 +36,8 @@ container_word in_text = codes "String"
 pub data Refusal : Type 0 where
   -- what the kinds of errors state in words of the caller's own
   message : (text : List ℕ) → Refusal
+  syntax_error : (report : Report) → Refusal
+  rendering_error : (report : Report) → Refusal
   circular_extend : (template : List ℕ) (chain : List (List ℕ)) → Refusal
   circular_include : (template : List ℕ) (chain : List (List ℕ)) → Refusal
   missing_parent : (current parent : List ℕ) → Refusal
@@ -80,6 +83,8 @@ include_words template =
 -- name of a kind of io errors.
 abbrev pub text_of : Refusal → Option (List ℕ)
 text_of (message text) = Some text
+text_of (syntax_error report) = Some (report_text report)
+text_of (rendering_error report) = Some (report_text report)
 text_of (circular_extend template chain) =
     Some (extend_words template) ++? debug_list debug_str chain ++? Some (codes "`")
 text_of (circular_include template chain) =
@@ -146,6 +151,8 @@ Tells refusal bytes = IsText (text_of refusal) bytes
 -- outside a type is stated by its digits; and every other refusal is a message of its whole text
 abbrev pub stated : Refusal → Refusal
 stated (message words) = message words
+stated (syntax_error report) = syntax_error report
+stated (rendering_error report) = rendering_error report
 stated (circular_extend template chain) = circular_extend template chain
 stated (circular_include template chain) = circular_include template chain
 stated (missing_parent current parent) = missing_parent current parent

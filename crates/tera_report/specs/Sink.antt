@@ -4,7 +4,7 @@ use Rattle.std.specs.List.{FoldsTo, flat_map}
 use Rattle.std.specs.declared.fmt.Formatter.{Formatter}
 use Rattle.std.specs.Fmt.{HasWrittenStyled, IsFlush}
 
--- some bytes with a property were taken, or putting them failed
+-- it was done with some bytes of this property
 abbrev pub OfSome : {S : Type 0} → (S → List ℕ → S → Type 0) → (List ℕ → Type 0) → S → S → Type 0
 OfSome does P old new = (bytes : List ℕ) × P bytes × does old bytes new
 

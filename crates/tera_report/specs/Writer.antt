@@ -32,15 +32,15 @@ has_fault [] = false
 has_fault (a ∷ rest) = is_fault a.answer a.given || has_fault rest
 
 -- the writer went from old to new by these writes, in turn
-abbrev pub Goes : {W : Type 0} → (W → List ℕ → Result ℕ Error → W → Type 0)
+abbrev pub Tries : {W : Type 0} → (W → List ℕ → Result ℕ Error → W → Type 0)
     → W → List Attempt → W → Type 0
-Goes wrote old attempts new = FoldsTo (λ v a w. wrote v a.given a.answer w) old attempts new
+Tries wrote old attempts new = FoldsTo (λ v a w. wrote v a.given a.answer w) old attempts new
 
 -- the writer went from old to new by writes that took just these bytes
 pub record Passes {W : Type 0} (wrote : W → List ℕ → Result ℕ Error → W → Type 0) (old : W)
     (bytes : List ℕ) (new : W) : Type 0 where
   pub attempts : List Attempt
-  pub calls : Goes wrote old attempts new
+  pub calls : Tries wrote old attempts new
   pub whole : all_taken attempts ≡ bytes
 
 -- the writer went from old to new by writes that took a beginning of these bytes, and one of them
@@ -48,7 +48,7 @@ pub record Passes {W : Type 0} (wrote : W → List ℕ → Result ℕ Error → 
 pub record Breaks {W : Type 0} (wrote : W → List ℕ → Result ℕ Error → W → Type 0) (old : W)
     (bytes : List ℕ) (new : W) : Type 0 where
   pub attempts : List Attempt
-  pub calls : Goes wrote old attempts new
+  pub calls : Tries wrote old attempts new
   pub fault : IsTrue (has_fault attempts)
   pub rest : List ℕ
   pub part : all_taken attempts ++ rest ≡ bytes

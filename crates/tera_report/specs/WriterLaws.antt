@@ -4,7 +4,7 @@ use Rattle.std.proofs.Common.{◌∙◌, ap, sym, subst, append_assoc, append-ni
 use Rattle.std.proofs.lemmas.List.Concat.{flat_map-append}
 use Rattle.std.specs.declared.io.Error.{Error}
 use Rattle.std.specs.List.{FoldsTo}
-use Rattle.tera_report.specs.Writer.{Attempt, once, is_fault, bytes_taken, all_taken, has_fault, Goes, Passes, Breaks}
+use Rattle.tera_report.specs.Writer.{Attempt, once, is_fault, bytes_taken, all_taken, has_fault, Tries, Passes, Breaks}
 
 -- some turns, and then some more
 pub folds_joined : {P A : Type 0} (R : P → A → P → Type 0) (p : P) (xs : List A) (q : P) (ys : List A) (u : P)
@@ -45,13 +45,13 @@ faults_more xs bytes answer =
     faults_joined xs (once bytes answer) ∙ ap (λ b. has_fault xs || b) (or_false (is_fault answer bytes))
 
 module _ {W : Type 0} (wrote : W → List ℕ → Result ℕ Error → W → Type 0) where
-  pub goes_joined : (w : W) (xs : List Attempt) (v : W) (ys : List Attempt) (u : W)
-      → Goes wrote w xs v → Goes wrote v ys u → Goes wrote w (xs ++ ys) u
-  goes_joined w xs v ys u p q = folds_joined _ w xs v ys u p q
+  pub tries_joined : (w : W) (xs : List Attempt) (v : W) (ys : List Attempt) (u : W)
+      → Tries wrote w xs v → Tries wrote v ys u → Tries wrote w (xs ++ ys) u
+  tries_joined w xs v ys u p q = folds_joined _ w xs v ys u p q
 
-  pub goes_more : (w : W) (xs : List Attempt) (v : W) (bytes : List ℕ) (answer : Result ℕ Error) (u : W)
-      → Goes wrote w xs v → wrote v bytes answer u → Goes wrote w (xs ++ once bytes answer) u
-  goes_more w xs v bytes answer u p q = goes_joined w xs v (once bytes answer) u p (u, q, refl)
+  pub tries_more : (w : W) (xs : List Attempt) (v : W) (bytes : List ℕ) (answer : Result ℕ Error) (u : W)
+      → Tries wrote w xs v → wrote v bytes answer u → Tries wrote w (xs ++ once bytes answer) u
+  tries_more w xs v bytes answer u p q = tries_joined w xs v (once bytes answer) u p (u, q, refl)
 
   pub passes_nothing : (w : W) → Passes wrote w [] w
   passes_nothing w = record { attempts = []; calls = refl; whole = refl }
@@ -60,7 +60,7 @@ module _ {W : Type 0} (wrote : W → List ℕ → Result ℕ Error → W → Typ
       → Passes wrote w a v → Passes wrote v b u → Passes wrote w (a ++ b) u
   passes_joined w a v b u p q = record {
     attempts = p.attempts ++ q.attempts;
-    calls = goes_joined w p.attempts v q.attempts u p.calls q.calls;
+    calls = tries_joined w p.attempts v q.attempts u p.calls q.calls;
     whole = taken_joined p.attempts q.attempts ∙ (λ i. p.whole i ++ q.whole i);
   }
 
@@ -77,7 +77,7 @@ module _ {W : Type 0} (wrote : W → List ℕ → Result ℕ Error → W → Typ
       → Passes wrote w a v → Breaks wrote v b u → Breaks wrote w (a ++ b) u
   breaks_later w a v b u p q = record {
     attempts = p.attempts ++ q.attempts;
-    calls = goes_joined w p.attempts v q.attempts u p.calls q.calls;
+    calls = tries_joined w p.attempts v q.attempts u p.calls q.calls;
     fault = subst IsTrue (sym (faults_joined p.attempts q.attempts)) (or_later (has_fault p.attempts) (has_fault q.attempts) q.fault);
     rest = q.rest;
     part =

@@ -1,11 +1,13 @@
 // The error type of every call, its kinds and their texts.
 ghost use Rattle.std.specs.Prelude.{◌≡◌, ◌↔◌, IsTrue, OnOk, option_copied};
 ghost use Rattle.std.specs.Fmt.{DisplaysOnOk, DisplaysStyledOnOk};
-ghost use Rattle.tera_report.specs.Errors.{kind_of, source_of, plain_error, IsOutOfMemory, refusal_of};
+ghost use Rattle.tera_report.specs.Errors.{kind_of, source_of, plain_error, IsOutOfMemory};
+ghost use Rattle.tera_report.specs.Errors.{refusal_of};
 ghost use Rattle.tera_report.specs.Refusal.{text_of, Tells};
 ghost use Rattle.tera_report.specs.Sink.{OfSome, FormatterTakes};
 ghost use Rattle.tera_report.specs.declared.errors.ErrorKind.{ErrorKind};
 
+use crate::report::ReportError;
 use std::alloc::{AllocError, AllocFailed};
 use std::{fmt, io};
 
@@ -29,6 +31,10 @@ pub type TeraResult<T> = Result<T, Error>;
 pub enum ErrorKind {
     /// A message of its own, which is the whole text.
     Msg(String),
+    /// A template is written wrong, at a place in its source.
+    SyntaxError(Box<ReportError>),
+    /// Rendering a template failed, at a place in its source.
+    RenderingError(Box<ReportError>),
     /// A template extends itself, over the templates of the chain.
     CircularExtend {
         tpl: String,

@@ -6,12 +6,13 @@ mod escape;
 mod growing;
 mod pieces;
 pub mod quote;
+pub mod report;
 mod room;
 pub mod sink;
 mod span;
 mod spanned;
 pub mod watch;
-mod words;
+pub mod words;
 mod writer;
 
 pub use errors::{
@@ -24,5 +25,6 @@ pub use escape::{
     escape_html, escape_into_room, escape_text, escape_to, escape_watched, one_decoding,
     one_spelling,
 };
+pub use report::{ReportError, reports_equal_by_parts};
 pub use span::{Span, spans_equal_by_numbers};
 pub use spanned::{Spanned, spanned_equal_by_parts};

@@ -1,5 +1,6 @@
 // A text cut into runs of ordinary bytes and special bytes, one of these at a time.
-ghost use Rattle.std.specs.Prelude.{◌≡◌, ◌++◌, ◌<◌, ◌≤◌, true, false, [], length, IfNone, IfSome, slice_index};
+ghost use Rattle.std.specs.Prelude.{◌≡◌, ◌++◌, ◌<◌, ◌≤◌, true, false, [], length, IfNone};
+ghost use Rattle.std.specs.Prelude.{IfSome, slice_index};
 ghost use Rattle.std.specs.List.{position_or_len};
 ghost use Rattle.tera_report.specs.Escaping.{IsPlain, is_special, escaped, spelling, token_of};
 ghost use Rattle.tera_report.specs.Pieces.{written};

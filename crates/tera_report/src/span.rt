@@ -32,6 +32,16 @@ impl Span {
         self.end_col = other.end_col;
         self.range.end = other.range.end;
     }
+
+    // The same span. A clone answers a `Result`, though it takes no memory.
+    pub(crate) fn copy(&self) -> Span
+        ensures { result ≡ self.now }
+    {
+        Span {
+            range: self.range.start..self.range.end,
+            ..*self
+        }
+    }
 }
 
 /// Two spans are `==` exactly where their numbers are, a default span is all zeros, and a clone is

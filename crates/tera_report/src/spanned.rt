@@ -56,7 +56,8 @@ impl<T: Debug> Spanned<T> {
     /// `Spanned::span_mut`.
     pub fn span_mut(&mut self) -> &mut Span
         ensures value { result.now ≡ span_of self.old }
-        ensures* writes_back { sem 𝓛 (Lends (the_row T.row) span-row self.entry result (placed_at self.old)) }
+        ensures* writes_back { sem 𝓛
+            (Lends (the_row T.row) span-row self.entry result (placed_at self.old)) }
     {
         &mut self.span
     }

@@ -57,7 +57,7 @@ impl<'a, W: Writer> Watched<'a, W> {
                 Ok(0) => return Err(io::Error::from(ErrorKind::WriteZero)),
                 Ok(taken) => rest = &rest[taken..],
                 Err(e) => {
-                    if e.kind() != ErrorKind::Interrupted {
+                    if !matches!(e.kind(), ErrorKind::Interrupted) {
                         return Err(e);
                     }
                 }
@@ -80,13 +80,16 @@ impl<W: Writer> Write for Watched<'_, W> {
         ensures same { SameWriter self.old self.new }
         ensures told { has_failed self.new ≡ (has_failed self.old || is_fault result buf.now) }
     {
-        let written = self.writer.write_once(buf);
-        let failed = match &written {
-            Ok(taken) => *taken == 0 && !buf.is_empty(),
-            Err(_) => true,
-        };
-        self.failed = self.failed || failed;
-        written
+        match self.writer.write_once(buf) {
+            Ok(taken) => {
+                self.failed = self.failed || taken == 0 && !buf.is_empty();
+                Ok(taken)
+            }
+            Err(e) => {
+                self.failed = true;
+                Err(e)
+            }
+        }
     }
 
     // One flush of the writer, and its answer.
@@ -115,7 +118,7 @@ impl<W: Writer> Write for Watched<'_, W> {
             Ok(0) => Err(io::Error::from(ErrorKind::WriteZero)),
             Ok(taken) if taken == buf.len() => Ok(()),
             Ok(taken) => self.write_rest(&buf[taken..]),
-            Err(e) if e.kind() == ErrorKind::Interrupted => self.write_rest(buf),
+            Err(e) if matches!(e.kind(), ErrorKind::Interrupted) => self.write_rest(buf),
             Err(e) => Err(e),
         }
     }

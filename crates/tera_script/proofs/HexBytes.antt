@@ -7,7 +7,7 @@ use Rattle.std.proofs.lemmas.Option.{some_pair_parts}
 use Rattle.tera_script.specs.Literal.{SpellsBytes}
 use Rattle.tera_script.specs.Readers.{byte_before, hex_at}
 use Rattle.tera_script.proofs.Fronts.{both_pass}
-use Rattle.tera_script.proofs.Words.{chosen}
+use Rattle.tera_script.proofs.Choices.{chosen}
 
 -- the bytes so far, and then those that were read
 abbrev pub after_bytes : List ℕ → Option (List ℕ × List ℕ) → Option (List ℕ × List ℕ)

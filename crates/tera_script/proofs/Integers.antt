@@ -1,18 +1,20 @@
 -- Numbers: what the reader gives is spelled so, and what is spelled so is read.
-use Rattle.std.proofs.Common.{◌≡◌, ◌<◌, ◌^◌, ℕ, zero, suc, ℤ, pos, negsuc, Bool, true, false, cond, ◌&&◌, eqb, ltb, List, [], ◌∷◌, ◌++◌, length, Option, Some, None, refl, ap, sym, ◌∙◌, ◌⊎◌, inl, inr, arith, append_assoc}
+use Rattle.std.proofs.Common.{◌≡◌, ◌<◌, ◌^◌, ℕ, zero, suc, ℤ, pos, negsuc, Bool, true, false, ◌&&◌, eqb, ltb, List, [], ◌∷◌, ◌++◌, length, Option, Some, None, refl, ap, sym, ◌∙◌, ◌⊎◌, inl, inr, arith, append_assoc}
 use Rattle.std.specs.Char.{is_ascii_digit, digit_value}
 use Rattle.std.specs.List.{list_all}
 use Rattle.std.specs.Str.{bytes_eq}
 use Rattle.std.specs.Str.Parse.{AllDigits, IsNumeral, digits_value}
 use Rattle.std.proofs.lemmas.Bool.Decides.{nat_tests}
 use Rattle.std.specs.Option.{option_and_then}
-use Rattle.std.proofs.lemmas.Option.{option_and_then_some, some_pair_parts}
+use Rattle.std.proofs.lemmas.Option.{option_and_then_some, same_Some, some_pair_parts}
 use Rattle.std.proofs.lemmas.Slice.Eq.{bytes_eq-Decides}
 use Rattle.std.proofs.lemmas.Str.Parse.{digit_from_value}
+use Rattle.tera_meaning.specs.Kind.{integer_kind_name}
 use Rattle.tera_meaning.specs.Integer.{IntegerKind, u64, i64, u128, i128, Integer, IsOfKind}
-use Rattle.tera_script.specs.Number.{kind_word, sign_of, suffix_of, signed, IsSignFor, IsFirstKind, IsKindFor, SpellsNumber}
+use Rattle.tera_script.specs.Number.{sign_of, suffix_of, signed, IsSignFor, IsFirstKind, IsKindFor, SpellsNumber}
 use Rattle.tera_script.specs.Readers.{Stops, front, past, digits_at, if_named, suffix_in, is_of_kind, is_sign_for, in_kind, integer_of, unsigned_in, number_in}
 use Rattle.tera_script.proofs.Fronts.{front-past, front_all, past_stops, front_is, past_is, both_pass}
+use Rattle.tera_script.proofs.Choices.{chosen}
 
 -- the tests and the facts
 pub of_kind_found : (kind : IntegerKind) (z : ℤ) → is_of_kind kind z ≡ true → IsOfKind kind z
@@ -95,23 +97,15 @@ suffix_only (Some i64) = refl
 suffix_only (Some u128) = refl
 suffix_only (Some i128) = refl
 
-option_same : {A : Type 0} (x y : A) → ◌≡◌ {A = Option A} (Some x) (Some y) → x ≡ y
-option_same x y e = cc
-
--- what a chain of tests gave
-chosen : {A : Type 0} (b : Bool) (x y z : A) → cond b x y ≡ z → ((b ≡ true) × (x ≡ z)) ⊎ ((b ≡ false) × (y ≡ z))
-chosen true x y z e = inl (refl, e)
-chosen false x y z e = inr (refl, e)
-
 named_found : (word : List ℕ) (kind : IntegerKind) (otherwise : Option (Option IntegerKind)) (suffix : Option IntegerKind) → if_named word kind otherwise ≡ Some suffix → (word ≡ suffix_of suffix) ⊎ (otherwise ≡ Some suffix)
-named_found word kind otherwise suffix e = elim (chosen (bytes_eq word (kind_word kind)) (Some (Some kind)) otherwise (Some suffix) e) [
-  | inl h ↦ inl ((bytes_eq-Decides word (kind_word kind)).0 h.0 ∙ ap suffix_of (option_same (Some kind) suffix h.1))
+named_found word kind otherwise suffix e = elim (chosen (bytes_eq word (integer_kind_name kind)) (Some (Some kind)) otherwise (Some suffix) e) [
+  | inl h ↦ inl ((bytes_eq-Decides word (integer_kind_name kind)).0 h.0 ∙ ap suffix_of (same_Some (Some kind) suffix h.1))
   | inr h ↦ inr h.1
 ]
 
 suffix_found : (word : List ℕ) (suffix : Option IntegerKind) → suffix_in word ≡ Some suffix → word ≡ suffix_of suffix
 unfolding suffix_in
-suffix_found [] suffix e = ap suffix_of (option_same None suffix e)
+suffix_found [] suffix e = ap suffix_of (same_Some None suffix e)
 suffix_found (b ∷ word) suffix e =
     let w = b ∷ word in
     elim (named_found w u64 (if_named w i64 (if_named w u128 (if_named w i128 None))) suffix e) [
@@ -131,7 +125,7 @@ suffix_found (b ∷ word) suffix e =
 -- a kind that holds the number, or one that does not and what is given instead
 kind_found : (kind : IntegerKind) (z : ℤ) (otherwise : Option Integer) (n : Integer) → in_kind kind z otherwise ≡ Some n → ((n.kind ≡ kind) × (n.value ≡ z) × IsOfKind kind z) ⊎ ((¬ IsOfKind kind z) × (otherwise ≡ Some n))
 kind_found kind z otherwise n e = elim (chosen (is_of_kind kind z) (Some (record { kind = kind; value = z })) otherwise (Some n) e) [
-  | inl h ↦ let same = option_same (record { kind = kind; value = z }) n h.1 in inl (ap (λ (i : Integer). i.kind) (sym same), ap (λ (i : Integer). i.value) (sym same), of_kind_found kind z h.0)
+  | inl h ↦ let same = same_Some (record { kind = kind; value = z }) n h.1 in inl (ap (λ (i : Integer). i.kind) (sym same), ap (λ (i : Integer). i.value) (sym same), of_kind_found kind z h.0)
   | inr h ↦ inr (of_kind_refuted kind z h.0, h.1)
 ]
 
@@ -186,7 +180,7 @@ first_is_wide u64 z h = h.1
 first_is_wide i128 z h = h.2
 first_is_wide u128 z h = h.3
 
-magnitude_fits : (kind : IntegerKind) (minus : Bool) (m : ℕ) → IsOfKind kind (signed minus m) → m < 2 ^ 128
+pub magnitude_fits : (kind : IntegerKind) (minus : Bool) (m : ℕ) → IsOfKind kind (signed minus m) → m < 2 ^ 128
 magnitude_fits i64 true zero h = omega arith
 magnitude_fits i64 true (suc m) h = omega arith
 magnitude_fits u64 true zero h = omega arith

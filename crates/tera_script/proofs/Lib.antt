@@ -1,3 +1,4 @@
+pub mod Choices
 pub mod Fronts
 pub mod Names
 pub mod Digits
@@ -15,10 +16,20 @@ pub mod Words
 pub mod HexBytes
 pub mod Shapes
 pub mod Literals
+pub mod Keys
+pub mod Series
 pub mod Arrays
+pub mod Maps
+pub mod Places
+mod TypeNames
 pub mod Verbs
 pub mod Operands
+pub mod Bounds
+pub mod Values
+pub mod Sources
+pub mod Found
 pub mod Commands
 pub mod Lines
 pub mod WorkedLines
 pub mod WorkedFaults
+pub mod WorkedMaps

@@ -1,7 +1,7 @@
 -- Gaps, names and operands: what the readers give is spelled so, and what is spelled so is read.
 use Rattle.std.proofs.Common.{◌≡◌, ℕ, Bool, true, false, cond, List, [], ◌∷◌, ◌++◌, Option, Some, None, refl, ap, sym, ◌∙◌, arith, append_assoc}
 use Rattle.std.specs.List.{list_all}
-use Rattle.std.proofs.lemmas.Option.{option_and_then_some, some_pair_parts}
+use Rattle.std.proofs.lemmas.Option.{cond_some, option_and_then_some, some_pair_parts}
 use Rattle.std.proofs.lemmas.Bool.Decides.{nat_tests}
 use Rattle.tera_script.specs.Word.{is_blank, IsGap, is_name_start, is_name_byte, IsName}
 use Rattle.tera_script.specs.Line.{SpellsOperand}
@@ -15,15 +15,11 @@ pub record HasGap (bytes rest : List ℕ) : Type 0 where
   pub spelled : bytes ≡ gap ++ rest
   pub stops : Stops is_blank rest
 
-some_of_cond : (b : Bool) (x y : List ℕ) → cond b (Some x) None ≡ Some y → (b ≡ true) × (x ≡ y)
-some_of_cond true x y e = (refl, cc)
-some_of_cond false x y e = cc
-
 pub gap_found : (bytes rest : List ℕ) → gap_at bytes ≡ Some rest → HasGap bytes rest
 unfolding gap_at
 gap_found [] rest e = cc
 gap_found (b ∷ bytes) rest e =
-    let h = some_of_cond (is_blank b) (past is_blank bytes) rest e in
+    let h = cond_some (is_blank b) (past is_blank bytes) rest e in
     record {
       gap = b ∷ front is_blank bytes;
       blanks = (omega arith, rw (h.0) (front_all is_blank bytes));

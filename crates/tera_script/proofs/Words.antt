@@ -1,40 +1,35 @@
 -- Words: literals without quotes and brackets.
-use Rattle.std.proofs.Common.{◌≡◌, ℕ, Bool, true, false, cond, List, [], ◌∷◌, ◌++◌, length, Option, Some, None, refl, ap, sym, ◌∙◌, ◌⊎◌, inl, inr, arith, ◌≤◌, take, ◌-◌}
+use Rattle.std.proofs.Common.{◌≡◌, ℕ, Bool, true, false, cond, List, [], ◌∷◌, ◌++◌, length, Option, Some, None, refl, ap, ◌∙◌, ◌⊎◌, inl, inr, arith, ◌≤◌, take, ◌-◌}
 use Rattle.std.specs.Prelude.{codes}
 use Rattle.std.specs.Char.{is_ascii_digit}
 use Rattle.std.specs.List.{list_all}
 use Rattle.std.specs.Str.{bytes_eq}
 use Rattle.std.proofs.lemmas.Bool.Decides.{nat_tests}
 use Rattle.std.proofs.lemmas.Slice.Eq.{bytes_eq-Decides}
+use Rattle.std.proofs.lemmas.Option.{same_Some}
 use Rattle.tera_meaning.specs.Integer.{IntegerKind, u64, i64, u128, i128, Integer}
 use Rattle.tera_meaning.specs.Form.{Form}
 use Rattle.tera_meaning.specs.Tree.{undefined, none, truth, number, depth}
 use Rattle.tera_script.specs.Number.{sign_of, suffix_of, SpellsNumber}
-use Rattle.tera_script.specs.Literal.{SpellsLiteral}
+use Rattle.tera_script.specs.Literal.{SpellsTree, tree_value}
 use Rattle.tera_script.specs.Word.{is_blank}
-use Rattle.tera_script.specs.Readers.{Stops, front, past, digits_at, unsigned_in, number_in, number_value, is_word_byte, if_word, value_in, plain_at}
+use Rattle.tera_script.specs.Readers.{Stops, front, past, digits_at, unsigned_in, number_in, number_value, is_word_byte, if_word, value_in}
 use Rattle.tera_script.proofs.Fronts.{front_is, past_is, take_to_past, both_pass}
 use Rattle.tera_script.proofs.Integers.{number_found, number_only, digits_only}
-
-pub chosen : {A : Type 0} (b : Bool) (x y z : A) → cond b x y ≡ z → ((b ≡ true) × (x ≡ z)) ⊎ ((b ≡ false) × (y ≡ z))
-chosen true x y z e = inl (refl, e)
-chosen false x y z e = inr (refl, e)
-
-pub option_same : {A : Type 0} (x y : A) → ◌≡◌ {A = Option A} (Some x) (Some y) → x ≡ y
-option_same x y e = cc
+use Rattle.tera_script.proofs.Choices.{chosen}
 
 -- words
-word_found : (word t : List ℕ) (value : Form) (otherwise : Option Form) (v : Form) → if_word word t value otherwise ≡ Some v → ((word ≡ t) × (value ≡ v)) ⊎ (otherwise ≡ Some v)
+pub word_found : {A : Type 0} (word t : List ℕ) (value : A) (otherwise : Option A) (v : A) → cond (bytes_eq word t) (Some value) otherwise ≡ Some v → ((word ≡ t) × (value ≡ v)) ⊎ (otherwise ≡ Some v)
 word_found word t value otherwise v e = elim (chosen (bytes_eq word t) (Some value) otherwise (Some v) e) [
-  | inl h ↦ inl ((bytes_eq-Decides word t).0 h.0, option_same value v h.1)
+  | inl h ↦ inl ((bytes_eq-Decides word t).0 h.0, same_Some value v h.1)
   | inr h ↦ inr h.1
 ]
 
-number_value_found : (word : List ℕ) (n : Option Integer) (v : Form) → ((i : Integer) → n ≡ Some i → SpellsNumber word i) → number_value n ≡ Some v → SpellsLiteral word v
+number_value_found : (word : List ℕ) (n : Option Integer) (v : Form) → ((i : Integer) → n ≡ Some i → SpellsNumber word i) → number_value n ≡ Some v → SpellsTree word v
 number_value_found word None v h e = cc
-number_value_found word (Some i) v h e = rw (← option_same (number i) v e) (h i refl)
+number_value_found word (Some i) v h e = rw (← same_Some (number i) v e) (h i refl)
 
-pub value_found : (word : List ℕ) (v : Form) → value_in word ≡ Some v → SpellsLiteral word v
+pub value_found : (word : List ℕ) (v : Form) → value_in word ≡ Some v → SpellsTree word v
 unfolding value_in
 value_found word v e = elim (word_found word (codes "undefined") undefined (if_word word (codes "none") none (if_word word (codes "true") (truth true) (if_word word (codes "false") (truth false) (number_value (number_in word))))) v e) [
   | inl h ↦ rw (← h.1) (h.0)
@@ -51,7 +46,7 @@ value_found word v e = elim (word_found word (codes "undefined") undefined (if_w
 ]
 
 -- a number is none of the other words
-not_word : (word t : List ℕ) (n : Integer) → number_in word ≡ Some n → number_in t ≡ None → bytes_eq word t ≡ false
+pub not_word : (word t : List ℕ) (n : Integer) → number_in word ≡ Some n → number_in t ≡ None → bytes_eq word t ≡ false
 not_word word t n e no_number = differs (bytes_eq word t) (λ h. let same = (bytes_eq-Decides word t).0 h in let other = ap number_in same in cc)
   where
     differs : (b : Bool) → ¬ (b ≡ true) → b ≡ false
@@ -66,11 +61,11 @@ no_number_none : number_in (codes "none") ≡ None
 unfolding number_in unsigned_in digits_at
 no_number_none = refl
 
-no_number_true : number_in (codes "true") ≡ None
+pub no_number_true : number_in (codes "true") ≡ None
 unfolding number_in unsigned_in digits_at
 no_number_true = refl
 
-no_number_false : number_in (codes "false") ≡ None
+pub no_number_false : number_in (codes "false") ≡ None
 unfolding number_in unsigned_in digits_at
 no_number_false = refl
 
@@ -148,34 +143,33 @@ pub word_stops_blanks : (literal rest : List ℕ) (value : Form) → IsWord lite
 word_stops_blanks [] rest value w = let n = w.names in let m = no_value_nowhere in cc
 word_stops_blanks (b ∷ literal) rest value w = word_is_not_blank b (both_pass is_word_byte (is_word_byte b) (list_all is_word_byte literal) w.bytes).0
 
-cut_word : (xs rest : List ℕ) → rest ≡ past is_word_byte xs → take (length xs - length rest) xs ≡ front is_word_byte xs
+pub cut_word : (xs rest : List ℕ) → rest ≡ past is_word_byte xs → take (length xs - length rest) xs ≡ front is_word_byte xs
 cut_word xs rest r = rw r (take_to_past is_word_byte [] xs xs refl)
 
-pub plain_none : (xs rest : List ℕ) → rest ≡ past is_word_byte xs → value_in (take (length xs - length rest) xs) ≡ None → plain_at xs ≡ None
-unfolding plain_at
-plain_none xs rest r e = rw (sym (ap value_in (cut_word xs rest r)) ∙ e)
+number_value_is : (P : Form → Type 0) → ((i : Integer) → P (number i)) → (n : Option Integer) (v : Form) → number_value n ≡ Some v → P v
+number_value_is P number_is None v e = cc
+number_value_is P number_is (Some i) v e = rw (← same_Some (number i) v e) (number_is i)
 
-pub plain_some : (xs rest : List ℕ) (v : Form) → rest ≡ past is_word_byte xs → value_in (take (length xs - length rest) xs) ≡ Some v → plain_at xs ≡ Some (v, rest)
-unfolding plain_at
-plain_some xs rest v r e = rw (sym (ap value_in (cut_word xs rest r)) ∙ e, r)
-
-number_is_flat : (levels : ℕ) (n : Option Integer) (v : Form) → number_value n ≡ Some v → depth v ≤ levels
-number_is_flat levels None v e = cc
-number_is_flat levels (Some i) v e = rw (← option_same (number i) v e) (omega arith)
-
--- no word spells an array
-pub value_is_flat : (levels : ℕ) (word : List ℕ) (v : Form) → value_in word ≡ Some v → depth v ≤ levels
+-- what holds of undefined, none, truth values and numbers holds of what a word spells
+pub word_value_is : (P : Form → Type 0) → P undefined → P none → P (truth true) → P (truth false) → ((i : Integer) → P (number i)) → (word : List ℕ) (v : Form) → value_in word ≡ Some v → P v
 unfolding value_in
-value_is_flat levels word v e = elim (word_found word (codes "undefined") undefined (if_word word (codes "none") none (if_word word (codes "true") (truth true) (if_word word (codes "false") (truth false) (number_value (number_in word))))) v e) [
-  | inl h ↦ rw (← h.1) (omega arith)
+word_value_is P undefined_is none_is true_is false_is number_is word v e = elim (word_found word (codes "undefined") undefined (if_word word (codes "none") none (if_word word (codes "true") (truth true) (if_word word (codes "false") (truth false) (number_value (number_in word))))) v e) [
+  | inl h ↦ rw (← h.1) undefined_is
   | inr e ↦ elim (word_found word (codes "none") none (if_word word (codes "true") (truth true) (if_word word (codes "false") (truth false) (number_value (number_in word)))) v e) [
-    | inl h ↦ rw (← h.1) (omega arith)
+    | inl h ↦ rw (← h.1) none_is
     | inr e ↦ elim (word_found word (codes "true") (truth true) (if_word word (codes "false") (truth false) (number_value (number_in word))) v e) [
-      | inl h ↦ rw (← h.1) (omega arith)
+      | inl h ↦ rw (← h.1) true_is
       | inr e ↦ elim (word_found word (codes "false") (truth false) (number_value (number_in word)) v e) [
-        | inl h ↦ rw (← h.1) (omega arith)
-        | inr e ↦ number_is_flat levels (number_in word) v e
+        | inl h ↦ rw (← h.1) false_is
+        | inr e ↦ number_value_is P number_is (number_in word) v e
       ]
     ]
   ]
 ]
+
+-- no word spells an array or a map
+pub value_is_flat : (levels : ℕ) (word : List ℕ) (v : Form) → value_in word ≡ Some v → depth v ≤ levels
+value_is_flat levels = word_value_is (λ v. depth v ≤ levels) (omega arith) (omega arith) (omega arith) (omega arith) (λ i. omega arith)
+
+pub word_is_value : (word : List ℕ) (v : Form) → value_in word ≡ Some v → v ≡ tree_value v
+word_is_value = word_value_is (λ v. v ≡ tree_value v) refl refl refl refl (λ i. refl)

@@ -8,20 +8,26 @@ use Rattle.std.proofs.lemmas.Bool.{false≢true}
 use Rattle.tera_meaning.specs.Form.{Form, MarkedText}
 use Rattle.tera_meaning.specs.Integer.{Integer, i64}
 use Rattle.tera_meaning.specs.KeyMeaning.{KeyForm}
+use Rattle.tera_meaning.specs.Request.{find}
+use Rattle.tera_meaning.specs.Search
 use Rattle.tera_meaning.specs.Tree.{Items, none, number, no_items, item, depth}
 use Rattle.tera_script.specs.declared.verb.Verb.TheVariants.{Set, Two, One, Keeping}
 use Rattle.tera_script.specs.declared.verb.TwoNames.TheVariants.{Equal}
 use Rattle.tera_script.specs.declared.verb.OneName.TheVariants.{Has, Print}
+use Rattle.tera_script.specs.declared.verb.Keeping.TheVariants.{Name}
 use Rattle.tera_script.specs.declared.verb.KeepingName.TheVariants.{Get}
 use Rattle.tera_script.specs.Text.{SpellsText}
 use Rattle.tera_script.specs.Word.{is_blank}
+use Rattle.tera_script.specs.Literal.{SpellsTree}
 use Rattle.tera_script.specs.Line.{levels, IsBad}
 use Rattle.tera_script.specs.Verb.{likely_verb}
 use Rattle.tera_script.specs.Nested.{in_brackets, in_arrays}
-use Rattle.tera_script.specs.Readers.{Stops, past, gap_at, name_at, operand_at, two_in, one_in, arrow_at, into_in, keeping_in, is_word_byte, plain_at, value_in, number_in, unsigned_in, digits_at, suffix_in, integer_of, hex_at, BeginsWithLiteral, ItemsAt, MoreAt, IsLiteralAt, AreOperandsOf}
+use Rattle.tera_script.specs.Readers.{Stops, past, gap_at, name_at, operand_at, names_at, two_in, one_in, arrow_at, into_in, is_word_byte, plain_at, value_in, number_in, unsigned_in, digits_at, suffix_in, integer_of, hex_at, BeginsWithLiteral, Ends, ItemsAt, MoreAt, IsLiteralAt, AreOperandsOf}
 use Rattle.tera_script.proofs.Literals.{head, tail, more, less, only_at, plain_found, quoted_found, bytes_found, array_found, no_literal, no_first_comma, stops_end, more_stops}
-use Rattle.tera_script.proofs.Commands.{one_answer_none, two_answer_none, kept_answer_none, set_none_name, set_none_value, set_none_end, command_answer, command_none_verb}
+use Rattle.tera_script.proofs.Commands.{one_answer_none, two_answer_none, kept_none_into, set_none_name, set_none_value, command_answer, command_none_verb}
+use Rattle.tera_script.proofs.Found.{named_answer}
 use Rattle.tera_script.proofs.Lines.{bad_command, bad_utf8}
+use Rattle.tera_script.proofs.Values.{no_value_literal, no_value_end}
 use Rattle.tera_script.proofs.Verbs.{no_verb}
 use Rattle.tera_script.proofs.WorkedTexts.{unknown_escape}
 use Rattle.tera_script.proofs.WorkedLines.{nested_spelled, nested_depth, one_spelled}
@@ -35,7 +41,7 @@ unfolding name_at likely_verb
 bad_longer_word = bad_command (codes "eqa b c") refl (command_none_verb (codes "eqa b c") (codes "eqa") (codes " b c") refl (no_verb (codes "eqa") refl))
 
 pub bad_one_operand : IsBad (codes "eq a")
-unfolding name_at two_in operand_at gap_at
+unfolding name_at two_in names_at operand_at gap_at
 bad_one_operand = bad_command (codes "eq a") refl (command_answer (codes "eq a") (codes "eq") (codes " a") refl (Two Equal) refl None (two_answer_none Equal (codes " a") refl))
 
 pub bad_name : IsBad (codes "set 1a none")
@@ -51,36 +57,39 @@ pub bad_print_into : IsBad (codes "print a -> b")
 unfolding name_at one_in operand_at gap_at
 bad_print_into = bad_command (codes "print a -> b") refl (command_answer (codes "print a -> b") (codes "print") (codes " a -> b") refl (One Print) refl None (one_answer_none Print (codes " a -> b") refl))
 
-bad_get : (behind : List ℕ) → name_at (codes "get" ++ behind) ≡ Some (codes "get", behind) → keeping_in behind ≡ None → IsBad (codes "get" ++ behind)
-bad_get behind n e = bad_command (codes "get" ++ behind) refl (command_answer (codes "get" ++ behind) (codes "get") behind n (Keeping Get) refl None (kept_answer_none Get behind e))
+bad_get : (behind name rest : List ℕ) → name_at (codes "get" ++ behind) ≡ Some (codes "get", behind) → operand_at behind ≡ Some (name, rest) → into_in rest ≡ None → IsBad (codes "get" ++ behind)
+bad_get behind name rest n o e =
+    bad_command (codes "get" ++ behind) refl
+    (command_answer (codes "get" ++ behind) (codes "get") behind n (Keeping (Name Get)) refl None
+    (kept_none_into (Name Get) behind (find (Search.get name)) rest (named_answer Get behind name rest _ o refl) e))
 
 pub bad_into_nothing : IsBad (codes "get a ->")
-unfolding name_at keeping_in into_in operand_at gap_at arrow_at one_in
-bad_into_nothing = bad_get (codes " a ->") refl refl
+unfolding name_at into_in operand_at gap_at arrow_at one_in
+bad_into_nothing = bad_get (codes " a ->") (codes "a") (codes " ->") refl refl refl
 
 pub bad_into_no_gap_before : IsBad (codes "get a-> b")
-unfolding name_at keeping_in into_in operand_at gap_at arrow_at one_in
-bad_into_no_gap_before = bad_get (codes " a-> b") refl refl
+unfolding name_at into_in operand_at gap_at arrow_at one_in
+bad_into_no_gap_before = bad_get (codes " a-> b") (codes "a") (codes "-> b") refl refl refl
 
 pub bad_into_no_gap_behind : IsBad (codes "get a ->b")
-unfolding name_at keeping_in into_in operand_at gap_at arrow_at one_in
-bad_into_no_gap_behind = bad_get (codes " a ->b") refl refl
+unfolding name_at into_in operand_at gap_at arrow_at one_in
+bad_into_no_gap_behind = bad_get (codes " a ->b") (codes "a") (codes " ->b") refl refl refl
 
 pub bad_into_two : IsBad (codes "get a -> b c")
-unfolding name_at keeping_in into_in operand_at gap_at arrow_at one_in
-bad_into_two = bad_get (codes " a -> b c") refl refl
+unfolding name_at into_in operand_at gap_at arrow_at one_in
+bad_into_two = bad_get (codes " a -> b c") (codes "a") (codes " -> b c") refl refl refl
 
 -- a value that is none
 at_value : (literal : List ℕ) → gap_at (32 ∷ literal) ≡ Some literal → AreOperandsOf Set (codes " a " ++ literal) None → IsBad (codes "set a " ++ literal)
 unfolding name_at
 at_value literal g h = bad_command (codes "set a " ++ literal) refl (command_answer (codes "set a " ++ literal) (codes "set") (codes " a " ++ literal) refl Set refl None h)
 
-bad_value : (literal : List ℕ) → gap_at (32 ∷ literal) ≡ Some literal → IsLiteralAt levels literal None → IsBad (codes "set a " ++ literal)
+pub bad_value : (literal : List ℕ) → gap_at (32 ∷ literal) ≡ Some literal → IsLiteralAt levels literal None → IsBad (codes "set a " ++ literal)
 unfolding name_at operand_at gap_at
-bad_value literal g h = at_value literal g (set_none_value (codes " a " ++ literal) (codes "a") (32 ∷ literal) refl literal g h)
+bad_value literal g h = at_value literal g (set_none_value (codes " a " ++ literal) (codes "a") (32 ∷ literal) refl (no_value_literal (32 ∷ literal) literal g h))
 
 number_is_plain : (xs : List ℕ) → 34 < head xs → head xs < 115 → head xs ≢ 91 → None ≡ plain_at xs → IsLiteralAt levels xs None
-number_is_plain xs q s b e = plain_found levels xs None (λ ys h. more 34 (head xs) q (sym (ap head h))) (λ ys h. more (head xs) 115 s (ap head h)) (λ ys h. omega (arith, ap head h, s)) (λ ys h. b (ap head h)) e
+number_is_plain xs q s b e = plain_found levels xs None (λ ys h. more 34 (head xs) q (sym (ap head h))) (λ ys h. more (head xs) 115 s (ap head h)) (λ ys h. omega (arith, ap head h, s)) (λ ys h. b (ap head h)) (λ ys h. omega (arith, ap head h, s)) e
 
 pub bad_large : IsBad (codes "set a 18446744073709551616u64")
 unfolding gap_at plain_at value_in number_in unsigned_in digits_at suffix_in integer_of
@@ -162,14 +171,15 @@ pub bad_no_first : IsBad (codes "set a [,none]")
 unfolding gap_at
 bad_no_first = bad_array (codes ",none]") refl comma_opens
 
--- arrays that nest too deep
+-- a literal that nests too deep
+pub too_deep : (xs : List ℕ) (tree : Form) → SpellsTree xs tree → Ends tree [] → levels < depth tree → IsLiteralAt levels xs None
+too_deep xs tree s ends h = λ utf8 w rest b d stops.
+    let at : BeginsWithLiteral xs tree [] = record { literal = xs; spells = s; spelled = sym (append-nil xs) } in
+    let same = only_at tree xs [] at ends w rest b (stops_end w rest stops) in
+    omega (arith, ap depth same.0, d, h)
+
 nested_too_deep : (n : ℕ) → levels < suc n → IsLiteralAt levels (in_brackets (suc n) (codes "none")) None
-nested_too_deep n h = λ utf8 w rest b d stops.
-    let xs = in_brackets (suc n) (codes "none") in
-    let v : Form = in_arrays (suc n) none in
-    let at : BeginsWithLiteral xs v [] = record { literal = xs; spells = nested_spelled (suc n) (codes "none") none refl; spelled = sym (append-nil xs) } in
-    let same = only_at v xs [] at tt w rest b (stops_end w rest stops) in
-    omega (arith, ap depth same.0, nested_depth (suc n) none, d, h)
+nested_too_deep n h = too_deep (in_brackets (suc n) (codes "none")) (in_arrays (suc n) none) (nested_spelled (suc n) (codes "none") none refl) tt (omega (arith, nested_depth (suc n) none, h))
 
 pub bad_too_deep : IsBad (codes "set a " ++ in_brackets 65 (codes "none"))
 unfolding gap_at
@@ -178,4 +188,4 @@ bad_too_deep = bad_value (in_brackets 65 (codes "none")) refl (nested_too_deep 6
 -- a name behind a value
 pub bad_set_into : IsBad (codes "set a 1 -> b")
 unfolding name_at operand_at gap_at
-bad_set_into = at_value (codes "1 -> b") refl (set_none_end (codes " a 1 -> b") (codes "a") (codes " 1 -> b") refl (codes "1 -> b") refl (number (record { kind = i64; value = pos 1 })) (codes " -> b") (record { literal = codes "1"; spells = one_spelled; spelled = refl }) refl (λ b. let no = b in cc))
+bad_set_into = at_value (codes "1 -> b") refl (set_none_value (codes " a 1 -> b") (codes "a") (codes " 1 -> b") refl (no_value_end (codes " 1 -> b") (codes "1 -> b") refl (number (record { kind = i64; value = pos 1 })) (codes " -> b") (record { literal = codes "1"; spells = one_spelled; spelled = refl }) refl (λ b. let no = b in cc)))

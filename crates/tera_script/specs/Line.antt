@@ -1,28 +1,53 @@
 -- What a line of a script says.
-use Rattle.std.specs.Prelude.{◌≡◌, ◌≤◌, ℕ, ◌⊎◌, List, [], ◌∷◌, ◌++◌, Option, Some, None, codes}
+use Rattle.std.specs.Prelude.{◌≡◌, ◌≤◌, ℕ, ℤ, ◌⊎◌, Bool, false, List, [], ◌∷◌, ◌++◌, Option, Some, None, IsSome, codes}
+use Rattle.std.specs.FinMap.{get}
+use Rattle.std.specs.List.{AllByRecursion}
 use Rattle.std.specs.Str.{IsUtf8}
+use Rattle.std.specs.Str.Parse.{IsNumeral, digits_value}
+use Rattle.tera_meaning.specs.Conversion.{IntegerType, type_name}
 use Rattle.tera_meaning.specs.Form.{Form}
-use Rattle.tera_meaning.specs.Request.{Command, set, asking}
-use Rattle.tera_meaning.specs.Tree.{depth}
+use Rattle.tera_meaning.specs.Integer.{i128, IsOfKind}
+use Rattle.tera_meaning.specs.KeyMeaning.{KeyForm, text_key, owned}
+use Rattle.tera_meaning.specs.Pairs.{key_form_order, value_at}
+use Rattle.tera_meaning.specs.Request.{Request, Command, set, extend, find, asking}
+use Rattle.tera_meaning.specs.Search
+use Rattle.tera_meaning.specs.State.{State}
+use Rattle.tera_meaning.specs.Tree.{depth, text, object, members}
+use Rattle.tera_script.specs.declared.bound.Bounds.{Bounds}
+use Rattle.tera_script.specs.declared.verb.Keeping.{Keeping}
+use Rattle.tera_script.specs.declared.verb.Keeping.TheVariants as kept
 use Rattle.tera_script.specs.declared.verb.Verb.{Verb}
 use Rattle.tera_script.specs.declared.verb.Verb.TheVariants as verb
-use Rattle.tera_script.specs.Literal.{SpellsLiteral}
-use Rattle.tera_script.specs.Verb.{of_one, of_two, of_keeping, word_of}
+use Rattle.tera_script.specs.Literal.{SpellsTree, tree_value}
+use Rattle.tera_script.specs.Number.{sign_of, signed}
+use Rattle.tera_script.specs.Verb.{of_one, of_two, of_keeping, of_names, of_part, word_of}
 use Rattle.tera_script.specs.Word.{AreBlanks, IsGap, IsName}
+use Rattle.tera_values.specs.Key.{text_in_key}
 
 -- a gap and a name
 abbrev pub SpellsOperand : List ℕ → List ℕ → Type 0
 SpellsOperand bytes name = (gap : List ℕ) × IsGap gap × IsName name × (bytes ≡ gap ++ name)
 
--- how deep arrays may nest; the outermost is level 1
+-- how deep arrays and maps may nest, as they are written; the outermost is level 1
 abbrev pub levels : ℕ
 levels = 64
 
 -- a gap and a literal
 abbrev pub SpellsValue : List ℕ → Form → Type 0
 SpellsValue bytes value =
-    (gap : List ℕ) × (literal : List ℕ) × IsGap gap × SpellsLiteral literal value × (depth value ≤ levels)
-    × (bytes ≡ gap ++ literal)
+    (gap : List ℕ) × (literal : List ℕ) × (tree : Form) × IsGap gap × SpellsTree literal tree × (depth tree ≤ levels)
+    × (value ≡ tree_value tree) × (bytes ≡ gap ++ literal)
+
+-- the keys of the pairs are all texts, and the state holds under each text what is paired with it, and nothing else
+abbrev pub AreNamed : List (KeyForm × Form) → State → Type 0
+AreNamed pairs state =
+    AllByRecursion (λ pair. IsSome (text_in_key pair.0)) pairs
+    × ((name : List ℕ) → get state name ≡ value_at key_form_order pairs (text_key (owned name)))
+
+-- a gap and a map whose keys are all texts, and the state of its pairs
+abbrev pub SpellsSource : List ℕ → State → Type 0
+SpellsSource bytes source =
+    (pairs : List (KeyForm × Form)) × SpellsValue bytes (object (members pairs)) × AreNamed pairs source
 
 -- an operand and a value
 abbrev pub SpellsNamed : List ℕ → List ℕ → Form → Type 0
@@ -42,22 +67,64 @@ SpellsInto bytes (Some into) =
     (gap : List ℕ) × (operand : List ℕ) × IsGap gap × SpellsOperand operand into
     × (bytes ≡ gap ++ (codes "->" ++ operand))
 
--- an operand, and then the name for what is found, if one is given
-abbrev pub SpellsKeeping : List ℕ → List ℕ → Option (List ℕ) → Type 0
-SpellsKeeping bytes name into =
-    (first : List ℕ) × (second : List ℕ) × SpellsOperand first name × SpellsInto second into × (bytes ≡ first ++ second)
+-- a gap and a text in quotes with no mark
+abbrev pub SpellsQuoted : List ℕ → List ℕ → Type 0
+SpellsQuoted bytes t =
+    (gap : List ℕ) × (literal : List ℕ) × IsGap gap × SpellsTree literal (text (record { spelled = t; safe = false }))
+    × (bytes ≡ gap ++ literal)
+
+-- _ where there is no bound; else an optional minus and digits, of a number that i128 holds
+abbrev pub IsBound : List ℕ → Option ℤ → Type 0
+IsBound word None = word ≡ codes "_"
+IsBound word (Some z) =
+    (minus : Bool) × (digits : List ℕ) × IsNumeral 10 digits × (word ≡ sign_of minus ++ digits)
+    × (z ≡ signed minus (digits_value 10 digits)) × IsOfKind i128 z
+
+-- a gap and a bound
+abbrev pub SpellsBound : List ℕ → Option ℤ → Type 0
+SpellsBound bytes bound = (gap : List ℕ) × (word : List ℕ) × IsGap gap × IsBound word bound × (bytes ≡ gap ++ word)
+
+-- three bounds one behind another
+abbrev pub SpellsBounds : List ℕ → Bounds → Type 0
+SpellsBounds bytes bounds =
+    (first : List ℕ) × (second : List ℕ) × (third : List ℕ) × SpellsBound first bounds.start × SpellsBound second bounds.end
+    × SpellsBound third bounds.step × (bytes ≡ first ++ (second ++ third))
+
+-- what stands before the name for what is found, and the request that it makes
+abbrev pub SpellsFound : Keeping → List ℕ → Request → Type 0
+SpellsFound (kept.Name o) bytes request =
+    (name : List ℕ) × SpellsOperand bytes name × (request ≡ (of_keeping o).1 name)
+SpellsFound (kept.Names o) bytes request =
+    (left : List ℕ) × (right : List ℕ) × SpellsTwo bytes left right × (request ≡ (of_names o).1 left right)
+SpellsFound (kept.Part o) bytes request =
+    (name : List ℕ) × (t : List ℕ) × (first : List ℕ) × (second : List ℕ) × SpellsOperand first name
+    × SpellsQuoted second t × (bytes ≡ first ++ second) × (request ≡ (of_part o).1 name t)
+SpellsFound kept.Slice bytes request =
+    (name : List ℕ) × (bounds : Bounds) × (first : List ℕ) × (second : List ℕ) × SpellsOperand first name
+    × SpellsBounds second bounds × (bytes ≡ first ++ second)
+    × (request ≡ find (Search.slice name bounds.start bounds.end bounds.step))
+SpellsFound kept.Read bytes request =
+    (type : IntegerType) × (name : List ℕ) × SpellsTwo bytes (type_name type) name × (request ≡ find (Search.read type name))
+
+-- this, and then the name for what is found, if one is given
+pub record SpellsKeeping (verb : Keeping) (bytes : List ℕ) (command : Command) : Type 0 where
+  pub first : List ℕ
+  pub second : List ℕ
+  pub found : SpellsFound verb first command.request
+  pub into : SpellsInto second command.into
+  pub whole : bytes ≡ first ++ second
 
 -- what stands behind the word of a call, and the command that it gives. Only some may have a name for what they find
 abbrev pub SpellsOperands : Verb → List ℕ → Command → Type 0
 SpellsOperands verb.Set bytes command =
     (name : List ℕ) × (value : Form) × SpellsNamed bytes name value × (command ≡ asking (set name value))
+SpellsOperands verb.Extend bytes command =
+    (source : State) × SpellsSource bytes source × (command ≡ asking (extend source))
 SpellsOperands (verb.One o) bytes command =
     (name : List ℕ) × SpellsOperand bytes name × (command ≡ asking ((of_one o).1 name))
 SpellsOperands (verb.Two o) bytes command =
     (left : List ℕ) × (right : List ℕ) × SpellsTwo bytes left right × (command ≡ asking ((of_two o).1 left right))
-SpellsOperands (verb.Keeping o) bytes command =
-    (name : List ℕ) × (into : Option (List ℕ)) × SpellsKeeping bytes name into
-    × (command ≡ record { request = (of_keeping o).1 name; into = into })
+SpellsOperands (verb.Keeping o) bytes command = SpellsKeeping o bytes command
 
 -- the word of a call and its operands
 abbrev pub SpellsCommand : List ℕ → Command → Type 0

@@ -2,21 +2,15 @@
 use Rattle.std.specs.Prelude.{◌≡◌, ℕ, Bool, true, false, List, [], ◌++◌, ℤ, pos, neg_ℤ, Option, Some, None, codes}
 use Rattle.std.specs.Str.Parse.{IsNumeral, digits_value}
 use Rattle.tera_meaning.specs.Integer.{IntegerKind, u64, i64, u128, i128, Integer, IsOfKind}
+use Rattle.tera_meaning.specs.Kind.{integer_kind_name}
 
--- the word for a kind
-abbrev pub kind_word : IntegerKind → List ℕ
-kind_word u64 = codes "u64"
-kind_word i64 = codes "i64"
-kind_word u128 = codes "u128"
-kind_word i128 = codes "i128"
-
--- a minus, or nothing; a kind's word, or nothing
+-- a minus, or nothing; the name of a kind, or nothing
 abbrev pub sign_of : Bool → List ℕ
 sign_of true = codes "-"
 sign_of false = []
 
 abbrev pub suffix_of : Option IntegerKind → List ℕ
-suffix_of (Some kind) = kind_word kind
+suffix_of (Some kind) = integer_kind_name kind
 suffix_of None = []
 
 -- n, or -n after a minus

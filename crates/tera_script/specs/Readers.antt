@@ -7,22 +7,36 @@ use Rattle.std.specs.List.{list_all}
 use Rattle.std.specs.Str.{bytes_eq, IsUtf8}
 use Rattle.std.specs.Str.Parse.{digits_value}
 use Rattle.tera_meaning.specs.Integer.{IntegerKind, u64, i64, u128, i128, Integer}
+use Rattle.tera_meaning.specs.Conversion.{IntegerType, type_name}
 use Rattle.tera_meaning.specs.Form.{Form, MarkedText}
-use Rattle.tera_meaning.specs.KeyMeaning.{KeyForm}
-use Rattle.tera_meaning.specs.Tree.{Items, undefined, none, truth, number, text as text_value, bytes as bytes_value, array, no_items, item, depth}
-use Rattle.tera_meaning.specs.Request.{Command}
-use Rattle.tera_script.specs.Number.{kind_word, signed}
+use Rattle.tera_meaning.specs.Kind.{integer_kind_name}
+use Rattle.tera_meaning.specs.KeyMeaning.{KeyForm, truth_key, number_key}
+use Rattle.tera_meaning.specs.Tree.{Items, Members, undefined, none, truth, number, text as text_value, bytes as bytes_value, array, object, items_list, members_list, members, depth}
+use Rattle.tera_meaning.specs.Request.{Request, Command}
+use Rattle.tera_values.specs.Converted.{integer_type}
+use Rattle.tera_values.specs.declared.integers.IntType.{IntType}
+use Rattle.tera_script.specs.Number.{signed}
 use Rattle.tera_script.specs.declared.number.Integer.{Integer as Held}
 use Rattle.tera_script.specs.declared.number.Integer.TheVariants as held
 use Rattle.tera_script.specs.declared.number.Suffix.{Suffix}
 use Rattle.tera_script.specs.declared.number.Suffix.TheVariants.{U64, I64, U128, I128}
+use Rattle.tera_script.specs.declared.word.Class.{Class}
+use Rattle.tera_script.specs.declared.word.Class.TheVariants.{Blank, Name, Word}
 use Rattle.tera_script.specs.declared.verb.Verb.{Verb}
 use Rattle.tera_script.specs.Verb.{word_of}
 use Rattle.tera_script.specs.Word.{is_blank, AreBlanks, is_name_start, is_name_byte}
-use Rattle.tera_script.specs.Line.{SpellsOperands, SpellsCommand}
-use Rattle.tera_script.specs.Literal.{SpellsLiteral}
+use Rattle.tera_meaning.specs.State.{State}
+use Rattle.tera_script.specs.Line.{SpellsValue, AreNamed, SpellsOperands, SpellsCommand, SpellsQuoted, SpellsFound}
+use Rattle.tera_script.specs.declared.bound.Bounds.{Bounds}
+use Rattle.tera_script.specs.declared.verb.Keeping.{Keeping}
+use Rattle.tera_script.specs.declared.verb.Keeping.TheVariants as kept
+use Rattle.std.specs.Prelude.{String}
+use Rattle.std.specs.String.{string_bytes}
+use Rattle.tera_script.specs.Literal.{SpellsTree, SpellsKey, tree_value}
 use Rattle.tera_script.specs.Text.{SpellsText}
+use Rattle.tera_values.specs.Key.{key_form, key_value}
 use Rattle.tera_values.specs.View.{marked}
+use Rattle.tera_values.specs.declared.key.Key.{Key}
 
 infixl 10 ◌>>=◌
 abbrev pub ◌>>=◌ : {A B : Type 0} → Option A → (A → Option B) → Option B
@@ -70,7 +84,7 @@ digits_at bytes = cond (nat_lt 0 (length (front is_ascii_digit bytes)) && nat_lt
 
 -- the kind, if this is its word, and else what is given
 abbrev pub if_named : List ℕ → IntegerKind → Option (Option IntegerKind) → Option (Option IntegerKind)
-if_named word kind otherwise = cond (bytes_eq word (kind_word kind)) (Some (Some kind)) otherwise
+if_named word kind otherwise = cond (bytes_eq word (integer_kind_name kind)) (Some (Some kind)) otherwise
 
 -- the kind that a word names, or none where there is no word. Any other word is no suffix
 unfoldable pub suffix_in : List ℕ → Option (Option IntegerKind)
@@ -112,9 +126,9 @@ unfoldable pub number_in : List ℕ → Option Integer
 number_in [] = None
 number_in (b ∷ bytes) = cond (b == 45) (unsigned_in true bytes) (unsigned_in false (b ∷ bytes))
 
--- a number and a slice, by what they hold
-abbrev pub number_rest : ℕ × Bor (List ℕ) → ℕ × List ℕ
-number_rest pair = (pair.0, pair.1.now)
+-- a value and a slice, by what they hold
+abbrev pub with_rest : {A : Type 0} → A × Bor (List ℕ) → A × List ℕ
+with_rest pair = (pair.0, pair.1.now)
 
 -- the kind that a suffix names
 abbrev pub suffix_kind : Suffix → IntegerKind
@@ -138,6 +152,12 @@ number_value n = option_map number n
 abbrev pub is_word_byte : ℕ → Bool
 is_word_byte b = is_name_byte b || (b == 45)
 
+-- the bytes of a class
+abbrev pub is_of : Class → ℕ → Bool
+is_of Blank = is_blank
+is_of Name = is_name_byte
+is_of Word = is_word_byte
+
 -- the value, if the word is this text, and else what is given
 abbrev pub if_word : List ℕ → List ℕ → Form → Option Form → Option Form
 if_word word text value otherwise = cond (bytes_eq word text) (Some value) otherwise
@@ -147,22 +167,23 @@ unfoldable pub value_in : List ℕ → Option Form
 value_in word = if_word word (codes "undefined") undefined (if_word word (codes "none") none (if_word word (codes "true") (truth true) (if_word word (codes "false") (truth false) (number_value (number_in word)))))
 
 -- a literal stands before the rest
-pub record BeginsWithLiteral (bytes : List ℕ) (value : Form) (rest : List ℕ) : Type 0 where
+pub record BeginsWithLiteral (bytes : List ℕ) (tree : Form) (rest : List ℕ) : Type 0 where
   pub literal : List ℕ
-  pub spells : SpellsLiteral literal value
+  pub spells : SpellsTree literal tree
   pub spelled : bytes ≡ literal ++ rest
 
--- a literal without quotes and brackets ends where no byte of a word follows
+-- a literal without quotes, brackets and braces ends where no byte of a word follows
 abbrev pub Ends : Form → List ℕ → Type 0
 Ends (text_value t) rest = Unit {0}
 Ends (bytes_value bs) rest = Unit {0}
 Ends (array xs) rest = Unit {0}
-Ends value rest = Stops is_word_byte rest
+Ends (object ps) rest = Unit {0}
+Ends tree rest = Stops is_word_byte rest
 
 -- what a reader of literals answers: a literal of at most these levels and the rest, or nothing, and then there is none that ends as a word does
 abbrev pub IsLiteralAt : ℕ → List ℕ → Option (Form × List ℕ) → Type 0
-IsLiteralAt levels xs (Some found) = BeginsWithLiteral xs found.0 found.1 × Ends found.0 found.1 × (depth found.0 ≤ levels)
-IsLiteralAt levels xs None = IsUtf8 xs → (value : Form) (rest : List ℕ) → BeginsWithLiteral xs value rest → depth value ≤ levels → ¬ Stops is_word_byte rest
+IsLiteralAt levels xs (Some found) = (tree : Form) × (found.0 ≡ tree_value tree) × BeginsWithLiteral xs tree found.1 × Ends tree found.1 × (depth tree ≤ levels)
+IsLiteralAt levels xs None = IsUtf8 xs → (tree : Form) (rest : List ℕ) → BeginsWithLiteral xs tree rest → depth tree ≤ levels → ¬ Stops is_word_byte rest
 
 -- a literal without quotes, and the bytes behind it
 unfoldable pub plain_at : List ℕ → Option (Form × List ℕ)
@@ -191,30 +212,97 @@ bytes_rest pair = (pair.0.items, pair.1.now)
 abbrev pub bytes_read : Option (List ℕ × List ℕ) → Option (Form × List ℕ)
 bytes_read found = option_map (λ pair. (bytes_value pair.0, pair.1)) found
 
--- behind an item, and behind an opening bracket: the items up to the closing bracket (93), and what stands behind it
+-- parts that begin so, with commas (44) between them, up to the closing byte, and what stands behind it
+module _ {E : Type 0} (Begins : List ℕ → E → List ℕ → Type 0) (close : ℕ) where
+  -- behind a part
+  abbrev pub MoreIn : List ℕ → List E → List ℕ → Type 0
+  MoreIn xs [] rest = past is_blank xs ≡ close ∷ rest
+  MoreIn xs (e ∷ es) rest = (next : List ℕ) × (behind : List ℕ) × (past is_blank xs ≡ 44 ∷ next) × Begins (past is_blank next) e behind × MoreIn behind es rest
+
+  -- behind the opening byte
+  abbrev pub AllIn : List ℕ → List E → List ℕ → Type 0
+  AllIn xs [] rest = past is_blank xs ≡ close ∷ rest
+  AllIn xs (e ∷ es) rest = (behind : List ℕ) × Begins (past is_blank xs) e behind × MoreIn behind es rest
+
+-- behind an item, and behind an opening bracket: the items up to the closing one (93)
 abbrev pub MoreAt : List ℕ → Items Integer MarkedText KeyForm → List ℕ → Type 0
-MoreAt xs no_items rest = past is_blank xs ≡ 93 ∷ rest
-MoreAt xs (item value more) rest = (next : List ℕ) × (behind : List ℕ) × (past is_blank xs ≡ 44 ∷ next) × BeginsWithLiteral (past is_blank next) value behind × MoreAt behind more rest
+MoreAt xs all rest = MoreIn BeginsWithLiteral 93 xs (items_list all) rest
 
 abbrev pub ItemsAt : List ℕ → Items Integer MarkedText KeyForm → List ℕ → Type 0
-ItemsAt xs no_items rest = past is_blank xs ≡ 93 ∷ rest
-ItemsAt xs (item value more) rest = (behind : List ℕ) × BeginsWithLiteral (past is_blank xs) value behind × MoreAt behind more rest
+ItemsAt xs all rest = AllIn BeginsWithLiteral 93 xs (items_list all) rest
 
 -- what a reader of arrays answers behind the opening bracket
 abbrev pub IsArrayAt : ℕ → List ℕ → Option (Form × List ℕ) → Type 0
-IsArrayAt levels xs (Some found) = (all : Items Integer MarkedText KeyForm) × (found.0 ≡ array all) × ItemsAt xs all found.1 × (depth found.0 ≤ levels)
+IsArrayAt levels xs (Some found) = (all : Items Integer MarkedText KeyForm) × (found.0 ≡ tree_value (array all)) × ItemsAt xs all found.1 × (depth (array all) ≤ levels)
 IsArrayAt levels xs None = IsUtf8 xs → (all : Items Integer MarkedText KeyForm) (rest : List ℕ) → ItemsAt xs all rest → ¬ (depth (array all) ≤ levels)
 
--- a value and a slice, by what they hold
-abbrev pub value_rest : Form × Bor (List ℕ) → Form × List ℕ
-value_rest pair = (pair.0, pair.1.now)
+-- a key stands before the rest
+pub record BeginsWithKey (bytes : List ℕ) (key : KeyForm) (rest : List ℕ) : Type 0 where
+  pub literal : List ℕ
+  pub spells : SpellsKey literal key
+  pub spelled : bytes ≡ literal ++ rest
 
--- two names behind one another, and no more than blanks behind them
-unfoldable pub two_in : List ℕ → Option (List ℕ × List ℕ)
-two_in bytes = do
+-- what a reader of keys answers: a key and the rest, or nothing, and then there is none that ends as a word does
+abbrev pub IsKeyAt : List ℕ → Option (KeyForm × List ℕ) → Type 0
+IsKeyAt xs (Some found) = BeginsWithKey xs found.0 found.1 × Ends (key_value found.0) found.1
+IsKeyAt xs None = IsUtf8 xs → (key : KeyForm) (rest : List ℕ) → BeginsWithKey xs key rest → ¬ Stops is_word_byte rest
+
+-- the key, if the word is this text, and else what is given
+abbrev pub if_key : List ℕ → List ℕ → KeyForm → Option KeyForm → Option KeyForm
+if_key word text key otherwise = cond (bytes_eq word text) (Some key) otherwise
+
+-- the key that a word spells
+unfoldable pub key_in : List ℕ → Option KeyForm
+key_in word = if_key word (codes "true") (truth_key true) (if_key word (codes "false") (truth_key false) (option_map number_key (number_in word)))
+
+-- a key without quotes, and the bytes behind it
+unfoldable pub plain_key_at : List ℕ → Option (KeyForm × List ℕ)
+plain_key_at bytes = option_map (λ k. (k, past is_word_byte bytes)) (key_in (front is_word_byte bytes))
+
+-- a key, a colon (58) and a literal stand before the rest, with blanks around the colon or none
+abbrev pub BeginsWithPair : List ℕ → KeyForm × Form → List ℕ → Type 0
+BeginsWithPair bytes pair rest = (after : List ℕ) × (next : List ℕ) × BeginsWithKey bytes pair.0 after × (past is_blank after ≡ 58 ∷ next) × BeginsWithLiteral (past is_blank next) pair.1 rest
+
+-- what a reader of pairs answers
+abbrev pub IsPairAt : ℕ → List ℕ → Option (KeyForm × Form × List ℕ) → Type 0
+IsPairAt levels xs (Some found) = (tree : Form) × (found.1 ≡ tree_value tree) × BeginsWithPair xs (found.0, tree) found.2 × Ends tree found.2 × (depth tree ≤ levels)
+IsPairAt levels xs None = IsUtf8 xs → (pair : KeyForm × Form) (rest : List ℕ) → BeginsWithPair xs pair rest → depth pair.1 ≤ levels → ¬ Stops is_word_byte rest
+
+-- behind a pair, and behind an opening brace: the pairs up to the closing one (125)
+abbrev pub MorePairsAt : List ℕ → Members Integer MarkedText KeyForm → List ℕ → Type 0
+MorePairsAt xs all rest = MoreIn BeginsWithPair 125 xs (members_list all) rest
+
+abbrev pub PairsAt : List ℕ → Members Integer MarkedText KeyForm → List ℕ → Type 0
+PairsAt xs all rest = AllIn BeginsWithPair 125 xs (members_list all) rest
+
+-- what a reader of maps answers behind the opening brace
+abbrev pub IsMapAt : ℕ → List ℕ → Option (Form × List ℕ) → Type 0
+IsMapAt levels xs (Some found) = (all : Members Integer MarkedText KeyForm) × (found.0 ≡ tree_value (object all)) × PairsAt xs all found.1 × (depth (object all) ≤ levels)
+IsMapAt levels xs None = IsUtf8 xs → (all : Members Integer MarkedText KeyForm) (rest : List ℕ) → PairsAt xs all rest → ¬ (depth (object all) ≤ levels)
+
+-- a key and a slice, by what they hold; the same of a key, a value and a slice
+abbrev pub key_rest : Key × Bor (List ℕ) → KeyForm × List ℕ
+key_rest pair = (key_form pair.0, pair.1.now)
+
+abbrev pub pair_rest : Key × Form × Bor (List ℕ) → KeyForm × Form × List ℕ
+pair_rest found = (key_form found.0, found.1, found.2.now)
+
+-- two names behind one another
+unfoldable pub names_at : List ℕ → Option ((List ℕ × List ℕ) × List ℕ)
+names_at bytes = do
   left ← operand_at bytes
   right ← operand_at left.1
-  cond (list_all is_blank right.1) (Some (left.0, right.0)) None
+  Some ((left.0, right.0), right.1)
+
+-- the same, and no more than blanks behind them
+unfoldable pub two_in : List ℕ → Option (List ℕ × List ℕ)
+two_in bytes = do
+  names ← names_at bytes
+  cond (list_all is_blank names.1) (Some names.0) None
+
+-- two names and the bytes behind them, by what they hold
+abbrev pub names_rest : (Bor (List ℕ) × Bor (List ℕ)) × Bor (List ℕ) → (List ℕ × List ℕ) × List ℕ
+names_rest found = (named_rest found.0, found.1.now)
 
 unfoldable pub one_in : List ℕ → Option (List ℕ)
 one_in bytes = do
@@ -231,16 +319,72 @@ arrow_at (b ∷ c ∷ rest) = cond ((b == 45) && (c == 62)) (Some rest) None
 unfoldable pub into_in : List ℕ → Option (Option (List ℕ))
 into_in bytes = cond (list_all is_blank bytes) (Some None) (option_map Some (gap_at bytes >>= arrow_at >>= one_in))
 
--- a name, and the name for what is found
-unfoldable pub keeping_in : List ℕ → Option (List ℕ × Option (List ℕ))
-keeping_in bytes = do
-  name ← operand_at bytes
-  into ← into_in name.1
-  Some (name.0, into)
+-- the number that a sign and digits spell, if nothing else stands there and i128 holds it
+unfoldable pub small_in : Bool → List ℕ → Option ℤ
+small_in minus bytes = do
+  digits ← digits_at bytes
+  cond ((length digits.1 == 0) && is_of_kind i128 (signed minus digits.0)) (Some (signed minus digits.0)) None
 
--- a name and a name that may be there, by what they hold
-abbrev pub name_into : Bor (List ℕ) × Option (Bor (List ℕ)) → List ℕ × Option (List ℕ)
-name_into pair = (pair.0.now, option_map (λ name. name.now) pair.1)
+-- the bound that a word spells (95 is _, 45 a minus)
+unfoldable pub bound_in : List ℕ → Option (Option ℤ)
+bound_in [] = None
+bound_in (b ∷ bytes) =
+    cond ((b == 95) && (length bytes == 0)) (Some None)
+    (cond (b == 45) (option_map Some (small_in true bytes)) (option_map Some (small_in false (b ∷ bytes))))
+
+-- the bound behind a gap
+unfoldable pub bound_at : List ℕ → Option (Option ℤ × List ℕ)
+bound_at bytes = do
+  word ← gap_at bytes
+  bound ← bound_in (front is_word_byte word)
+  Some (bound, past is_word_byte word)
+
+-- three bounds, one behind another
+unfoldable pub bounds_at : List ℕ → Option (Bounds × List ℕ)
+bounds_at bytes = do
+  start ← bound_at bytes
+  end ← bound_at start.1
+  step ← bound_at end.1
+  Some (record { start = start.0; end = end.0; step = step.0 }, step.1)
+
+-- what a reader of texts in quotes answers behind a name: the text and what stands behind it, or nothing where no text
+-- in quotes stands there
+pub record BeginsWithQuoted (bytes t rest : List ℕ) : Type 0 where
+  pub part : List ℕ
+  pub spells : SpellsQuoted part t
+  pub spelled : bytes ≡ part ++ rest
+
+abbrev pub IsTextAt : List ℕ → Option (List ℕ × List ℕ) → Type 0
+IsTextAt bytes (Some found) = BeginsWithQuoted bytes found.0 found.1
+IsTextAt bytes None = IsUtf8 bytes → (t rest : List ℕ) → ¬ BeginsWithQuoted bytes t rest
+
+abbrev pub text_rest : {A : Type 0} → String A × Bor (List ℕ) → List ℕ × List ℕ
+text_rest pair = (string_bytes pair.0, pair.1.now)
+
+-- what stands before the name for what is found, before the rest, and ends there as a name or a bound does
+pub record BeginsWithFound (verb : Keeping) (bytes : List ℕ) (request : Request) (rest : List ℕ) : Type 0 where
+  pub part : List ℕ
+  pub spells : SpellsFound verb part request
+  pub spelled : bytes ≡ part ++ rest
+
+abbrev pub EndsFound : Keeping → List ℕ → Type 0
+EndsFound (kept.Name o) rest = Stops is_name_byte rest
+EndsFound (kept.Names o) rest = Stops is_name_byte rest
+EndsFound (kept.Part o) rest = Unit {0}
+EndsFound kept.Slice rest = Stops is_word_byte rest
+EndsFound kept.Read rest = Stops is_name_byte rest
+
+-- what a reader of this answers: a request and the rest, or nothing, and then none that ends as a word does stands there
+abbrev pub IsFoundAt : Keeping → List ℕ → Option (Request × List ℕ) → Type 0
+IsFoundAt verb bytes (Some found) = BeginsWithFound verb bytes found.0 found.1 × EndsFound verb found.1
+IsFoundAt verb bytes None =
+    IsUtf8 bytes → (request : Request) (rest : List ℕ) → BeginsWithFound verb bytes request rest
+    → ¬ Stops is_word_byte rest
+
+-- what a look-up of a type's name answers: the type of that name, or nothing where it is no type's
+abbrev pub IsTypeOf : List ℕ → Option IntType → Type 0
+IsTypeOf name (Some type) = type_name (integer_type type) ≡ name
+IsTypeOf name None = (type : IntegerType) → type_name type ≢ name
 
 -- what a look-up of a word answers: the verb of that word, or nothing where it is no verb's
 abbrev pub IsVerbOf : List ℕ → Option Verb → Type 0
@@ -254,6 +398,21 @@ pub record Before (P : List ℕ → Type 0) (bytes : List ℕ) : Type 0 where
   pub spells : P part
   pub blanks : AreBlanks after
   pub spelled : bytes ≡ part ++ after
+
+-- a gap and a value stand before blanks
+abbrev pub EndsInValue : List ℕ → Form → Type 0
+EndsInValue bytes value = Before (λ part. SpellsValue part value) bytes
+
+-- what a reader of this answers: the one value that stands there, or nothing where none does
+abbrev pub IsValueAt : List ℕ → Option Form → Type 0
+IsValueAt bytes (Some value) = EndsInValue bytes value
+IsValueAt bytes None = IsUtf8 bytes → (value : Form) → ¬ EndsInValue bytes value
+
+-- what is answered of a value: the state of its pairs, or nothing where it is no map whose keys are all texts
+abbrev pub IsSourceOf : Form → Option State → Type 0
+IsSourceOf value (Some state) = (pairs : List (KeyForm × Form)) × (value ≡ object (members pairs)) × AreNamed pairs state
+IsSourceOf value None =
+    (pairs : List (KeyForm × Form)) (state : State) → value ≡ object (members pairs) → ¬ AreNamed pairs state
 
 -- the operands of a verb that give the command stand before blanks
 abbrev pub EndsInOperands : Verb → List ℕ → Command → Type 0

@@ -1,25 +1,26 @@
 //! Commands: a word, its operands, and the name for what is found.
-ghost use Rattle.std.specs.Prelude.{◌≡◌, ℕ, List, Some, IfOk, IfSome};
+ghost use Rattle.std.specs.Prelude.{◌≡◌, ℕ, List, Some, IfOk};
 ghost use Rattle.std.specs.List.{list_all};
 ghost use Rattle.std.specs.Option.{option_map};
 ghost use Rattle.std.specs.String.{string_bytes};
 ghost use Rattle.tera_context.specs.Call.{command_of};
-ghost use Rattle.tera_script.specs.Word.{is_blank, IsName};
-ghost use Rattle.tera_script.specs.Readers.{two_in, one_in, arrow_at, into_in, keeping_in, named_rest, name_into};
-ghost use Rattle.tera_script.specs.Readers.{AreOperandsOf, IsCommandAt};
-ghost use Rattle.tera_script.specs.declared.verb.Verb.TheVariants.{Set, Two, One, Keeping};
+ghost use Rattle.tera_script.specs.Word.{is_blank};
+ghost use Rattle.tera_script.specs.Readers.{two_in, one_in, arrow_at, into_in, named_rest};
+ghost use Rattle.tera_script.specs.Readers.{AreOperandsOf, IsCommandAt, IsValueAt};
+ghost use Rattle.tera_script.specs.declared.verb.Verb.TheVariants.{Set, Extend, Two, One};
 
+use crate::kept::{read_keeping, take_names};
 use crate::literal::{LEVELS, take_literal};
-use crate::verb::{
-    KeepingName, OneName, TwoNames, Verb, keeping_call, one_call, two_call, verb_in,
-};
+use crate::name::name_text;
+use crate::source::source_of;
+use crate::verb::{OneName, TwoNames, Verb, one_call, two_call, verb_in};
 use crate::word::{are_blanks, past_gap, take_name, take_operand};
 use std::alloc::{AllocError, Global};
-use std::str;
 use tera_context::{Call, Step};
+use tera_values::Value;
 
-/// The step that the bytes say, up to blanks at their end. `None` where they say none. Takes memory for names, texts,
-/// byte strings and arrays, and fails for want of it alone.
+/// The step that the bytes say, up to blanks at their end. `None` where they say none. Takes memory
+/// for names, texts, byte strings, arrays and maps, and fails for want of it alone.
 pub(crate) fn read_step(alloc: Global, bytes: &[u8]) -> Result<Option<Step>, AllocError>
     ensures { IfOk result (λ answer. IsCommandAt bytes.now (option_map command_of answer)) }
 {
@@ -38,6 +39,7 @@ fn read_operands(alloc: Global, verb: Verb, bytes: &[u8]) -> Result<Option<Step>
 {
     match verb {
         Verb::Set => read_set(alloc, bytes),
+        Verb::Extend => read_extend(alloc, bytes),
         Verb::Two(two) => read_two(alloc, two, bytes),
         Verb::One(one) => read_one(alloc, one, bytes),
         Verb::Keeping(keeping) => read_keeping(alloc, keeping, bytes),
@@ -51,7 +53,38 @@ fn read_set(alloc: Global, bytes: &[u8]) -> Result<Option<Step>, AllocError>
     let Some((name, behind)) = take_operand(bytes) else {
         return Ok(None);
     };
-    let Some(literal) = past_gap(behind) else {
+    let Some(value) = read_value(alloc, behind)? else {
+        return Ok(None);
+    };
+    let name = name_text(alloc, name)?;
+    Ok(Some(Step {
+        call: Call::Set { name, value },
+        into: None,
+    }))
+}
+
+// The operand of `extend`: a map whose keys are all texts.
+fn read_extend(alloc: Global, bytes: &[u8]) -> Result<Option<Step>, AllocError>
+    ensures { IfOk result
+        (λ answer. AreOperandsOf Extend bytes.now (option_map command_of answer)) }
+{
+    let Some(value) = read_value(alloc, bytes)? else {
+        return Ok(None);
+    };
+    let Some(source) = source_of(alloc, value)? else {
+        return Ok(None);
+    };
+    Ok(Some(Step {
+        call: Call::Extend { source },
+        into: None,
+    }))
+}
+
+// The value behind a gap, and no more than blanks behind it.
+fn read_value(alloc: Global, bytes: &[u8]) -> Result<Option<Value>, AllocError>
+    ensures { IfOk result (λ answer. IsValueAt bytes.now answer) }
+{
+    let Some(literal) = past_gap(bytes) else {
         return Ok(None);
     };
     let Some((value, rest)) = take_literal(alloc, literal, LEVELS)? else {
@@ -60,16 +93,13 @@ fn read_set(alloc: Global, bytes: &[u8]) -> Result<Option<Step>, AllocError>
     if !are_blanks(rest) {
         return Ok(None);
     }
-    let name = name_text(alloc, name)?;
-    Ok(Some(Step {
-        call: Call::Set { name, value },
-        into: None,
-    }))
+    Ok(Some(value))
 }
 
 // Two names.
 fn read_two(alloc: Global, verb: TwoNames, bytes: &[u8]) -> Result<Option<Step>, AllocError>
-    ensures { IfOk result (λ answer. AreOperandsOf (Two verb) bytes.now (option_map command_of answer)) }
+    ensures { IfOk result
+        (λ answer. AreOperandsOf (Two verb) bytes.now (option_map command_of answer)) }
 {
     let Some((left, right)) = two_in(bytes) else {
         return Ok(None);
@@ -84,7 +114,8 @@ fn read_two(alloc: Global, verb: TwoNames, bytes: &[u8]) -> Result<Option<Step>,
 
 // One name.
 fn read_one(alloc: Global, verb: OneName, bytes: &[u8]) -> Result<Option<Step>, AllocError>
-    ensures { IfOk result (λ answer. AreOperandsOf (One verb) bytes.now (option_map command_of answer)) }
+    ensures { IfOk result
+        (λ answer. AreOperandsOf (One verb) bytes.now (option_map command_of answer)) }
 {
     let Some(name) = one_in(bytes) else {
         return Ok(None);
@@ -96,33 +127,13 @@ fn read_one(alloc: Global, verb: OneName, bytes: &[u8]) -> Result<Option<Step>, 
     }))
 }
 
-// One name, and maybe a name for what is found.
-fn read_keeping(alloc: Global, verb: KeepingName, bytes: &[u8]) -> Result<Option<Step>, AllocError>
-    ensures { IfOk result (λ answer. AreOperandsOf (Keeping verb) bytes.now (option_map command_of answer)) }
-{
-    let Some((name, into)) = keeping_in(bytes) else {
-        return Ok(None);
-    };
-    let name = name_text(alloc, name)?;
-    let into = into_text(alloc, into)?;
-    Ok(Some(Step {
-        call: keeping_call(verb, name),
-        into,
-    }))
-}
-
 // Two names behind one another, and no more than blanks behind them.
 #[tactic(auto, unfolding(crate::specs::Readers::two_in))]
 fn two_in(bytes: &[u8]) -> Option<(&[u8], &[u8])>
     ensures { option_map named_rest result ≡ two_in bytes.now }
 {
-    let (left, behind) = take_operand(bytes)?;
-    let (right, rest) = take_operand(behind)?;
-    if are_blanks(rest) {
-        Some((left, right))
-    } else {
-        None
-    }
+    let (names, rest) = take_names(bytes)?;
+    if are_blanks(rest) { Some(names) } else { None }
 }
 
 // One name, and no more than blanks behind it.
@@ -134,19 +145,10 @@ fn one_in(bytes: &[u8]) -> Option<&[u8]>
     if are_blanks(rest) { Some(name) } else { None }
 }
 
-// One name, and behind it no more than blanks, or an arrow and one name.
-#[tactic(auto, unfolding(crate::specs::Readers::keeping_in))]
-fn keeping_in(bytes: &[u8]) -> Option<(&[u8], Option<&[u8]>)>
-    ensures { option_map name_into result ≡ keeping_in bytes.now }
-{
-    let (name, rest) = take_operand(bytes)?;
-    let into = into_in(rest)?;
-    Some((name, into))
-}
-
-// No more than blanks, or a gap, an arrow and one name.
+/// The name behind a gap and an arrow, or none where no more than blanks stand there. `None` where
+/// anything else does. Takes no memory.
 #[tactic(auto, unfolding(crate::specs::Readers::into_in))]
-fn into_in(bytes: &[u8]) -> Option<Option<&[u8]>>
+pub(crate) fn into_in(bytes: &[u8]) -> Option<Option<&[u8]>>
     ensures { option_map (option_map (λ name. name.now)) result ≡ into_in bytes.now }
 {
     if are_blanks(bytes) {
@@ -166,28 +168,5 @@ fn past_arrow(bytes: &[u8]) -> Option<&[u8]>
     match bytes {
         [b'-', b'>', rest @ ..] => Some(rest),
         _ => None,
-    }
-}
-
-// A name as a text of its own. It is ASCII, so nothing is left to be found out.
-fn name_text(alloc: Global, name: &[u8]) -> Result<String, AllocError>
-    requires { IsName name.now }
-    ensures { IfOk result (λ text. string_bytes text ≡ name.now) }
-{
-    let text = unsafe { str::from_utf8_unchecked(name) };
-    String::from_str(alloc, text)
-}
-
-// A name that may be there, as a text of its own.
-fn into_text(alloc: Global, name: Option<&[u8]>) -> Result<Option<String>, AllocError>
-    requires { IfSome name (λ name. IsName name.now) }
-    ensures { IfOk result (λ text. option_map string_bytes text ≡ option_map (λ name. name.now) name.entry) }
-{
-    match name {
-        Some(name) => {
-            let text = name_text(alloc, name)?;
-            Ok(Some(text))
-        }
-        None => Ok(None),
     }
 }

@@ -1,15 +1,17 @@
 // Escapes inside the texts of a script.
 #![tactic(auto)]
 
-ghost use Rattle.std.specs.Prelude.{◌≡◌, ℕ, List, ◌∷◌, ◌++◌, IfSome, IfNone, MatchOption, encode_utf8};
+ghost use Rattle.std.specs.Prelude.{◌≡◌, ℕ, List, ◌∷◌, ◌++◌, IfSome, IfNone, MatchOption};
+ghost use Rattle.std.specs.Prelude.{encode_utf8};
 ghost use Rattle.tera_script.specs.Text.{Token, IsToken, spelling};
 ghost use Rattle.tera_script.specs.TextParts.{BeginsWithEscape, BeginsWithNumber};
 
-/// The character of an escape, and the bytes after the escape. The bytes begin behind its backslash. `None` where
-/// they begin with no escape.
+/// The character of an escape, and the bytes after the escape. The bytes begin behind its
+/// backslash. `None` where they begin with no escape.
 pub(crate) fn take_escape(bytes: &[u8]) -> Option<(char, &[u8])>
     ensures found { IfSome result (λ found. BeginsWithEscape bytes.now found.0 found.1.now) }
-    ensures none { IfNone result ((token : Token) (rest : List ℕ) → IsToken token → 92 ∷ bytes.now ≡ spelling token ++ rest → ⊥) }
+    ensures none { IfNone result ((token : Token) (rest : List ℕ) → IsToken token → 92 ∷ bytes.now
+        ≡ spelling token ++ rest → ⊥) }
 {
     let (letter, rest) = bytes.split_first()?;
     match *letter {
@@ -24,11 +26,13 @@ pub(crate) fn take_escape(bytes: &[u8]) -> Option<(char, &[u8])>
     }
 }
 
-/// The character whose number stands in braces at the front of the bytes, by one to six hexadecimal digits, and the
-/// bytes after the braces. `None` where they begin with no such number.
+/// The character whose number stands in braces at the front of the bytes, by one to six hexadecimal
+/// digits, and the bytes after the braces. `None` where they begin with no such number.
 fn take_number(bytes: &[u8]) -> Option<(char, &[u8])>
-    ensures found { IfSome result (λ found. (digits : List ℕ) × BeginsWithNumber bytes.now digits found.0 found.1.now) }
-    ensures none { IfNone result ((digits rest : List ℕ) (c : ℕ) → BeginsWithNumber bytes.now digits c rest → ⊥) }
+    ensures found { IfSome result
+        (λ found. (digits : List ℕ) × BeginsWithNumber bytes.now digits found.0 found.1.now) }
+    ensures none { IfNone result
+        ((digits rest : List ℕ) (c : ℕ) → BeginsWithNumber bytes.now digits c rest → ⊥) }
 {
     let (brace, digits) = bytes.split_first()?;
     if *brace != b'{' {

@@ -6,8 +6,9 @@ ghost use Rattle.tera_script.specs.Readers.{hex_at, bytes_rest};
 
 use std::alloc::{AllocError, Global};
 
-/// The bytes that the digits behind an opening quote spell, and what stands behind the closing quote. `None` where no
-/// such digits stand there. Takes memory for the bytes, and fails for want of it alone.
+/// The bytes that the digits behind an opening quote spell, and what stands behind the closing
+/// quote. `None` where no such digits stand there. Takes memory for the bytes, and fails for want
+/// of it alone.
 #[tactic(auto, unfolding(crate::specs::Readers::hex_at))]
 pub(crate) fn take_hex(alloc: Global, bytes: &[u8]) -> Result<Option<(Vec<u8>, &[u8])>, AllocError>
     ensures { IfOk result (λ answer. option_map bytes_rest answer ≡ hex_at bytes.now) }

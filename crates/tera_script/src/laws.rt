@@ -1,13 +1,16 @@
 //! Laws of the grammar of lines. Each function does nothing, and its contract is the law.
-ghost use Rattle.std.specs.Prelude.{◌≡◌, ℕ, List};
+ghost use Rattle.std.specs.Prelude.{◌≡◌, ℕ, List, reverse};
 ghost use Rattle.tera_meaning.specs.Form.{Form};
+ghost use Rattle.tera_meaning.specs.KeyMeaning.{KeyForm};
+ghost use Rattle.tera_meaning.specs.Pairs.{Rises, key_form_order, value_at};
 ghost use Rattle.tera_meaning.specs.Request.{Command};
 ghost use Rattle.tera_script.specs.Line.{Says, IsSkipped};
-ghost use Rattle.tera_script.specs.Literal.{SpellsLiteral};
+ghost use Rattle.tera_script.specs.Literal.{SpellsLiteral, in_places, key_at};
 
 /// No line says two commands.
 pub fn one_command()
-    ensures { (line : List ℕ) (first second : Command) → Says line first → Says line second → first ≡ second }
+    ensures { (line : List ℕ) (first second : Command) → Says line first → Says line second → first
+        ≡ second }
 {}
 
 /// No line that is skipped says a command.
@@ -19,4 +22,15 @@ pub fn skipped_says_nothing()
 pub fn one_literal()
     ensures { (literal : List ℕ) (first second : Form) →
         SpellsLiteral literal first → SpellsLiteral literal second → first ≡ second }
+{}
+
+/// Of pairs that are written with equal keys a map has the first key and the last value, and its
+/// keys rise.
+pub fn equal_keys_keep_the_first_key_and_the_last_value()
+    ensures rises { (written : List (KeyForm × Form)) → Rises key_form_order (in_places written) }
+    ensures values { (written : List (KeyForm × Form)) (key : KeyForm) →
+        value_at key_form_order (in_places written) key
+        ≡ value_at key_form_order (reverse written) key }
+    ensures keys { (written : List (KeyForm × Form)) (key : KeyForm) →
+        key_at (in_places written) key ≡ key_at written key }
 {}

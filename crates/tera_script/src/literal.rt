@@ -1,29 +1,31 @@
 //! Literals: how a script spells a value.
 ghost use Rattle.std.specs.Prelude.{◌≡◌, ℕ, List, IfOk};
 ghost use Rattle.std.specs.Option.{option_map};
-ghost use Rattle.tera_script.specs.Readers.{past, is_word_byte, value_in, plain_at, hex_at, bytes_read, value_rest};
-ghost use Rattle.tera_script.specs.Readers.{IsQuotedAt, IsLiteralAt, IsArrayAt};
+ghost use Rattle.tera_script.specs.Readers.{front, past, is_word_byte, value_in, plain_at};
+ghost use Rattle.tera_script.specs.Readers.{hex_at, bytes_read, with_rest, named_rest, pair_rest};
+ghost use Rattle.tera_script.specs.Readers.{IsQuotedAt, IsLiteralAt, IsArrayAt, IsMapAt, IsPairAt};
 
 use crate::hex::take_hex;
+use crate::key::take_key;
 use crate::number::{number_in, value_of};
 use crate::text::take_text;
-use crate::word::past_blanks;
+use crate::word::{past_blanks, past_word};
 use std::alloc::{AllocError, Global};
-use tera_values::Value;
+use tera_values::{Key, Value, maps};
 
-/// How deep arrays may nest. The outermost is level 1.
+/// How deep arrays and maps may nest. The outermost is level 1.
 pub(crate) const LEVELS: usize = 64;
 
-/// The literal at the front of the bytes, in which arrays nest at most `levels` deep, and the bytes behind it. `None`
-/// where there is none that ends as a word does. Takes memory for texts, byte strings and arrays, and fails for want
-/// of it alone.
+/// The literal at the front of the bytes, in which arrays and maps nest at most `levels` deep, and
+/// the bytes behind it. `None` where there is none that ends as a word does. Takes memory for
+/// texts, byte strings, arrays and maps, and fails for want of it alone.
 #[cycle(literal)]
 pub(crate) fn take_literal(
     alloc: Global,
     bytes: &[u8],
     levels: usize,
 ) -> Result<Option<(Value, &[u8])>, AllocError>
-    ensures { IfOk result (λ answer. IsLiteralAt levels bytes.now (option_map value_rest answer)) }
+    ensures { IfOk result (λ answer. IsLiteralAt levels bytes.now (option_map with_rest answer)) }
 {
     if let Some(text) = bytes.strip_prefix(b"\"".as_slice()) {
         take_quoted(alloc, text, false)
@@ -33,6 +35,8 @@ pub(crate) fn take_literal(
         take_bytes(alloc, digits)
     } else if let Some(inside) = bytes.strip_prefix(b"[".as_slice()) {
         take_array(alloc, inside, levels)
+    } else if let Some(inside) = bytes.strip_prefix(b"{".as_slice()) {
+        take_map(alloc, inside, levels)
     } else {
         Ok(take_plain(bytes))
     }
@@ -45,7 +49,7 @@ fn take_array(
     bytes: &[u8],
     levels: usize,
 ) -> Result<Option<(Value, &[u8])>, AllocError>
-    ensures { IfOk result (λ answer. IsArrayAt levels bytes.now (option_map value_rest answer)) }
+    ensures { IfOk result (λ answer. IsArrayAt levels bytes.now (option_map with_rest answer)) }
 {
     if levels == 0 {
         return Ok(None);
@@ -73,13 +77,71 @@ fn take_array(
     }
 }
 
+// The map behind an opening brace, and the bytes behind its closing brace.
+#[cycle(literal)]
+fn take_map(
+    alloc: Global,
+    bytes: &[u8],
+    levels: usize,
+) -> Result<Option<(Value, &[u8])>, AllocError>
+    ensures { IfOk result (λ answer. IsMapAt levels bytes.now (option_map with_rest answer)) }
+{
+    if levels == 0 {
+        return Ok(None);
+    }
+    let mut pairs = maps::new(alloc);
+    let mut rest = past_blanks(bytes);
+    if let Some(behind) = rest.strip_prefix(b"}".as_slice()) {
+        return Ok(Some((Value::of_map(pairs), behind)));
+    }
+    loop {
+        let Some((key, value, behind)) = take_pair(alloc, rest, levels - 1)? else {
+            return Ok(None);
+        };
+        let Ok(()) = maps::insert(&mut pairs, key, value) else {
+            return Err(AllocError);
+        };
+        let Some((mark, further)) = past_blanks(behind).split_first() else {
+            return Ok(None);
+        };
+        if *mark == b'}' {
+            return Ok(Some((Value::of_map(pairs), further)));
+        }
+        if *mark != b',' {
+            return Ok(None);
+        }
+        rest = past_blanks(further);
+    }
+}
+
+// The key, the colon and the literal at the front, and the bytes behind them.
+#[cycle(literal)]
+fn take_pair(
+    alloc: Global,
+    bytes: &[u8],
+    levels: usize,
+) -> Result<Option<(Key<'static>, Value, &[u8])>, AllocError>
+    ensures { IfOk result (λ answer. IsPairAt levels bytes.now (option_map pair_rest answer)) }
+{
+    let Some((key, after)) = take_key(alloc, bytes)? else {
+        return Ok(None);
+    };
+    let Some(next) = past_blanks(after).strip_prefix(b":".as_slice()) else {
+        return Ok(None);
+    };
+    let Some((value, rest)) = take_literal(alloc, past_blanks(next), levels)? else {
+        return Ok(None);
+    };
+    Ok(Some((key, value, rest)))
+}
+
 // The text behind an opening quote, with this flag, and the bytes behind its closing quote.
 fn take_quoted(
     alloc: Global,
     bytes: &[u8],
     safe: bool,
 ) -> Result<Option<(Value, &[u8])>, AllocError>
-    ensures { IfOk result (λ answer. IsQuotedAt safe bytes.now (option_map value_rest answer)) }
+    ensures { IfOk result (λ answer. IsQuotedAt safe bytes.now (option_map with_rest answer)) }
 {
     let Some(taken) = take_text(alloc, bytes)? else {
         return Ok(None);
@@ -95,7 +157,7 @@ fn take_quoted(
 
 // The byte string behind an opening quote, and the bytes behind its closing quote.
 fn take_bytes(alloc: Global, bytes: &[u8]) -> Result<Option<(Value, &[u8])>, AllocError>
-    ensures { IfOk result (λ answer. option_map value_rest answer ≡ bytes_read (hex_at bytes.now)) }
+    ensures { IfOk result (λ answer. option_map with_rest answer ≡ bytes_read (hex_at bytes.now)) }
 {
     match take_hex(alloc, bytes)? {
         Some((taken, rest)) => Ok(Some((Value::bytes(taken), rest))),
@@ -106,30 +168,19 @@ fn take_bytes(alloc: Global, bytes: &[u8]) -> Result<Option<(Value, &[u8])>, All
 // The literal without quotes at the front, and the bytes behind it.
 #[tactic(auto, unfolding(crate::specs::Readers::plain_at))]
 fn take_plain(bytes: &[u8]) -> Option<(Value, &[u8])>
-    ensures { option_map value_rest result ≡ plain_at bytes.now }
+    ensures { option_map with_rest result ≡ plain_at bytes.now }
 {
-    let rest = past_word(bytes);
-    let value = value_in(&bytes[..bytes.len() - rest.len()])?;
+    let (word, rest) = split_word(bytes);
+    let value = value_in(word)?;
     Some((value, rest))
 }
 
-fn is_word_byte(byte: u8) -> bool
-    ensures { result ≡ is_word_byte byte }
+/// The bytes at the front that can stand in a literal without quotes, and those behind them.
+pub(crate) fn split_word(bytes: &[u8]) -> (&[u8], &[u8])
+    ensures { named_rest result ≡ (front is_word_byte bytes.now, past is_word_byte bytes.now) }
 {
-    byte.is_ascii_alphanumeric() || byte == b'_' || byte == b'-'
-}
-
-// The bytes behind those at the front that can stand in a literal without quotes.
-fn past_word(bytes: &[u8]) -> &[u8]
-    ensures { result.now ≡ past is_word_byte bytes.now }
-{
-    let mut rest = bytes;
-    while let [byte, others @ ..] = rest
-        && is_word_byte(*byte)
-    {
-        rest = others;
-    }
-    rest
+    let rest = past_word(bytes);
+    (&bytes[..bytes.len() - rest.len()], rest)
 }
 
 // The value that a word spells.

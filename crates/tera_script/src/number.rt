@@ -1,11 +1,13 @@
 //! Numbers: an optional minus, digits and an optional suffix that names a kind.
-ghost use Rattle.std.specs.Prelude.{◌≡◌, ℕ, List, Option, Some, None, SomeIff, MatchOption, IsTrue, cond, ◌+◌, ◌*◌, ◌^◌, ◌<◌};
+ghost use Rattle.std.specs.Prelude.{◌≡◌, ℕ, List, Option, Some, None, SomeIff, MatchOption, IsTrue};
+ghost use Rattle.std.specs.Prelude.{cond, ◌+◌, ◌*◌, ◌^◌, ◌<◌};
 ghost use Rattle.std.specs.Char.{digit_value, is_ascii_digit};
 ghost use Rattle.std.specs.Option.{option_map};
 ghost use Rattle.tera_meaning.specs.Integer.{i128 as kind_i128};
 ghost use Rattle.tera_script.specs.Number.{signed};
-ghost use Rattle.tera_script.specs.Readers.{Stops, BeginsWithDigit, digits_at, suffix_in, integer_of, is_of_kind};
-ghost use Rattle.tera_script.specs.Readers.{unsigned_in, number_in, number_rest, integer_held};
+ghost use Rattle.tera_script.specs.Readers.{Stops, BeginsWithDigit, digits_at, suffix_in};
+ghost use Rattle.tera_script.specs.Readers.{integer_of, is_of_kind};
+ghost use Rattle.tera_script.specs.Readers.{unsigned_in, number_in, with_rest, integer_held};
 ghost use Rattle.tera_script.specs.Readers.{suffix_kind};
 ghost use Rattle.tera_meaning.specs.Tree.{number};
 
@@ -63,10 +65,10 @@ fn unsigned_in(minus: bool, bytes: &[u8]) -> Option<Integer>
     integer_of(minus, magnitude, suffix)
 }
 
-// The number of the digits at the front, one or more, and the bytes behind them.
+/// The number of the digits at the front, one or more, and the bytes behind them.
 #[tactic(auto, unfolding(crate::specs::Readers::digits_at))]
-fn take_digits(bytes: &[u8]) -> Option<(u128, &[u8])>
-    ensures { option_map number_rest result ≡ digits_at bytes.now }
+pub(crate) fn take_digits(bytes: &[u8]) -> Option<(u128, &[u8])>
+    ensures { option_map with_rest result ≡ digits_at bytes.now }
 {
     let mut magnitude: u128 = 0;
     let mut rest = bytes;
@@ -82,7 +84,8 @@ fn take_digits(bytes: &[u8]) -> Option<(u128, &[u8])>
 
 // The digit at the front, and the bytes behind it. `None` where no digit stands there.
 fn first_digit(bytes: &[u8]) -> Option<(u8, &[u8])>
-    ensures { MatchOption result (Stops is_ascii_digit bytes.now) (λ found. BeginsWithDigit bytes.now found.0 found.1.now) }
+    ensures { MatchOption result (Stops is_ascii_digit bytes.now)
+        (λ found. BeginsWithDigit bytes.now found.0 found.1.now) }
 {
     match bytes {
         [byte, rest @ ..] if byte.is_ascii_digit() => Some((*byte, rest)),
@@ -93,7 +96,8 @@ fn first_digit(bytes: &[u8]) -> Option<(u8, &[u8])>
 // The number with one more digit, if 128 bits hold it.
 fn with_digit(magnitude: u128, digit: u8) -> Option<u128>
     requires { IsTrue (is_ascii_digit digit) }
-    ensures { SomeIff result (magnitude * 10 + digit_value digit < 2 ^ 128) (magnitude * 10 + digit_value digit) }
+    ensures { SomeIff result (magnitude * 10 + digit_value digit < 2 ^ 128)
+        (magnitude * 10 + digit_value digit) }
 {
     let ones = u128::from(digit - b'0');
     magnitude.checked_mul(10)?.checked_add(ones)
@@ -167,9 +171,10 @@ fn in_first_kind(minus: bool, magnitude: u128) -> Option<Integer>
     Some(Integer::I128(number))
 }
 
-// The number with this sign, if 128 bits hold it.
-fn signed(minus: bool, magnitude: u128) -> Option<i128>
-    ensures { result ≡ (cond (is_of_kind kind_i128 (signed minus magnitude)) (Some (signed minus magnitude)) None) }
+/// The number with this sign, if 128 bits hold it.
+pub(crate) fn signed(minus: bool, magnitude: u128) -> Option<i128>
+    ensures { result ≡ (cond (is_of_kind kind_i128 (signed minus magnitude))
+        (Some (signed minus magnitude)) None) }
 {
     if minus {
         0i128.checked_sub_unsigned(magnitude)

@@ -1,7 +1,7 @@
 // The texts of a script.
-#![tactic(auto)]
 
-ghost use Rattle.std.specs.Prelude.{◌≡◌, ℕ, ◌+◌, List, ◌∷◌, ◌++◌, IfOk, MatchOption, ◌<◌, ◌≤◌, ◌⊎◌, IsUtf8, string_bytes, length, slice_index};
+ghost use Rattle.std.specs.Prelude.{◌≡◌, ℕ, ◌+◌, List, ◌∷◌, ◌++◌, IfOk, MatchOption, ◌<◌, ◌≤◌, ◌⊎◌};
+ghost use Rattle.std.specs.Prelude.{IsUtf8, string_bytes, length, slice_index};
 ghost use Rattle.tera_script.specs.Text.{BeginsWithText};
 ghost use Rattle.tera_script.specs.TextParts.{IsPlain, BeginsWithRun};
 
@@ -18,9 +18,9 @@ pub struct TakenText {
     pub used: usize,
 }
 
-/// The text at the front of the bytes, which begin behind its opening quote. `None` where no front of them is the
-/// inside of a text and a closing quote, or where what they spell is not UTF-8. Takes memory, and fails for want of
-/// it alone.
+/// The text at the front of the bytes, which begin behind its opening quote. `None` where no front
+/// of them is the inside of a text and a closing quote, or where what they spell is not UTF-8.
+/// Takes memory, and fails for want of it alone.
 pub fn take_text(alloc: Global, bytes: &[u8]) -> Result<Option<TakenText>, AllocError>
     ensures { IfOk result (λ answer. MatchOption answer
         ((text : List ℕ) (used : ℕ) → IsUtf8 text → BeginsWithText bytes.now text used → ⊥)
@@ -62,7 +62,8 @@ fn decode_text(alloc: Global, bytes: &[u8]) -> Result<Option<(Vec<u8>, usize)>, 
 
 /// Adds the bytes at the front that stand for themselves, and answers those that follow them.
 fn take_run<'a>(decoded: &mut Vec<u8>, bytes: &'a [u8]) -> Result<&'a [u8], AllocError>
-    ensures { IfOk result (λ rest. (run : List ℕ) × BeginsWithRun bytes.now run rest.now × (decoded.new.items ≡ decoded.old.items ++ run)) }
+    ensures { IfOk result (λ rest. (run : List ℕ) × BeginsWithRun bytes.now run rest.now
+        × (decoded.new.items ≡ decoded.old.items ++ run)) }
 {
     let (run, rest) = bytes.split_at(run_length(bytes));
     decoded.extend_from_slice(run)?;
@@ -73,24 +74,11 @@ fn take_run<'a>(decoded: &mut Vec<u8>, bytes: &'a [u8]) -> Result<&'a [u8], Allo
 fn run_length(bytes: &[u8]) -> usize
     ensures within { result ≤ length bytes.now }
     ensures plain { (k : ℕ) → k < result → IsPlain (slice_index bytes.now k) }
-    ensures ends { result < length bytes.now → (slice_index bytes.now result ≡ 34) ⊎ (slice_index bytes.now result ≡ 92) }
+    ensures ends { result < length bytes.now → (slice_index bytes.now result ≡ 34)
+        ⊎ (slice_index bytes.now result ≡ 92) }
 {
     if let Some(b'"' | b'\\') = bytes.first() {
         return 0;
     }
     bytes.find_byteset(b"\"\\").unwrap_or(bytes.len())
-}
-
-#[cfg(test)]
-mod tests {
-    use super::*;
-    use std::test::Fail;
-
-    #[test]
-    fn takes_a_text(rt: HostRuntime) -> Result<(), Fail> {
-        let taken = take_text(rt.alloc(), b"h\\u{e9}\\t\\\"\" rest")?.ok_or("no text")?;
-        assert_eq!(rt; taken.text.as_str(), "hé\t\"");
-        assert_eq!(rt; taken.used, 12);
-        Ok(())
-    }
 }

@@ -11,7 +11,8 @@ pub fn one_text()
 
 /// The quote that closes a text stands at one place alone.
 pub fn one_closing_quote()
-    ensures { (inner other s t xs ys : List ℕ) → SpellsText inner s → SpellsText other t → inner ++ 34 ∷ xs ≡ other ++ 34 ∷ ys → inner ≡ other }
+    ensures { (inner other s t xs ys : List ℕ) → SpellsText inner s → SpellsText other t
+        → inner ++ 34 ∷ xs ≡ other ++ 34 ∷ ys → inner ≡ other }
 {}
 
 /// What UTF-8 spells is UTF-8.

@@ -4,6 +4,7 @@ ghost use Rattle.std.specs.List.{list_all};
 ghost use Rattle.std.specs.Option.{option_map};
 ghost use Rattle.tera_script.specs.Word.{is_blank, is_name_start, is_name_byte};
 ghost use Rattle.tera_script.specs.Readers.{past, gap_at, name_at, operand_at, named_rest};
+ghost use Rattle.tera_script.specs.Readers.{is_word_byte, is_of};
 
 fn is_blank(byte: u8) -> bool
     ensures { result ≡ is_blank byte }
@@ -23,30 +24,67 @@ fn is_name_byte(byte: u8) -> bool
     byte.is_ascii_alphanumeric() || byte == b'_'
 }
 
-// The bytes behind the blanks at the front.
-pub(crate) fn past_blanks(bytes: &[u8]) -> &[u8]
-    ensures { result.now ≡ past is_blank bytes.now }
+fn is_word_byte(byte: u8) -> bool
+    ensures { result ≡ is_word_byte byte }
+{
+    is_name_byte(byte) || byte == b'-'
+}
+
+// Which bytes a part of a line is made of.
+#[derive(Clone, Copy)]
+pub(crate) enum Class {
+    Blank,
+    // What can stand in a name.
+    Name,
+    // What can stand in a literal without quotes.
+    Word,
+}
+
+// Whether a byte is of that class.
+#[inline(always)]
+fn is_of(class: Class, byte: u8) -> bool
+    ensures { result ≡ is_of class byte }
+{
+    match class {
+        Class::Blank => is_blank(byte),
+        Class::Name => is_name_byte(byte),
+        Class::Word => is_word_byte(byte),
+    }
+}
+
+// The bytes behind those of that class at the front.
+#[inline(always)]
+fn past(class: Class, bytes: &[u8]) -> &[u8]
+    ensures { result.now ≡ past (is_of class) bytes.now }
 {
     let mut rest = bytes;
     while let [byte, others @ ..] = rest
-        && is_blank(*byte)
+        && is_of(class, *byte)
     {
         rest = others;
     }
     rest
 }
 
+/// The bytes behind the blanks at the front.
+pub(crate) fn past_blanks(bytes: &[u8]) -> &[u8]
+    ensures { result.now ≡ past is_blank bytes.now }
+{
+    past(Class::Blank, bytes)
+}
+
 // The bytes behind those at the front that can stand in a name.
 fn past_name(bytes: &[u8]) -> &[u8]
     ensures { result.now ≡ past is_name_byte bytes.now }
 {
-    let mut rest = bytes;
-    while let [byte, others @ ..] = rest
-        && is_name_byte(*byte)
-    {
-        rest = others;
-    }
-    rest
+    past(Class::Name, bytes)
+}
+
+/// The bytes behind those at the front that can stand in a literal without quotes.
+pub(crate) fn past_word(bytes: &[u8]) -> &[u8]
+    ensures { result.now ≡ past is_word_byte bytes.now }
+{
+    past(Class::Word, bytes)
 }
 
 // The bytes behind a gap, which is one blank or more.

@@ -5,10 +5,12 @@ ghost use Rattle.tera_meaning.specs.Question;
 ghost use Rattle.tera_meaning.specs.Request.{set, remove, mark_safe, ask, weigh, find, asking};
 ghost use Rattle.tera_meaning.specs.Request.{asking_into};
 ghost use Rattle.tera_meaning.specs.Search;
-ghost use Rattle.tera_meaning.specs.Tree.{none, number, text, bytes, array, items};
+ghost use Rattle.tera_meaning.specs.KeyMeaning.{truth_key, number_key, text_key, owned};
+ghost use Rattle.tera_meaning.specs.Tree.{none, truth, number, text, bytes, array, items};
+ghost use Rattle.tera_meaning.specs.Tree.{object, members, no_members};
 ghost use Rattle.tera_meaning.specs.Weighing;
 ghost use Rattle.tera_script.specs.Line.{Says, IsSkipped, IsBad};
-ghost use Rattle.tera_script.specs.Nested.{in_brackets, in_arrays};
+ghost use Rattle.tera_script.specs.Nested.{in_brackets, in_arrays, in_turns, in_both};
 
 /// Lines that say a call.
 pub fn worked_calls()
@@ -64,6 +66,20 @@ pub fn worked_values()
         (asking (set (codes "a") (in_arrays 64 none))) }
 {}
 
+/// Maps. Where keys are equal the first key and the last value stand.
+pub fn worked_maps()
+    ensures no_pairs { Says (codes "set a {}") (asking (set (codes "a") (object no_members))) }
+    ensures pairs { Says (codes "set a { \"b\" : 1u64\t,true:[ ] }")
+        (asking (set (codes "a") (object (members ((truth_key true, array (items []))
+        ∷ (text_key (owned (codes "b")), number (record { kind = kind_u64; value = pos 1 }))
+        ∷ []))))) }
+    ensures equal_keys { Says (codes "set a {1u64: none, 1: true}")
+        (asking (set (codes "a") (object (members
+        ((number_key (record { kind = kind_u64; value = pos 1 }), truth true) ∷ []))))) }
+    ensures deepest { Says (codes "set a " ++ in_turns 32 (codes "none"))
+        (asking (set (codes "a") (in_both 32 none))) }
+{}
+
 /// Lines that are skipped.
 pub fn worked_skips()
     ensures nothing { IsSkipped [] }
@@ -93,4 +109,16 @@ pub fn worked_bad_values()
     ensures no_comma { IsBad (codes "set a [none none]") }
     ensures no_bracket { IsBad (codes "set a [none") }
     ensures too_deep { IsBad (codes "set a " ++ in_brackets 65 (codes "none")) }
+{}
+
+/// Bad lines of maps.
+pub fn worked_bad_maps()
+    ensures key_alone { IsBad (codes "set a {1}") }
+    ensures none_key { IsBad (codes "set a {none: 1}") }
+    ensures safe_key { IsBad (codes "set a {s\"k\": 1}") }
+    ensures no_colon { IsBad (codes "set a {\"a\" 1}") }
+    ensures last_comma { IsBad (codes "set a {\"a\": 1,}") }
+    ensures no_comma { IsBad (codes "set a {\"a\": 1 2: 3}") }
+    ensures no_brace { IsBad (codes "set a {\"a\": 1") }
+    ensures too_deep { IsBad (codes "set a " ++ in_brackets 1 (in_turns 32 (codes "none"))) }
 {}

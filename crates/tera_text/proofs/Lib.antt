@@ -1,1 +1,5 @@
 mod LossyLemmas
+pub mod TextLemmas
+pub mod PositionLaws
+pub mod CharLemmas
+pub mod PlaceLemmas

@@ -1,2 +1,4 @@
 pub mod Lossy
 pub mod Whole
+pub mod Positions
+pub mod Index

@@ -7,14 +7,11 @@ use Rattle.std.specs.declared.cmp.Ordering.{Ordering}
 use Rattle.std.specs.declared.cmp.Ordering.TheVariants.{Greater}
 use Rattle.tera_meaning.specs.Chained.{less_nat}
 use Rattle.tera_meaning.specs.Decided.{decided}
-use Rattle.tera_meaning.specs.Form.{Form, MarkedText}
-use Rattle.tera_meaning.specs.Integer.{Integer}
-use Rattle.tera_meaning.specs.KeyMeaning.{KeyForm}
+use Rattle.tera_meaning.specs.Form.{Form}
 use Rattle.tera_meaning.specs.Meaning.{Meaning, plain}
 use Rattle.tera_meaning.specs.Order.{compare}
 use Rattle.tera_meaning.proofs.DecidedLaws.{decided_agrees}
-use Rattle.tera_meaning.specs.Read.{items_in}
-use Rattle.tera_meaning.specs.Tree.{Members, undefined, none, truth, number, text, bytes, object, array, items}
+use Rattle.tera_meaning.specs.Tree.{array, items}
 use Rattle.tera_values.proofs.Parts.{nat_cmp_suc}
 
 abbrev pub lists_decided : List Form → List Form → Option Ordering
@@ -30,28 +27,6 @@ decided_ended (x ∷ xs) (y ∷ ys) zero e = absurd (omega arith)
 decided_ended [] ys (suc n) e = absurd (omega arith)
 decided_ended (x ∷ xs) [] (suc n) e = absurd (omega arith)
 decided_ended (x ∷ xs) (y ∷ ys) (suc n) e = decided_ended xs ys n (omega arith) ∙ ap Some (nat_cmp_suc (length xs) (length ys))
-
--- nothing is decided of a map
-pub map_undecided : (ps : Members Integer MarkedText KeyForm) (y : Form) → None ≡ decided (plain (object ps)) (plain y)
-map_undecided ps (array ys) = refl
-map_undecided ps (object qs) = refl
-map_undecided ps undefined = refl
-map_undecided ps none = refl
-map_undecided ps (truth b) = refl
-map_undecided ps (number n) = refl
-map_undecided ps (text t) = refl
-map_undecided ps (bytes bs) = refl
-
--- nor of an array and what is none
-pub array_undecided : (xs : List Form) (y : Form) → items_in y ≡ None → None ≡ decided (plain (array (items xs))) (plain y)
-array_undecided xs (array ys) e = cc
-array_undecided xs (object ps) e = refl
-array_undecided xs undefined e = refl
-array_undecided xs none e = refl
-array_undecided xs (truth b) e = refl
-array_undecided xs (number n) e = refl
-array_undecided xs (text t) e = refl
-array_undecided xs (bytes bs) e = refl
 
 -- what is decided is the order
 pub agreed : (x y : Meaning) (answer : Option Ordering) → answer ≡ decided x y → IfSome answer (λ o. o ≡ compare x y)

@@ -8,8 +8,7 @@ use Rattle.std.specs.Cmp.{eq_by_cmp_equiv}
 use Rattle.std.specs.List.{IsDistinct}
 use Rattle.std.specs.List.Sorted.{IsPermutation}
 use Rattle.std.specs.Map.{keys_of, lookup, set_value}
-use Rattle.std.specs.Ordering.{match_ordering, is_eq}
-use Rattle.std.specs.declared.cmp.Ordering.{Ordering}
+use Rattle.std.specs.Ordering.{match_ordering}
 use Rattle.std.specs.declared.cmp.Ordering.TheVariants.{Less, Equal, Greater}
 use Rattle.tera_meaning.specs.KeyMeaning.{KeyForm}
 use Rattle.tera_meaning.specs.Pairs.{key_form_order, pairs_of}
@@ -17,15 +16,8 @@ use Rattle.tera_meaning.proofs.UniqueLaws.{rising_permuted}
 use Rattle.tera_values.specs.Key.{key_form}
 use Rattle.tera_values.specs.Map.{forms_of, keys_tie}
 use Rattle.tera_values.specs.MapLaws.{form_total, distinct}
+use Rattle.tera_values.specs.Placing.{is_equal}
 use Rattle.tera_values.specs.declared.key.Key.{Key}
-
-is_equal : (r : Ordering) → is_eq r ≡ true → r ≡ Equal
-is_equal Equal e = refl
-is_equal Less e = cc
-is_equal Greater e = cc
-
-some_same : {A : Type 0} (x y : A) → Some x ≡ Some y → x ≡ y
-some_same x y e = cc
 
 module _ {V : Type 0} where
   -- a second value at a key takes the place of the first

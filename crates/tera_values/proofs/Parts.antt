@@ -1,5 +1,5 @@
 -- The items of arrays and the pairs of maps: how many, how deep, and the first that differ.
-use Rattle.std.specs.Prelude.{◌≡◌, true, not, nat_eq, ◌<◌, ◌≤◌, ℕ, ℤ, Some, zero, suc, min, List, [], ◌∷◌, length, refl}
+use Rattle.std.specs.Prelude.{◌≡◌, true, not, nat_eq, ◌<◌, ◌≤◌, ℕ, Some, zero, suc, min, List, [], ◌∷◌, length, refl}
 use Rattle.std.proofs.Common.{inl, inr, sym, ◌∙◌, ap, subst, arith, get_or, take, drop}
 use Rattle.std.proofs.lemmas.Grind.{common_steps}
 use Rattle.std.specs.Cmp.{nat_cmp_is, ranks}
@@ -8,22 +8,18 @@ use Rattle.std.specs.declared.cmp.Ordering.{Ordering}
 use Rattle.std.specs.declared.cmp.Ordering.TheVariants.{Less, Equal, Greater}
 use Rattle.tera_meaning.specs.Chained.{less_nat}
 use Rattle.tera_meaning.specs.Form.{Form}
-use Rattle.tera_meaning.specs.KeyMeaning.{KeyForm, KeyMeaning, key_meaning}
+use Rattle.tera_meaning.specs.KeyMeaning.{KeyForm}
 use Rattle.tera_meaning.specs.Meaning.{plain}
 use Rattle.tera_meaning.specs.Order.{compare}
 use Rattle.tera_meaning.specs.Read.{items_in, members_in, is_nonempty}
 use Rattle.tera_meaning.proofs.PairLaws.{rising_rises}
 use Rattle.tera_meaning.specs.Pairs.{Rises, key_form_order, pairs_of}
 use Rattle.tera_meaning.specs.TreeLaws.{items_of_list, list_of_members, members_of_list}
-use Rattle.tera_meaning.specs.Tree.{Items, undefined, none, truth, number, text, bytes, object, array, items, items_list, members, members_list, relabeled_items, depth, items_depth}
-use Rattle.tera_values.specs.Print.{plain_pairs}
+use Rattle.tera_meaning.specs.Tree.{undefined, none, truth, number, text, bytes, object, array, items, items_list, members, members_list, depth, items_depth}
+use Rattle.tera_values.specs.Print.{plain_items, plain_pairs}
 use Rattle.tera_meaning.specs.WellMade.{IsWellMade, IsWellMadeKey, AreWellMade, AreWellMadeMembers}
 use Rattle.tera_values.specs.MapLaws.{form_total}
 use Rattle.tera_values.specs.Placing.{In}
-
--- the items once kinds and flags are forgotten
-abbrev plain_items : List Form → Items ℤ (List ℕ) KeyMeaning
-plain_items xs = relabeled_items (λ n. n.value) (λ t. t.spelled) key_meaning (items xs)
 
 pub plain_length : (xs : List Form) → length (items_list (plain_items xs)) ≡ length xs
 plain_length [] = refl

@@ -1,6 +1,6 @@
 -- Items are printed one after another.
 use Rattle.std.specs.Prelude.{◌≡◌, ℕ, IsTrue, List, [], ◌∷◌, ◌++◌, codes, Some, None, refl}
-use Rattle.std.proofs.Common.{sym, ◌∙◌, ap, subst, append_assoc, append-nil}
+use Rattle.std.proofs.Common.{sym, ◌∙◌, ap, subst, append_assoc}
 use Rattle.std.proofs.lemmas.Bool.{and_parts}
 use Rattle.tera_meaning.specs.Form.{Form}
 use Rattle.tera_meaning.specs.Meaning.{plain}
@@ -56,10 +56,6 @@ rest_done all left done before exact = sym (before exact).1
 pub comma_done : (all left others : List Form) (x : Form) (done : List ℕ) → left ≡ x ∷ others → IsDone all done left
     → PrintsItems all (done ++ (codes ", " ++ printed_items (plain_items (x ∷ others))))
 comma_done all left others x done is before exact = sym ((before exact).1 ∙ ap (λ l. done ++ later l) is)
-
-pub all_done : (all left : List Form) (done : List ℕ) → left ≡ [] → IsDone all done left → PrintsItems all done
-all_done all left done is before exact =
-    sym ((before exact).1 ∙ ap (λ l. done ++ later l) is ∙ append-nil done)
 
 -- inside an array a text is quoted, and all else prints as by itself
 pub text_inside : (v : Form) (t written : List ℕ) → text_in v ≡ Some t → Quotes t written

@@ -1,6 +1,6 @@
 -- Pairs are printed one after another, in the order of their keys.
 use Rattle.std.specs.Prelude.{◌≡◌, ◌≢◌, ◌&&◌, ℕ, Bool, true, false, cond, T, IsTrue, List, [], ◌∷◌, ◌++◌, codes, Some, None, refl}
-use Rattle.std.proofs.Common.{sym, ◌∙◌, ap, subst, append_assoc, append-nil, inl, inr}
+use Rattle.std.proofs.Common.{sym, ◌∙◌, ap, subst, append_assoc, inl, inr}
 use Rattle.std.proofs.lemmas.Bool.{and_parts}
 use Rattle.std.specs.Cmp.{tied_itself}
 use Rattle.std.specs.FinMap.Entries.{where_key, is_sorted, below_all}
@@ -8,22 +8,17 @@ use Rattle.std.specs.Ordering.{is_lt}
 use Rattle.std.specs.declared.cmp.Ordering.{Ordering}
 use Rattle.std.specs.declared.cmp.Ordering.TheVariants.{Less, Equal, Greater}
 use Rattle.tera_meaning.specs.Form.{Form}
-use Rattle.tera_meaning.specs.KeyMeaning.{KeyForm, truth_key, number_key, text_key, key_text, key_meaning}
+use Rattle.tera_meaning.specs.KeyMeaning.{KeyForm, key_meaning}
 use Rattle.tera_meaning.specs.Meaning.{plain}
 use Rattle.tera_meaning.specs.Pairs.{key_form_order, pairs_of}
 use Rattle.tera_meaning.specs.Printed.{printed_with, printed_members, printed_key, is_exact_key, is_exact_inside, are_exact_members}
-use Rattle.tera_values.specs.Key.{text_in_key, shown_key}
 use Rattle.tera_values.specs.Map.{above, first_pair, is_above}
 use Rattle.tera_values.specs.MapLaws.{form_total}
-use Rattle.tera_values.specs.Placing.{In, in_below, below_less, not_back, placed_sorted, rising_is, first_part, second_part}
-use Rattle.tera_values.specs.Print.{plain_pairs, PrintsKey, PrintsPair, PrintsPairs}
-use Rattle.tera_report.specs.Quoted.{Quotes, is_ascii_text, quoted}
+use Rattle.tera_values.specs.Placing.{In, is_less, is_true, some_same, in_below, below_less, not_back, placed_sorted, rising_is, first_part, second_part}
+use Rattle.tera_values.specs.Print.{plain_pairs, PrintsPair, PrintsPairs}
+use Rattle.tera_report.specs.Quoted.{quoted}
 
 -- ---- the pairs above a key
-
-is_true : (b : Bool) → T b → b ≡ true
-is_true true p = refl
-is_true false p = absurd p
 
 no_less : (r : Ordering) → r ≢ Less → is_lt r ≡ false
 no_less Less h = absurd (h refl)
@@ -44,9 +39,6 @@ first_in t p (q ∷ qs) e =
       | true ↦ λ same. inl (sym (some_same q p same))
       | false ↦ λ later. inr (first_in t p qs later)
     ] e
-  where
-    some_same : (x y : KeyForm × Form) → Some x ≡ Some y → x ≡ y
-    some_same x y same = cc
 
 -- above the first pair are those after it
 head_above : (p : KeyForm × Form) (ps : List (KeyForm × Form)) → T (below_all key_form_order p.0 ps) → p ∷ ps ≡ p ∷ above (Some p.0) (p ∷ ps)
@@ -72,18 +64,6 @@ from_next k p (q ∷ qs) h e =
           from_next k p qs (second_part _ _ h) is
           ∙ ap (λ l. p ∷ l) (sym (ap (λ b. cond b (q ∷ above (Some p.0) qs) (above (Some p.0) qs)) behind))
     ] refl e
-  where
-    is_less : (r : Ordering) → is_lt r ≡ true → r ≡ Less
-    is_less Less same = refl
-    is_less Equal same = cc
-    is_less Greater same = cc
-
-pub from_none : (k : KeyForm) (ps : List (KeyForm × Form)) → first_pair (above (Some k) ps) ≡ None → above (Some k) ps ≡ []
-from_none k ps e = none_left (above (Some k) ps) e
-  where
-    none_left : (qs : List (KeyForm × Form)) → first_pair qs ≡ None → qs ≡ []
-    none_left [] same = refl
-    none_left (q ∷ qs) same = cc
 
 pub empty_pairs : (ps : List (KeyForm × Form)) → first_pair (above None ps) ≡ None → ps ≡ []
 empty_pairs [] e = refl
@@ -155,20 +135,3 @@ pub comma_pairs_done : (all left others : List (KeyForm × Form)) (p : KeyForm �
     → ArePairsDone all done left
     → PrintsPairs all (done ++ (codes ", " ++ printed_members (plain_pairs (p ∷ others))))
 comma_pairs_done all left others p done is before exact = sym ((before exact).1 ∙ ap (λ l. done ++ later_pairs l) is)
-
-pub all_pairs_done : (all left : List (KeyForm × Form)) (done : List ℕ) → left ≡ [] → ArePairsDone all done left → PrintsPairs all done
-all_pairs_done all left done is before exact =
-    sym ((before exact).1 ∙ ap (λ l. done ++ later_pairs l) is ∙ append-nil done)
-
--- in a map a key that is a text is quoted, and another prints as by itself
-pub text_key_printed : (k : KeyForm) (t written : List ℕ) → text_in_key k ≡ Some t → Quotes t written → PrintsKey (key_meaning k) written
-text_key_printed (truth_key b) t written is quotes exact = absurd (cc)
-text_key_printed (number_key n) t written is quotes exact = absurd (cc)
-text_key_printed (text_key s) t written is quotes exact =
-    let same : key_text s ≡ t = cc in
-    quotes (subst (λ l. IsTrue (is_ascii_text l)) same exact) ∙ ap quoted (sym same)
-
-pub other_key_printed : (k : KeyForm) → text_in_key k ≡ None → PrintsKey (key_meaning k) (shown_key (key_meaning k))
-other_key_printed (truth_key b) is exact = refl
-other_key_printed (number_key n) is exact = refl
-other_key_printed (text_key s) is exact = absurd (cc)

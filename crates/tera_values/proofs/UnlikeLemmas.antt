@@ -15,8 +15,8 @@ use Rattle.tera_meaning.proofs.EntryLaws.{forms_decide, forms_tie}
 use Rattle.tera_meaning.proofs.PairLaws.{more_rising}
 use Rattle.tera_values.specs.Map.{is_before}
 use Rattle.tera_values.specs.MapLaws.{form_total}
-use Rattle.tera_values.specs.Placing.{In, Apart, value_is, value_of_rising, differs_from_none}
-use Rattle.tera_values.specs.Unlike.{form_values, by_order, unlike, lacking, found_at, met, least_met, maps_order, IsLeastUnlike}
+use Rattle.tera_values.specs.Placing.{In, Apart, is_equal, is_less, some_same, value_is, value_of_rising, differs_from_none}
+use Rattle.tera_values.specs.Unlike.{form_values, by_order, unlike, lacking, difference_at, met, least_met, maps_order, IsLeastUnlike}
 use Rattle.tera_values.specs.declared.map.Unlike.{Unlike}
 use Rattle.tera_values.specs.declared.map.Unlike.TheVariants.{Values, LeftAlone, RightAlone}
 
@@ -24,11 +24,11 @@ use Rattle.tera_values.specs.declared.map.Unlike.TheVariants.{Values, LeftAlone,
 abbrev pub from_left : List (KeyForm × Form) → KeyForm × Form → Option Unlike
 from_left qs e = unlike (Some e.1) (value_at key_form_order qs e.0)
 
-pub met_below : (least : Option (KeyForm × Unlike)) (k : KeyForm) (how : Option Unlike) → is_before key_form_order k least ≡ true → met least k how ≡ found_at how k least
-met_below least k how e = ap (λ b. cond b (found_at how k least) least) e
+pub met_below : (least : Option (KeyForm × Unlike)) (k : KeyForm) (how : Option Unlike) → is_before key_form_order k least ≡ true → met least k how ≡ difference_at how k least
+met_below least k how e = ap (λ b. cond b (difference_at how k least) least) e
 
 pub met_not_below : (least : Option (KeyForm × Unlike)) (k : KeyForm) (how : Option Unlike) → is_before key_form_order k least ≡ false → met least k how ≡ least
-met_not_below least k how e = ap (λ b. cond b (found_at how k least) least) e
+met_not_below least k how e = ap (λ b. cond b (difference_at how k least) least) e
 
 -- the difference is at the key or at a lesser one
 abbrev pub Reaches : Option (KeyForm × Unlike) → KeyForm → Type 0
@@ -40,16 +40,6 @@ not_less Less e h = cc
 not_less Equal e h = cc
 not_less Greater e h = cc
 
-is_less : (r : Ordering) → is_lt r ≡ true → r ≡ Less
-is_less Less e = refl
-is_less Equal e = cc
-is_less Greater e = cc
-
-is_equal : (r : Ordering) → is_eq r ≡ true → r ≡ Equal
-is_equal Equal e = refl
-is_equal Less e = cc
-is_equal Greater e = cc
-
 equal_not_less : (r : Ordering) → r ≡ Equal → r ≢ Less
 equal_not_less r e h = cc
 
@@ -58,14 +48,14 @@ reaches_tied : (found : Option (KeyForm × Unlike)) (k l : KeyForm) → key_form
 reaches_tied None k l t r = r
 reaches_tied (Some d) k l t r = λ less. r (sym (form_total.congr l k d.0 t) ∙ less)
 
-found_keeps : (how : Option Unlike) (k : KeyForm) (least : Option (KeyForm × Unlike)) (l : KeyForm) → is_before key_form_order k least ≡ true → Reaches least l → Reaches (found_at how k least) l
+found_keeps : (how : Option Unlike) (k : KeyForm) (least : Option (KeyForm × Unlike)) (l : KeyForm) → is_before key_form_order k least ≡ true → Reaches least l → Reaches (difference_at how k least) l
 found_keeps None k least l e r = r
 found_keeps (Some h) k None l e r = absurd r
 found_keeps (Some h) k (Some d) l e r = λ less. r (form_total.trans l k d.0 less (is_less _ e))
 
 met_keeps : (least : Option (KeyForm × Unlike)) (k : KeyForm) (how : Option Unlike) (l : KeyForm) → Reaches least l → Reaches (met least k how) l
 met_keeps least k how l r =
-    elim (is_before key_form_order k least) as (λ b. is_before key_form_order k least ≡ b → Reaches (cond b (found_at how k least) least) l) [
+    elim (is_before key_form_order k least) as (λ b. is_before key_form_order k least ≡ b → Reaches (cond b (difference_at how k least) least) l) [
       | true ↦ λ e. found_keeps how k least l e r
       | false ↦ λ e. r
     ] refl
@@ -83,13 +73,13 @@ met_reaches least k (Some h) =
     ] refl)
 
 found_has : (P : KeyForm × Unlike → Type 0) (how : Option Unlike) (k : KeyForm) (least : Option (KeyForm × Unlike))
-    → IfSome least P → IfSome how (λ h. P (k, h)) → IfSome (found_at how k least) P
+    → IfSome least P → IfSome how (λ h. P (k, h)) → IfSome (difference_at how k least) P
 found_has P None k least p q = p
 found_has P (Some h) k least p q = q
 
 met_has : (P : KeyForm × Unlike → Type 0) (least : Option (KeyForm × Unlike)) (k : KeyForm) (how : Option Unlike)
     → IfSome least P → IfSome how (λ h. P (k, h)) → IfSome (met least k how) P
-met_has P least k how p q = elim (is_before key_form_order k least) as (λ b. IfSome (cond b (found_at how k least) least) P) [ true ↦ found_has P how k least p q | false ↦ p ]
+met_has P least k how p q = elim (is_before key_form_order k least) as (λ b. IfSome (cond b (difference_at how k least) least) P) [ true ↦ found_has P how k least p q | false ↦ p ]
 
 module _ {V : Type 0} (differs : KeyForm × V → Option Unlike) where
   pub walk_keeps : (least : Option (KeyForm × Unlike)) (es : List (KeyForm × V)) (l : KeyForm) → Reaches least l → Reaches (least_met differs least es) l
@@ -147,9 +137,6 @@ found_entry (e ∷ es) k v h =
       | true ↦ λ t is. (e, inl refl, is_equal _ t, some_same e.1 v is)
       | false ↦ λ t is. let (f, i, tie, same) = found_entry es k v is in (f, inr i, tie, same)
     ] refl h
-  where
-    some_same : {A : Type 0} (x y : A) → Some x ≡ Some y → x ≡ y
-    some_same x y e = cc
 
 value_tied : {V : Type 0} (es : List (KeyForm × V)) (k l : KeyForm) → key_form_order k l ≡ Equal → value_at key_form_order es k ≡ value_at key_form_order es l
 value_tied es k l t = value_is key_form_order es k ∙ sym (find_tied key_form_order form_total k l t es) ∙ sym (value_is key_form_order es l)

@@ -1,12 +1,11 @@
 -- From the code's keys to how they are held, and what a key prints, feeds to a hasher and is as a value.
 use Rattle.std.specs.Prelude.{ℕ, pos, negsuc, ℤ, false, List, ◌++◌, Option, Some, None}
-use Rattle.std.specs.Fmt.{signed_decimal}
 use Rattle.std.specs.Hash as hash
 use Rattle.std.specs.Rc.{rc_str_bytes}
 use Rattle.tera_meaning.specs.Form.{Form}
 use Rattle.tera_meaning.specs.Integer.{IntegerKind, u64, i64, u128, i128}
 use Rattle.tera_meaning.specs.KeyMeaning.{KeyMeaning, KeyForm, truth_key, number_key, text_key, owned, borrowed, key_text, key_meaning}
-use Rattle.tera_meaning.specs.Printed.{printed_truth}
+pub use Rattle.tera_meaning.specs.Printed.{shown_key}
 use Rattle.tera_meaning.specs.Tree.{truth, number, text}
 use Rattle.tera_values.specs.declared.key.Key.{Key}
 use Rattle.tera_values.specs.declared.key.Key.TheVariants.{Bool, U64, I64, U128, I128, String, Str}
@@ -47,12 +46,6 @@ abbrev pub key_value : KeyForm → Form
 key_value (truth_key b) = truth b
 key_value (number_key n) = number n
 key_value (text_key t) = text (record { spelled = key_text t; safe = false })
-
--- what a key prints: a text as itself
-abbrev pub shown_key : KeyMeaning → List ℕ
-shown_key (truth_key b) = printed_truth b
-shown_key (number_key z) = signed_decimal z
-shown_key (text_key t) = t
 
 -- a number feeds whether it is negative, and then itself in 128 bits
 abbrev pub fed_number : ℤ → hash.HashWrites

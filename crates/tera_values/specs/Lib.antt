@@ -7,3 +7,5 @@ pub mod Unlike
 pub mod Depth
 pub mod Kind
 pub mod Print
+pub mod Computed
+pub mod Converted

@@ -1,11 +1,14 @@
 -- From the code's maps to pair lists.
 use Rattle.std.specs.Prelude.{Bool, true, List, [], ◌∷◌, map, Option, None, Some}
+use Rattle.std.specs.Coded.{Coded, coded×, coded_list}
 use Rattle.std.specs.FinMap.Entries.{where_key}
 use Rattle.std.specs.HashMap.{HashMap}
 use Rattle.std.specs.Ordering.{is_lt, on, eq_by_cmp}
 use Rattle.std.specs.declared.cmp.Ordering.{Ordering}
+use Rattle.tera_meaning.specs.Form.{Form}
 use Rattle.tera_meaning.specs.KeyMeaning.{KeyForm, key_order}
 use Rattle.tera_meaning.specs.Pairs.{key_form_order, pairs_of}
+use Rattle.tera_meaning.specs.Stored.{coded_form, coded_integer, coded_key, coded_key_text}
 use Rattle.tera_values.specs.Key.{key_form, meaning_of_key}
 use Rattle.tera_values.specs.declared.key.Key.{Key}
 
@@ -43,3 +46,10 @@ module _ {V : Type 0} where
   -- the pairs of a map, in the order of their keys
   abbrev pub pairs_in : {S : Type 0} → HashMap Key V S → List (KeyForm × V)
   pairs_in m = pairs_of (forms_of m.entries)
+
+-- a list of keys as a code, and one of pairs
+abbrev pub coded_keys : Coded (List KeyForm)
+coded_keys = coded_list (coded_key coded_integer coded_key_text)
+
+abbrev pub coded_pairs : Coded (List (KeyForm × Form))
+coded_pairs = coded_list (coded× (coded_key coded_integer coded_key_text) coded_form)

@@ -19,14 +19,22 @@ In x (y ∷ ys) = (x ≡ y) ⊎ In x ys
 not_None : {A : Type 0} (x : A) → Some x ≢ None
 not_None x e = cc
 
-is_true : (b : Bool) → T b → b ≡ true
+pub some_same : {A : Type 0} (x y : A) → Some x ≡ Some y → x ≡ y
+some_same x y e = cc
+
+pub is_true : (b : Bool) → T b → b ≡ true
 is_true true p = refl
 is_true false p = absurd p
 
-is_less : (o : Ordering) → T (is_lt o) → o ≡ Less
+pub is_less : (o : Ordering) → is_lt o ≡ true → o ≡ Less
 is_less Less p = refl
-is_less Equal p = absurd p
-is_less Greater p = absurd p
+is_less Equal p = cc
+is_less Greater p = cc
+
+pub is_equal : (o : Ordering) → is_eq o ≡ true → o ≡ Equal
+is_equal Equal p = refl
+is_equal Less p = cc
+is_equal Greater p = cc
 
 pub first_part : (a b : Bool) → T (a && b) → T a
 first_part true b p = tt
@@ -106,7 +114,7 @@ module _ {K V : Type 0} (R : K → K → Ordering) where
   least_of t best (e ∷ es) = least_of t (lesser t best e) es
 
   module _ (o : IsTotalOrder R) where
-    find_placed : (k : K) (es : List (K × V)) → find R k (placed es) ≡ find R k es
+    pub find_placed : (k : K) (es : List (K × V)) → find R k (placed es) ≡ find R k es
     find_placed k [] = refl
     find_placed k (e ∷ es) = find-put R o k e.0 e.1 (placed es) ∙ ap (cond (eq_by_cmp R k e.0) (Some e.1)) (find_placed k es)
 
@@ -129,7 +137,7 @@ module _ {K V : Type 0} (R : K → K → Ordering) where
     pub below_less : (k l : K) (ps : List (K × V)) → R k l ≡ Less → T (below_all R l ps) → T (below_all R k ps)
     below_less k l [] p h = tt
     below_less k l (e ∷ es) p h =
-        subst (λ r. T (is_lt r && below_all R k es)) (sym (o.trans k l e.0 p (is_less _ (first_part _ _ h)))) (below_less k l es p (second_part _ _ h))
+        subst (λ r. T (is_lt r && below_all R k es)) (sym (o.trans k l e.0 p (is_less _ (is_true _ (first_part _ _ h))))) (below_less k l es p (second_part _ _ h))
 
     pub first_put : (t : K → Bool) (e : K × V) (ps : List (K × V)) → T (is_sorted R ps) → find R e.0 ps ≡ None
         → first_pair (where_key R t (put R e.0 e.1 ps)) ≡ lesser t (first_pair (where_key R t ps)) e
@@ -221,7 +229,7 @@ module _ {K V : Type 0} (R : K → K → Ordering) where
     pub in_below : (k : K) (ps : List (K × V)) → T (below_all R k ps) → (p : K × V) → In p ps → R k p.0 ≡ Less
     in_below k [] h p i = absurd i
     in_below k (q ∷ qs) h p i = elim i as (λ _. R k p.0 ≡ Less) [
-      | inl same ↦ ap (λ x. R k x.0) same ∙ is_less _ (first_part _ _ h)
+      | inl same ↦ ap (λ x. R k x.0) same ∙ is_less _ (is_true _ (first_part _ _ h))
       | inr later ↦ in_below k qs (second_part _ _ h) p later
     ]
 

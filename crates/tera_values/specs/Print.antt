@@ -16,11 +16,6 @@ plain_items xs = relabeled_items (λ n. n.value) (λ t. t.spelled) key_meaning (
 abbrev pub PrintsItems : List Form → List ℕ → Type 0
 PrintsItems xs written = IsTrue (are_exact_items (plain_items xs)) → written ≡ printed_items (plain_items xs)
 
--- the same between brackets
-abbrev pub PrintsArray : List Form → List ℕ → Type 0
-PrintsArray xs written =
-    IsTrue (are_exact_items (plain_items xs)) → written ≡ codes "[" ++ printed_items (plain_items xs) ++ codes "]"
-
 -- the meanings of pairs
 abbrev pub plain_pairs : List (KeyForm × Form) → Members ℤ (List ℕ) KeyMeaning
 plain_pairs ps = relabeled_members (λ n. n.value) (λ t. t.spelled) key_meaning (members ps)
@@ -38,11 +33,6 @@ PrintsPair k v written =
 -- what is printed of pairs: each joined by `, ` where each text that is quoted is ASCII, and else some bytes
 abbrev pub PrintsPairs : List (KeyForm × Form) → List ℕ → Type 0
 PrintsPairs ps written = IsTrue (are_exact_members (plain_pairs ps)) → written ≡ printed_members (plain_pairs ps)
-
--- the same between braces
-abbrev pub PrintsMap : List (KeyForm × Form) → List ℕ → Type 0
-PrintsMap ps written =
-    IsTrue (are_exact_members (plain_pairs ps)) → written ≡ codes "{" ++ printed_members (plain_pairs ps) ++ codes "}"
 
 -- a writer that held old holds old and what is printed of the meaning, where it tells what it holds
 abbrev pub WritesPrinted : Meaning → Option (List ℕ) → Option (List ℕ) → Type 0

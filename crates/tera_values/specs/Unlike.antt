@@ -35,13 +35,13 @@ lacking None = Some RightAlone
 lacking (Some v) = None
 
 -- a difference at a key in place of the least so far
-abbrev pub found_at : Option Unlike → KeyForm → Option (KeyForm × Unlike) → Option (KeyForm × Unlike)
-found_at None k least = least
-found_at (Some how) k least = Some (k, how)
+abbrev pub difference_at : Option Unlike → KeyForm → Option (KeyForm × Unlike) → Option (KeyForm × Unlike)
+difference_at None k least = least
+difference_at (Some how) k least = Some (k, how)
 
 -- the lesser of the least difference so far and that at a key
 abbrev pub met : Option (KeyForm × Unlike) → KeyForm → Option Unlike → Option (KeyForm × Unlike)
-met least k how = cond (is_before key_form_order k least) (found_at how k least) least
+met least k how = cond (is_before key_form_order k least) (difference_at how k least) least
 
 module _ {V : Type 0} (differs : KeyForm × V → Option Unlike) where
   -- the least of the difference so far and those at the entries

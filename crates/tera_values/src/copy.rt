@@ -10,11 +10,11 @@ use std::alloc::Global;
 use tera_report::TeraResult;
 
 impl Value {
-    /// A value of the same form: kinds of integers, keys and flags of texts are kept at every depth. Mirrors `Clone` of
-    /// `tera::Value`.
+    /// A value of the same form: kinds of integers, keys and flags of texts are kept at every
+    /// depth. Mirrors `Clone` of `tera::Value`.
     ///
-    /// Takes memory for texts, bytes, items and pairs, and none for other values; the only refusal is want of it,
-    /// `Out of memory`.
+    /// Takes memory for texts, bytes, items and pairs, and none for other values; the only refusal
+    /// is want of it, `Out of memory`.
     #[cycle(copy)]
     pub fn clone(&self, alloc: Global) -> TeraResult<Value>
         ensures ok { IfOk result (λ v. v ≡ self.now) }

@@ -31,15 +31,15 @@ fn partial_order(left: &Value, right: &Value) -> Option<Ordering>
     match &left.inner {
         ValueInner::Array(all) => partial_array_order(all.as_slice(), right),
         ValueInner::Map(_) => None,
-        ValueInner::Undefined => order_of_one_kind(left, right),
-        ValueInner::None => order_of_one_kind(left, right),
-        ValueInner::Bool(_) => order_of_one_kind(left, right),
-        ValueInner::U64(_) => order_of_one_kind(left, right),
-        ValueInner::I64(_) => order_of_one_kind(left, right),
-        ValueInner::U128(_) => order_of_one_kind(left, right),
-        ValueInner::I128(_) => order_of_one_kind(left, right),
-        ValueInner::String(_, _) => order_of_one_kind(left, right),
-        ValueInner::Bytes(_) => order_of_one_kind(left, right),
+        ValueInner::Undefined => order_of_one_rank(left, right),
+        ValueInner::None => order_of_one_rank(left, right),
+        ValueInner::Bool(_) => order_of_one_rank(left, right),
+        ValueInner::U64(_) => order_of_one_rank(left, right),
+        ValueInner::I64(_) => order_of_one_rank(left, right),
+        ValueInner::U128(_) => order_of_one_rank(left, right),
+        ValueInner::I128(_) => order_of_one_rank(left, right),
+        ValueInner::String(_, _) => order_of_one_rank(left, right),
+        ValueInner::Bytes(_) => order_of_one_rank(left, right),
     }
 }
 
@@ -69,7 +69,7 @@ fn partial_items_order(left: &[Value], right: &[Value]) -> Option<Ordering>
 }
 
 // The order of two values, where they are of one rank.
-fn order_of_one_kind(left: &Value, right: &Value) -> Option<Ordering>
+fn order_of_one_rank(left: &Value, right: &Value) -> Option<Ordering>
     ensures { result ≡ (if rank (plain left.now) == rank (plain right.now)
         then Some (compare (plain left.now) (plain right.now)) else None) }
 {

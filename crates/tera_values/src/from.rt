@@ -160,7 +160,8 @@ impl From<()> for Value {
     }
 }
 
-/// A text that is to be escaped where it is shown. Mirrors `From<String>` of `tera::Value`. Takes no memory.
+/// A text that is to be escaped where it is shown. Mirrors `From<String>` of `tera::Value`. Takes
+/// no memory.
 impl From<String> for Value {
     ghost from_gives = { λ t v. v ≡ marked (string_bytes t) false };
 

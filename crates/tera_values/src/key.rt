@@ -9,13 +9,16 @@ ghost use Rattle.std.specs.Ordering.{on, eq_by_cmp, as_partial_cmp};
 ghost use Rattle.std.proofs.Common.{ap, refl};
 ghost use Rattle.tera_meaning.specs.Integer.{u128, i128};
 ghost use Rattle.tera_meaning.specs.KeyLaws.{key_total, key_equivalence, key_partial, key_is};
-ghost use Rattle.tera_meaning.specs.KeyMeaning.{truth_key, number_key, text_key, borrowed, key_order, key_rank};
+ghost use Rattle.tera_meaning.specs.KeyMeaning.{truth_key, number_key, text_key, borrowed};
+ghost use Rattle.tera_meaning.specs.KeyMeaning.{key_order, key_rank};
 ghost use Rattle.tera_report.specs.Errors.{IsOutOfMemory};
 ghost use Rattle.tera_report.specs.Room.{IsDecided};
 ghost use Rattle.tera_report.specs.Sink.{PutsThese};
 ghost use Rattle.tera_report.specs.Watch.{WatchedTakes, WatchedFails};
 ghost use Rattle.tera_report.specs.Writer.{Breaks};
-ghost use Rattle.tera_values.specs.Key.{integer_key, key_form, meaning_of_key, text_in_key, owned_in_key, number_in_key, key_value, shown_key, fed_number, fed};
+ghost use Rattle.tera_values.specs.Key.{integer_key, key_form, meaning_of_key, text_in_key};
+ghost use Rattle.tera_values.specs.Key.{owned_in_key, number_in_key, key_value, shown_key};
+ghost use Rattle.tera_values.specs.Key.{fed_number, fed};
 ghost use Rattle.tera_text.specs.Whole.{whole_value};
 
 use crate::Value;
@@ -53,7 +56,8 @@ pub enum Key<'a> {
 impl<'a> Key<'a> {
     /// The text that it is, lent. Mirrors `Key::as_str`. Takes no memory.
     pub fn as_str(&self) -> Option<&str>
-        ensures { MatchOption result (text_in_key (key_form self.now) ≡ None) (λ t. text_in_key (key_form self.now) ≡ Some t.now) }
+        ensures { MatchOption result (text_in_key (key_form self.now) ≡ None)
+            (λ t. text_in_key (key_form self.now) ≡ Some t.now) }
     {
         match self {
             Key::String(text) => Some(text.as_str()),

@@ -1,7 +1,9 @@
 //! The kinds of values.
 ghost use Rattle.std.specs.Prelude.{◌≡◌, ◌↔◌, IsTrue};
 ghost use Rattle.tera_meaning.specs.Integer.{u64, i64, u128, i128};
-ghost use Rattle.tera_meaning.specs.Kind.{kind_in, kind_name, undefined_kind, none_kind, truth_kind, number_kind, text_kind, array_kind, object_kind, bytes_kind};
+ghost use Rattle.tera_meaning.specs.Kind.{kind_in, kind_name, undefined_kind, none_kind};
+ghost use Rattle.tera_meaning.specs.Kind.{truth_kind, number_kind, text_kind, array_kind};
+ghost use Rattle.tera_meaning.specs.Kind.{object_kind, bytes_kind};
 ghost use Rattle.tera_values.specs.Kind.{kind_form};
 
 use crate::Value;
@@ -36,7 +38,8 @@ pub enum ValueKind {
     Bytes,
 }
 
-/// Two kinds are `==` exactly where they are the same kind, and then they feed a hasher alike. Takes no memory.
+/// Two kinds are `==` exactly where they are the same kind, and then they feed a hasher alike.
+/// Takes no memory.
 pub fn kinds_equal_where_the_same()
     ensures equal { (a b : ValueKind) →
         IsTrue (⟦<ValueKind as PartialEq>⟧.eq a b) ↔ (kind_form a ≡ kind_form b) }
@@ -92,7 +95,8 @@ impl Value {
         self.kind().name()
     }
 
-    /// Whether it is the value of a name that isn't there. Mirrors `Value::is_undefined`. Takes no memory.
+    /// Whether it is the value of a name that isn't there. Mirrors `Value::is_undefined`. Takes no
+    /// memory.
     pub fn is_undefined(&self) -> bool
         ensures { IsTrue result ↔ (kind_in self.now ≡ undefined_kind) }
     {
@@ -120,28 +124,32 @@ impl Value {
         self.is_of(ValueKind::String)
     }
 
-    /// Whether it is a number held in 128 bits with a sign. Mirrors `Value::is_i128`. Takes no memory.
+    /// Whether it is a number held in 128 bits with a sign. Mirrors `Value::is_i128`. Takes no
+    /// memory.
     pub fn is_i128(&self) -> bool
         ensures { IsTrue result ↔ (kind_in self.now ≡ number_kind i128) }
     {
         self.is_of(ValueKind::I128)
     }
 
-    /// Whether it is a number held in 128 bits without a sign. Mirrors `Value::is_u128`. Takes no memory.
+    /// Whether it is a number held in 128 bits without a sign. Mirrors `Value::is_u128`. Takes no
+    /// memory.
     pub fn is_u128(&self) -> bool
         ensures { IsTrue result ↔ (kind_in self.now ≡ number_kind u128) }
     {
         self.is_of(ValueKind::U128)
     }
 
-    /// Whether it is a number held in 64 bits with a sign. Mirrors `Value::is_i64`. Takes no memory.
+    /// Whether it is a number held in 64 bits with a sign. Mirrors `Value::is_i64`. Takes no
+    /// memory.
     pub fn is_i64(&self) -> bool
         ensures { IsTrue result ↔ (kind_in self.now ≡ number_kind i64) }
     {
         self.is_of(ValueKind::I64)
     }
 
-    /// Whether it is a number held in 64 bits without a sign. Mirrors `Value::is_u64`. Takes no memory.
+    /// Whether it is a number held in 64 bits without a sign. Mirrors `Value::is_u64`. Takes no
+    /// memory.
     pub fn is_u64(&self) -> bool
         ensures { IsTrue result ↔ (kind_in self.now ≡ number_kind u64) }
     {

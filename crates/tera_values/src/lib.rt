@@ -2,18 +2,31 @@
 #![tactic(auto)]
 
 mod compare;
+mod contains;
+mod convert;
 mod copy;
 mod decided;
+mod fields;
 mod from;
+mod integers;
 mod key;
 mod kind;
+mod lookup;
 mod map;
+pub mod maps;
+pub mod number;
+mod path;
 mod print;
 mod read;
+mod refused;
+mod slice;
 mod value;
 mod well_made;
 
+pub use convert::ConversionRefused;
+pub use integers::IntType;
 pub use key::Key;
 pub use kind::{ValueKind, kinds_equal_where_the_same};
+pub use tera_numbers::{BinaryOp, NoResult, Number};
 pub use value::{Map, Value};
 pub use well_made::is_well_made;

@@ -4,6 +4,7 @@ ghost use Rattle.std.specs.String.{string_bytes};
 ghost use Rattle.tera_meaning.specs.Meaning.{plain};
 ghost use Rattle.tera_meaning.specs.Printed.{Prints, PrintsInside, is_exact, printed};
 ghost use Rattle.tera_meaning.specs.Printed.{printed_truth};
+ghost use Rattle.tera_meaning.specs.Tree.{array, items, members, object};
 ghost use Rattle.tera_report.specs.Errors.{IsOutOfMemory};
 ghost use Rattle.tera_report.specs.Room.{RoomTakes, RoomFails, IsDecided};
 ghost use Rattle.tera_report.specs.Sink.{OfSome, Puts};
@@ -11,8 +12,8 @@ ghost use Rattle.tera_report.specs.Watch.{WatchedTakes, WatchedFails};
 ghost use Rattle.tera_report.specs.Writer.{Breaks};
 ghost use Rattle.tera_values.specs.Key.{key_form, meaning_of_key};
 ghost use Rattle.tera_values.specs.Map.{pairs_in};
-ghost use Rattle.tera_values.specs.Print.{PrintsArray, PrintsItems, WritesInside, WritesPrinted};
-ghost use Rattle.tera_values.specs.Print.{printed_if_exact, PrintsMap, PrintsPairs, PrintsPair};
+ghost use Rattle.tera_values.specs.Print.{PrintsItems, WritesInside, WritesPrinted};
+ghost use Rattle.tera_values.specs.Print.{printed_if_exact, PrintsPairs, PrintsPair};
 ghost use Rattle.tera_values.specs.Print.{PrintsKey, PrintsNothing};
 
 use crate::map::next_pair;
@@ -134,7 +135,7 @@ impl fmt::Display for Value {
 
 // Puts the printed text.
 #[cycle(print)]
-fn put_value<S: Sink>(value: &Value, out: &mut S) -> Result<(), S::Fault>
+pub(crate) fn put_value<S: Sink>(value: &Value, out: &mut S) -> Result<(), S::Fault>
     ensures { Puts S.takes S.fails result (Prints (plain value.now)) out.old out.new }
 {
     match &value.inner {
@@ -165,11 +166,11 @@ fn put_inside<S: Sink>(value: &Value, out: &mut S) -> Result<(), S::Fault>
 
 // Puts items between brackets.
 #[cycle(print)]
-fn put_array<S: Sink>(items: &[Value], out: &mut S) -> Result<(), S::Fault>
-    ensures { Puts S.takes S.fails result (PrintsArray items.now) out.old out.new }
+fn put_array<S: Sink>(all: &[Value], out: &mut S) -> Result<(), S::Fault>
+    ensures { Puts S.takes S.fails result (Prints (plain (array (items all.now)))) out.old out.new }
 {
     out.put("[")?;
-    put_items(items, out)?;
+    put_items(all, out)?;
     out.put("]")
 }
 
@@ -192,7 +193,8 @@ fn put_items<S: Sink>(items: &[Value], out: &mut S) -> Result<(), S::Fault>
 // Puts pairs between braces.
 #[cycle(print)]
 fn put_map<S: Sink>(map: &Map, out: &mut S) -> Result<(), S::Fault>
-    ensures { Puts S.takes S.fails result (PrintsMap (pairs_in map.now)) out.old out.new }
+    ensures { Puts S.takes S.fails result
+        (Prints (plain (object (members (pairs_in map.now))))) out.old out.new }
 {
     out.put("{")?;
     put_pairs(map, out)?;

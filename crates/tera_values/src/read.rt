@@ -1,15 +1,17 @@
 //! What a value holds: its parts, lent or handed on, and what it counts as.
-ghost use Rattle.std.specs.Prelude.{◌≡◌, None, Some, MatchOption, length};
+ghost use Rattle.std.specs.Prelude.{◌≡◌, None, Some, MatchOption};
 ghost use Rattle.std.specs.Option.{option_map};
-ghost use Rattle.std.specs.Str.{chars};
 ghost use Rattle.tera_meaning.specs.Meaning.{plain};
-ghost use Rattle.tera_meaning.specs.Read.{truth_in, number_in, text_in, bytes_in, items_in, members_in, safe_in, marked_safe, truthy_in, size_in, iterable_in, is_nonempty};
+ghost use Rattle.tera_meaning.specs.Read.{truth_in, number_in, text_in, bytes_in, items_in};
+ghost use Rattle.tera_meaning.specs.Read.{members_in, safe_in, marked_safe, truthy_in, size_in};
+ghost use Rattle.tera_meaning.specs.Read.{iterable_in, is_nonempty};
 ghost use Rattle.tera_values.specs.Map.{pairs_in};
 ghost use Rattle.tera_text.specs.Whole.{whole_value};
 
 use crate::map::pair_count;
 use crate::value::ValueInner;
 use crate::{Map, Value};
+use tera_report::words::characters;
 use tera_text::Whole;
 
 impl Value {
@@ -34,7 +36,8 @@ impl Value {
 
     /// The text that it is, lent, whatever its flag. Mirrors `Value::as_str`. Takes no memory.
     pub fn as_str(&self) -> Option<&str>
-        ensures { MatchOption result (text_in self.now ≡ None) (λ t. text_in self.now ≡ Some t.now) }
+        ensures { MatchOption result (text_in self.now ≡ None)
+            (λ t. text_in self.now ≡ Some t.now) }
     {
         match &self.inner {
             ValueInner::String(text, _) => Some(text.as_str()),
@@ -54,7 +57,8 @@ impl Value {
     /// The items of the array that it is, lent. Mirrors `Value::as_array`. Takes no memory.
     #[tactic(auto, using(tera_meaning::specs::TreeLaws::list_of_items))]
     pub fn as_array(&self) -> Option<&[Value]>
-        ensures { MatchOption result (items_in self.now ≡ None) (λ xs. items_in self.now ≡ Some xs.now) }
+        ensures { MatchOption result (items_in self.now ≡ None)
+            (λ xs. items_in self.now ≡ Some xs.now) }
     {
         match &self.inner {
             ValueInner::Array(all) => Some(all.as_slice()),
@@ -71,9 +75,11 @@ impl Value {
         }
     }
 
-    /// The bytes that it is, lent. Those of a text are no bytes. Mirrors `Value::as_bytes`. Takes no memory.
+    /// The bytes that it is, lent. Those of a text are no bytes. Mirrors `Value::as_bytes`. Takes
+    /// no memory.
     pub fn as_bytes(&self) -> Option<&[u8]>
-        ensures { MatchOption result (bytes_in self.now ≡ None) (λ bs. bytes_in self.now ≡ Some bs.now) }
+        ensures { MatchOption result (bytes_in self.now ≡ None)
+            (λ bs. bytes_in self.now ≡ Some bs.now) }
     {
         match &self.inner {
             ValueInner::Bytes(held) => Some(held.as_slice()),
@@ -90,8 +96,8 @@ impl Value {
         }
     }
 
-    /// The items of the array that it is, handed on. Mirrors `Value::into_vec`, which is private there. Takes no
-    /// memory.
+    /// The items of the array that it is, handed on. Mirrors `Value::into_vec`, which is private
+    /// there. Takes no memory.
     #[tactic(auto, using(tera_meaning::specs::TreeLaws::list_of_items))]
     pub fn into_vec(self) -> Option<Vec<Value>>
         ensures { MatchOption result (items_in self ≡ None) (λ xs. items_in self ≡ Some xs.items) }
@@ -114,7 +120,8 @@ impl Value {
     /// The pairs of the map that it is, lent. Mirrors `Value::as_map`. Takes no memory.
     #[tactic(auto, using(tera_meaning::specs::TreeLaws::list_of_members))]
     pub fn as_map(&self) -> Option<&Map>
-        ensures { MatchOption result (members_in self.now ≡ None) (λ m. members_in self.now ≡ Some (pairs_in m.now)) }
+        ensures { MatchOption result (members_in self.now ≡ None)
+            (λ m. members_in self.now ≡ Some (pairs_in m.now)) }
     {
         match &self.inner {
             ValueInner::Map(map) => Some(map),
@@ -134,7 +141,8 @@ impl Value {
     /// The pairs of the map that it is, handed on. Mirrors `Value::into_map`. Takes no memory.
     #[tactic(auto, using(tera_meaning::specs::TreeLaws::list_of_members))]
     pub fn into_map(self) -> Option<Map>
-        ensures { MatchOption result (members_in self ≡ None) (λ m. members_in self ≡ Some (pairs_in m)) }
+        ensures { MatchOption result (members_in self ≡ None)
+            (λ m. members_in self ≡ Some (pairs_in m)) }
     {
         match self.inner {
             ValueInner::Map(pairs) => Some(pairs),
@@ -151,8 +159,8 @@ impl Value {
         }
     }
 
-    /// Whether it is shown as it is: a text by its flag, arrays, maps and bytes never, all else always. Mirrors
-    /// `Value::is_safe`. Takes no memory.
+    /// Whether it is shown as it is: a text by its flag, arrays, maps and bytes never, all else
+    /// always. Mirrors `Value::is_safe`. Takes no memory.
     pub fn is_safe(&self) -> bool
         ensures { result ≡ safe_in self.now }
     {
@@ -191,8 +199,9 @@ impl Value {
         Value { inner }
     }
 
-    /// Whether a condition holds at it: undefined and none never, a truth value itself, a number unless zero, a text,
-    /// an array, a map or bytes unless empty. Mirrors `Value::is_truthy`. Takes no memory.
+    /// Whether a condition holds at it: undefined and none never, a truth value itself, a number
+    /// unless zero, a text, an array, a map or bytes unless empty. Mirrors `Value::is_truthy`.
+    /// Takes no memory.
     pub fn is_truthy(&self) -> bool
         ensures { result ≡ truthy_in (plain self.now) }
     {
@@ -211,8 +220,8 @@ impl Value {
         }
     }
 
-    /// How many characters the text has, items the array, pairs the map, bytes the bytes; nothing on other kinds. Mirrors
-    /// `Value::len`. Takes no memory.
+    /// How many characters the text has, items the array, pairs the map, bytes the bytes; nothing
+    /// on other kinds. Mirrors `Value::len`. Takes no memory.
     pub fn len(&self) -> Option<usize>
         ensures { result ≡ size_in (plain self.now) }
     {
@@ -231,8 +240,8 @@ impl Value {
         }
     }
 
-    /// Whether it is a text, an array, a map or bytes. Mirrors `Value::can_be_iterated_on`, which is private there. Takes no
-    /// memory.
+    /// Whether it is a text, an array, a map or bytes. Mirrors `Value::can_be_iterated_on`, which
+    /// is private there. Takes no memory.
     pub fn can_be_iterated_on(&self) -> bool
         ensures { result ≡ iterable_in self.now }
     {
@@ -276,11 +285,4 @@ fn is_nonempty<T>(all: &[T]) -> bool
     ensures { result ≡ is_nonempty all.now }
 {
     !all.is_empty()
-}
-
-// How many characters a text has.
-fn characters(text: &str) -> usize
-    ensures { result ≡ length (chars text.now) }
-{
-    text.chars().count()
 }

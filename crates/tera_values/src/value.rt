@@ -1,6 +1,7 @@
 //! The type of values, and what makes one.
 ghost use Rattle.std.specs.Prelude.{◌≡◌, true, false, IfOk, IfErr};
-ghost use Rattle.tera_meaning.specs.Tree.{undefined, none, bytes, array, object, items, members, no_members};
+ghost use Rattle.tera_meaning.specs.Tree.{undefined, none, bytes, array, object, items, members};
+ghost use Rattle.tera_meaning.specs.Tree.{no_members};
 ghost use Rattle.tera_report.specs.Errors.{IsOutOfMemory};
 ghost use Rattle.tera_values.specs.Map.{pairs_in};
 ghost use Rattle.tera_values.specs.View.{marked};

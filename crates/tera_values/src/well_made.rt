@@ -7,9 +7,10 @@ use crate::Value;
 use crate::map::pairs_are_well_made;
 use crate::value::ValueInner;
 
-/// Each value that a program holds is well made: each number is one of its kind, each text spells characters in UTF-8,
-/// each byte is below 256, and the keys of each map rise strictly in its pair list, at every depth. It only walks
-/// through the value, for the sake of the clause. Takes no memory.
+/// Each value that a program holds is well made: each number is one of its kind, each text spells
+/// characters in UTF-8, each byte is below 256, and the keys of each map rise strictly in its pair
+/// list, at every depth. It only walks through the value, for the sake of the clause. Takes no
+/// memory.
 #[cycle(well_made)]
 pub fn is_well_made(value: &Value)
     ensures { IsWellMade value.now }

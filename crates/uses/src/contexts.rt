@@ -1,5 +1,5 @@
-//! Values under names: one that is compared, one that is shown, and a map that is made.
-ghost use Rattle.std.specs.Prelude.{◌≡◌, ℕ, List, pos, IfOk, IfErr};
+//! Values under names: one that is compared, and one that is shown.
+ghost use Rattle.std.specs.Prelude.{◌≡◌, ◌↔◌, ℕ, List, pos, IsTrue, IfOk, IfErr};
 ghost use Rattle.std.specs.String.{string_bytes};
 ghost use Rattle.tera_meaning.specs.Order.{same};
 ghost use Rattle.tera_meaning.specs.Printed.{Prints};
@@ -11,7 +11,7 @@ ghost use Rattle.tera_report.specs.Escaping.{Spells};
 use std::alloc::Global;
 use tera_context::Context;
 use tera_report::{TeraResult, escape_text};
-use tera_values::{Key, Map, Value};
+use tera_values::Value;
 
 /// Whether a name means the number one, in whatever kind of integer it is held.
 pub fn is_one(context: &Context, name: &str) -> bool
@@ -22,8 +22,19 @@ pub fn is_one(context: &Context, name: &str) -> bool
     *value == Value::from(1u8)
 }
 
-/// What a name holds as text for a page: printed, and escaped. `Out of memory` is the only refusal.
-pub fn shown(alloc: Global, context: &Context, name: &str) -> TeraResult<String>
+/// Whether two names mean the same.
+pub fn mean_the_same(context: &Context, left: &str, right: &str) -> bool
+    ensures { IsTrue result
+        ↔ (meaning_at context.now left.now ≡ meaning_at context.now right.now) }
+{
+    let absent = Value::undefined();
+    let left = context.get(left).unwrap_or(&absent);
+    let right = context.get(right).unwrap_or(&absent);
+    *left == *right
+}
+
+/// What a name holds, printed and escaped, marked safe or not. `Out of memory` is the only refusal.
+pub fn escaped_print(alloc: Global, context: &Context, name: &str) -> TeraResult<String>
     ensures ok { IfOk result (λ word. (text : List ℕ)
         × Prints (meaning_at context.now name.now) text × Spells (string_bytes word) text) }
     ensures err { IfErr result IsOutOfMemory }
@@ -31,14 +42,4 @@ pub fn shown(alloc: Global, context: &Context, name: &str) -> TeraResult<String>
     let absent = Value::undefined();
     let text = context.get(name).unwrap_or(&absent).to_text(alloc)?;
     escape_text(alloc, text.as_str())
-}
-
-/// A map of two settings. `Out of memory` is the only refusal.
-pub fn settings(alloc: Global, depth: u64) -> TeraResult<Value>
-    ensures err { IfErr result IsOutOfMemory }
-{
-    let mut map = Map::new(alloc);
-    map.insert(Key::Str("depth"), Value::from(depth))?;
-    map.insert(Key::Bool(true), Value::none())?;
-    Ok(Value::of_map(map))
 }

@@ -2,5 +2,17 @@
 #![tactic(auto)]
 
 mod contexts;
+mod filters;
+mod maps;
+mod nested;
+mod render;
+mod runs;
+mod sums;
 
-pub use contexts::{is_one, settings, shown};
+pub use contexts::{escaped_print, is_one, mean_the_same};
+pub use filters::{join, truncate};
+pub use maps::{flags, is_on, settings, values_in_order};
+pub use nested::{nested_text, nested_value};
+pub use render::{Piece, render_pieces};
+pub use runs::{run_with, step_and_run};
+pub use sums::sum_of_names;

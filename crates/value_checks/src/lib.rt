@@ -3,11 +3,13 @@
 #![tactic(auto)]
 
 #[cfg(test)]
-mod made;
+mod held;
 #[cfg(test)]
 mod maps;
 #[cfg(test)]
 mod order;
+#[cfg(test)]
+mod pairs;
 #[cfg(test)]
 mod read;
 #[cfg(test)]

@@ -1,86 +1,117 @@
 //! How maps compare.
-use crate::made::{
-    Made, at_numbers, at_text, at_texts, no_items, no_pairs, one_item, one_pair, safe, text,
-    two_items,
+use crate::held::hold;
+use made_values::{
+    at_numbers, at_texts, no_items, no_pairs, one_item, one_pair, safe, text, two_items,
 };
+use std::alloc::Global;
 use std::cmp::Ordering;
-use std::process::Abort;
-use std::test::Fail;
 use tera_values::{Key, Value};
 
 // They compare so, and the other way round turned; and the partial order decides that.
-fn compare(rt: &impl Abort, left: Value, right: Value, order: Ordering, decided: Option<Ordering>) {
-    assert!(rt; left.cmp(&right) == order);
-    assert!(rt; right.cmp(&left) == order.reverse());
-    assert!(rt; left.partial_cmp(&right) == Some(order));
-    assert!(rt; (left == right) == (order == Ordering::Equal));
-    assert!(rt; left.try_compare(&right) == decided);
+fn compare(left: Value, right: Value, order: Ordering, decided: Option<Ordering>) -> bool {
+    are_in_order(&left, &right, order) && left.try_compare(&right) == decided
+}
+
+fn are_in_order(left: &Value, right: &Value, order: Ordering) -> bool {
+    left.cmp(right) == order
+        && right.cmp(left) == order.reverse()
+        && left.partial_cmp(right) == Some(order)
+        && (left == right) == (order == Ordering::Equal)
 }
 
 // The first is less, and the partial order does not decide.
-fn is_less(rt: &impl Abort, left: Made, right: Made) -> Result<(), Fail> {
-    compare(rt, left?, right?, Ordering::Less, None);
-    Ok(())
+fn is_less(left: Value, right: Value) -> bool {
+    compare(left, right, Ordering::Less, None)
 }
 
-fn is_equal(rt: &impl Abort, left: Made, right: Made) -> Result<(), Fail> {
-    compare(rt, left?, right?, Ordering::Equal, None);
-    Ok(())
+fn is_equal(left: Value, right: Value) -> bool {
+    compare(left, right, Ordering::Equal, None)
 }
 
-#[test]
-fn the_least_key_that_differs_decides(rt: HostRuntime) -> Result<(), Fail> {
-    is_less(&rt, at_text(&rt, "a", 1), at_text(&rt, "a", 2))?;
-    is_less(&rt, at_text(&rt, "a", 1), at_texts(&rt, ("b", 2), ("a", 1)))?;
-    let both = at_texts(&rt, ("b", 2), ("a", 1));
-    is_less(&rt, both, at_texts(&rt, ("a", 1), ("c", 0)))?;
-    is_less(&rt, at_texts(&rt, ("a", 1), ("c", 0)), at_text(&rt, "b", 0))?;
-    let low = at_numbers(&rt, (2, 9), (1, 0));
-    is_less(&rt, low, at_numbers(&rt, (1, 0), (3, 0)))
+// The map of this number at `a` and that one at another text.
+fn two_pairs(alloc: Global, at: i64, other: &'static str, number: i64) -> Value {
+    at_texts(alloc, &[(other, number), ("a", at)])
 }
 
 #[test]
-fn ranks_of_keys_decide(rt: HostRuntime) -> Result<(), Fail> {
-    let truth = one_pair(&rt, Key::Bool(true), Ok(Value::from(1u8)));
-    is_less(&rt, truth, one_pair(&rt, Key::U64(1), Ok(Value::from(0u8))))?;
-    let held = one_pair(&rt, Key::Str("a"), Ok(Value::none()));
-    is_less(&rt, Ok(no_pairs(&rt)), held)
+fn the_least_key_that_differs_decides(rt: HostRuntime) {
+    let alloc = rt.alloc();
+    hold(
+        &rt,
+        &[
+            is_less(at_texts(alloc, &[("a", 1)]), at_texts(alloc, &[("a", 2)])),
+            is_less(at_texts(alloc, &[("a", 1)]), two_pairs(alloc, 1, "b", 2)),
+            is_less(two_pairs(alloc, 1, "b", 2), two_pairs(alloc, 1, "c", 0)),
+            is_less(two_pairs(alloc, 1, "c", 0), at_texts(alloc, &[("b", 0)])),
+            is_less(
+                at_numbers(alloc, &[(2, 9), (1, 0)]),
+                at_numbers(alloc, &[(1, 0), (3, 0)]),
+            ),
+        ],
+    );
 }
 
 #[test]
-fn widths_and_flags_do_not_count(rt: HostRuntime) -> Result<(), Fail> {
-    let left = one_pair(&rt, Key::U64(1), text(&rt, "a"));
-    is_equal(&rt, left, one_pair(&rt, Key::I64(1), safe(&rt, "a")))?;
-    is_equal(&rt, Ok(no_pairs(&rt)), Ok(no_pairs(&rt)))
+fn ranks_of_keys_decide(rt: HostRuntime) {
+    let alloc = rt.alloc();
+    let truth = one_pair(alloc, Key::Bool(true), Value::from(1u8));
+    let number = one_pair(alloc, Key::U64(1), Value::from(0u8));
+    assert!(rt; is_less(truth, number));
+}
+
+#[test]
+fn what_has_no_pair_is_less(rt: HostRuntime) {
+    let alloc = rt.alloc();
+    let held = one_pair(alloc, Key::Str("a"), Value::none());
+    assert!(rt; is_less(no_pairs(alloc), held));
+}
+
+#[test]
+fn widths_and_flags_do_not_count(rt: HostRuntime) {
+    let alloc = rt.alloc();
+    let left = one_pair(alloc, Key::U64(1), text(alloc, "a"));
+    let right = one_pair(alloc, Key::I64(1), safe(alloc, "a"));
+    assert!(rt; is_equal(left, right));
+    assert!(rt; is_equal(no_pairs(alloc), no_pairs(alloc)));
 }
 
 // A map in a map, and a number there.
-fn nested(rt: &HostRuntime, number: i64) -> Made {
-    one_pair(rt, Key::Str("a"), at_text(rt, "b", number))
+fn nested(alloc: Global, number: i64) -> Value {
+    one_pair(alloc, Key::Str("a"), at_texts(alloc, &[("b", number)]))
+}
+
+// A map in an array, and a number there.
+fn held(alloc: Global, number: i64) -> Value {
+    one_item(alloc, at_texts(alloc, &[("a", number)]))
 }
 
 #[test]
-fn maps_in_maps_decide(rt: HostRuntime) -> Result<(), Fail> {
-    is_less(&rt, nested(&rt, 1), nested(&rt, 2))
+fn maps_in_maps_decide(rt: HostRuntime) {
+    let alloc = rt.alloc();
+    assert!(rt; is_less(nested(alloc, 1), nested(alloc, 2)));
 }
 
 #[test]
-fn maps_in_arrays_are_undecided(rt: HostRuntime) -> Result<(), Fail> {
-    let left = one_item(&rt, at_text(&rt, "a", 1));
-    is_less(&rt, left, one_item(&rt, at_text(&rt, "a", 2)))
+fn maps_in_arrays_are_undecided(rt: HostRuntime) {
+    let alloc = rt.alloc();
+    assert!(rt; is_less(held(alloc, 1), held(alloc, 2)));
 }
 
 // They compare so, and the partial order says it too.
-fn is_decided(rt: &impl Abort, left: Made, right: Made, order: Ordering) -> Result<(), Fail> {
-    compare(rt, left?, right?, order, Some(order));
-    Ok(())
+fn is_decided(left: Value, right: Value, order: Ordering) -> bool {
+    compare(left, right, order, Some(order))
+}
+
+// A number, and an empty map behind it.
+fn before_a_map(alloc: Global, number: i64) -> Value {
+    two_items(alloc, Value::from(number), no_pairs(alloc))
 }
 
 #[test]
-fn what_stands_beside_maps_decides(rt: HostRuntime) -> Result<(), Fail> {
-    let some = one_item(&rt, Ok(no_pairs(&rt)));
-    is_decided(&rt, some, Ok(no_items(&rt)), Ordering::Greater)?;
-    let low = two_items(&rt, Ok(Value::from(1u8)), Ok(no_pairs(&rt)));
-    let high = two_items(&rt, Ok(Value::from(2u8)), Ok(no_pairs(&rt)));
-    is_decided(&rt, low, high, Ordering::Less)
+fn what_stands_beside_maps_decides(rt: HostRuntime) {
+    let alloc = rt.alloc();
+    let some = one_item(alloc, no_pairs(alloc));
+    assert!(rt; is_decided(some, no_items(alloc), Ordering::Greater));
+    let (low, high) = (before_a_map(alloc, 1), before_a_map(alloc, 2));
+    assert!(rt; is_decided(low, high, Ordering::Less));
 }

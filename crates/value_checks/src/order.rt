@@ -1,8 +1,8 @@
 //! How values of every kind compare.
-use crate::made::{Made, and, bytes, no_items, no_pairs, one_item, safe, text, two_items};
+use crate::held::hold;
+use made_values::{bytes, no_items, no_pairs, numbers, one_item, safe, text, two_items};
 use std::cmp::Ordering;
 use std::process::Abort;
-use std::test::Fail;
 use tera_values::Value;
 
 // Whether they compare so.
@@ -33,9 +33,11 @@ fn are_undecided(rt: &impl Abort, values: &[Value]) {
     }
 }
 
-// They are equal.
-fn are_equal(rt: &impl Abort, left: Value, right: Value) {
-    assert!(rt; compare(&left, &right, Ordering::Equal));
+// All of them compare so with that value.
+fn are_all(rt: &impl Abort, values: &[Value], other: Value, order: Ordering) {
+    for (i, value) in values.iter().enumerate() {
+        assert!(rt; compare(value, &other, order), "at {i}");
+    }
 }
 
 #[test]
@@ -46,91 +48,97 @@ fn integers_compare_by_number(rt: HostRuntime) {
         Value::from(1u128),
         Value::from(1i128),
     ];
-    for left in &ones {
-        for right in &ones {
-            assert!(rt; compare(left, right, Ordering::Equal));
-        }
-        assert!(rt; compare(left, &Value::from(-1i64), Ordering::Greater));
-        assert!(rt; compare(left, &Value::from(u128::MAX), Ordering::Less));
-        assert!(rt; compare(left, &Value::from(true), Ordering::Greater));
-    }
+    are_all(&rt, &ones, Value::from(1u64), Ordering::Equal);
+    are_all(&rt, &ones, Value::from(1i64), Ordering::Equal);
+    are_all(&rt, &ones, Value::from(1u128), Ordering::Equal);
+    are_all(&rt, &ones, Value::from(1i128), Ordering::Equal);
+    are_all(&rt, &ones, Value::from(-1i64), Ordering::Greater);
+    are_all(&rt, &ones, Value::from(u128::MAX), Ordering::Less);
+    are_all(&rt, &ones, Value::from(true), Ordering::Greater);
 }
 
 #[test]
-fn scalars_come_in_order(rt: HostRuntime) -> Result<(), Fail> {
-    let all = Vec::new(rt.alloc());
-    let all = and(all, Ok(Value::from(false)))?;
-    let all = and(all, Ok(Value::from(true)))?;
-    let all = and(all, Ok(Value::from(i128::MIN)))?;
-    let all = and(all, Ok(Value::from(-1i64)))?;
-    let all = and(all, Ok(Value::from(0u64)))?;
-    let all = and(all, Ok(Value::from(u128::MAX)))?;
-    let all = and(all, text(&rt, ""))?;
-    let all = and(all, safe(&rt, "a"))?;
-    let all = and(all, text(&rt, "é"))?;
-    let all = and(all, Ok(Value::none()))?;
-    let all = and(all, Ok(Value::undefined()))?;
-    rise(&rt, all.as_slice());
-    Ok(())
+fn scalars_come_in_order(rt: HostRuntime) {
+    let alloc = rt.alloc();
+    let all = [
+        Value::from(false),
+        Value::from(true),
+        Value::from(i128::MIN),
+        Value::from(-1i64),
+        Value::from(0u64),
+        Value::from(u128::MAX),
+        text(alloc, ""),
+        safe(alloc, "a"),
+        text(alloc, "é"),
+        Value::none(),
+        Value::undefined(),
+    ];
+    rise(&rt, &all);
 }
 
 #[test]
-fn arrays_come_in_order(rt: HostRuntime) -> Result<(), Fail> {
-    let all = Vec::new(rt.alloc());
-    let all = and(all, Ok(Value::from(true)))?;
-    let all = and(all, Ok(Value::from(1u8)))?;
-    let all = and(all, text(&rt, "a"))?;
-    let all = and(all, Ok(no_items(&rt)))?;
-    let all = and(all, one_item(&rt, Ok(Value::from(1u64))))?;
-    let wide = Ok(Value::from(1i128));
-    let all = and(all, two_items(&rt, wide, Ok(no_items(&rt))))?;
-    let all = and(all, one_item(&rt, Ok(Value::from(2i8))))?;
-    let all = and(all, bytes(&rt, &[]))?;
-    let all = and(all, bytes(&rt, &[0]))?;
-    let all = and(all, Ok(Value::none()))?;
-    let all = and(all, Ok(Value::undefined()))?;
-    rise(&rt, all.as_slice());
-    Ok(())
+fn arrays_come_in_order(rt: HostRuntime) {
+    let alloc = rt.alloc();
+    let all = [
+        Value::from(true),
+        Value::from(1u8),
+        text(alloc, "a"),
+        no_items(alloc),
+        one_item(alloc, Value::from(1u64)),
+        two_items(alloc, Value::from(1i128), no_items(alloc)),
+        numbers(alloc, &[2]),
+        bytes(alloc, &[]),
+        bytes(alloc, &[0]),
+        Value::none(),
+        Value::undefined(),
+    ];
+    rise(&rt, &all);
 }
 
 #[test]
-fn ranks_decide_and_leave_undecided(rt: HostRuntime) -> Result<(), Fail> {
-    let all = Vec::new(rt.alloc());
-    let all = and(all, Ok(Value::from(true)))?;
-    let all = and(all, Ok(Value::from(1u8)))?;
-    let all = and(all, text(&rt, "a"))?;
-    let all = and(all, Ok(no_items(&rt)))?;
-    let all = and(all, Ok(no_pairs(&rt)))?;
-    let all = and(all, bytes(&rt, &[0]))?;
-    let all = and(all, Ok(Value::none()))?;
-    let all = and(all, Ok(Value::undefined()))?;
-    rise(&rt, all.as_slice());
-    are_undecided(&rt, all.as_slice());
-    Ok(())
+fn ranks_decide_and_leave_undecided(rt: HostRuntime) {
+    let alloc = rt.alloc();
+    let all = [
+        Value::from(true),
+        Value::from(1u8),
+        text(alloc, "a"),
+        no_items(alloc),
+        no_pairs(alloc),
+        bytes(alloc, &[0]),
+        Value::none(),
+        Value::undefined(),
+    ];
+    rise(&rt, &all);
+    are_undecided(&rt, &all);
 }
 
-// The same of what may not have been made.
-fn were_made_equal(rt: &impl Abort, left: Made, right: Made) -> Result<(), Fail> {
-    are_equal(rt, left?, right?);
-    Ok(())
+// They are equal.
+fn are_equal(left: Value, right: Value) -> bool {
+    compare(&left, &right, Ordering::Equal)
 }
 
 #[test]
-fn flags_and_widths_do_not_count(rt: HostRuntime) -> Result<(), Fail> {
-    were_made_equal(&rt, text(&rt, "<x>"), safe(&rt, "<x>"))?;
-    let left = two_items(&rt, Ok(Value::from(1u64)), text(&rt, "x"));
-    let right = two_items(&rt, Ok(Value::from(1i128)), safe(&rt, "x"));
-    were_made_equal(&rt, left, right)
+fn flags_and_widths_do_not_count(rt: HostRuntime) {
+    let alloc = rt.alloc();
+    assert!(rt; are_equal(text(alloc, "<x>"), safe(alloc, "<x>")));
+    let left = two_items(alloc, Value::from(1u64), text(alloc, "x"));
+    let right = two_items(alloc, Value::from(1i128), safe(alloc, "x"));
+    assert!(rt; are_equal(left, right));
 }
 
 #[test]
 fn integers_of_every_width_become_values(rt: HostRuntime) {
-    are_equal(&rt, Value::from(u8::MAX), Value::from(255u64));
-    are_equal(&rt, Value::from(u16::MAX), Value::from(65535u64));
-    are_equal(&rt, Value::from(u32::MAX), Value::from(4294967295u64));
-    are_equal(&rt, Value::from(usize::MAX), Value::from(u64::MAX));
-    are_equal(&rt, Value::from(i8::MIN), Value::from(-128i64));
-    are_equal(&rt, Value::from(i16::MIN), Value::from(-32768i64));
-    are_equal(&rt, Value::from(i32::MIN), Value::from(-2147483648i64));
-    are_equal(&rt, Value::from(isize::MIN), Value::from(i64::MIN));
+    hold(
+        &rt,
+        &[
+            are_equal(Value::from(u8::MAX), Value::from(255u64)),
+            are_equal(Value::from(u16::MAX), Value::from(65535u64)),
+            are_equal(Value::from(u32::MAX), Value::from(4294967295u64)),
+            are_equal(Value::from(usize::MAX), Value::from(u64::MAX)),
+            are_equal(Value::from(i8::MIN), Value::from(-128i64)),
+            are_equal(Value::from(i16::MIN), Value::from(-32768i64)),
+            are_equal(Value::from(i32::MIN), Value::from(-2147483648i64)),
+            are_equal(Value::from(isize::MIN), Value::from(i64::MIN)),
+        ],
+    );
 }

@@ -1,85 +1,156 @@
 //! What is read of values.
-use crate::made::{bytes, many_items, many_pairs, no_pairs, text};
-use std::process::Abort;
-use std::test::Fail;
+use crate::held::hold;
+use made_values::{bytes, many_items, many_pairs, no_items, no_pairs, text};
 use tera_values::{Value, ValueKind};
 
-// Its name, its length, and whether it can be gone over.
-fn is_called(rt: &impl Abort, value: &Value, name: &str, len: Option<usize>, goes: bool) {
-    assert!(rt; value.name() == name);
-    assert!(rt; value.len() == len);
-    assert!(rt; value.can_be_iterated_on() == goes);
+// Which tests of kinds hold of it, in the order of the kinds.
+fn tests(value: &Value) -> [bool; 11] {
+    [
+        value.is_undefined(),
+        value.is_none(),
+        value.is_bool(),
+        value.is_u64(),
+        value.is_i64(),
+        value.is_u128(),
+        value.is_i128(),
+        value.is_string(),
+        value.is_array(),
+        value.is_map(),
+        value.is_bytes(),
+    ]
 }
 
-// It counts as true, and is not marked safe.
-fn is_true_and_unmarked(rt: &impl Abort, value: &Value) {
-    assert!(rt; value.is_truthy());
-    assert!(rt; !value.is_safe());
-}
-
-#[test]
-fn what_is_read_of_texts_and_bytes(rt: HostRuntime) -> Result<(), Fail> {
-    let accented = text(&rt, "e\u{301}cole")?;
-    is_called(&rt, &accented, "string", Some(6), true);
-    is_true_and_unmarked(&rt, &accented);
-    assert!(rt; accented.kind() == ValueKind::String);
-    assert!(rt; accented.is_string());
-    let raw = bytes(&rt, b"ab")?;
-    is_called(&rt, &raw, "bytes", Some(2), true);
-    is_true_and_unmarked(&rt, &raw);
-    assert!(rt; raw.is_bytes());
-    assert!(rt; raw.as_bytes() == Some(b"ab".as_slice()));
-    Ok(())
-}
-
-#[test]
-fn what_is_read_of_arrays(rt: HostRuntime) -> Result<(), Fail> {
-    let list = many_items(&rt, 2)?;
-    is_called(&rt, &list, "array", Some(2), true);
-    is_true_and_unmarked(&rt, &list);
-    assert!(rt; list.is_array());
-    assert!(rt; matches!(list.as_array(), Some(items) if items.len() == 2));
-    assert!(rt; matches!(list.into_vec(), Some(items) if items.len() == 2));
-    Ok(())
-}
-
-#[test]
-fn what_is_read_of_maps(rt: HostRuntime) -> Result<(), Fail> {
-    let map = many_pairs(&rt, 3)?;
-    is_called(&rt, &map, "map/struct", Some(3), true);
-    is_true_and_unmarked(&rt, &map);
-    assert!(rt; map.is_map());
-    assert!(rt; map.kind() == ValueKind::Map);
-    assert!(rt; matches!(map.as_map(), Some(pairs) if pairs.len() == 3));
-    assert!(rt; matches!(map.into_map(), Some(pairs) if pairs.len() == 3));
-    Ok(())
-}
-
-// It counts as false.
-fn is_false(rt: &impl Abort, value: Value) {
-    assert!(rt; !value.is_truthy());
-}
-
-#[test]
-fn what_counts_as_false(rt: HostRuntime) {
-    is_false(&rt, Value::from(false));
-    is_false(&rt, Value::from(0u8));
-    is_false(&rt, no_pairs(&rt));
+// The test at that place alone holds of it.
+fn is_only(value: &Value, place: usize) -> bool {
+    for (i, holds) in tests(value).iter().enumerate() {
+        if *holds != (i == place) {
+            return false;
+        }
+    }
+    true
 }
 
 #[test]
 fn tests_of_kinds(rt: HostRuntime) {
-    assert!(rt; Value::undefined().is_undefined());
-    assert!(rt; Value::none().is_none());
-    assert!(rt; Value::from(false).is_bool());
-    assert!(rt; Value::from(0u8).is_u64());
-    assert!(rt; Value::from(-1i8).is_i64());
-    assert!(rt; Value::from(1u128).is_u128());
-    assert!(rt; Value::from(1i128).is_i128());
+    let alloc = rt.alloc();
+    let all = [
+        Value::undefined(),
+        Value::none(),
+        Value::from(false),
+        Value::from(0u8),
+        Value::from(-1i8),
+        Value::from(1u128),
+        Value::from(1i128),
+        text(alloc, ""),
+        no_items(alloc),
+        no_pairs(alloc),
+        bytes(alloc, b""),
+    ];
+    for (place, value) in all.iter().enumerate() {
+        assert!(rt; is_only(value, place), "at {place}");
+    }
+}
+
+// It is of that kind and name, has so many parts and can be gone over, counts as true, and is not
+// marked safe.
+fn reads(value: Value, kind: ValueKind, name: &str, count: usize) -> bool {
+    value.kind() == kind && value.name() == name && has_parts(&value, count)
+}
+
+fn has_parts(value: &Value, count: usize) -> bool {
+    value.len() == Some(count)
+        && value.can_be_iterated_on()
+        && value.is_truthy()
+        && !value.is_safe()
+}
+
+#[test]
+fn what_is_read_of_values_with_parts(rt: HostRuntime) {
+    let alloc = rt.alloc();
+    let accented = text(alloc, "e\u{301}cole");
+    hold(
+        &rt,
+        &[
+            reads(accented, ValueKind::String, "string", 6),
+            reads(bytes(alloc, b"ab"), ValueKind::Bytes, "bytes", 2),
+            reads(many_items(alloc, 2), ValueKind::Array, "array", 2),
+            reads(many_pairs(alloc, 3), ValueKind::Map, "map/struct", 3),
+        ],
+    );
+}
+
+// How many items or pairs are lent.
+fn lent(value: Value) -> Option<usize> {
+    parts_lent(&value)
+}
+
+fn parts_lent(value: &Value) -> Option<usize> {
+    match value.kind() {
+        ValueKind::Array => Some(value.as_array()?.len()),
+        ValueKind::Map => Some(value.as_map()?.len()),
+        _ => None,
+    }
+}
+
+// How many items are handed over.
+fn items_taken(value: Value) -> Option<usize> {
+    Some(value.into_vec()?.len())
+}
+
+// How many pairs are handed over.
+fn pairs_taken(value: Value) -> Option<usize> {
+    Some(value.into_map()?.len())
+}
+
+#[test]
+fn parts_are_lent_and_handed_over(rt: HostRuntime) {
+    let alloc = rt.alloc();
+    hold(
+        &rt,
+        &[
+            lent(many_items(alloc, 2)) == Some(2),
+            lent(many_pairs(alloc, 3)) == Some(3),
+            items_taken(many_items(alloc, 2)) == Some(2),
+            pairs_taken(many_pairs(alloc, 3)) == Some(3),
+        ],
+    );
+}
+
+// It is those bytes.
+fn are_bytes(value: Value, wanted: &[u8]) -> bool {
+    value.as_bytes() == Some(wanted)
+}
+
+#[test]
+fn bytes_are_lent(rt: HostRuntime) {
+    assert!(rt; are_bytes(bytes(rt.alloc(), b"ab"), b"ab"));
+}
+
+// It counts as false.
+fn is_false(value: Value) -> bool {
+    !value.is_truthy()
+}
+
+#[test]
+fn what_counts_as_false(rt: HostRuntime) {
+    let no_pairs = no_pairs(rt.alloc());
+    hold(
+        &rt,
+        &[
+            is_false(Value::from(false)),
+            is_false(Value::from(0u8)),
+            is_false(no_pairs),
+        ],
+    );
+}
+
+// It has no length, and is no map.
+fn is_single(value: Value) -> bool {
+    value.len().is_none() && value.into_map().is_none()
 }
 
 #[test]
 fn numbers_have_no_length_and_none_is_no_map(rt: HostRuntime) {
-    assert!(rt; Value::from(-1i8).len().is_none());
-    assert!(rt; Value::none().into_map().is_none());
+    assert!(rt; is_single(Value::from(-1i8)));
+    assert!(rt; is_single(Value::none()));
 }

@@ -1,11 +1,18 @@
 // A constructor for each kind that holds texts, and what other errors become.
 ghost use Rattle.anyhow.specs.Error.{IsMadeOf};
-ghost use Rattle.std.specs.Prelude.{◌≡◌, ◌⊎◌, Some, IfOk, IsSomeAnd, map, string_bytes};
+ghost use Rattle.std.specs.Prelude.{◌≡◌, ◌⊎◌, [], Some, IfOk, IsSomeAnd, map, string_bytes};
 ghost use Rattle.std.specs.IoError.{error_kind as io_kind};
-ghost use Rattle.tera_report.specs.Errors.{kind_of, source_of, refusal_of, Raises, States, IsOutOfMemory};
-ghost use Rattle.tera_report.specs.Refusal.{message, circular_extend, circular_include, missing_parent, template_not_found, component_not_found, invalid_argument, missing_argument, out_of_range, writing_failed, not_utf8};
+ghost use Rattle.tera_report.specs.Errors.{kind_of, source_of, refusal_of, joined, Raises};
+ghost use Rattle.tera_report.specs.Errors.{States, IsOutOfMemory};
+ghost use Rattle.tera_report.specs.Refusal.{message, syntax_error, circular_extend};
+ghost use Rattle.tera_report.specs.Refusal.{circular_include, missing_parent, template_not_found};
+ghost use Rattle.tera_report.specs.Refusal.{component_not_found, invalid_argument};
+ghost use Rattle.tera_report.specs.Refusal.{missing_argument, out_of_range, writing_failed};
+ghost use Rattle.tera_report.specs.Refusal.{not_utf8};
 
 use super::{Error, ErrorKind};
+use crate::report::ReportError;
+use crate::span::Span;
 use std::alloc::{AllocError, Global};
 use std::string::FromUtf8Error;
 use std::{fmt, io};
@@ -16,7 +23,15 @@ impl Error {
     pub fn message(alloc: Global, text: &str) -> Error
         ensures { Raises (message text.now) result }
     {
-        match String::from_str(alloc, text) {
+        Error::message_of(alloc, &[text])
+    }
+
+    /// Kind `Msg` with the text of these pieces, one behind another. `Out of memory` where the text
+    /// finds none.
+    pub fn message_of(alloc: Global, pieces: &[&str]) -> Error
+        ensures { Raises (message (joined (map (λ piece. piece.now) pieces.now))) result }
+    {
+        match pieces.concat(alloc) {
             Ok(text) => Error::new(ErrorKind::Msg(text)),
             Err(refused) => Error::from(refused),
         }
@@ -36,10 +51,29 @@ impl Error {
         }
     }
 
+    /// Kind `SyntaxError`, with a report of that message at that place, without a source. `Out of
+    /// memory` where the report finds none. Mirrors `Error::syntax_error`.
+    pub fn syntax_error(alloc: Global, message: String, span: &Span) -> Error
+        ensures { Raises (syntax_error (record {
+          message = string_bytes message;
+          file = [];
+          source = [];
+          span = span.now;
+          notes = [];
+        })) result }
+    {
+        let report = ReportError::new_without_source(alloc, message, span);
+        match Box::new(alloc, report) {
+            Ok(report) => Error::new(ErrorKind::SyntaxError(report)),
+            Err(refused) => Error::from(refused),
+        }
+    }
+
     /// Kind `CircularExtend`. `Out of memory` where the name finds none. Mirrors
     /// `Error::circular_extend`.
     pub fn circular_extend(alloc: Global, tpl: &str, inheritance_chain: Vec<String>) -> Error
-        ensures { Raises (circular_extend tpl.now (map string_bytes inheritance_chain.items)) result }
+        ensures { Raises
+            (circular_extend tpl.now (map string_bytes inheritance_chain.items)) result }
     {
         match String::from_str(alloc, tpl) {
             Ok(tpl) => Error::new(ErrorKind::CircularExtend {
@@ -136,7 +170,8 @@ impl Error {
     /// `Error::io_error`.
     pub fn io_error(error: io::Error) -> Error
         ensures kind { refusal_of (kind_of result) ≡ writing_failed (io_kind error) }
-        ensures cause { IsSomeAnd (source_of result) (IsMadeOf (⟦<io::Error as fmt::Display>⟧.output error)) }
+        ensures cause { IsSomeAnd (source_of result)
+            (IsMadeOf (⟦<io::Error as fmt::Display>⟧.output error)) }
     {
         Error {
             kind: ErrorKind::Io(error.kind()),
@@ -148,7 +183,8 @@ impl Error {
     /// `Error::invalid_utf8`.
     pub fn invalid_utf8(error: FromUtf8Error) -> Error
         ensures kind { refusal_of (kind_of result) ≡ not_utf8 }
-        ensures cause { IsSomeAnd (source_of result) (IsMadeOf (⟦<FromUtf8Error as fmt::Display>⟧.output error)) }
+        ensures cause { IsSomeAnd (source_of result)
+            (IsMadeOf (⟦<FromUtf8Error as fmt::Display>⟧.output error)) }
     {
         Error {
             kind: ErrorKind::Utf8Conversion,

@@ -1,8 +1,10 @@
 // Copies of kinds, with texts of their own.
 ghost use Rattle.std.specs.Prelude.{◌≡◌, IfOk, IfErr, IsOk, map, string_bytes};
-ghost use Rattle.tera_report.specs.Errors.{HoldsNoText, refusal_of, IsOutOfMemory};
+ghost use Rattle.tera_report.specs.Errors.{HoldsNoText, refusal_of, report_of, IsOutOfMemory};
+ghost use Rattle.tera_report.specs.Refusal.{circular_extend, circular_include};
 
 use super::{ErrorKind, TeraResult};
+use crate::report::ReportError;
 use std::alloc::{AllocError, Global};
 
 impl ErrorKind {
@@ -14,45 +16,69 @@ impl ErrorKind {
         ensures succeeds { HoldsNoText self.now → IsOk result }
     {
         Ok(match self {
-            ErrorKind::Msg(message) => ErrorKind::Msg(copied(alloc, message)?),
-            ErrorKind::CircularExtend {
+            Self::Msg(message) => Self::Msg(copied(alloc, message)?),
+            Self::SyntaxError(report) => Self::SyntaxError(copied_report(alloc, report)?),
+            Self::RenderingError(report) => Self::RenderingError(copied_report(alloc, report)?),
+            Self::CircularExtend {
                 tpl,
                 inheritance_chain,
-            } => ErrorKind::CircularExtend {
-                tpl: copied(alloc, tpl)?,
-                inheritance_chain: all_copied(alloc, inheritance_chain)?,
-            },
-            ErrorKind::CircularInclude { tpl, include_chain } => ErrorKind::CircularInclude {
-                tpl: copied(alloc, tpl)?,
-                include_chain: all_copied(alloc, include_chain)?,
-            },
-            ErrorKind::MissingParent { current, parent } => ErrorKind::MissingParent {
+            } => copied_extend(alloc, tpl, inheritance_chain)?,
+            Self::CircularInclude { tpl, include_chain } => {
+                copied_include(alloc, tpl, include_chain)?
+            }
+            Self::MissingParent { current, parent } => Self::MissingParent {
                 current: copied(alloc, current)?,
                 parent: copied(alloc, parent)?,
             },
-            ErrorKind::TemplateNotFound(name) => ErrorKind::TemplateNotFound(copied(alloc, name)?),
-            ErrorKind::ComponentNotFound(name) => {
-                ErrorKind::ComponentNotFound(copied(alloc, name)?)
-            }
-            ErrorKind::InvalidArgument {
+            Self::TemplateNotFound(name) => Self::TemplateNotFound(copied(alloc, name)?),
+            Self::ComponentNotFound(name) => Self::ComponentNotFound(copied(alloc, name)?),
+            Self::InvalidArgument {
                 expected_type,
                 actual_type,
-            } => ErrorKind::InvalidArgument {
+            } => Self::InvalidArgument {
                 expected_type: copied(alloc, expected_type)?,
                 actual_type: copied(alloc, actual_type)?,
             },
-            ErrorKind::MissingArgument { arg_name } => ErrorKind::MissingArgument {
+            Self::MissingArgument { arg_name } => Self::MissingArgument {
                 arg_name: copied(alloc, arg_name)?,
             },
-            ErrorKind::OutOfRangeArgument { value, target_type } => ErrorKind::OutOfRangeArgument {
+            Self::OutOfRangeArgument { value, target_type } => Self::OutOfRangeArgument {
                 value: copied(alloc, value)?,
                 target_type: copied(alloc, target_type)?,
             },
-            ErrorKind::Io(kind) => ErrorKind::Io(*kind),
-            ErrorKind::Utf8Conversion => ErrorKind::Utf8Conversion,
-            ErrorKind::OutOfMemory => ErrorKind::OutOfMemory,
+            Self::Io(kind) => Self::Io(*kind),
+            Self::Utf8Conversion => Self::Utf8Conversion,
+            Self::OutOfMemory => Self::OutOfMemory,
         })
     }
+}
+
+fn copied_report(alloc: Global, report: &Box<ReportError>) -> TeraResult<Box<ReportError>>
+    ensures same { IfOk result (λ copy. report_of copy.value ≡ report_of report.now.value) }
+    ensures refused { IfErr result IsOutOfMemory }
+{
+    let held: &ReportError = report;
+    Ok(Box::new(alloc, held.clone(alloc)?)?)
+}
+
+fn copied_extend(alloc: Global, tpl: &String, chain: &Vec<String>) -> Result<ErrorKind, AllocError>
+    ensures { IfOk result (λ copy. refusal_of copy
+        ≡ circular_extend (string_bytes tpl.now) (map string_bytes chain.now.items)) }
+{
+    Ok(ErrorKind::CircularExtend {
+        tpl: copied(alloc, tpl)?,
+        inheritance_chain: all_copied(alloc, chain)?,
+    })
+}
+
+fn copied_include(alloc: Global, tpl: &String, chain: &Vec<String>) -> Result<ErrorKind, AllocError>
+    ensures { IfOk result (λ copy. refusal_of copy
+        ≡ circular_include (string_bytes tpl.now) (map string_bytes chain.now.items)) }
+{
+    Ok(ErrorKind::CircularInclude {
+        tpl: copied(alloc, tpl)?,
+        include_chain: all_copied(alloc, chain)?,
+    })
 }
 
 fn copied(alloc: Global, text: &String) -> Result<String, AllocError>

@@ -1,5 +1,5 @@
 // What a refusal is told by, piece by piece.
-ghost use Rattle.std.specs.Prelude.{map, string_bytes, codes};
+ghost use Rattle.std.specs.Prelude.{map, string_bytes};
 ghost use Rattle.std.specs.List.{flat_map};
 ghost use Rattle.tera_report.specs.Errors.{kind_of, refusal_of};
 ghost use Rattle.tera_report.specs.Refusal.{Tells, TellsChain, extend_words, include_words};
@@ -22,6 +22,9 @@ impl ErrorKind {
     {
         match self {
             ErrorKind::Msg(message) => out.put(message.as_str()),
+            ErrorKind::SyntaxError(report) | ErrorKind::RenderingError(report) => {
+                report.tell_to(out)
+            }
             ErrorKind::CircularExtend {
                 tpl,
                 inheritance_chain,

@@ -8,7 +8,7 @@ use Rattle.tera_meaning.specs.Pairs.{key_form_order, value_at, pairs_of}
 use Rattle.tera_values.specs.Key.{key_form}
 use Rattle.tera_values.specs.Map.{forms_of, pairs_in}
 use Rattle.tera_values.specs.MapLaws.{entries_apart}
-use Rattle.tera_values.specs.Unlike.{IsLeastUnlike, least_met, unlike, lacking, found_at}
+use Rattle.tera_values.specs.Unlike.{IsLeastUnlike, least_met, unlike, lacking, difference_at}
 use Rattle.tera_values.specs.declared.key.Key.{Key}
 use Rattle.tera_values.proofs.UnlikeLemmas.{from_left, met_below, met_not_below, by_held, by_left, by_right, all_tie, walks_meet_least}
 use Rattle.tera_values.proofs.Walks.{first_left, later_left, less_deep}
@@ -93,8 +93,8 @@ map::least_unlike-loop-key-preserved-then-is_below t c =
     let qs = pairs_in c.args.right.now in
     let k = key_form c.in-Some.key.now in
     let least = option_map (λ d. (key_form d.0.now, d.1)) c.loop-key.least in
-    let new = c.found_at-least.ensures
-    ∙ ap (λ h. found_at h k least) (c.unlike.ensures ∙ ap (unlike (Some c.in-Some.value.now)) c.find_key.ensures)
+    let new = c.difference_at-least.ensures
+    ∙ ap (λ h. difference_at h k least) (c.unlike.ensures ∙ ap (unlike (Some c.in-Some.value.now)) c.find_key.ensures)
     ∙ sym (met_below least k (from_left qs (k, c.in-Some.value.now)) (sym c.is_below.ensures ∙ c.if-is_below.true)) in
     record {
       within = λ p i. c.loop-key.invariant.within p (later_left c.loop-key.key-iterator e rest c.in-Some.ensures.steps p i);

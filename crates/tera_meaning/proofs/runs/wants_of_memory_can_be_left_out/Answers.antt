@@ -1,5 +1,5 @@
-use Rattle.tera_meaning.proofs.RunLaws.{ample_left}
+use Rattle.tera_meaning.proofs.RunLaws.{done_of_run}
 use Rattle.tera_meaning.proofs.runs.wants_of_memory_can_be_left_out.Goals as goal
 
 pub returns : goal.returns
-returns c = ample_left
+returns c = done_of_run

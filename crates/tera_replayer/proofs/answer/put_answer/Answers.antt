@@ -1,10 +1,13 @@
 -- What is put is the reply, and a line feed.
-use Rattle.std.proofs.Common.{rules, refl, ◌++◌, codes, decimal, Ok}
+use Rattle.std.proofs.Common.{rules, refl, ◌++◌, codes, decimal, map, Ok, Some}
+use Rattle.std.specs.String.{string_bytes}
 use Rattle.tera_context.specs.Call.{answer_of}
-use Rattle.tera_replayer.specs.Reply.{IsReplyLine, IsValueLine}
+use Rattle.tera_meaning.specs.Answer.{found, texts}
+use Rattle.tera_report.proofs.PutLemmas.{puts_these}
+use Rattle.tera_replayer.specs.Reply.{IsReplyLine}
 use Rattle.tera_replayer.specs.Script.{ended}
-use Rattle.tera_replayer.proofs.PutLemmas.{puts_these, puts_weaker}
-use Rattle.tera_replayer.proofs.ReplyLemmas.{value_reply}
+use Rattle.tera_replayer.proofs.PutLemmas.{puts_weaker}
+use Rattle.tera_replayer.proofs.ReplyLemmas.{same_reply}
 use Rattle.tera_replayer.proofs.answer.put_answer.Goals as goal
 
 pub returns-in-Done : goal.returns-in-Done
@@ -30,8 +33,8 @@ returns-in-Found-None g c =
 pub returns-in-Found-Some : goal.returns-in-Found-Some
 returns-in-Found-Some g c =
     let value = c.in-Found-Some.value in
-    puts_weaker g.W.Sink.takes g.W.Sink.fails (IsValueLine value) (IsReplyLine (Ok (answer_of c.args.answer.now))) c.put_value.result _ _
-    (λ line h. (codes "value " ++ h.0, value_reply (Ok (answer_of c.args.answer.now)) value h.0 (search rules) h.1, h.2)) c.put_value.ensures
+    puts_weaker g.W.Sink.takes g.W.Sink.fails (IsReplyLine (Ok (found (Some value)))) (IsReplyLine (Ok (answer_of c.args.answer.now))) c.put_value.result _ _
+    (λ line h. (h.0, same_reply (Ok (answer_of c.args.answer.now)) (Ok (found (Some value))) h.0 (search rules) h.1, h.2)) c.put_value.ensures
 
 pub returns-in-Size-None : goal.returns-in-Size-None
 returns-in-Size-None g c =
@@ -55,3 +58,9 @@ returns-in-Text g c =
     let line = codes "text " ++ c.as_str.result.now in
     puts_these g.W.Sink.takes g.W.Sink.fails (IsReplyLine (Ok (answer_of c.args.answer.now))) c.put_line-in-Text.result (ended line) _ _
     (line, search rules, refl) c.put_line-in-Text.ensures
+
+pub returns-in-Texts : goal.returns-in-Texts
+returns-in-Texts g c =
+    let names = map string_bytes c.in-Texts.names.items in
+    puts_weaker g.W.Sink.takes g.W.Sink.fails (IsReplyLine (Ok (texts names))) (IsReplyLine (Ok (answer_of c.args.answer.now))) c.put_fields.result _ _
+    (λ line h. (h.0, same_reply (Ok (answer_of c.args.answer.now)) (Ok (texts names)) h.0 (search rules) h.1, h.2)) (search rules)

@@ -2,13 +2,16 @@
 use Rattle.std.proofs.Common.{rules, ap, refl}
 use Rattle.std.specs.contracts.io.ErrorKind.{the_type}
 use denote.Enum.Bare.{same_true, true_same}
-use Rattle.tera_report.specs.Refusal.{message, writing_failed, template_not_found, component_not_found, missing_argument}
-use Rattle.tera_report.specs.declared.errors.ErrorKind.TheVariants.{Msg, CircularExtend, CircularInclude, MissingParent, TemplateNotFound, ComponentNotFound, InvalidArgument, MissingArgument, OutOfRangeArgument, Io, Utf8Conversion, OutOfMemory}
+use Rattle.tera_report.specs.Refusal.{message, syntax_error, rendering_error, writing_failed, template_not_found, component_not_found, missing_argument}
+use Rattle.tera_report.specs.declared.errors.ErrorKind.TheVariants.{Msg, SyntaxError, RenderingError, CircularExtend, CircularInclude, MissingParent, TemplateNotFound, ComponentNotFound, InvalidArgument, MissingArgument, OutOfRangeArgument, Io, Utf8Conversion, OutOfMemory}
+use Rattle.tera_report.proofs.EqualReports.{same_report, report_same}
 use Rattle.tera_report.proofs.ErrorLemmas.{same_text, text_same, same_texts, texts_same, first_true, second_true, both_true, number_of, other_number, no_truth}
 use Rattle.tera_report.proofs.errors.kinds_equal_by_refusal.Goals as goal
 
 pub returns : goal.returns
 returns c (Msg s) (Msg t) = ((λ h. ap message (same_text s t h)), (λ e. text_same s t (cc)))
+returns c (SyntaxError s) (SyntaxError t) = ((λ h. ap syntax_error (same_report s.value t.value h)), (λ e. report_same s.value t.value (cc)))
+returns c (RenderingError s) (RenderingError t) = ((λ h. ap rendering_error (same_report s.value t.value h)), (λ e. report_same s.value t.value (cc)))
 returns c (TemplateNotFound s) (TemplateNotFound t) = ((λ h. ap template_not_found (same_text s t h)), (λ e. text_same s t (cc)))
 returns c (ComponentNotFound s) (ComponentNotFound t) = ((λ h. ap component_not_found (same_text s t h)), (λ e. text_same s t (cc)))
 returns c (MissingArgument s) (MissingArgument t) = ((λ h. ap missing_argument (same_text s t h)), (λ e. text_same s t (cc)))

@@ -1,6 +1,6 @@
 use Rattle.std.proofs.Common.{ap, sym, ◌∙◌, subst}
 use Rattle.std.specs.Option.{option_map}
-use Rattle.tera_script.specs.Readers.{number_rest}
+use Rattle.tera_script.specs.Readers.{with_rest}
 use Rattle.tera_script.proofs.Digits.{IsSoFar, overflows, so_far_more, no_digits, all_digits}
 use Rattle.tera_script.proofs.number.take_digits.Goals as goal
 
@@ -11,7 +11,7 @@ loop-digit-preserved c =
 
 pub returns-in_err-magnitude : goal.returns-in_err-magnitude
 returns-in_err-magnitude c =
-    ap (option_map number_rest) c.from_residual.ensures
+    ap (option_map with_rest) c.from_residual.ensures
     ∙ sym (overflows c.args.bytes.now c.loop-digit.rest.now c.in-Some.others.now c.loop-digit.magnitude c.in-Some.digit c.loop-digit.invariant c.in-Some.ensures c.in_err-magnitude.ensures)
 
 pub returns-then-rest-bytes : goal.returns-then-rest-bytes

@@ -6,13 +6,13 @@ use Rattle.tera_meaning.specs.Form.{Form}
 use Rattle.tera_meaning.specs.KeyMeaning.{KeyForm, key_meaning}
 use Rattle.tera_meaning.specs.Meaning.{plain}
 use Rattle.tera_meaning.specs.Pairs.{key_form_order}
-use Rattle.tera_meaning.specs.Printed.{printed_items, printed_members, printed_with, is_exact_key, is_exact_inside}
+use Rattle.tera_meaning.specs.Printed.{Prints, printed_items, printed_members, printed_with, is_exact_key, is_exact_inside}
 use Rattle.tera_report.specs.Quoted.{quoted}
-use Rattle.tera_meaning.specs.Tree.{items, items_depth}
+use Rattle.tera_meaning.specs.Tree.{array, object, items, members, items_depth}
 use Rattle.tera_values.specs.Depth.{member_le-depth}
 use Rattle.tera_values.specs.Key.{key_form}
 use Rattle.tera_values.specs.Map.{above, forms_of, pairs_in, is_above}
-use Rattle.tera_values.specs.Print.{plain_items, plain_pairs, PrintsArray, PrintsItems, PrintsMap, PrintsPairs, PrintsPair}
+use Rattle.tera_values.specs.Print.{plain_items, plain_pairs, PrintsItems, PrintsPairs, PrintsPair}
 use Rattle.tera_values.proofs.PrintPairs.{empty_pairs, first_in, from_least, from_next, pairs_sorted, first_pair_done, next_pair_done, rest_pairs_done, comma_pairs_done, later_pairs}
 use Rattle.tera_values.proofs.Parts.{depth_at}
 use Rattle.tera_report.proofs.PutLemmas.{failed_of}
@@ -21,15 +21,15 @@ use Rattle.tera_values.proofs.print.+print.Goals as goal
 
 pub put_array-returns-in_err-put : goal.put_array-returns-in_err-put
 put_array-returns-in_err-put g t c =
-    let failed = g.met.S.Sink.failed_early _ (codes "[") _ (printed_items (plain_items c.args.items.now) ++ codes "]") c.in_err-put.ensures in
-    let bad = failed_of g.S.Sink.fails (PrintsArray c.args.items.now) _ _ _ (λ _. refl) failed in
+    let failed = g.met.S.Sink.failed_early _ (codes "[") _ (printed_items (plain_items c.args.all.now) ++ codes "]") c.in_err-put.ensures in
+    let bad = failed_of g.S.Sink.fails (Prints (plain (array (items c.args.all.now)))) _ _ _ (λ _. refl) failed in
     search rules
 
 pub put_array-returns-in_err-put_items : goal.put_array-returns-in_err-put_items
 put_array-returns-in_err-put_items g t c =
     let (bytes, prints, refused) = c.in_err-put_items.ensures in
     let failed = g.met.S.Sink.failed_early _ _ _ (codes "]") (g.met.S.Sink.failed_later _ (codes "[") _ bytes _ c.in_ok-put.ensures refused) in
-    let bad = failed_of g.S.Sink.fails (PrintsArray c.args.items.now) _ _ _ (λ exact. ap (λ l. (codes "[" ++ l) ++ codes "]") (prints exact)) failed in
+    let bad = failed_of g.S.Sink.fails (Prints (plain (array (items c.args.all.now)))) _ _ _ (λ exact. ap (λ l. (codes "[" ++ l) ++ codes "]") (prints exact)) failed in
     search rules
 
 pub put_array-returns : goal.put_array-returns
@@ -83,14 +83,14 @@ put_inside-returns-in-None g t c =
 pub put_map-returns-in_err-put : goal.put_map-returns-in_err-put
 put_map-returns-in_err-put g t c =
     let failed = g.met.S.Sink.failed_early _ (codes "{") _ (printed_members (plain_pairs (pairs_in c.args.map.now)) ++ codes "}") c.in_err-put.ensures in
-    let bad = failed_of g.S.Sink.fails (PrintsMap (pairs_in c.args.map.now)) _ _ _ (λ _. refl) failed in
+    let bad = failed_of g.S.Sink.fails (Prints (plain (object (members (pairs_in c.args.map.now))))) _ _ _ (λ _. refl) failed in
     search rules
 
 pub put_map-returns-in_err-put_pairs : goal.put_map-returns-in_err-put_pairs
 put_map-returns-in_err-put_pairs g t c =
     let (bytes, prints, refused) = c.in_err-put_pairs.ensures in
     let failed = g.met.S.Sink.failed_early _ _ _ (codes "}") (g.met.S.Sink.failed_later _ (codes "{") _ bytes _ c.in_ok-put.ensures refused) in
-    let bad = failed_of g.S.Sink.fails (PrintsMap (pairs_in c.args.map.now)) _ _ _ (λ exact. ap (λ l. (codes "{" ++ l) ++ codes "}") (prints exact)) failed in
+    let bad = failed_of g.S.Sink.fails (Prints (plain (object (members (pairs_in c.args.map.now))))) _ _ _ (λ exact. ap (λ l. (codes "{" ++ l) ++ codes "}") (prints exact)) failed in
     search rules
 
 pub put_map-returns : goal.put_map-returns

@@ -16,7 +16,7 @@ abbrev pub decreases-put_items : goal.decreases-put_items
 decreases-put_items g l = 5 * items_depth (items l.items.now) + 3
 
 abbrev pub decreases-put_array : goal.decreases-put_array
-decreases-put_array g l = 5 * items_depth (items l.items.now) + 4
+decreases-put_array g l = 5 * items_depth (items l.all.now) + 4
 
 -- what was put is what is printed of the items before
 abbrev pub invariant-put_items-loop-item : goal.invariant-put_items-loop-item

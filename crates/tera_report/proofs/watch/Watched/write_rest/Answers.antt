@@ -5,10 +5,10 @@ use Rattle.std.proofs.KnownBytes.{Appends-trans}
 use Rattle.tera_report.specs.SinkLaws.{keeps_appends}
 use Rattle.tera_report.specs.Watch.{watched_writer}
 use Rattle.tera_report.specs.Writer.{is_fault, once, all_taken, has_fault}
-use Rattle.tera_report.specs.WriterLaws.{goes_more, taken_more, faults_more}
+use Rattle.tera_report.specs.WriterLaws.{tries_more, taken_more, faults_more}
 use Rattle.tera_report.proofs.WatchLemmas.{kept_by_or, quiet_before, not_quiet, loud_more, split_later, turn_took_one, failed_here, not_false}
 use Rattle.tera_report.proofs.watch.Watched.write_rest.Goals as goal
-use Rattle.tera_report.proofs.watch.Watched.write_rest.Goals.{in-Ok, in-Err+else-ne}
+use Rattle.tera_report.proofs.watch.Watched.write_rest.Goals.{in-Ok, in-Err+else-not-matches}
 
 pub returns-in-Ok-eq0 : goal.returns-in-Ok-eq0
 returns-in-Ok-eq0 g c =
@@ -18,8 +18,8 @@ returns-in-Ok-eq0 g c =
     (subst (λ n. is_fault {E = Error} (Ok n) c.loop-turn.rest.now ≡ true) (sym c.in-Ok-eq0.field-0-test) (search rules))
     (subst (λ n. take n c.loop-turn.rest.now ≡ []) (sym c.in-Ok-eq0.field-0-test) refl)
 
-pub returns-then-ne : goal.returns-then-ne
-returns-then-ne g c =
+pub returns-then-not-matches : goal.returns-then-not-matches
+returns-then-not-matches g c =
     let (attempts, calls, split, bytes, same, kept, loud, told) = c.loop-turn.invariant in
     let e = c.in-Err.ensures in
     failed_here g.W.Writer.contents g.W.Writer.wrote _ c.loop-turn.self _ attempts _ c.loop-turn.rest.now (Err c.in-Err.e) calls split bytes same e.wrote (keeps_appends _ _ e.bytes) e.same e.told refl refl
@@ -28,7 +28,7 @@ pub loop-turn-preserved : goal.loop-turn-preserved
 loop-turn-preserved g c =
     let (attempts, calls, split, bytes, same, kept, loud, told) = c.loop-turn.invariant in
     let rest = c.loop-turn.rest.now in
-    let more = goes_more g.W.Writer.wrote (watched_writer c.args.self.now) attempts (watched_writer c.loop-turn.self) rest in
+    let more = tries_more g.W.Writer.wrote (watched_writer c.args.self.now) attempts (watched_writer c.loop-turn.self) rest in
     elim c.match-write.branch [
       | in-Ok w ↦
           let n = w.in-Ok.taken in
@@ -46,7 +46,7 @@ loop-turn-preserved g c =
             (λ h. loud_more _ _ (is_fault {E = Error} (Ok n) rest) _ _ e.told faults loud h),
             (λ h. turn_took_one rest _ n _ w.in-Ok.taken-test.1 e.bound (told (quiet_before _ _ (is_fault {E = Error} (Ok n) rest) faults h))),
           )
-      | in-Err+else-ne w ↦
+      | in-Err+else-not-matches w ↦
           let e = w.in-Err.ensures in
           let left : c.match-write.rest.now ≡ rest = ap (λ r. r.now) w.rest-is in
           let answer = Err w.in-Err.e in

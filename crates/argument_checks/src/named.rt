@@ -1,0 +1,291 @@
+//! Arguments by their names.
+use crate::held::hold;
+use crate::made::{numbered, owned};
+use crate::taken::{is_refused, is_that};
+use made_values::{many_pairs, one_pair, safe, shows, text};
+use std::alloc::Global;
+use std::collections::BTreeSet;
+use tera_arguments::{ArgFromValue, Kwargs, KwargsIter, KwargsOf, Parts};
+use tera_report::TeraResult;
+use tera_values::{Key, Value, maps};
+
+// The arguments of a map, and none of what is no map.
+fn arguments(alloc: Global, of: Value) -> Kwargs {
+    Kwargs::new(of.into_map().unwrap_or(maps::new(alloc)))
+}
+
+// One argument.
+fn one_argument(alloc: Global, name: &'static str, value: Value) -> Kwargs {
+    arguments(alloc, one_pair(alloc, Key::Str(name), value))
+}
+
+// The argument of that name is taken as that.
+fn gets<'k, V, T>(alloc: Global, of: &'k KwargsOf<V>, name: &'k str, wanted: T) -> bool
+where
+    V: Parts,
+    T: ArgFromValue<'k, V, Output = T> + PartialEq + Drop,
+{
+    let got = of.get::<T>(alloc, name);
+    is_there(got, &wanted) && is_that(of.must_get::<T>(alloc, name), &wanted)
+}
+
+// It is there, and is that.
+fn is_there<T: PartialEq + Drop>(got: TeraResult<Option<T>>, wanted: &T) -> bool {
+    match got {
+        Ok(Some(taken)) => taken == *wanted,
+        _ => false,
+    }
+}
+
+// No argument has that name.
+fn lacks<'k, V, T>(alloc: Global, of: &'k KwargsOf<V>, name: &'k str) -> bool
+where
+    V: Parts,
+    T: ArgFromValue<'k, V, Output = T> + Drop,
+{
+    match of.get::<T>(alloc, name) {
+        Ok(None) => true,
+        _ => false,
+    }
+}
+
+// The argument is refused with that text, whether it has to be there or not.
+fn is_denied<'k, V, T>(alloc: Global, of: &'k KwargsOf<V>, name: &'k str, text: &str) -> bool
+where
+    V: Parts,
+    T: ArgFromValue<'k, V, Output = T> + Drop,
+{
+    is_refused(alloc, of.get::<T>(alloc, name), text)
+        && is_refused(alloc, of.must_get::<T>(alloc, name), text)
+}
+
+#[test]
+fn an_argument_is_taken_by_its_type(rt: HostRuntime) {
+    let alloc = rt.alloc();
+    let hello = one_argument(alloc, "hello", text(alloc, "world"));
+    hold(
+        &rt,
+        &[
+            gets(alloc, &hello, "hello", "world"),
+            gets(alloc, &hello, "hello", owned(alloc, "world")),
+            lacks::<Value, i64>(alloc, &hello, "unknown"),
+            lacks::<Value, &str>(alloc, &hello, "hell"),
+        ],
+    );
+}
+
+#[test]
+fn a_number_outside_is_told_by_its_type(rt: HostRuntime) {
+    let alloc = rt.alloc();
+    let wide = one_argument(alloc, "n", Value::from(300i64));
+    let negative = one_argument(alloc, "n", Value::from(-1i64));
+    let outside_u8 = "Value `300` is out of range for `u8`";
+    let outside_usize = "Value `-1` is out of range for `usize`";
+    hold(
+        &rt,
+        &[
+            is_denied::<Value, u8>(alloc, &wide, "n", outside_u8),
+            is_denied::<Value, usize>(alloc, &negative, "n", outside_usize),
+            gets(alloc, &wide, "n", 300u16),
+            gets(alloc, &negative, "n", -1i8),
+        ],
+    );
+}
+
+// It is refused as missing.
+fn is_missing<'k, V, T>(alloc: Global, of: &'k KwargsOf<V>, name: &'k str, text: &str) -> bool
+where
+    V: Parts,
+    T: ArgFromValue<'k, V, Output = T> + Drop,
+{
+    is_refused(alloc, of.must_get::<T>(alloc, name), text)
+}
+
+#[test]
+fn what_has_to_be_there_is_told(rt: HostRuntime) {
+    let alloc = rt.alloc();
+    let none = Kwargs::new(maps::new(alloc));
+    let text_at_n = one_argument(alloc, "n", text(alloc, "x"));
+    let missing = "Missing keyword argument `n`";
+    let wrong = "Invalid type for the value, expected `u8` but got `string`";
+    hold(
+        &rt,
+        &[
+            is_missing::<Value, u8>(alloc, &none, "n", missing),
+            is_missing::<Value, &Value>(alloc, &none, "é", "Missing keyword argument `é`"),
+            is_denied::<Value, u8>(alloc, &text_at_n, "n", wrong),
+            lacks::<Value, u8>(alloc, &none, "n"),
+        ],
+    );
+}
+
+// What was made of pairs, or no argument.
+fn or_none(alloc: Global, made: TeraResult<Kwargs>) -> Kwargs {
+    made.unwrap_or(Kwargs::new(maps::new(alloc)))
+}
+
+// The arguments of two numbers.
+fn two_numbers(alloc: Global, first: (&'static str, u8), second: (&'static str, u8)) -> Kwargs {
+    let (first, second) = (
+        (first.0, Value::from(first.1)),
+        (second.0, Value::from(second.1)),
+    );
+    or_none(alloc, Kwargs::from_pairs(alloc, [first, second]))
+}
+
+#[test]
+fn of_equal_keys_the_later_value_stands(rt: HostRuntime) {
+    let alloc = rt.alloc();
+    let same = two_numbers(alloc, ("n", 1), ("n", 2));
+    let apart = two_numbers(alloc, ("n", 1), ("é", 2));
+    hold(
+        &rt,
+        &[
+            gets(alloc, &same, "n", 2i64),
+            count(&same) == 1,
+            gets(alloc, &apart, "n", 1i64),
+            gets(alloc, &apart, "é", 2i64),
+            count(&apart) == 2,
+        ],
+    );
+}
+
+#[test]
+fn of_equal_keys_the_first_key_stands(rt: HostRuntime) {
+    let alloc = rt.alloc();
+    let pairs = [
+        (Key::U64(7), Value::from(1u8)),
+        (Key::I128(7), Value::from(2u8)),
+    ];
+    let made = or_none(alloc, Kwargs::from_pairs(alloc, pairs));
+    let shown = "KwargsOf { values: Value { inner: Map({U64(7): Value { inner: U64(2) }}) } }";
+    assert!(rt; shows(alloc, &made, shown));
+}
+
+// How many arguments come.
+fn count(of: &Kwargs) -> u8 {
+    let mut count = 0u8;
+    for _ in of.iter() {
+        count = count.saturating_add(1);
+    }
+    count
+}
+
+#[test]
+fn arguments_may_have_no_pair(rt: HostRuntime) {
+    let alloc = rt.alloc();
+    let pairs: [(&'static str, Value); 0] = [];
+    let made = Kwargs::from_pairs(alloc, pairs);
+    assert!(rt; made.is_ok());
+    assert!(rt; count(&or_none(alloc, made)) == 0);
+}
+
+// A pair is at the name of its number.
+fn is_at_its_name(alloc: Global, key: &Key<'static>, value: &Value) -> bool {
+    match value.as_i64() {
+        Some(number) => key.as_str() == Some(numbered(alloc, number).as_str()),
+        None => false,
+    }
+}
+
+// The walk gives so many arguments, each once and at its name, and then ends for good.
+fn walks_once(alloc: Global, count: i64) -> bool {
+    let of = arguments(alloc, many_pairs(alloc, count));
+    let mut left: KwargsIter<'_> = of.iter();
+    let mut seen = BTreeSet::new(alloc);
+    for _ in 0..count {
+        if let Some((key, value)) = left.next()
+            && is_at_its_name(alloc, key, value)
+        {
+            let _ = seen.insert(value.as_i64());
+        }
+    }
+    seen.len() as i128 == count as i128 && left.next().is_none() && left.next().is_none()
+}
+
+#[test]
+fn each_argument_comes_once(rt: HostRuntime) {
+    let alloc = rt.alloc();
+    hold(
+        &rt,
+        &[
+            walks_once(alloc, 0),
+            walks_once(alloc, 1),
+            walks_once(alloc, 1000),
+        ],
+    );
+}
+
+#[test]
+fn arguments_of_any_size(rt: HostRuntime) {
+    let alloc = rt.alloc();
+    let one = arguments(alloc, many_pairs(alloc, 1));
+    let many = arguments(alloc, many_pairs(alloc, 1000));
+    hold(
+        &rt,
+        &[
+            gets(alloc, &one, "key é 0", 0u8),
+            lacks::<Value, u8>(alloc, &one, "key é 1"),
+            gets(alloc, &many, "key é 0", 0u64),
+            gets(alloc, &many, "key é 999", 999i16),
+            lacks::<Value, i16>(alloc, &many, "key é 1000"),
+        ],
+    );
+}
+
+// The arguments of 1,000 pairs, each a number at its own, which falls.
+fn thousand_pairs(alloc: Global) -> Kwargs {
+    let pairs: [(u128, Value); 1000] = std::array::from_fn(|place| (
+        999u128.saturating_sub(place as u128),
+        Value::from(place),
+    ));
+    or_none(alloc, Kwargs::from_pairs(alloc, pairs))
+}
+
+// The key and the value are numbers that make 999.
+fn make_999(key: &Key<'static>, value: &Value) -> bool {
+    match (key, value.as_u128()) {
+        (Key::U128(number), Some(place)) => number.wrapping_add(place) == 999,
+        _ => false,
+    }
+}
+
+#[test]
+fn each_pair_of_many_is_an_argument(rt: HostRuntime) {
+    let of = thousand_pairs(rt.alloc());
+    let mut right = 0u16;
+    for (key, value) in of.iter() {
+        if make_999(key, value) {
+            right = right.saturating_add(1);
+        }
+    }
+    assert!(rt; right == 1000);
+}
+
+// The copy shows that.
+fn copy_shows(alloc: Global, of: &Kwargs, wanted: &str) -> bool {
+    of.clone(alloc)
+        .is_ok_and(|copy| shows(alloc, &copy, wanted))
+}
+
+#[test]
+fn copies_keep_kinds_and_flags(rt: HostRuntime) {
+    let alloc = rt.alloc();
+    let marked = one_argument(alloc, "é", safe(alloc, "é<"));
+    let wide = one_argument(alloc, "n", Value::from(7u128));
+    let none = Kwargs::new(maps::new(alloc));
+    let shown = "KwargsOf { values: Value { inner: \
+        Map({Str(\"é\"): Value { inner: String(\"é<\", true) }}) } }";
+    let told = "KwargsOf { values: Value { inner: \
+        Map({Str(\"n\"): Value { inner: U128(7) }}) } }";
+    let empty = "KwargsOf { values: Value { inner: Map({}) } }";
+    hold(
+        &rt,
+        &[
+            shows(alloc, &marked, shown),
+            copy_shows(alloc, &marked, shown),
+            copy_shows(alloc, &wide, told),
+            shows(alloc, &none, empty),
+        ],
+    );
+}

@@ -1,0 +1,119 @@
+//! What functions of templates answer.
+use crate::given::is_held;
+use crate::held::hold;
+use crate::made::{one_of, owned, set_of, table_of, tree_of};
+use made_values::{or_undefined, safe};
+use std::alloc::Global;
+use std::borrow::CowStr;
+use tera_conversions::FunctionResult;
+use tera_report::{Error, TeraResult};
+use tera_values::{Key, Number, Value};
+
+// It answers a value that is held so.
+fn answers<F: FunctionResult>(alloc: Global, answer: F, wanted: &str) -> bool {
+    is_held(alloc, &or_undefined(answer.into_result(alloc)), wanted)
+}
+
+#[test]
+fn single_values_are_answered(rt: HostRuntime) {
+    let alloc = rt.alloc();
+    hold(
+        &rt,
+        &[
+            answers(alloc, true, "Bool(true)"),
+            answers(alloc, 'é', "String(\"é\", false)"),
+            answers(alloc, (), "None"),
+            answers(alloc, 7u8, "U64(7)"),
+            answers(alloc, -7isize, "I64(-7)"),
+            answers(alloc, 7u128, "U128(7)"),
+            answers(alloc, Number::Integer(7), "I128(7)"),
+            answers(alloc, Key::U64(7), "U64(7)"),
+            answers(alloc, safe(alloc, "<"), "String(\"<\", true)"),
+            answers(alloc, None::<u8>, "None"),
+            answers(alloc, Some(7u8), "U64(7)"),
+        ],
+    );
+}
+
+#[test]
+fn texts_are_answered(rt: HostRuntime) {
+    let alloc = rt.alloc();
+    hold(
+        &rt,
+        &[
+            answers(alloc, "é", "String(\"é\", false)"),
+            answers(alloc, owned(alloc, "é"), "String(\"é\", false)"),
+            answers(alloc, CowStr::Borrowed("é"), "String(\"é\", false)"),
+            answers(
+                alloc,
+                CowStr::Owned(owned(alloc, "é")),
+                "String(\"é\", false)",
+            ),
+        ],
+    );
+}
+
+#[test]
+fn collections_are_answered(rt: HostRuntime) {
+    let alloc = rt.alloc();
+    let one = "Array([Value { inner: U64(1) }])";
+    let pair = "Map({Str(\"a\"): Value { inner: U64(1) }})";
+    let values = one_of(alloc, Value::from(1u8));
+    hold(
+        &rt,
+        &[
+            answers(alloc, one_of(alloc, 1u8), one),
+            answers(alloc, set_of(alloc, 1u8, 1u8), one),
+            answers(alloc, values.as_slice(), one),
+            answers(alloc, b"a".as_slice(), "Bytes([97])"),
+            answers(alloc, table_of(alloc, "a", 1u8), pair),
+            answers(alloc, tree_of(alloc, "a", 1u8), pair),
+        ],
+    );
+}
+
+#[test]
+fn what_succeeds_is_answered(rt: HostRuntime) {
+    let alloc = rt.alloc();
+    let number: TeraResult<u8> = Ok(7);
+    let list: TeraResult<Vec<u8>> = Ok(one_of(alloc, 1u8));
+    let value: TeraResult<Value> = Ok(safe(alloc, "<"));
+    hold(
+        &rt,
+        &[
+            answers(alloc, number, "U64(7)"),
+            answers(alloc, list, "Array([Value { inner: U64(1) }])"),
+            answers(alloc, value, "String(\"<\", true)"),
+        ],
+    );
+}
+
+// The answer is an error of that text, and its cause is one of that.
+fn fails_with(alloc: Global, answer: TeraResult<Value>, text: &str, cause: &str) -> bool {
+    match answer {
+        Ok(_) => false,
+        Err(error) => {
+            let told = format!(in alloc; "{error}").unwrap_or(String::new(alloc));
+            told.as_str() == text && is_caused_by(alloc, &error, cause)
+        }
+    }
+}
+
+fn is_caused_by(alloc: Global, error: &Error, cause: &str) -> bool {
+    match error.source() {
+        Some(source) => {
+            let told = format!(in alloc; "{source}").unwrap_or(String::new(alloc));
+            told.as_str() == cause
+        }
+        None => false,
+    }
+}
+
+#[test]
+fn errors_are_answered_as_they_are(rt: HostRuntime) {
+    let alloc = rt.alloc();
+    let cause = anyhow::anyhow!("the cause");
+    let failed: TeraResult<u8> = Err(Error::chain(alloc, "no such é", cause));
+    let answer = failed.into_result(alloc);
+    assert!(rt; fails_with(alloc, answer, "no such é", "the cause"));
+}

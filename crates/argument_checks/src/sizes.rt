@@ -1,0 +1,221 @@
+//! What is given and taken of values without parts, with one and with 1,000.
+use crate::held::hold;
+use crate::inputs::rendered;
+use crate::made::{falling_set, many_in_table, many_in_tree, owned, rising};
+use crate::taken::{copied_map, is_lent, is_owned, taken, takes};
+use made_values::{bytes, many_items, many_pairs, numbers_below, or_undefined, repeated};
+use std::alloc::Global;
+use std::borrow::CowStr;
+use tera_conversions::{FunctionResult, ToKey, ToValue};
+use tera_report::TeraResult;
+use tera_values::{Key, Map, Value, ValueKind, maps};
+
+// The two are held alike, in the words of Debug, which tell the kind and the flag of each part.
+fn are_alike(alloc: Global, found: &Value, wanted: &Value) -> bool {
+    let told = format!(in alloc; "{wanted:?}").unwrap_or(String::new(alloc));
+    let shown = format!(in alloc; "{found:?}").unwrap_or(String::new(alloc));
+    !told.is_empty() && shown.as_str() == told.as_str()
+}
+
+// It gives a value that is held as that.
+fn gives_alike<T: ToValue>(alloc: Global, source: T, wanted: &Value) -> bool {
+    are_alike(alloc, &or_undefined(source.to_value(alloc)), wanted)
+}
+
+// Lists and sets of so many numbers.
+fn gives_lists(alloc: Global, count: i64) -> bool {
+    let wanted = numbers_below(alloc, count);
+    let answer: TeraResult<Vec<i64>> = Ok(rising(alloc, count));
+    gives_alike(alloc, rising(alloc, count), &wanted)
+        && gives_alike(alloc, falling_set(alloc, count), &wanted)
+        && are_alike(alloc, &or_undefined(answer.into_result(alloc)), &wanted)
+}
+
+// A slice of so many values.
+fn gives_slice(alloc: Global, count: i64) -> bool {
+    let held = many_items(alloc, count)
+        .into_vec()
+        .unwrap_or(Vec::new(alloc));
+    let given = or_undefined(held.as_slice().to_value(alloc));
+    are_alike(alloc, &given, &many_items(alloc, count))
+}
+
+#[test]
+fn arrays_of_any_size(rt: HostRuntime) {
+    let alloc = rt.alloc();
+    hold(
+        &rt,
+        &[
+            gives_lists(alloc, 0),
+            gives_lists(alloc, 1),
+            gives_lists(alloc, 1000),
+            gives_slice(alloc, 0),
+            gives_slice(alloc, 1),
+            gives_slice(alloc, 1000),
+        ],
+    );
+}
+
+// A text of so many characters past ASCII.
+fn long(alloc: Global, count: usize) -> String {
+    let made = repeated(alloc, 'é', count, "");
+    owned(alloc, made.as_str().unwrap_or("<"))
+}
+
+// A text of so many characters, and its bytes.
+fn gives_texts(alloc: Global, count: usize) -> bool {
+    let text = long(alloc, count);
+    let wanted = repeated(alloc, 'é', count, "");
+    let raw = bytes(alloc, text.as_bytes());
+    gives_alike(alloc, text.as_str(), &wanted)
+        && gives_alike(alloc, CowStr::Borrowed(text.as_str()), &wanted)
+        && gives_alike(alloc, text.as_bytes(), &raw)
+        && gives_alike(alloc, CowStr::Owned(long(alloc, count)), &wanted)
+        && gives_alike(alloc, text, &wanted)
+}
+
+// It gives the key of that text.
+fn gives_key<K: ToKey>(alloc: Global, source: K, text: &str) -> bool {
+    match source.to_key(alloc) {
+        Ok(key) => key.as_str() == Some(text),
+        Err(_) => false,
+    }
+}
+
+// Keys of a text of so many characters.
+fn gives_keys(alloc: Global, count: usize) -> bool {
+    let text = long(alloc, count);
+    gives_key(alloc, long(alloc, count), text.as_str())
+        && gives_key(alloc, CowStr::Borrowed(text.as_str()), text.as_str())
+        && gives_key(alloc, CowStr::Owned(long(alloc, count)), text.as_str())
+}
+
+#[test]
+fn texts_of_any_size(rt: HostRuntime) {
+    let alloc = rt.alloc();
+    hold(
+        &rt,
+        &[
+            gives_texts(alloc, 0),
+            gives_texts(alloc, 1),
+            gives_texts(alloc, 1000),
+            gives_keys(alloc, 0),
+            gives_keys(alloc, 1),
+            gives_keys(alloc, 1000),
+        ],
+    );
+}
+
+// The pair is that of a text that the key owns, and of a number with a sign.
+fn is_owned_text_and_i64(key: &Key<'static>, value: &Value) -> bool {
+    matches!(key, Key::String(_)) && value.kind() == ValueKind::I64
+}
+
+// Each pair of the map is one of a text that the key owns, and of a number with a sign.
+fn are_texts_and_numbers(map: &Map) -> bool {
+    for (key, value) in maps::entries(map) {
+        if !is_owned_text_and_i64(key, value) {
+            return false;
+        }
+    }
+    true
+}
+
+// It is the map of that many pairs.
+fn is_map_of(found: &Value, wanted: &Value) -> bool {
+    match found.as_map() {
+        Some(map) => found == wanted && are_texts_and_numbers(map),
+        None => false,
+    }
+}
+
+// Maps of so many pairs.
+fn gives_maps(alloc: Global, count: i64) -> bool {
+    let wanted = many_pairs(alloc, count);
+    let tree = or_undefined(many_in_tree(alloc, count).to_value(alloc));
+    let table = or_undefined(many_in_table(alloc, count).to_value(alloc));
+    is_map_of(&tree, &wanted) && is_map_of(&table, &wanted)
+}
+
+// How many pairs the map has that is lent.
+fn lent_count(alloc: Global, value: &Value) -> TeraResult<usize> {
+    let map: &Map = taken(alloc, value)?;
+    Ok(maps::len(map))
+}
+
+// A copy of a map of so many pairs, and the map lent.
+fn takes_maps(alloc: Global, count: i64) -> bool {
+    let of = many_pairs(alloc, count);
+    let copied = or_undefined(copied_map(alloc, &of));
+    is_map_of(&copied, &of) && lent_count(alloc, &of).ok() == of.len()
+}
+
+#[test]
+fn maps_of_any_size(rt: HostRuntime) {
+    let alloc = rt.alloc();
+    hold(
+        &rt,
+        &[
+            gives_maps(alloc, 0),
+            gives_maps(alloc, 1),
+            gives_maps(alloc, 1000),
+            takes_maps(alloc, 0),
+            takes_maps(alloc, 1),
+            takes_maps(alloc, 1000),
+        ],
+    );
+}
+
+// So many values.
+fn many_values(alloc: Global, count: i64) -> Vec<Value> {
+    many_items(alloc, count)
+        .into_vec()
+        .unwrap_or(Vec::new(alloc))
+}
+
+// Lists of so many items, copies of them, and the items lent.
+fn takes_lists(alloc: Global, count: i64) -> bool {
+    let of = many_items(alloc, count);
+    takes(alloc, &numbers_below(alloc, count), rising(alloc, count))
+        && takes(alloc, &of, many_values(alloc, count).as_slice())
+        && takes(alloc, &of, many_values(alloc, count))
+        && are_alike(alloc, &or_undefined(taken(alloc, &of)), &of)
+}
+
+#[test]
+fn lists_of_any_size_are_taken(rt: HostRuntime) {
+    let alloc = rt.alloc();
+    hold(
+        &rt,
+        &[
+            takes_lists(alloc, 0),
+            takes_lists(alloc, 1),
+            takes_lists(alloc, 1000),
+        ],
+    );
+}
+
+// A text of so many characters: lent, printed, and shown where texts are escaped.
+fn takes_texts(alloc: Global, count: usize) -> bool {
+    let of = repeated(alloc, 'é', count, "<");
+    let text = of.as_str().unwrap_or("");
+    let shown = repeated(alloc, 'é', count, "&lt;");
+    takes(alloc, &of, text)
+        && takes(alloc, &of, owned(alloc, text))
+        && is_lent(&taken(alloc, &of), text)
+        && is_owned(&rendered(alloc, &of, true), shown.as_str().unwrap_or(""))
+        && is_lent(&rendered(alloc, &of, false), text)
+}
+
+#[test]
+fn texts_of_any_size_are_taken(rt: HostRuntime) {
+    let alloc = rt.alloc();
+    hold(
+        &rt,
+        &[
+            takes_texts(alloc, 0),
+            takes_texts(alloc, 1),
+            takes_texts(alloc, 1000),
+        ],
+    );
+}

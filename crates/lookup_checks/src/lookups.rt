@@ -1,0 +1,264 @@
+//! What look-ups find and refuse.
+use crate::held::hold;
+use made_values::{at_numbers, at_texts, one_item, one_pair, safe, text, two_items};
+use std::alloc::Global;
+use tera_report::{Error, ErrorKind, TeraResult};
+use tera_values::{Key, Value};
+
+// The path leads to that part.
+pub fn leads(of: Value, path: &str, part: i64) -> bool {
+    of.get_from_path(path) == Some(&Value::from(part))
+}
+
+// The path leads nowhere.
+pub fn leads_nowhere(of: Value, path: &str) -> bool {
+    of.get_from_path(path).is_none()
+}
+
+// A map in an array in a map.
+fn nested(alloc: Global) -> Value {
+    let inside = one_item(alloc, at_texts(alloc, &[("b", 5)]));
+    one_pair(alloc, Key::Str("a"), inside)
+}
+
+#[test]
+fn paths_lead_by_places_and_texts(rt: HostRuntime) {
+    let alloc = rt.alloc();
+    let past_places = "18446744073709551616";
+    hold(
+        &rt,
+        &[
+            leads(nested(alloc), "a.0.b", 5),
+            leads(nested(alloc), "a.+0.b", 5),
+            leads(nested(alloc), "a.00.b", 5),
+            leads(at_texts(alloc, &[("", 7)]), "", 7),
+            leads(at_texts(alloc, &[(past_places, 9)]), past_places, 9),
+        ],
+    );
+}
+
+#[test]
+fn paths_lead_nowhere(rt: HostRuntime) {
+    let alloc = rt.alloc();
+    hold(
+        &rt,
+        &[
+            leads_nowhere(nested(alloc), "a.1.b"),
+            leads_nowhere(nested(alloc), "a.-1"),
+            leads_nowhere(nested(alloc), "a.0.b."),
+            leads_nowhere(at_texts(alloc, &[("0", 1)]), "0"),
+            leads_nowhere(Value::undefined(), ""),
+        ],
+    );
+}
+
+// The attribute is that part.
+pub fn has_attribute(of: Value, name: &str, part: i64) -> bool {
+    of.get_attr(name) == Some(&Value::from(part))
+}
+
+// There is no such attribute.
+pub fn lacks_attribute(of: Value, name: &str) -> bool {
+    of.get_attr(name).is_none()
+}
+
+#[test]
+fn attributes_are_looked_up(rt: HostRuntime) {
+    let alloc = rt.alloc();
+    hold(
+        &rt,
+        &[
+            has_attribute(at_texts(alloc, &[("a", 1)]), "a", 1),
+            lacks_attribute(at_numbers(alloc, &[(1, 2), (3, 4)]), "1"),
+            lacks_attribute(text(alloc, "a"), "a"),
+        ],
+    );
+}
+
+// The two are equal, and as safe.
+fn are_alike(found: Value, part: Value) -> bool {
+    found == part && found.is_safe() == part.is_safe()
+}
+
+// What it has at an item is that part, undefined where it has nothing. A refusal counts as false.
+pub fn has_item(alloc: Global, of: Value, at: Value, part: Value) -> bool {
+    let found = of.get_item(alloc, &at).unwrap_or(Value::from(false));
+    are_alike(found, part)
+}
+
+fn ten_and_twenty(alloc: Global) -> Value {
+    two_items(alloc, Value::from(10u8), Value::from(20u8))
+}
+
+#[test]
+fn items_are_found(rt: HostRuntime) {
+    let alloc = rt.alloc();
+    let held = one_pair(alloc, Key::U64(1), text(alloc, "a"));
+    hold(
+        &rt,
+        &[
+            has_item(
+                alloc,
+                ten_and_twenty(alloc),
+                Value::from(-1i8),
+                Value::from(20u8),
+            ),
+            has_item(
+                alloc,
+                ten_and_twenty(alloc),
+                Value::from(u128::MAX),
+                Value::undefined(),
+            ),
+            has_item(alloc, held, Value::from(1i128), text(alloc, "a")),
+        ],
+    );
+}
+
+#[test]
+fn characters_keep_the_flag(rt: HostRuntime) {
+    let alloc = rt.alloc();
+    hold(
+        &rt,
+        &[
+            has_item(
+                alloc,
+                safe(alloc, "aé€"),
+                Value::from(1u8),
+                safe(alloc, "é"),
+            ),
+            has_item(
+                alloc,
+                text(alloc, "aé€"),
+                Value::from(-1i8),
+                text(alloc, "€"),
+            ),
+            has_item(
+                alloc,
+                text(alloc, "aé€"),
+                Value::from(-4i8),
+                Value::undefined(),
+            ),
+        ],
+    );
+}
+
+// The refusal has that text.
+fn says(refused: &Error, text: &str) -> bool {
+    match refused.kind() {
+        ErrorKind::Msg(told) => told.as_str() == text,
+        _ => false,
+    }
+}
+
+// It is refused with that text.
+pub fn is_refused<T: Drop>(answer: TeraResult<T>, text: &str) -> bool {
+    match answer {
+        Err(refused) => says(&refused, text),
+        Ok(_) => false,
+    }
+}
+
+// The item is refused with that text.
+fn item_is_refused(alloc: Global, of: Value, at: Value, text: &str) -> bool {
+    is_refused(of.get_item(alloc, &at), text)
+}
+
+#[test]
+fn items_are_refused(rt: HostRuntime) {
+    let alloc = rt.alloc();
+    let of_array = "Array index must be an integer, got `bool`.";
+    let of_text = "String index must be an integer, got `none`.";
+    let of_map = "Map keys must be strings, integers, or bools, got `array`.";
+    hold(
+        &rt,
+        &[
+            item_is_refused(alloc, ten_and_twenty(alloc), Value::from(true), of_array),
+            item_is_refused(alloc, text(alloc, "a"), Value::none(), of_text),
+            item_is_refused(alloc, one_map(alloc), ten_and_twenty(alloc), of_map),
+        ],
+    );
+}
+
+fn one_map(alloc: Global) -> Value {
+    at_texts(alloc, &[("a", 1)])
+}
+
+// Whether it holds the value, or nothing where that is refused.
+pub fn holds(alloc: Global, of: Value, needle: Value) -> Option<bool> {
+    of.contains(alloc, &needle).ok()
+}
+
+#[test]
+fn containers_hold(rt: HostRuntime) {
+    let alloc = rt.alloc();
+    hold(
+        &rt,
+        &[
+            holds(alloc, text(alloc, "abc"), text(alloc, "")) == Some(true),
+            holds(alloc, text(alloc, "abc"), safe(alloc, "bc")) == Some(true),
+            holds(alloc, text(alloc, "a1"), Value::from(1u8)) == Some(false),
+            holds(alloc, one_item(alloc, Value::from(1u8)), Value::from(1u128)) == Some(true),
+            holds(alloc, one_map(alloc), text(alloc, "a")) == Some(true),
+            holds(alloc, one_map(alloc), ten_and_twenty(alloc)) == Some(false),
+        ],
+    );
+}
+
+#[test]
+fn numbers_hold_nothing(rt: HostRuntime) {
+    let one = Value::from(1i64);
+    let says = "`in` cannot be used on a container of type `i64`. \
+        It can only be used on arrays, strings and map/structs";
+    assert!(rt; is_refused(one.contains(rt.alloc(), &one), says));
+}
+
+// The key that it is equals that.
+fn is_key(alloc: Global, of: Value, key: Key<'static>) -> bool {
+    of.as_key(alloc).ok() == Some(key)
+}
+
+#[test]
+fn values_are_keys(rt: HostRuntime) {
+    let alloc = rt.alloc();
+    hold(
+        &rt,
+        &[
+            is_key(alloc, safe(alloc, "a"), Key::Str("a")),
+            is_key(alloc, Value::from(1u64), Key::I128(1)),
+            is_key(alloc, Value::from(true), Key::Bool(true)),
+            is_refused(Value::none().as_key(alloc), "Not a valid key type"),
+        ],
+    );
+}
+
+// How many fields it has.
+pub fn field_count(alloc: Global, of: Value) -> Option<usize> {
+    Some(of.available_fields(alloc).ok()?.len())
+}
+
+// The first and the last of its fields are called so.
+pub fn fields_are(alloc: Global, of: Value, first: &str, last: &str) -> bool {
+    let names = of.available_fields(alloc).unwrap_or(Vec::new(alloc));
+    ends_are(names.as_slice(), first, last)
+}
+
+// The first and the last text are these.
+fn ends_are(texts: &[String], first: &str, last: &str) -> bool {
+    match (texts.first(), texts.last()) {
+        (Some(low), Some(high)) => low.as_str() == first && high.as_str() == last,
+        _ => false,
+    }
+}
+
+#[test]
+fn fields_are_named(rt: HostRuntime) {
+    let alloc = rt.alloc();
+    let pairs = [(20, 0), (3, 0)];
+    hold(
+        &rt,
+        &[
+            field_count(alloc, at_numbers(alloc, &pairs)) == Some(2),
+            fields_are(alloc, at_numbers(alloc, &pairs), "20", "3"),
+        ],
+    );
+}

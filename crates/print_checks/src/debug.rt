@@ -1,0 +1,73 @@
+//! What Debug tells of values and of their kinds: each variant by its name, with what it holds.
+use crate::held::hold;
+use made_values::{bytes, one_item, one_pair, safe, shows, text};
+use std::alloc::Global;
+use tera_values::{Key, Value, ValueKind};
+
+// Its debug text is that.
+fn tells(alloc: Global, value: Value, wanted: &str) -> bool {
+    shows(alloc, &value, wanted)
+}
+
+#[test]
+fn single_values_show_what_holds_them(rt: HostRuntime) {
+    let alloc = rt.alloc();
+    hold(
+        &rt,
+        &[
+            tells(alloc, Value::undefined(), "Value { inner: Undefined }"),
+            tells(alloc, Value::none(), "Value { inner: None }"),
+            tells(alloc, Value::from(true), "Value { inner: Bool(true) }"),
+            tells(alloc, Value::from(7u64), "Value { inner: U64(7) }"),
+            tells(alloc, Value::from(-7i64), "Value { inner: I64(-7) }"),
+            tells(alloc, Value::from(7u128), "Value { inner: U128(7) }"),
+            tells(alloc, Value::from(-7i128), "Value { inner: I128(-7) }"),
+        ],
+    );
+}
+
+#[test]
+fn texts_and_bytes_show_what_they_hold(rt: HostRuntime) {
+    let alloc = rt.alloc();
+    let marked = text(alloc, "a").mark_safe();
+    let plain_text = "Value { inner: String(\"a\", false) }";
+    let safe_text = "Value { inner: String(\"a\", true) }";
+    let raw = "Value { inner: Bytes([97, 255]) }";
+    hold(
+        &rt,
+        &[
+            tells(alloc, text(alloc, "a"), plain_text),
+            tells(alloc, marked, safe_text),
+            tells(alloc, safe(alloc, "a"), safe_text),
+            tells(alloc, bytes(alloc, b"a\xff"), raw),
+        ],
+    );
+}
+
+#[test]
+fn arrays_and_maps_show_their_parts(rt: HostRuntime) {
+    let alloc = rt.alloc();
+    let array = "Value { inner: Array([Value { inner: None }]) }";
+    let map = "Value { inner: Map({Str(\"a\"): Value { inner: None }}) }";
+    assert!(rt; tells(alloc, one_item(alloc, Value::none()), array));
+    assert!(rt; tells(alloc, one_pair(alloc, Key::Str("a"), Value::none()), map));
+}
+
+#[test]
+fn kinds_show_their_names(rt: HostRuntime) {
+    for (kind, wanted) in [
+        (ValueKind::Undefined, "Undefined"),
+        (ValueKind::None, "None"),
+        (ValueKind::Bool, "Bool"),
+        (ValueKind::U64, "U64"),
+        (ValueKind::I64, "I64"),
+        (ValueKind::U128, "U128"),
+        (ValueKind::I128, "I128"),
+        (ValueKind::String, "String"),
+        (ValueKind::Array, "Array"),
+        (ValueKind::Map, "Map"),
+        (ValueKind::Bytes, "Bytes"),
+    ] {
+        assert!(rt; shows(rt.alloc(), &kind, wanted), "{wanted}");
+    }
+}

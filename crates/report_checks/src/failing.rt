@@ -1,0 +1,54 @@
+//! A writer that fails.
+use std::io;
+use std::io::{ErrorKind, Write};
+
+/// Takes at most `step` bytes a write, and no more than `left` in all; then it answers an error.
+/// Where `interrupts`, every other write is interrupted.
+#[derive(Drop)]
+pub struct Failing {
+    pub left: usize,
+    pub step: usize,
+    pub interrupts: bool,
+    calls: u64,
+}
+
+impl Write for Failing {
+    fn write(&mut self, buf: &[u8]) -> io::Result<usize> {
+        self.calls = self.calls.wrapping_add(1);
+        if self.interrupts && self.calls % 2 == 1 {
+            return Err(io::Error::from(ErrorKind::Interrupted));
+        }
+        if self.left == 0 {
+            return Err(io::Error::from(ErrorKind::StorageFull));
+        }
+        let taken = buf.len().min(self.left).min(self.step);
+        self.left -= taken;
+        Ok(taken)
+    }
+
+    // What is full cannot be flushed.
+    fn flush(&mut self) -> io::Result<()> {
+        if self.left == 0 {
+            return Err(io::Error::from(ErrorKind::StorageFull));
+        }
+        Ok(())
+    }
+}
+
+/// Such a writer that was not yet called.
+pub fn fails_after(left: usize, step: usize, interrupts: bool) -> Failing {
+    Failing {
+        left,
+        step,
+        interrupts,
+        calls: 0,
+    }
+}
+
+/// The kind of the error, if there is one.
+pub fn kind_of(answer: io::Result<()>) -> Option<ErrorKind> {
+    match answer {
+        Ok(()) => None,
+        Err(e) => Some(e.kind()),
+    }
+}

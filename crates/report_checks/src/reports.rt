@@ -1,0 +1,250 @@
+//! Reports: their texts, what they are equal to, sizes, and writers that fail.
+use crate::failing::{fails_after, kind_of};
+use crate::held::hold;
+use crate::made::{displays, many, owned, shows};
+use std::alloc::Global;
+use std::io::ErrorKind as Fault;
+use tera_report::watch::Watched;
+use tera_report::{Error, ErrorKind, ReportError, Span};
+
+// From one column of a line to another.
+fn on(line: usize, from: usize, to: usize) -> Span {
+    Span {
+        start_line: line,
+        start_col: from,
+        end_line: line,
+        end_col: to,
+        range: 0..0,
+    }
+}
+
+// The report of that message in that file on that source, or another one where memory is wanting.
+fn made(alloc: Global, message: &str, file: &str, source: &str, span: Span) -> ReportError {
+    let lost = ReportError::new_without_source(alloc, owned(alloc, "lost"), &span);
+    ReportError::new(alloc, owned(alloc, message), file, source, &span).unwrap_or(lost)
+}
+
+// It reads so, also where an error displays it.
+fn reads(alloc: Global, report: ReportError, wanted: &str) -> bool {
+    let text = report.generate_report(alloc).unwrap_or(String::new(alloc));
+    match Box::new(alloc, report) {
+        Ok(report) => {
+            let error = Error::new(ErrorKind::RenderingError(report));
+            text.as_str() == wanted && displays(alloc, &error, wanted)
+        }
+        Err(_) => false,
+    }
+}
+
+// The report on that source reads so.
+fn says(alloc: Global, source: &str, span: Span, wanted: &str) -> bool {
+    reads(alloc, made(alloc, "bad", "a.html", source, span), wanted)
+}
+
+const TWO_LINES: &str = "x\n\t{{ y";
+
+const FOUR_LINES: &str = "foo\nbar\r\n\nbaz";
+
+#[test]
+fn reports_of_spans(rt: HostRuntime) {
+    let alloc = rt.alloc();
+    let at_tab = "error: bad\n --> a.html:2:2\n  |\n2 | \t{{ y\n  | \t^^";
+    let past = "error: bad\n --> a.html:9:1\n  |\n9 | \n  | ^";
+    let at_0 = "error: bad\n --> a.html:0:2\n  |\n0 | \n  | ^^";
+    let far = "error: bad\n --> a.html:1:18446744073709551616\n  |\n1 | x\n  |  ^";
+    let turned = "error: bad\n --> a.html:1:4\n  |\n1 | é\tx\n  |  \t ^";
+    hold(
+        &rt,
+        &[
+            says(alloc, TWO_LINES, on(2, 1, 3), at_tab),
+            says(alloc, TWO_LINES, on(9, 0, 1), past),
+            says(alloc, TWO_LINES, on(0, 1, 3), at_0),
+            says(alloc, TWO_LINES, on(1, usize::MAX, 0), far),
+            says(alloc, "é\tx", on(1, 3, 2), turned),
+        ],
+    );
+}
+
+#[test]
+fn reports_of_lines(rt: HostRuntime) {
+    let alloc = rt.alloc();
+    let empty = "error: bad\n --> a.html:1:1\n  |\n1 | \n  | ^";
+    let last = "error: bad\n --> a.html:2:1\n  |\n2 | \n  | ^";
+    let returned = "error: bad\n --> a.html:2:1\n  |\n2 | bar\r\n  | ^^^";
+    let fourth = "error: bad\n --> a.html:4:3\n  |\n4 | baz\n  |   ^";
+    let twelfth = "error: bad\n  --> a.html:12:1\n   |\n12 | end\n   | ^^^";
+    hold(
+        &rt,
+        &[
+            says(alloc, "", on(1, 0, 1), empty),
+            says(alloc, "x\n", on(2, 0, 0), last),
+            says(alloc, FOUR_LINES, on(2, 0, 3), returned),
+            says(alloc, FOUR_LINES, on(4, 2, 3), fourth),
+            says(alloc, "\n\n\n\n\n\n\n\n\n\n\nend", on(12, 0, 3), twelfth),
+        ],
+    );
+}
+
+// A report with notes of these labels.
+fn noted(alloc: Global, labels: &[&str]) -> ReportError {
+    let mut report = made(alloc, "bad", "a", "xy", on(1, 0, 2));
+    for label in labels {
+        let _ = report.add_note(alloc, label, "b", "z", &on(1, 0, 1));
+    }
+    report
+}
+
+const NOTED: &str =
+    "error: bad\n --> a:1:1\n  |\n1 | xy\n  | ^^\n\nnote: called from b:1:1\n  |\n1 | z\n  | ^";
+
+#[test]
+fn reports_with_notes(rt: HostRuntime) {
+    let alloc = rt.alloc();
+    let two = format!(in alloc; "{NOTED}\n\nnote: then b:1:1\n  |\n1 | z\n  | ^");
+    let two = two.unwrap_or(String::new(alloc));
+    hold(
+        &rt,
+        &[
+            reads(alloc, noted(alloc, &["called from"]), NOTED),
+            reads(alloc, noted(alloc, &["called from", "then"]), two.as_str()),
+        ],
+    );
+}
+
+// Without a source, and then with one.
+fn is_given_a_source(alloc: Global) -> bool {
+    let mut report = ReportError::new_without_source(alloc, owned(alloc, "m"), &on(3, 0, 1));
+    let bare = report.generate_report(alloc).unwrap_or(String::new(alloc));
+    let is_set = report.set_source(alloc, "f", "\n\né").is_ok();
+    bare.as_str() == "error: m\n --> :3:1\n  |\n3 | \n  | ^"
+        && is_set
+        && reads(alloc, report, "error: m\n --> f:3:1\n  |\n3 | é\n  | ^")
+}
+
+fn lends_its_parts(alloc: Global) -> bool {
+    let report = made(alloc, "bad", "a", "xy", on(1, 0, 2));
+    report.message() == "bad" && report.filename() == "a" && *report.span() == on(1, 0, 2)
+}
+
+#[test]
+fn parts_of_reports(rt: HostRuntime) {
+    let alloc = rt.alloc();
+    let span = on(1, 2, 3);
+    let lost = made(alloc, "lost", "", "", on(0, 0, 0));
+    let ended = ReportError::unexpected_end_of_input(alloc, &span).unwrap_or(lost);
+    let at_end = "error: Unexpected end of input\n --> :1:3\n  |\n1 | \n  | ^";
+    let error = Error::syntax_error(alloc, owned(alloc, "m"), &span);
+    let syntax = "error: m\n --> :1:3\n  |\n1 | \n  | ^";
+    hold(
+        &rt,
+        &[
+            is_given_a_source(alloc),
+            lends_its_parts(alloc),
+            reads(alloc, ended, at_end),
+            displays(alloc, &error, syntax),
+        ],
+    );
+}
+
+// It is its clone, and is not that report.
+fn is_its_clone(alloc: Global, report: &ReportError, other: &ReportError) -> bool {
+    match report.clone(alloc) {
+        Ok(copy) => copy == *report && copy != *other,
+        Err(_) => false,
+    }
+}
+
+#[test]
+fn reports_are_equal_by_their_parts(rt: HostRuntime) {
+    let alloc = rt.alloc();
+    let report = noted(alloc, &["a"]);
+    hold(
+        &rt,
+        &[
+            is_its_clone(alloc, &report, &noted(alloc, &["b"])),
+            is_its_clone(alloc, &report, &noted(alloc, &[])),
+            is_its_clone(alloc, &report, &noted(alloc, &["a", "a"])),
+            is_its_clone(alloc, &report, &made(alloc, "", "a", "xy", on(1, 0, 2))),
+        ],
+    );
+}
+
+// A report of so many carets finds no memory, and stays as it was.
+#[test]
+fn a_report_that_is_too_long(rt: HostRuntime) {
+    let alloc = rt.alloc();
+    let report = made(alloc, "m", "f", "x", on(1, 0, usize::MAX));
+    let is_refused = match report.generate_report(alloc) {
+        Ok(_) => false,
+        Err(error) => *error.kind() == ErrorKind::OutOfMemory,
+    };
+    let same = made(alloc, "m", "f", "x", on(1, 0, usize::MAX));
+    hold(&rt, &[is_refused, report == same]);
+}
+
+// Told to a writer that takes so many bytes it is answered by this.
+fn is_answered(alloc: Global, left: usize, wanted: Option<Fault>) -> bool {
+    let mut writer = fails_after(left, 3, false);
+    let mut watched = Watched::new(&mut writer);
+    kind_of(noted(alloc, &["called from"]).tell_to(&mut watched)) == wanted
+}
+
+#[test]
+fn writers_that_fail(rt: HostRuntime) {
+    let alloc = rt.alloc();
+    for left in 0..NOTED.len() {
+        assert!(rt;
+            is_answered(alloc, left, Some(Fault::StorageFull)),
+            "room for {left}"
+        );
+    }
+    assert!(rt; is_answered(alloc, NOTED.len(), None));
+}
+
+// So many characters, lines and notes.
+fn is_whole(alloc: Global, count: usize) -> bool {
+    let source = many(alloc, '\n', count);
+    let message = many(alloc, 'é', count);
+    let line = count.saturating_add(1);
+    let mut report = made(
+        alloc,
+        message.as_str(),
+        "f",
+        source.as_str(),
+        on(line, 0, count),
+    );
+    for _ in 0..count {
+        let _ = report.add_note(alloc, "l", "f", "x", &on(1, 0, 1));
+    }
+    let other = made(alloc, "other", "f", "", on(1, 0, 1));
+    is_its_clone(alloc, &report, &other) && report.generate_report(alloc).is_ok()
+}
+
+#[test]
+fn with_ample_memory(rt: HostRuntime) {
+    let alloc = rt.alloc();
+    hold(
+        &rt,
+        &[
+            is_whole(alloc, 0),
+            is_whole(alloc, 1),
+            is_whole(alloc, 1000),
+        ],
+    );
+}
+
+#[test]
+fn debug_of_a_report(rt: HostRuntime) {
+    let alloc = rt.alloc();
+    let texts = "message: \"m\", filename: \"f\", source: \"é\"";
+    let rest = "span:  @ 1:0-1:2 (0..0), notes: []";
+    let wanted = format!(in alloc; "ReportError {{ {texts}, {rest} }}");
+    let wanted = wanted.unwrap_or(String::new(alloc));
+    assert!(rt;
+        shows(
+            alloc,
+            &made(alloc, "m", "f", "é", on(1, 0, 2)),
+            wanted.as_str()
+        )
+    );
+}

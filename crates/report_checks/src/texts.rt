@@ -1,0 +1,162 @@
+//! What errors display, and their causes.
+use crate::held::hold;
+use crate::made::{displays, names};
+use std::alloc::{AllocError, AllocFailed, Global};
+use std::io;
+use tera_report::{Error, ErrorKind};
+
+// It displays that, and a width and a fill change nothing.
+fn says(alloc: Global, error: Error, wanted: &str) -> bool {
+    let wide = format!(in alloc; "{error:*>200}").unwrap_or(String::new(alloc));
+    displays(alloc, &error, wanted) && wide.as_str() == wanted
+}
+
+// The refusal of an extension over these templates says that.
+fn extend_says(alloc: Global, chain: &[&str], wanted: &str) -> bool {
+    let error = Error::circular_extend(alloc, "a", names(alloc, chain));
+    says(alloc, error, wanted)
+}
+
+// The refusal of an inclusion of that template over these says that.
+fn include_says(alloc: Global, name: &str, chain: &[&str], wanted: &str) -> bool {
+    let error = Error::circular_include(alloc, name, names(alloc, chain));
+    says(alloc, error, wanted)
+}
+
+#[test]
+fn texts_of_chains(rt: HostRuntime) {
+    let alloc = rt.alloc();
+    let extend = "Circular extend detected for template 'a'. Inheritance chain: `[\"a\", \"b\"]`";
+    let quoted =
+        "Circular include detected for template 'é'. Include chain: `[\"é\\\"\", \"\\u{7f}\"]`";
+    let empty = "Circular include detected for template 'a'. Include chain: `[]`";
+    hold(
+        &rt,
+        &[
+            extend_says(alloc, &["a", "b"], extend),
+            include_says(alloc, "é", &["é\"", "\u{7f}"], quoted),
+            include_says(alloc, "a", &[], empty),
+        ],
+    );
+}
+
+#[test]
+fn texts_of_names(rt: HostRuntime) {
+    let alloc = rt.alloc();
+    let parent = "Template 'a' is inheriting from 'b', which doesn't exist or isn't loaded.";
+    let template = "Template 'é' not found";
+    let component = "Component 'a' not found";
+    hold(
+        &rt,
+        &[
+            says(alloc, Error::message(alloc, "it's \"so\""), "it's \"so\""),
+            says(alloc, Error::missing_parent(alloc, "a", "b"), parent),
+            says(alloc, Error::template_not_found(alloc, "é"), template),
+            says(alloc, Error::component_not_found(alloc, "a"), component),
+        ],
+    );
+}
+
+#[test]
+fn texts_of_arguments(rt: HostRuntime) {
+    let alloc = rt.alloc();
+    let of_type = "Invalid type for the value, expected `u8` but got `string`";
+    let of_range = "Value `300` is out of range for `u8`";
+    let missing = "Missing keyword argument `n`";
+    hold(
+        &rt,
+        &[
+            says(
+                alloc,
+                Error::invalid_arg_type(alloc, "u8", "string"),
+                of_type,
+            ),
+            says(alloc, Error::out_of_range_arg(alloc, "300", "u8"), of_range),
+            says(alloc, Error::missing_arg(alloc, "n"), missing),
+        ],
+    );
+}
+
+#[test]
+fn texts_of_fixed_words(rt: HostRuntime) {
+    let alloc = rt.alloc();
+    let no_text = "Invalid UTF-8 characters found while rendering.";
+    let no_memory = "Out of memory";
+    hold(
+        &rt,
+        &[
+            says(alloc, Error::new(ErrorKind::Utf8Conversion), no_text),
+            says(alloc, Error::from(AllocError), no_memory),
+            says(alloc, Error::from(AllocFailed { value: 1u8 }), no_memory),
+        ],
+    );
+}
+
+#[test]
+fn io_kinds_by_name(rt: HostRuntime) {
+    for (kind, wanted) in [
+        (
+            io::ErrorKind::NotFound,
+            "Io error while writing rendered value to output: NotFound",
+        ),
+        (
+            io::ErrorKind::BrokenPipe,
+            "Io error while writing rendered value to output: BrokenPipe",
+        ),
+        (
+            io::ErrorKind::WriteZero,
+            "Io error while writing rendered value to output: WriteZero",
+        ),
+        (
+            io::ErrorKind::OutOfMemory,
+            "Io error while writing rendered value to output: OutOfMemory",
+        ),
+        (
+            io::ErrorKind::StaleNetworkFileHandle,
+            "Io error while writing rendered value to output: StaleNetworkFileHandle",
+        ),
+    ] {
+        let error = Error::from(io::Error::from(kind));
+        assert!(rt; says(rt.alloc(), error, wanted), "{wanted}");
+    }
+}
+
+// Its cause displays that.
+fn has_cause(alloc: Global, error: Error, wanted: &str) -> bool {
+    match error.source() {
+        Some(cause) => displays(alloc, cause, wanted),
+        None => false,
+    }
+}
+
+// It has no cause.
+fn has_none(error: Error) -> bool {
+    error.source().is_none()
+}
+
+// The error of bytes that are no text.
+fn of_bytes(alloc: Global, bytes: &[u8]) -> Error {
+    let bytes = bytes.to_vec(alloc).unwrap_or(Vec::new(alloc));
+    match String::from_utf8(bytes) {
+        Ok(text) => Error::message(alloc, text.as_str()),
+        Err(wrong) => Error::from(wrong),
+    }
+}
+
+#[test]
+fn causes(rt: HostRuntime) {
+    let alloc = rt.alloc();
+    let chained = Error::chain(alloc, "outer", anyhow::Error::msg("inner"));
+    let no_text = "invalid utf-8 sequence of 1 bytes from index 1";
+    let not_found = Error::from(io::Error::from(io::ErrorKind::NotFound));
+    hold(
+        &rt,
+        &[
+            displays(alloc, &chained, "outer"),
+            has_cause(alloc, chained, "inner"),
+            has_cause(alloc, not_found, "entity not found"),
+            has_cause(alloc, of_bytes(alloc, b"a\xff"), no_text),
+            has_none(Error::message(alloc, "a")),
+        ],
+    );
+}

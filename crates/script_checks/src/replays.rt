@@ -1,0 +1,324 @@
+//! Replays of scripts, in any pieces, and with reads, writes and flushes that fail.
+use std::alloc::Global;
+use std::io::{BufWriter, Error, ErrorKind, Read, Result, Write};
+use std::test::Fail;
+use tera_replayer::{InputPieces, replay, replay_from};
+use tera_report::sink::Growing;
+
+// Gives these bytes, at most `size` at a read, and then ends or is interrupted.
+#[derive(Drop)]
+struct Slow<'a> {
+    bytes: &'a [u8],
+    size: usize,
+    fails: bool,
+}
+
+impl Read for Slow<'_> {
+    fn read(&mut self, buf: &mut [u8]) -> Result<usize> {
+        let count = self.size.min(self.bytes.len()).min(buf.len());
+        if count == 0 && self.fails {
+            return Err(Error::from(ErrorKind::Interrupted));
+        }
+        let (front, rest) = self.bytes.split_at(count);
+        buf[..count].copy_from_slice(front);
+        self.bytes = rest;
+        Ok(count)
+    }
+}
+
+// Holds up to `room` bytes, and fails at the next, or at a flush where it holds `unflushed` bytes.
+#[derive(Drop)]
+struct Shelf {
+    held: Vec<u8>,
+    room: usize,
+    unflushed: usize,
+}
+
+impl Write for Shelf {
+    fn write(&mut self, buf: &[u8]) -> Result<usize> {
+        let count = buf.len().min(self.room);
+        if count == 0 && !buf.is_empty() {
+            return Err(Error::from(ErrorKind::StorageFull));
+        }
+        self.held.extend_from_slice(&buf[..count])?;
+        self.room -= count;
+        Ok(count)
+    }
+
+    fn flush(&mut self) -> Result<()> {
+        if self.held.len() == self.unflushed {
+            return Err(Error::from(ErrorKind::Other));
+        }
+        Ok(())
+    }
+}
+
+fn empty_shelf(alloc: Global, room: usize) -> Shelf {
+    Shelf {
+        held: Vec::new(alloc),
+        room,
+        unflushed: usize::MAX,
+    }
+}
+
+// The reports of `frob` as the second and as the third line.
+const SECOND: &[u8] = b"error: bad line\n --> line 2:1:1\n  |\n1 | frob\n  | ^^^^\n";
+
+const THIRD: &str = "error: bad line\n --> line 3:1:1\n  |\n1 | frob\n  | ^^^^\n";
+
+const THE_2001ST: &str = "error: bad line\n --> line 2001:1:1\n  |\n1 | frob\n  | ^^^^\n";
+
+const FIRST: &[u8] =
+    b"set a 1u64\nset b 1i128\neq a b\ncmp a b\nset c s\"<x>\"\nprint c\ncmp b c\n";
+
+const FIRST_ANSWERS: &[u8] = b"ok\nok\ntrue\nequal\nok\ntext <x>\nless\n";
+
+#[test]
+fn scripts_are_answered_in_any_pieces(rt: HostRuntime) -> std::result::Result<(), Fail> {
+    let alloc = rt.alloc();
+    for (script, answers, report, want) in [
+        (FIRST, FIRST_ANSWERS, b"".as_slice(), 0),
+        (b"", b"", b"", 0),
+        (b"# note", b"", b"", 0),
+        (b"# \xff\n \t \n", b"", b"", 0),
+        (b"eq a b\nfrob", b"true\n", SECOND, 2),
+        (b"eq a b\nfrob\neq a b\n", b"true\n", SECOND, 2),
+        (
+            b"\n\n\xff\n",
+            b"",
+            b"error: bad line\n --> line 3:1:1\n  |\n1 | \n  | ^\n",
+            2,
+        ),
+        (b"eq a b\r\ncmp a b\r\n", b"true\nequal\n", b"", 0),
+        (b"eq a b", b"true\n", b"", 0),
+        (
+            b"eq a b\r",
+            b"",
+            b"error: bad line\n --> line 1:1:1\n  |\n1 | eq a b\r\n  | ^^^^^^^\n",
+            2,
+        ),
+        (
+            b"\tfrob \xc3\xa9\r\n",
+            b"",
+            b"error: bad line\n --> line 1:1:1\n  |\n1 | \tfrob \xc3\xa9\n  | ^^^^^^^\n",
+            2,
+        ),
+        (b"set t \"a\\nb\"\nprint t\n", b"ok\ntext a\nb\n", b"", 0),
+        (
+            b"set m {1u64: \"a\", true: [{}], 1: s\"b\"}\nprint m\n",
+            b"ok\ntext {true: [{}], 1: \"b\"}\n",
+            b"",
+            0,
+        ),
+        (
+            b"set m {\"a\": 1,}\n",
+            b"",
+            b"error: bad line\n --> line 1:1:1\n  |\n1 | set m {\"a\": 1,}\n  | ^^^^^^^^^^^^^^^\n",
+            2,
+        ),
+    ] {
+        for size in [1, 2, 7, 4096] {
+            let mut out = empty_shelf(alloc, 4096);
+            let mut err = empty_shelf(alloc, 4096);
+            let input = Slow {
+                bytes: script,
+                size,
+                fails: false,
+            };
+            let status = replay(alloc, input, &mut out, &mut err);
+            assert_eq!(rt; status, want, "{script:?} by {size}");
+            assert_eq!(rt; out.held.as_slice(), answers, "{script:?} by {size}");
+            assert_eq!(rt; err.held.as_slice(), report, "{script:?} by {size}");
+        }
+    }
+    Ok(())
+}
+
+#[test]
+fn an_interrupted_read_is_a_failed_one(rt: HostRuntime) -> std::result::Result<(), Fail> {
+    let alloc = rt.alloc();
+    for (script, answers) in [
+        (b"eq a b\neq a".as_slice(), b"true\n".as_slice()),
+        (b"eq a b\nfrob", b"true\n"),
+        (b"", b""),
+    ] {
+        let mut out = empty_shelf(alloc, 4096);
+        let mut err = empty_shelf(alloc, 4096);
+        let input = Slow {
+            bytes: script,
+            size: 5,
+            fails: true,
+        };
+        let status = replay(alloc, input, &mut out, &mut err);
+        assert_eq!(rt; status, 1, "{script:?}");
+        assert_eq!(rt; out.held.as_slice(), answers, "{script:?}");
+        assert_eq!(rt; err.held.as_slice(), b"error: reading failed\n".as_slice());
+    }
+    Ok(())
+}
+
+#[test]
+fn a_failed_write_ends_the_replay(rt: HostRuntime) -> std::result::Result<(), Fail> {
+    let alloc = rt.alloc();
+    for room in 0..FIRST_ANSWERS.len() {
+        let mut out = empty_shelf(alloc, room);
+        let mut err = empty_shelf(alloc, 4096);
+        let input = Slow {
+            bytes: FIRST,
+            size: 4096,
+            fails: false,
+        };
+        let status = replay(alloc, input, &mut out, &mut err);
+        assert_eq!(rt; status, 1, "{room}");
+        assert_eq!(rt; out.held.as_slice(), &FIRST_ANSWERS[..room], "{room}");
+        assert_eq!(rt; err.held.as_slice(), b"error: writing failed\n".as_slice());
+    }
+    Ok(())
+}
+
+#[test]
+fn a_report_that_is_not_written_changes_nothing(rt: HostRuntime) -> std::result::Result<(), Fail> {
+    let alloc = rt.alloc();
+    for room in 0..SECOND.len() {
+        let mut out = empty_shelf(alloc, 4096);
+        let mut err = empty_shelf(alloc, room);
+        let input = Slow {
+            bytes: b"eq a b\nfrob\n",
+            size: 4096,
+            fails: false,
+        };
+        let status = replay(alloc, input, &mut out, &mut err);
+        assert_eq!(rt; status, 2, "{room}");
+        assert_eq!(rt; out.held.as_slice(), b"true\n".as_slice(), "{room}");
+        assert_eq!(rt; err.held.as_slice(), &SECOND[..room], "{room}");
+    }
+    Ok(())
+}
+
+// What a replay of these pieces writes to `out` and to `err`, and its status.
+fn replayed(alloc: Global, pieces: &[&[u8]], fails: bool) -> (Growing, Growing, u8) {
+    let mut out = Growing::new(alloc);
+    let mut err = Growing::new(alloc);
+    let mut input = InputPieces::new(pieces, fails);
+    let status = replay_from(alloc, &mut input, &mut out, &mut err);
+    (out, err, status)
+}
+
+#[test]
+fn pieces_that_end_are_answered(rt: HostRuntime) {
+    let cut: [&[u8]; 5] = [b"set a 1u64\nset b", b"", b" 1i128\neq a", b" b", b"\n"];
+    let (out, err, status) = replayed(rt.alloc(), &cut, false);
+    assert_eq!(rt; out.as_str(), "ok\nok\ntrue\n");
+    assert_eq!(rt; err.as_str(), "");
+    assert_eq!(rt; status, 0);
+
+    let bad: [&[u8]; 2] = [b"\n\n", b"frob"];
+    let (out, err, status) = replayed(rt.alloc(), &bad, false);
+    assert_eq!(rt; out.as_str(), "");
+    assert_eq!(rt; err.as_str(), THIRD);
+    assert_eq!(rt; status, 2);
+}
+
+#[test]
+fn pieces_that_fail_are_answered_up_to_the_last_whole_line(rt: HostRuntime) {
+    let cut: [&[u8]; 3] = [b"eq a b\ncm", b"p a b\nfr", b"ob"];
+    let (out, err, status) = replayed(rt.alloc(), &cut, true);
+    assert_eq!(rt; out.as_str(), "true\nequal\n");
+    assert_eq!(rt; err.as_str(), "error: reading failed\n");
+    assert_eq!(rt; status, 1);
+
+    let bad: [&[u8]; 2] = [b"eq a b\nfr", b"ob\n"];
+    let (out, err, status) = replayed(rt.alloc(), &bad, true);
+    assert_eq!(rt; out.as_str(), "true\n");
+    assert_eq!(rt; err.as_str().as_bytes(), SECOND);
+    assert_eq!(rt; status, 2);
+
+    let (out, err, status) = replayed(rt.alloc(), &[], true);
+    assert_eq!(rt; out.as_str(), "");
+    assert_eq!(rt; err.as_str(), "error: reading failed\n");
+    assert_eq!(rt; status, 1);
+}
+
+#[test]
+fn a_piece_that_finds_no_room_is_given_in_parts(rt: HostRuntime) -> std::result::Result<(), Fail> {
+    let alloc = rt.alloc();
+    let mut script = Vec::new(alloc);
+    let mut answers = Vec::new(alloc);
+    for _ in 0..2000 {
+        script.extend_from_slice(b"eq a b\n")?;
+        answers.extend_from_slice(b"true\n")?;
+    }
+    let pieces: [&[u8]; 2] = [script.as_slice(), b"frob"];
+    let (out, err, status) = replayed(alloc, &pieces, false);
+    assert_eq!(rt; out.as_str().as_bytes(), answers.as_slice());
+    assert_eq!(rt; err.as_str(), THE_2001ST);
+    assert_eq!(rt; status, 2);
+    Ok(())
+}
+
+#[test]
+fn a_bad_line_before_a_failed_read_is_told_alone(rt: HostRuntime) -> std::result::Result<(), Fail> {
+    let alloc = rt.alloc();
+    let mut out = empty_shelf(alloc, 4096);
+    let mut err = empty_shelf(alloc, 4096);
+    let input = Slow {
+        bytes: b"eq a b\nfrob\n",
+        size: 4096,
+        fails: true,
+    };
+    let status = replay(alloc, input, &mut out, &mut err);
+    assert_eq!(rt; status, 2);
+    assert_eq!(rt; out.held.as_slice(), b"true\n".as_slice());
+    assert_eq!(rt; err.held.as_slice(), SECOND);
+    Ok(())
+}
+
+#[test]
+fn a_failed_flush_is_a_failed_write(rt: HostRuntime) -> std::result::Result<(), Fail> {
+    let alloc = rt.alloc();
+    for (script, unflushed, answers) in [
+        (b"eq a b\neq a b\n".as_slice(), 0, b"".as_slice()),
+        (b"eq a b\neq a b\n", 10, b"true\ntrue\n"),
+        (b"eq a b\neq a b", 10, b"true\ntrue\n"),
+        (b"eq a b\nfrob\n", 5, b"true\n"),
+    ] {
+        let mut out = empty_shelf(alloc, 4096);
+        out.unflushed = unflushed;
+        let mut err = empty_shelf(alloc, 4096);
+        let input = Slow {
+            bytes: script,
+            size: 4096,
+            fails: false,
+        };
+        let status = replay(alloc, input, &mut out, &mut err);
+        assert_eq!(rt; status, 1, "{script:?}");
+        assert_eq!(rt; out.held.as_slice(), answers, "{script:?}");
+        assert_eq!(rt;
+            err.held.as_slice(),
+            b"error: writing failed\n".as_slice(),
+            "{script:?}"
+        );
+    }
+    Ok(())
+}
+
+#[test]
+fn the_last_answers_are_flushed(rt: HostRuntime) -> std::result::Result<(), Fail> {
+    let alloc = rt.alloc();
+    for (script, answers, want) in [
+        (b"eq a b\neq a b".as_slice(), b"true\ntrue\n".as_slice(), 0),
+        (b"eq a b\nfrob\n", b"true\n", 2),
+    ] {
+        let mut out = BufWriter::new(alloc, empty_shelf(alloc, 4096))?;
+        let mut err = empty_shelf(alloc, 4096);
+        let input = Slow {
+            bytes: script,
+            size: 4096,
+            fails: false,
+        };
+        let status = replay(alloc, input, &mut out, &mut err);
+        assert_eq!(rt; status, want, "{script:?}");
+        assert_eq!(rt; out.get_ref().held.as_slice(), answers, "{script:?}");
+    }
+    Ok(())
+}

@@ -1,0 +1,2 @@
+pub mod IntegerLemmas
+pub mod ItemLemmas

@@ -1,0 +1,73 @@
+-- What a search finds, or refuses.
+use Rattle.std.specs.Prelude.{◌≡◌, ℕ, List, Option, Some, None, Result, Ok, Err, IsErr, IsErrAnd, refl}
+use Rattle.std.proofs.Common.{sym, ◌∙◌, ap, subst, inl, inr}
+use Rattle.tera_report.specs.declared.errors.Error.{Error}
+use Rattle.tera_report.specs.Errors.{Raises, Refuses, IsOutOfMemory}
+use Rattle.tera_report.specs.Refusal.{Refusal, stated}
+use Rattle.tera_meaning.specs.Answer
+use Rattle.tera_meaning.specs.Form.{Form}
+use Rattle.tera_meaning.specs.Outcome.{Outcome}
+use Rattle.tera_meaning.specs.Request.{find}
+use Rattle.tera_meaning.specs.Search.{Search, found_at, one_found, IsCopy}
+use Rattle.tera_meaning.specs.State.{State}
+use Rattle.tera_meaning.specs.Step.{found_or_kept, keeping, IsStep}
+use Rattle.tera_meaning.proofs.StepLaws.{refused_answer, refused_left}
+use Rattle.tera_context.specs.declared.call.Answer.{Answer}
+use Rattle.tera_context.specs.Steps.{ShowsOneOf}
+use Rattle.tera_context.proofs.Shown.{refusal_shown, want_shown}
+
+-- the step that a search is, and what shows it
+abbrev pub IsSearchStep : State → Search → Option (List ℕ) → State → Outcome → Type 0
+IsSearchStep state search into new outcome = IsStep state (record { request = find search; into = into }) outcome new
+
+abbrev pub FindsAt : State → Search → Option (List ℕ) → Result Answer Error → State → Type 0
+FindsAt state search into result new = ShowsOneOf result (IsSearchStep state search into new)
+
+nothing_answered : (into : Option (List ℕ)) → Ok (Answer.found None) ≡ found_or_kept into (Ok None)
+nothing_answered None = refl
+nothing_answered (Some into) = refl
+
+nothing_kept : (state : State) (into : Option (List ℕ)) → state ≡ keeping state into (Ok None)
+nothing_kept state None = refl
+nothing_kept state (Some into) = refl
+
+-- where nothing is found that is the answer, and nothing is kept
+pub nothing_found : (state : State) (search : Search) (into : Option (List ℕ)) → found_at state search ≡ Ok None
+    → IsStep state (record { request = find search; into = into }) (Ok (Answer.found None)) state
+nothing_found state search into is =
+    inl (nothing_answered into ∙ ap (found_or_kept into) (sym is), nothing_kept state into ∙ ap (keeping state into) (sym is))
+
+-- a search that wanted memory for a copy changes nothing
+pub copy_refused : (e : Error) (state : State) (search : Search) (into : Option (List ℕ)) → IsOutOfMemory e → IsCopy search
+    → FindsAt state search into (Err e) state
+copy_refused e state search into want copy = want_shown (Err e) e (IsSearchStep state search into state) refl want (inr (inr (inl copy), refl, refl))
+
+-- nor one that was refused
+pub search_refused : (e : Error) (given : Result Form Refusal) (state : State) (search : Search) (into : Option (List ℕ))
+    → Refuses given e → found_at state search ≡ one_found given → IsCopy search → FindsAt state search into (Err e) state
+search_refused e (Ok value) state search into want finds copy = copy_refused e state search into want copy
+search_refused e (Err refusal) state search into (inl shows) finds copy =
+    refusal_shown (Err e) e (IsSearchStep state search into state) refl refusal shows (inl (
+      sym (ap (found_or_kept into) finds ∙ refused_answer into refusal),
+      sym (ap (keeping state into) finds ∙ refused_left state into refusal),
+    ))
+search_refused e (Err refusal) state search into (inr want) finds copy = copy_refused e state search into want copy
+
+-- nor one that takes memory for a refusal's text alone, and that is refused
+pub number_refused : (e : Error) (given : Result Form Refusal) (state : State) (search : Search) (into : Option (List ℕ))
+    → Refuses given e → found_at state search ≡ one_found given → IsErr given → FindsAt state search into (Err e) state
+number_refused e (Ok value) state search into want finds is = cc
+number_refused e (Err refusal) state search into (inl shows) finds is =
+    refusal_shown (Err e) e (IsSearchStep state search into state) refl refusal shows (inl (
+      sym (ap (found_or_kept into) finds ∙ refused_answer into refusal),
+      sym (ap (keeping state into) finds ∙ refused_left state into refusal),
+    ))
+number_refused e (Err refusal) state search into (inr want) finds is =
+    want_shown (Err e) e (IsSearchStep state search into state) refl want
+    (inr (inr (inr (subst IsErr (sym finds) refl)), refl, refl))
+
+-- the same of a result that is that refusal
+pub number_not_found : (r : Result Answer Error) (refusal : Refusal) (state : State) (search : Search) (into : Option (List ℕ))
+    → IsErrAnd r (Raises (stated refusal)) → found_at state search ≡ one_found (Err refusal) → FindsAt state search into r state
+number_not_found (Ok answer) refusal state search into raises finds = absurd raises
+number_not_found (Err e) refusal state search into raises finds = number_refused e (Err refusal) state search into raises finds refl

@@ -1,0 +1,8 @@
+use Rattle.std.proofs.Common.{inr, refl}
+use Rattle.tera_context.proofs.Shown.{want_shown}
+use Rattle.tera_context.proofs.steps.extend.Goals as goal
+
+pub returns-in_err-extend : goal.returns-in_err-extend
+returns-in_err-extend c =
+    want_shown c.from_residual.result c.in_err-extend.field-0.0 _ c.from_residual.ensures.1 c.in_err-extend.ensures.err
+    (inr (tt, refl, c.in_err-extend.ensures.part))

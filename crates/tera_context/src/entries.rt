@@ -1,0 +1,48 @@
+//! Contexts by their entries.
+ghost use Rattle.std.specs.Prelude.{◌≡◌, codes, pos, IfOk, IfErr};
+ghost use Rattle.std.specs.FinMap.{empty, insert};
+ghost use Rattle.tera_meaning.specs.Integer.{i64};
+ghost use Rattle.tera_meaning.specs.Rows.{held, normal};
+ghost use Rattle.tera_report.specs.Errors.{IsOutOfMemory};
+
+use crate::context;
+use std::alloc::Global;
+use tera_report::TeraResult;
+
+/// Makes a context: `context! { alloc; name => value, bare, .. }` keeps what each value gives under
+/// its name, one after another, and what a local variable gives, lent, under its own name. Any
+/// number of commas may follow an entry. Mirrors `context!`.
+///
+/// It stands where a `tera_report::Error` can be returned by `?`: that of a value, or
+/// `Out of memory`. Takes memory.
+#[macro_export]
+macro_rules! context {
+    ($alloc:expr; $($name:ident $(=> $value:expr)? $(,)*)*) => {{
+        let alloc = $alloc;
+        let mut context = $crate::Context::new(alloc);
+        $($crate::insert_entry!(context, alloc, $name $(=> $value)?);)*
+        context
+    }};
+}
+
+/// One entry of `context!`. Mirrors `__context_insert!`.
+#[macro_export]
+macro_rules! insert_entry {
+    ($context:ident, $alloc:ident, $name:ident => $value:expr) => {
+        $context.insert_value(stringify!($name), $crate::ToValue::to_value($value, $alloc)?)?
+    };
+    ($context:ident, $alloc:ident, $name:ident) => {
+        $crate::insert_entry!($context, $alloc, $name => &$name)
+    };
+}
+
+// What the entries of both forms give.
+fn both_forms(alloc: Global) -> TeraResult<crate::Context>
+    ensures ok { IfOk result (λ context. context
+        ≡ insert (insert empty (codes "foo") (normal (codes "Bar"))) (codes "con") (held i64 69)) }
+    ensures err { IfErr result IsOutOfMemory }
+{
+    let foo = "Bar";
+    let con = 69i64;
+    Ok(context! { alloc; foo, con => con,, })
+}

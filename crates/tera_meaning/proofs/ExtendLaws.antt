@@ -1,0 +1,221 @@
+-- What a state holds after it takes over what a source holds.
+use Rattle.std.specs.Prelude.{◌≡◌, ◌≢◌, ◌<◌, ℕ, zero, suc, Bool, true, false, cond, ◌&&◌, T, IsSome, List, [], ◌∷◌, ◌++◌, length, take, drop, Option, Some, None, refl}
+use Rattle.std.proofs.Common.{sym, ◌∙◌, ap, subst, arith}
+use Rattle.std.specs.Option.{option_map, option_or}
+use Rattle.std.specs.Ordering.{nat_cmp, eq_by_cmp, is_eq, is_lt, ordering_reverse}
+use Rattle.std.specs.Cmp.Lexicographic.{slice_cmp, nat_list_cmp_total}
+use Rattle.std.specs.FinMap.{get, find, insert, entries, from_entries, from_sorted, is_sorted, get-entries, get-insert, get-from_entries, get-from_sorted, entries-from_sorted, from_entries_push, len, len-entries, entries_sorted}
+use Rattle.std.specs.FinMap.Entries.{below_all}
+use Rattle.std.specs.declared.cmp.Ordering.{Ordering}
+use Rattle.std.specs.declared.cmp.Ordering.TheVariants.{Less, Equal, Greater}
+use Rattle.tera_meaning.specs.Alike.{MeanTheSame}
+use Rattle.tera_meaning.specs.Form.{Form}
+use Rattle.tera_meaning.specs.Meaning.{plain}
+use Rattle.tera_meaning.specs.State.{State, extended, IsProperBeginning}
+use Rattle.tera_meaning.specs.StateLaws.{same_state, name_exact}
+
+-- ---- lists of pairs
+
+chosen_or : (b : Bool) (value : Form) (o p : Option Form)
+    → cond b (Some value) (option_or o p) ≡ option_or (cond b (Some value) o) p
+chosen_or true value o p = refl
+chosen_or false value o p = refl
+
+-- the first of two lists that has a name says what it has
+find_either : (name : List ℕ) (first later : List (List ℕ × Form))
+    → find (slice_cmp nat_cmp) name (first ++ later)
+    ≡ option_or (find (slice_cmp nat_cmp) name first) (find (slice_cmp nat_cmp) name later)
+find_either name [] later = refl
+find_either name (p ∷ first) later =
+    ap (cond (eq_by_cmp (slice_cmp nat_cmp) name p.0) (Some p.1)) (find_either name first later)
+    ∙ chosen_or (eq_by_cmp (slice_cmp nat_cmp) name p.0) p.1 (find (slice_cmp nat_cmp) name first) (find (slice_cmp nat_cmp) name later)
+
+-- ---- the extended state
+
+pub get_extended : (state source : State) (name : List ℕ)
+    → get (extended state source) name ≡ option_or (get source name) (get state name)
+get_extended state source name =
+    get-from_entries nat_list_cmp_total (entries source ++ entries state) name
+    ∙ find_either name (entries source) (entries state)
+    ∙ (λ i. option_or (sym (get-entries source name) i) (sym (get-entries state name) i))
+
+-- one more name of the source is one more that the state takes over
+pub extended_insert : (state source : State) (name : List ℕ) (value : Form)
+    → extended state (insert source name value) ≡ insert (extended state source) name value
+extended_insert state source name value = same_state _ _ (λ other.
+    get_extended state (insert source name value) other
+    ∙ ap (λ o. option_or o (get state other)) (get-insert nat_list_cmp_total source name value other)
+    ∙ sym (chosen_or (eq_by_cmp (slice_cmp nat_cmp) other name) value (get source other) (get state other))
+    ∙ ap (cond (eq_by_cmp (slice_cmp nat_cmp) other name) (Some value)) (sym (get_extended state source other))
+    ∙ sym (get-insert nat_list_cmp_total (extended state source) name value other))
+
+held_or : (o p q : Option Form) → o ≡ p → IsSome p → option_or o q ≡ p
+held_or o (Some value) q e h = ap (λ r. option_or r q) e
+held_or o None q e h = cc
+
+absent_or : (o p : Option Form) → o ≡ None → option_or o p ≡ p
+absent_or o p e = ap (λ r. option_or r p) e
+
+-- a name of the source has the source's value, and every other name keeps its own
+pub source_taken : (state source : State) (name : List ℕ) → IsSome (get source name)
+    → get (extended state source) name ≡ get source name
+source_taken state source name held =
+    get_extended state source name ∙ held_or (get source name) (get source name) (get state name) refl held
+
+pub others_kept : (state source : State) (name : List ℕ) → get source name ≡ None
+    → get (extended state source) name ≡ get state name
+others_kept state source name absent =
+    get_extended state source name ∙ absent_or (get source name) (get state name) absent
+
+-- ---- meanings
+
+mapped_or : (o p : Option Form) → option_map plain (option_or o p) ≡ option_or (option_map plain o) (option_map plain p)
+mapped_or None p = refl
+mapped_or (Some value) p = refl
+
+pub extended_alike : (f g source other : State) → MeanTheSame f g → MeanTheSame source other
+    → MeanTheSame (extended f source) (extended g other)
+extended_alike f g source other h also name =
+    ap (option_map plain) (get_extended f source name)
+    ∙ mapped_or (get source name) (get f name)
+    ∙ (λ i. option_or (also name i) (h name i))
+    ∙ sym (mapped_or (get other name) (get g name))
+    ∙ sym (ap (option_map plain) (get_extended g other name))
+
+-- ---- a beginning of a source
+
+first_or : (o p q : Option Form) → q ≡ option_or o p → IsSome o → q ≡ o
+first_or (Some value) p q e h = e
+first_or None p q e h = cc
+
+-- a beginning has nothing that the whole has not
+pub beginning_held : (part whole : State) (name : List ℕ) → IsProperBeginning part whole → IsSome (get part name)
+    → get whole name ≡ get part name
+beginning_held part whole name (later, more, is) held =
+    first_or (get part name) (find (slice_cmp nat_cmp) name later) (get whole name)
+    (get-entries whole name
+    ∙ ap (find (slice_cmp nat_cmp) name) is
+    ∙ find_either name (entries part) later
+    ∙ ap (λ o. option_or o (find (slice_cmp nat_cmp) name later)) (sym (get-entries part name)))
+    held
+
+-- ---- pairs in the order of their names
+
+abbrev pub is_rising : List (List ℕ × Form) → Bool
+is_rising pairs = is_sorted (slice_cmp nat_cmp) pairs
+
+pub entries_of_rising : (pairs : List (List ℕ × Form)) → T (is_rising pairs)
+    → entries (from_entries {R = slice_cmp nat_cmp} pairs) ≡ pairs
+entries_of_rising pairs h =
+    ap entries (same_state (from_entries pairs) (from_sorted pairs) (λ name.
+    get-from_entries nat_list_cmp_total pairs name ∙ sym (get-from_sorted (slice_cmp nat_cmp) pairs name h)))
+    ∙ entries-from_sorted (slice_cmp nat_cmp) pairs h
+
+-- to take over pairs and then one more
+pub extended_on : (state : State) (pairs : List (List ℕ × Form)) (name : List ℕ) (value : Form)
+    → find (slice_cmp nat_cmp) name pairs ≡ None
+    → extended state (from_entries (pairs ++ (name, value) ∷ [])) ≡ insert (extended state (from_entries pairs)) name value
+extended_on state pairs name value new =
+    ap (extended state) (from_entries_push nat_list_cmp_total name_exact pairs name value new)
+    ∙ extended_insert state (from_entries pairs) name value
+
+both : (a b : Bool) → T a → T b → T (a && b)
+both true b p q = q
+both false b p q = absurd p
+
+first_of : (a b : Bool) → T (a && b) → T a
+first_of true b h = tt
+first_of false b h = h
+
+second_of : (a b : Bool) → T (a && b) → T b
+second_of true b h = h
+second_of false b h = absurd h
+
+above_first : (name : List ℕ) (pairs later : List (List ℕ × Form))
+    → T (below_all (slice_cmp nat_cmp) name (pairs ++ later)) → T (below_all (slice_cmp nat_cmp) name pairs)
+above_first name [] later h = tt
+above_first name (p ∷ pairs) later h =
+    let step = is_lt (slice_cmp nat_cmp name p.0) in
+    both step _ (first_of step _ h) (above_first name pairs later (second_of step _ h))
+
+-- the first of pairs that rise rise
+pub rising_first : (pairs later : List (List ℕ × Form)) → T (is_rising (pairs ++ later)) → T (is_rising pairs)
+rising_first [] later h = tt
+rising_first (p ∷ pairs) later h =
+    let above = below_all (slice_cmp nat_cmp) p.0 (pairs ++ later) in
+    both _ _ (above_first p.0 pairs later (first_of above _ h)) (rising_first pairs later (second_of above _ h))
+
+reversed_less : (r : Ordering) → T (is_lt r) → is_eq (ordering_reverse r) ≡ false
+reversed_less Less h = refl
+reversed_less Equal h = absurd h
+reversed_less Greater h = absurd h
+
+less_is_apart : (name other : List ℕ) → T (is_lt (slice_cmp nat_cmp other name)) → eq_by_cmp (slice_cmp nat_cmp) name other ≡ false
+less_is_apart name other h =
+    ap is_eq (nat_list_cmp_total.antisymm name other) ∙ reversed_less (slice_cmp nat_cmp other name) h
+
+above_later : (name other : List ℕ) (value : Form) (pairs later : List (List ℕ × Form))
+    → T (below_all (slice_cmp nat_cmp) other (pairs ++ (name, value) ∷ later)) → T (is_lt (slice_cmp nat_cmp other name))
+above_later name other value [] later h = first_of (is_lt (slice_cmp nat_cmp other name)) _ h
+above_later name other value (p ∷ pairs) later h =
+    above_later name other value pairs later (second_of (is_lt (slice_cmp nat_cmp other p.0)) _ h)
+
+-- where pairs rise, a name stands in none before its own
+pub is_new : (pairs : List (List ℕ × Form)) (name : List ℕ) (value : Form) (later : List (List ℕ × Form))
+    → T (is_rising (pairs ++ (name, value) ∷ later)) → find (slice_cmp nat_cmp) name pairs ≡ None
+is_new [] name value later h = refl
+is_new (p ∷ pairs) name value later h =
+    let above = below_all (slice_cmp nat_cmp) p.0 (pairs ++ (name, value) ∷ later) in
+    let apart = less_is_apart name p.0 (above_later name p.0 value pairs later (first_of above _ h)) in
+    ap (λ b. cond b (Some p.1) (find (slice_cmp nat_cmp) name pairs)) apart
+    ∙ is_new pairs name value later (second_of above _ h)
+
+-- a beginning of the pairs that a state is made of
+pub begins : (pairs later : List (List ℕ × Form)) → T (is_rising (pairs ++ later)) → later ≢ []
+    → IsProperBeginning (from_entries pairs) (from_entries (pairs ++ later))
+begins pairs later h more = (
+  later,
+  more,
+  entries_of_rising (pairs ++ later) h ∙ ap (λ es. es ++ later) (sym (entries_of_rising pairs (rising_first pairs later h))),
+)
+
+pair_there : (p : List ℕ × Form) (pairs : List (List ℕ × Form)) → p ∷ pairs ≢ []
+pair_there p pairs e = cc
+
+not_none : (n : ℕ) (pairs : List (List ℕ × Form)) → n < length pairs → drop n pairs ≢ []
+not_none zero [] h = absurd (omega (arith, h))
+not_none zero (p ∷ pairs) h = pair_there p pairs
+not_none (suc n) [] h = absurd (omega (arith, h))
+not_none (suc n) (p ∷ pairs) h = let less : n < length pairs = omega (arith, h) in not_none n pairs less
+
+split : (n : ℕ) (pairs : List (List ℕ × Form)) → take n pairs ++ drop n pairs ≡ pairs
+split zero pairs = refl
+split (suc n) [] = refl
+split (suc n) (p ∷ pairs) = ap (λ es. p ∷ es) (split n pairs)
+
+taken_first : (n : ℕ) (pairs : List (List ℕ × Form)) → n < length pairs → length (take n pairs) ≡ n
+taken_first zero pairs h = refl
+taken_first (suc n) [] h = absurd (omega (arith, h))
+taken_first (suc n) (p ∷ pairs) h = let less : n < length pairs = omega (arith, h) in ap suc (taken_first n pairs less)
+
+-- of a state there is a beginning of each length below its own
+module _ (whole : State) (n : ℕ) (fewer : n < len whole) where
+  some_later : n < length (entries whole)
+  some_later = let e = len-entries whole in omega (arith, fewer, e)
+
+  rising : T (is_rising (take n (entries whole) ++ drop n (entries whole)))
+  rising = subst (λ es. T (is_rising es)) (sym (split n (entries whole))) (entries_sorted whole)
+
+  pub beginning_of : (part : State) × IsProperBeginning part whole × (len part ≡ n)
+  beginning_of = (
+    from_entries (take n (entries whole)),
+    (
+      drop n (entries whole),
+      not_none n (entries whole) some_later,
+      sym (split n (entries whole))
+          ∙ ap (λ es. es ++ drop n (entries whole)) (sym (entries_of_rising (take n (entries whole)) (rising_first (take n (entries whole)) (drop n (entries whole)) rising))),
+    ),
+    len-entries (from_entries (take n (entries whole)))
+        ∙ ap length (entries_of_rising (take n (entries whole)) (rising_first (take n (entries whole)) (drop n (entries whole)) rising))
+        ∙ taken_first n (entries whole) some_later,
+  )

@@ -1,0 +1,197 @@
+-- Powers as products of halves, and how large they are.
+use Rattle.std.specs.Prelude.{◌≡◌, ◌⊎◌, ◌<◌, ◌≤◌, ◌+◌, ◌*◌, ◌/◌, ◌%◌, ◌^◌, ℕ, zero, suc, ℤ, pos, negsuc, ◌+ℤ◌, ◌-ℤ◌, ◌*ℤ◌, unsigned_abs, false, refl}
+use Rattle.std.proofs.Common.{sym, ◌∙◌, ap, arith, inl, inr, ltb-false, le-ltb, mul-le-mul, zero-add, suc-add, mod-lt, zero-lt-suc, pow-suc, pow_mono}
+use Rattle.std.proofs.lemmas.Bool.{cases_lt}
+use Rattle.std.proofs.lemmas.Int.{ints, unsigned_abs-mul}
+use Rattle.std.proofs.Math.IntN.{suc_ℤ, pred_ℤ, suc_ℤ-*ℤ, pred_ℤ-*ℤ, zero-*ℤ, *ℤ-one, *ℤ_comm, one}
+use Rattle.tera_meaning.specs.Arithmetic.{power_of}
+use Rattle.tera_meaning.specs.Integer.{is_small}
+use Rattle.tera_meaning.proofs.DivisionLaws.{sum_times}
+
+-- ---- products of three
+
+module _ (y z : ℤ) where
+  up : (x : ℤ) → (x *ℤ y) *ℤ z ≡ x *ℤ (y *ℤ z) → (suc_ℤ x *ℤ y) *ℤ z ≡ suc_ℤ x *ℤ (y *ℤ z)
+  up x h =
+      ap (λ s. s *ℤ z) (suc_ℤ-*ℤ x y) ∙ sum_times y z (x *ℤ y) ∙ ap (λ s. s +ℤ y *ℤ z) h ∙ sym (suc_ℤ-*ℤ x (y *ℤ z))
+
+  less_times : (x : ℤ) → (x -ℤ y) *ℤ z ≡ x *ℤ z -ℤ y *ℤ z
+  less_times x =
+      let back : ((x -ℤ y) +ℤ y) *ℤ z ≡ (x -ℤ y) *ℤ z +ℤ y *ℤ z = sum_times y z (x -ℤ y) in
+      let whole : (x -ℤ y) +ℤ y ≡ x = omega (arith, ints) in
+      let same : x *ℤ z ≡ (x -ℤ y) *ℤ z +ℤ y *ℤ z = sym (ap (λ s. s *ℤ z) whole) ∙ back in
+      omega (arith, ints)
+
+  down : (x : ℤ) → (x *ℤ y) *ℤ z ≡ x *ℤ (y *ℤ z) → (pred_ℤ x *ℤ y) *ℤ z ≡ pred_ℤ x *ℤ (y *ℤ z)
+  down x h =
+      ap (λ s. s *ℤ z) (pred_ℤ-*ℤ x y) ∙ less_times (x *ℤ y) ∙ ap (λ s. s -ℤ y *ℤ z) h ∙ sym (pred_ℤ-*ℤ x (y *ℤ z))
+
+  none_times : (pos 0 *ℤ y) *ℤ z ≡ pos 0 *ℤ (y *ℤ z)
+  none_times = ap (λ s. s *ℤ z) (zero-*ℤ y) ∙ zero-*ℤ z ∙ sym (zero-*ℤ (y *ℤ z))
+
+  times_assoc : (x : ℤ) → (x *ℤ y) *ℤ z ≡ x *ℤ (y *ℤ z)
+  times_assoc (pos zero) = none_times
+  times_assoc (pos (suc n)) = up (pos n) (times_assoc (pos n))
+  times_assoc (negsuc zero) = down (pos 0) none_times
+  times_assoc (negsuc (suc n)) = down (negsuc n) (times_assoc (negsuc n))
+
+times_one : (x : ℤ) → x *ℤ pos 1 ≡ x
+unfolding one
+times_one x = *ℤ-one x
+
+one_times : (x : ℤ) → pos 1 *ℤ x ≡ x
+one_times x = *ℤ_comm (pos 1) x ∙ times_one x
+
+-- ---- powers
+
+-- the factors of a power, some and then the others
+pub power_add : (base : ℤ) (m n : ℕ) → power_of base (m + n) ≡ power_of base m *ℤ power_of base n
+unfolding power_of
+power_add base zero n = ap (power_of base) (zero-add n) ∙ sym (one_times (power_of base n))
+power_add base (suc m) n =
+    ap (power_of base) (suc-add m n) ∙ ap (λ s. base *ℤ s) (power_add base m n) ∙ sym (times_assoc (power_of base m) (power_of base n) base)
+
+half_and_half : (e : ℕ) → (e / 2 + e / 2) + e % 2 ≡ e
+half_and_half e = omega arith
+
+pub power_halves : (base : ℤ) (e : ℕ)
+    → power_of base e ≡ (power_of base (e / 2) *ℤ power_of base (e / 2)) *ℤ power_of base (e % 2)
+power_halves base e =
+    ap (power_of base) (sym (half_and_half e)) ∙ power_add base (e / 2 + e / 2) (e % 2)
+    ∙ ap (λ s. s *ℤ power_of base (e % 2)) (power_add base (e / 2) (e / 2))
+
+pub power_none : (base : ℤ) → power_of base 0 ≡ pos 1
+unfolding power_of
+power_none base = refl
+
+pub power_more : (base : ℤ) (n : ℕ) → power_of base (suc n) ≡ base *ℤ power_of base n
+unfolding power_of
+power_more base n = refl
+
+pub power_once : (base : ℤ) → power_of base 1 ≡ base
+power_once base = power_more base 0 ∙ ap (λ s. base *ℤ s) (power_none base) ∙ times_one base
+
+-- ---- sizes
+
+-- a number that is not small is this large at least, and a larger one is not small
+large_size : (z : ℤ) → is_small z ≡ false → 2 ^ 127 ≤ unsigned_abs z
+large_size (pos n) h = ltb-false n (2 ^ 127) h
+large_size (negsuc n) h = let least : 2 ^ 127 ≤ n = ltb-false n (2 ^ 127) h in omega (arith, least)
+
+size_large : (z : ℤ) → 2 ^ 127 < unsigned_abs z → is_small z ≡ false
+size_large (pos n) h = le-ltb n (2 ^ 127) (omega arith)
+size_large (negsuc n) h = le-ltb n (2 ^ 127) (omega arith)
+
+-- the size of a power of a number that is at most 1 in size
+size_of_one : (base : ℤ) (n : ℕ) → unsigned_abs base ≤ 1 → unsigned_abs (power_of base n) ≤ 1
+size_of_one base zero h = let e : unsigned_abs (power_of base 0) ≡ 1 = ap unsigned_abs (power_none base) in omega arith
+size_of_one base (suc n) h =
+    let e : unsigned_abs (power_of base (suc n)) ≡ unsigned_abs base * unsigned_abs (power_of base n) =
+    ap unsigned_abs (power_more base n) ∙ unsigned_abs-mul base (power_of base n) in
+    let most : unsigned_abs base * unsigned_abs (power_of base n) ≤ 1 * 1 = mul-le-mul h (size_of_one base n h) in
+    omega arith
+
+-- the last factor of an odd power, or none, is no smaller than 1 where the base is larger than 1
+rest_size : (base : ℤ) (e : ℕ) → 1 < unsigned_abs base → 1 ≤ unsigned_abs (power_of base (e % 2))
+rest_size base e h = by (e % 2) (mod-lt e (zero-lt-suc 1))
+  where
+    by : (k : ℕ) → k < 2 → 1 ≤ unsigned_abs (power_of base k)
+    by zero less = let e : unsigned_abs (power_of base 0) ≡ 1 = ap unsigned_abs (power_none base) in omega arith
+    by (suc zero) less = let e : unsigned_abs (power_of base 1) ≡ unsigned_abs base = ap unsigned_abs (power_once base) in omega arith
+    by (suc (suc k)) less = absurd (omega arith)
+
+larger_base : (base : ℤ) (n : ℕ) → 1 < unsigned_abs (power_of base n) → 1 < unsigned_abs base
+larger_base base n h = elim (cases_lt 1 (unsigned_abs base)) as (λ _. 1 < unsigned_abs base) [
+  | inl more ↦ more
+  | inr less ↦ absurd (let most : unsigned_abs (power_of base n) ≤ 1 = size_of_one base n less in omega arith)
+]
+
+size_halves : (base : ℤ) (e : ℕ) → unsigned_abs (power_of base e)
+    ≡ (unsigned_abs (power_of base (e / 2)) * unsigned_abs (power_of base (e / 2))) * unsigned_abs (power_of base (e % 2))
+size_halves base e =
+    ap unsigned_abs (power_halves base e)
+    ∙ unsigned_abs-mul (power_of base (e / 2) *ℤ power_of base (e / 2)) (power_of base (e % 2))
+    ∙ ap (λ s. s * unsigned_abs (power_of base (e % 2))) (unsigned_abs-mul (power_of base (e / 2)) (power_of base (e / 2)))
+
+-- where the half of a power is not small the power is not
+pub large_half : (base : ℤ) (e : ℕ) → is_small (power_of base (e / 2)) ≡ false → is_small (power_of base e) ≡ false
+large_half base e h =
+    let least : 2 ^ 127 ≤ unsigned_abs (power_of base (e / 2)) = large_size (power_of base (e / 2)) h in
+    let two : 2 ≤ unsigned_abs (power_of base (e / 2)) = omega (arith, least) in
+    let base_size : 1 < unsigned_abs base = larger_base base (e / 2) (omega (arith, least)) in
+    let rest : 1 ≤ unsigned_abs (power_of base (e % 2)) = rest_size base e base_size in
+    let square : 2 * 2 ^ 127 ≤ unsigned_abs (power_of base (e / 2)) * unsigned_abs (power_of base (e / 2)) =
+    mul-le-mul two least in
+    let whole : (2 * 2 ^ 127) * 1 ≤ (unsigned_abs (power_of base (e / 2)) * unsigned_abs (power_of base (e / 2))) * unsigned_abs (power_of base (e % 2)) =
+    mul-le-mul square rest in
+    let size : unsigned_abs (power_of base e) ≡ (unsigned_abs (power_of base (e / 2)) * unsigned_abs (power_of base (e / 2))) * unsigned_abs (power_of base (e % 2)) = size_halves base e in
+    size_large (power_of base e) (omega (arith, whole, size))
+
+-- what an even power is, and an odd one
+pub even_power : (base : ℤ) (e : ℕ) → e % 2 ≡ 0 → power_of base e ≡ power_of base (e / 2) *ℤ power_of base (e / 2)
+even_power base e h =
+    power_halves base e
+    ∙ ap (λ s. (power_of base (e / 2) *ℤ power_of base (e / 2)) *ℤ s) (ap (power_of base) h ∙ power_none base)
+    ∙ times_one (power_of base (e / 2) *ℤ power_of base (e / 2))
+
+pub odd_power : (base : ℤ) (e : ℕ) → e % 2 ≡ 1 → power_of base e ≡ (power_of base (e / 2) *ℤ power_of base (e / 2)) *ℤ base
+odd_power base e h =
+    power_halves base e
+    ∙ ap (λ s. (power_of base (e / 2) *ℤ power_of base (e / 2)) *ℤ s) (ap (power_of base) h ∙ power_once base)
+
+-- where the square of the half of an odd power is not small the power is not
+large_odd_power : (base : ℤ) (e : ℕ) → e % 2 ≡ 1 → is_small (power_of base (e / 2) *ℤ power_of base (e / 2)) ≡ false
+    → is_small (power_of base e) ≡ false
+large_odd_power base e odd h =
+    let least : 2 ^ 127 ≤ unsigned_abs (power_of base (e / 2) *ℤ power_of base (e / 2)) = large_size (power_of base (e / 2) *ℤ power_of base (e / 2)) h in
+    let product : unsigned_abs (power_of base (e / 2) *ℤ power_of base (e / 2)) ≡ unsigned_abs (power_of base (e / 2)) * unsigned_abs (power_of base (e / 2)) =
+    unsigned_abs-mul (power_of base (e / 2)) (power_of base (e / 2)) in
+    let more : 1 < unsigned_abs (power_of base (e / 2)) = larger_than_one (unsigned_abs (power_of base (e / 2))) (omega (arith, least, product)) in
+    let size : 1 < unsigned_abs base = larger_base base (e / 2) more in
+    let whole : unsigned_abs (power_of base e) ≡ unsigned_abs (power_of base (e / 2) *ℤ power_of base (e / 2)) * unsigned_abs base =
+    ap unsigned_abs (odd_power base e odd) ∙ unsigned_abs-mul (power_of base (e / 2) *ℤ power_of base (e / 2)) base in
+    let most : 2 ^ 127 * 2 ≤ unsigned_abs (power_of base (e / 2) *ℤ power_of base (e / 2)) * unsigned_abs base = mul-le-mul least size in
+    size_large (power_of base e) (omega (arith, most, whole))
+  where
+    larger_than_one : (n : ℕ) → 2 ^ 127 ≤ n * n → 1 < n
+    larger_than_one zero g = absurd (omega (arith, g))
+    larger_than_one (suc zero) g = absurd (omega (arith, g))
+    larger_than_one (suc (suc n)) g = omega arith
+
+parity : (n : ℕ) → (n % 2 ≡ 0) ⊎ (n % 2 ≡ 1)
+parity n = by (n % 2) (mod-lt n (zero-lt-suc 1))
+  where
+    by : (k : ℕ) → k < 2 → (k ≡ 0) ⊎ (k ≡ 1)
+    by zero less = inl refl
+    by (suc zero) less = inr refl
+    by (suc (suc k)) less = absurd (omega arith)
+
+-- where the square of the half of a power is not small the power is not
+pub large_square : (base : ℤ) (e : ℕ) → is_small (power_of base (e / 2) *ℤ power_of base (e / 2)) ≡ false
+    → is_small (power_of base e) ≡ false
+large_square base e h = elim (parity e) as (λ _. is_small (power_of base e) ≡ false) [
+  | inl even ↦ ap is_small (even_power base e even) ∙ h
+  | inr odd ↦ large_odd_power base e odd h
+]
+
+-- ---- powers too large to compute
+
+-- of a base of 2 or more in size, a power of 128 factors or more
+pub large_power : (base : ℤ) (n : ℕ) → 1 < unsigned_abs base → 2 ^ n ≤ unsigned_abs (power_of base n)
+large_power base zero h = let e : unsigned_abs (power_of base 0) ≡ 1 = ap unsigned_abs (power_none base) in omega (arith, e)
+large_power base (suc n) h =
+    let e : unsigned_abs (power_of base (suc n)) ≡ unsigned_abs base * unsigned_abs (power_of base n) =
+    ap unsigned_abs (power_more base n) ∙ unsigned_abs-mul base (power_of base n) in
+    let most : 2 * 2 ^ n ≤ unsigned_abs base * unsigned_abs (power_of base n) = mul-le-mul h (large_power base n h) in
+    let twice : 2 ^ suc n ≡ 2 ^ n * 2 = pow-suc 2 n in
+    omega (arith, e, most, twice)
+
+pub power_outside : (base : ℤ) (n : ℕ) → 1 < unsigned_abs base → 128 ≤ n → is_small (power_of base n) ≡ false
+power_outside base n h g =
+    let least : 2 ^ n ≤ unsigned_abs (power_of base n) = large_power base n h in
+    let more : 2 ^ 128 ≤ 2 ^ n = pow_mono g in
+    size_large (power_of base n) (omega (arith, least, more))
+
+pub power_of_one : (n : ℕ) → power_of (pos 1) n ≡ pos 1
+power_of_one zero = power_none (pos 1)
+power_of_one (suc n) = power_more (pos 1) n ∙ one_times (power_of (pos 1) n) ∙ power_of_one n

@@ -1,0 +1,177 @@
+-- From a walk over items to a slice of them, and slices as the walk gives them.
+use Rattle.std.specs.Prelude.{◌≡◌, ◌≢◌, ◌<◌, ◌≤◌, ◌+◌, ◌*◌, ◌-◌, min, ℕ, zero, suc, ℤ, pos, negsuc, ◌-ℤ◌, ◌≤ℤ◌, nat_abs, List, [], ◌∷◌, reverse, length, take, slice_get, Option, None, Some}
+use Rattle.std.proofs.Common.{refl, sym, ap, ◌∙◌, subst, arith, inl, inr}
+use Rattle.std.proofs.lemmas.Int.{ints, clamps}
+use Rattle.std.proofs.lemmas.List.{get_or-reverse, length-reverse}
+use Rattle.std.proofs.lemmas.Option.{slice_get-get_or}
+use Rattle.std.proofs.lemmas.Bool.{cases_lt}
+use Rattle.tera_meaning.specs.Slice.{IsSliceFrom, IsSliceOf, IsBefore, HasReached, place_at, item_at, start_place, end_place, place_of_bound, least_place, greatest_place}
+use Rattle.tera_meaning.specs.Walk.{directed, place_behind, distance, pause, walked, IsStrided, slice_of}
+
+natural : (z : ℤ) → pos 0 ≤ℤ z → pos (nat_abs z) ≡ z
+natural (pos n) h = refl
+natural (negsuc n) h = absurd (omega (arith, ints))
+
+-- a place between the least and the greatest is as far behind the first as its distance
+pub distance_behind : (step z : ℤ) (n : ℕ) → least_place step ≤ℤ z → z ≤ℤ greatest_place step n
+    → (place_behind step n (distance step n z) ≡ z) × (distance step n z ≤ n)
+distance_behind (pos s) z n low high = let e = natural z low in (e, omega (arith, ints))
+distance_behind (negsuc s) z n low high =
+    let e = natural (pos n -ℤ pos 1 -ℤ z) (omega (arith, ints)) in (omega (arith, ints), omega (arith, ints))
+
+place_between : (step bound : ℤ) (n : ℕ) → (least_place step ≤ℤ place_of_bound step n bound) × (place_of_bound step n bound ≤ℤ greatest_place step n)
+place_between (pos s) bound n = (omega (arith, ints, clamps), omega (arith, ints, clamps))
+place_between (negsuc s) bound n = (omega (arith, ints, clamps), omega (arith, ints, clamps))
+
+start_between : (step : ℤ) (start : Option ℤ) (n : ℕ) → (least_place step ≤ℤ start_place step n start) × (start_place step n start ≤ℤ greatest_place step n)
+start_between step (Some bound) n = place_between step bound n
+start_between (pos s) None n = (omega (arith, ints), omega (arith, ints))
+start_between (negsuc s) None n = (omega (arith, ints), omega (arith, ints))
+
+end_between : (step : ℤ) (end : Option ℤ) (n : ℕ) → (least_place step ≤ℤ end_place step n end) × (end_place step n end ≤ℤ greatest_place step n)
+end_between step (Some bound) n = place_between step bound n
+end_between (pos s) None n = (omega (arith, ints), omega (arith, ints))
+end_between (negsuc s) None n = (omega (arith, ints), omega (arith, ints))
+
+not_both : (step place end : ℤ) → IsBefore step place end → HasReached step place end → ⊥
+not_both (pos s) place end before reached = omega (arith, ints)
+not_both (negsuc s) place end before reached = omega (arith, ints)
+
+module _ {X : Type 0} where
+  forward : (xs ys : List X) (from until s : ℕ) → IsStrided xs from until (suc s) ys
+      → IsSliceFrom xs (pos from) (pos until) (pos (suc s)) ys
+  forward xs ys from until s h = record {
+    reached = let e = h.reached in omega (arith, ints);
+    before = λ k b. let e = h.before k b in omega (arith, ints);
+    taken = λ k b. h.taken k b;
+  }
+
+  get_reversed : (xs : List X) (k j : ℕ) → k + j + 1 ≡ length xs → slice_get (reverse xs) k ≡ slice_get xs j
+  get_reversed [] k j e = absurd (omega arith)
+  get_reversed (x ∷ xs) k j e =
+      let at : k < length (reverse (x ∷ xs)) = omega (arith, length-reverse (x ∷ xs)) in
+      let same : length (x ∷ xs) - 1 - k ≡ j = omega arith in
+      slice_get-get_or (reverse (x ∷ xs)) k x at
+      ∙ ap Some (get_or-reverse (x ∷ xs) k x (omega arith))
+      ∙ sym (slice_get-get_or (x ∷ xs) (length (x ∷ xs) - 1 - k) x (omega arith))
+      ∙ ap (slice_get (x ∷ xs)) same
+
+  backward : (xs ys : List X) (from until s : ℕ) → until ≤ length xs → IsStrided (reverse xs) from until (suc s) ys
+      → IsSliceFrom xs (pos (length xs) -ℤ pos (suc from)) (pos (length xs) -ℤ pos (suc until)) (negsuc s) ys
+  backward xs ys from until s within h = record {
+    reached = let e = h.reached in omega (arith, ints);
+    before = λ k b. let e = h.before k b in omega (arith, ints);
+    taken = λ k b.
+        let e = h.before k b in
+        let at : place_at (pos (length xs) -ℤ pos (suc from)) (negsuc s) k ≡ pos (length xs - 1 - (from + k * suc s)) =
+        omega (arith, ints)
+        in
+        h.taken k b
+        ∙ get_reversed xs (from + k * suc s) (length xs - 1 - (from + k * suc s)) (omega arith)
+        ∙ ap (item_at xs) (sym at);
+  }
+
+  -- each by-th of the items in the direction of a step are the slice from the place where they begin to the one where
+  -- they end
+  pub strided_is_slice : (xs ys : List X) (start end step : ℤ) (from until : ℕ) → step ≢ pos 0 → until ≤ length xs
+      → place_behind step (length xs) from ≡ start → place_behind step (length xs) until ≡ end
+      → IsStrided (directed step xs) from until (suc (pause step)) ys → IsSliceFrom xs start end step ys
+  strided_is_slice xs ys start end (pos zero) from until nonzero within s e h = absurd (nonzero refl)
+  strided_is_slice xs ys start end (pos (suc n)) from until nonzero within s e h =
+      subst (λ z. IsSliceFrom xs z end (pos (suc n)) ys) s (subst (λ z. IsSliceFrom xs (pos from) z (pos (suc n)) ys) e (forward xs ys from until n h))
+  strided_is_slice xs ys start end (negsuc n) from until nonzero within s e h =
+      subst (λ z. IsSliceFrom xs z end (negsuc n) ys) s
+      (subst (λ z. IsSliceFrom xs (pos (length xs) -ℤ pos (suc from)) z (negsuc n) ys) e (backward xs ys from until n within h))
+
+  first_before : (p m : ℕ) (xs ys : List X) (k : ℕ) → k < suc (length ys) → IsStrided xs p m (suc p) ys
+      → 0 + k * suc p < suc m
+  first_before p m xs ys zero b h = omega arith
+  first_before p m xs ys (suc k) b h = let e = h.before k (omega arith) in omega arith
+
+  first_taken : (p m : ℕ) (x : X) (xs ys : List X) (k : ℕ) → k < suc (length ys) → IsStrided xs p m (suc p) ys
+      → slice_get (x ∷ ys) k ≡ slice_get (x ∷ xs) (0 + k * suc p)
+  first_taken p m x xs ys zero b h = let e : 0 ≡ 0 + 0 * suc p = omega arith in ap (slice_get (x ∷ xs)) e
+  first_taken p m x xs ys (suc k) b h =
+      let e : suc (p + k * suc p) ≡ 0 + suc k * suc p = omega arith in
+      h.taken k (omega arith) ∙ ap (slice_get (x ∷ xs)) e
+
+  -- a walk takes each by-th of the items
+  pub walked_strides : (p waits until : ℕ) (xs : List X)
+      → IsStrided xs waits (min until (length xs)) (suc p) (walked p waits (take until xs))
+  walked_strides p waits zero xs = record {
+    reached = omega arith;
+    before = λ k b. absurd (omega arith);
+    taken = λ k b. absurd (omega arith);
+  }
+  walked_strides p waits (suc until) [] = record {
+    reached = omega arith;
+    before = λ k b. absurd (omega arith);
+    taken = λ k b. absurd (omega arith);
+  }
+  walked_strides p zero (suc until) (x ∷ xs) =
+      let ys = walked p p (take until xs) in
+      let h = walked_strides p p until xs in
+      let reached = h.reached in
+      record {
+        reached = omega arith;
+        before = λ k b. let e = first_before p (min until (length xs)) xs ys k b h in omega arith;
+        taken = λ k b. first_taken p (min until (length xs)) x xs ys k b h;
+      }
+  walked_strides p (suc waits) (suc until) (x ∷ xs) =
+      let h = walked_strides p waits until xs in
+      let reached = h.reached in
+      record {
+        reached = omega arith;
+        before = λ k b. let e = h.before k b in omega arith;
+        taken = λ k b.
+            let e : suc (waits + k * suc p) ≡ suc waits + k * suc p = omega arith in
+            h.taken k b ∙ ap (slice_get (x ∷ xs)) e;
+      }
+
+  pub length_directed : (step : ℤ) (xs : List X) → length (directed step xs) ≡ length xs
+  length_directed (pos s) xs = refl
+  length_directed (negsuc s) xs = length-reverse xs
+
+  -- the walk gives a slice
+  pub slice_of_is : (xs : List X) (start end : Option ℤ) (step : ℤ) → step ≢ pos 0
+      → IsSliceOf xs start end step (slice_of xs start end step)
+  slice_of_is xs start end step nonzero =
+      let n = length xs in
+      let from = distance step n (start_place step n start) in
+      let until = distance step n (end_place step n end) in
+      let s = start_between step start n in
+      let e = end_between step end n in
+      let at_start = distance_behind step (start_place step n start) n s.0 s.1 in
+      let at_end = distance_behind step (end_place step n end) n e.0 e.1 in
+      let same : min until (length (directed step xs)) ≡ until = omega (arith, at_end.1, length_directed step xs) in
+      strided_is_slice xs (slice_of xs start end step) _ _ step from until nonzero at_end.1 at_start.0 at_end.0
+      (subst (λ m. IsStrided (directed step xs) from m (suc (pause step)) (slice_of xs start end step)) same
+      (walked_strides (pause step) from until (directed step xs)))
+
+  -- ---- only one list is the slice
+
+  -- two lists of the same items are one
+  pub same_items : (xs ys : List X) → length xs ≡ length ys → ((k : ℕ) → k < length xs → slice_get xs k ≡ slice_get ys k) → xs ≡ ys
+  same_items [] [] e h = refl
+  same_items [] (y ∷ ys) e h = absurd (omega arith)
+  same_items (x ∷ xs) [] e h = absurd (omega arith)
+  same_items (x ∷ xs) (y ∷ ys) e h =
+      let first : Some x ≡ Some y = h 0 (omega arith) in
+      let rest = same_items xs ys (omega arith) (λ k b. h (suc k) (omega arith)) in
+      let head : x ≡ y = cc in
+      ap (λ z. z ∷ xs) head ∙ ap (λ zs. y ∷ zs) rest
+
+  no_longer : (xs ys zs : List X) (start end step : ℤ) → IsSliceFrom xs start end step ys → IsSliceFrom xs start end step zs
+      → length ys ≤ length zs
+  no_longer xs ys zs start end step h i = elim (cases_lt (length zs) (length ys)) [
+    | inl less ↦ absurd (not_both step _ end (h.before (length zs) less) i.reached)
+    | inr most ↦ most
+  ]
+
+  pub slices_same : (xs ys zs : List X) (start end step : ℤ) → IsSliceFrom xs start end step ys
+      → IsSliceFrom xs start end step zs → ys ≡ zs
+  slices_same xs ys zs start end step h i =
+      let less = no_longer xs ys zs start end step h i in
+      let more = no_longer xs zs ys start end step i h in
+      let same : length ys ≡ length zs = omega arith in
+      same_items ys zs same (λ k b. h.taken k b ∙ sym (i.taken k (omega arith)))

@@ -1,0 +1,81 @@
+//! The laws of look-ups, and the definitions at work on small values. Each function here does
+//! nothing: its clauses are the law, or the rows.
+ghost use Rattle.std.specs.Prelude.{◌≡◌, ◌↔◌, ℕ, List, Some, IsTrue, pos, negsuc, slice_get};
+ghost use Rattle.std.specs.Prelude.{reverse, IfSome, IfOk};
+ghost use Rattle.std.specs.Str.Iter.{HasSubslice};
+ghost use Rattle.tera_meaning.specs.Form.{Form};
+ghost use Rattle.tera_meaning.specs.KeyMeaning.{KeyForm, text_key, owned, key_meaning};
+ghost use Rattle.tera_meaning.specs.Lookup.{attr, as_key, item, holds, seen_by, occurs, part_at};
+ghost use Rattle.tera_meaning.specs.Fields.{fields, AreRisingOf, shown_in};
+ghost use Rattle.tera_meaning.specs.Meaning.{plain};
+ghost use Rattle.tera_meaning.specs.Path.{path, AreElements, elements_of, place, IsPlace};
+ghost use Rattle.std.specs.Option.{option_map};
+ghost use Rattle.tera_meaning.specs.Pairs.{key_form_order, value_at};
+ghost use Rattle.tera_meaning.specs.Tree.{object, members};
+ghost use Rattle.tera_meaning.specs.WellMade.{IsWellMade, IsWellMadeKey};
+
+/// The attribute of a map is what a look-up of that text in its pairs finds, however many these
+/// are and whether the key owns its text or lends it.
+pub fn attributes_are_looked_up_by_text()
+    ensures found { (ps : List (KeyForm × Form)) (name : List ℕ)
+        → attr (object (members ps)) name ≡ value_at key_form_order ps (text_key (owned name)) }
+{}
+
+/// What look-ups find, and the shape of what they refuse, depends on meanings alone: kinds of
+/// integers, flags of texts and how keys are held do not count.
+pub fn look_ups_depend_on_meaning()
+    ensures attr { (v w : Form) (name : List ℕ) → plain v ≡ plain w
+        → option_map plain (attr v name) ≡ option_map plain (attr w name) }
+    ensures path { (v w : Form) (p : List ℕ) → plain v ≡ plain w
+        → option_map plain (path v p) ≡ option_map plain (path w p) }
+    ensures item { (v w i j : Form) → plain v ≡ plain w → plain i ≡ plain j
+        → seen_by plain (item v i) ≡ seen_by plain (item w j) }
+    ensures holds { (v w x y : Form) → plain v ≡ plain w → plain x ≡ plain y
+        → seen_by (λ told. told) (holds v x) ≡ seen_by (λ told. told) (holds w y) }
+    ensures key { (v w : Form) → plain v ≡ plain w
+        → seen_by key_meaning (as_key v) ≡ seen_by key_meaning (as_key w) }
+    ensures fields { (v w : Form) → plain v ≡ plain w → fields v ≡ fields w }
+{}
+
+/// The elements of a path are the only texts without a dot, one or more, that joined with dots are
+/// the path.
+pub fn paths_have_one_list_of_elements()
+    ensures are { (p : List ℕ) → AreElements p (elements_of p) }
+    ensures only { (p : List ℕ) (elements : List (List ℕ)) → AreElements p elements
+        → elements ≡ elements_of p }
+{}
+
+/// An element is a place where it is one `+` or none, and then one or more digits of a number below
+/// 2^64: of that number.
+pub fn places_are_digits_behind_one_plus()
+    ensures { (element : List ℕ) (n : ℕ) → (place element ≡ Some n) ↔ IsPlace element n }
+{}
+
+/// A text holds another where it is some text, the other and some text joined.
+pub fn texts_hold_what_they_are_joined_of()
+    ensures { (part whole : List ℕ) → IsTrue (occurs part whole) ↔ HasSubslice whole part }
+{}
+
+/// An index from 0 on counts from the front, and one below 0 from the back: -1 is the last.
+pub fn indices_count_from_either_end()
+    ensures front { (xs : List Form) (n : ℕ) → part_at xs (pos n) ≡ slice_get xs n }
+    ensures back { (xs : List Form) (n : ℕ) → part_at xs (negsuc n) ≡ slice_get (reverse xs) n }
+    ensures characters { (cs : List ℕ) (n : ℕ)
+        → part_at cs (negsuc n) ≡ slice_get (reverse cs) n }
+{}
+
+/// The names of fields are the only texts, each less than every later one, that are just what the
+/// keys print.
+pub fn fields_have_one_list_of_names()
+    ensures are { (v : Form) → AreRisingOf (shown_in v) (fields v) }
+    ensures only { (v : Form) (names : List (List ℕ)) → AreRisingOf (shown_in v) names
+        → names ≡ fields v }
+{}
+
+/// What look-ups find in a well-made value is well made, and so is the key that one is.
+pub fn look_ups_find_what_is_well_made()
+    ensures attr { (v : Form) (name : List ℕ) → IsWellMade v → IfSome (attr v name) IsWellMade }
+    ensures path { (v : Form) (p : List ℕ) → IsWellMade v → IfSome (path v p) IsWellMade }
+    ensures item { (v i : Form) → IsWellMade v → IfOk (item v i) IsWellMade }
+    ensures key { (v : Form) → IsWellMade v → IfOk (as_key v) IsWellMadeKey }
+{}

@@ -1,0 +1,157 @@
+-- Runs of one character, lengths with a cap, and equality of reports by their parts.
+use Rattle.std.proofs.Common.{◌≡◌, ◌⊎◌, inl, inr, ℕ, zero, suc, ◌+◌, ◌-◌, ◌^◌, ◌<◌, ◌≤◌, List, [], ◌∷◌, ◌++◌, min, length, replicate, map, codes, take, drop, get_or, slice_range, refl, sym, ap, ◌∙◌, arith, append_assoc, append-nil}
+use Rattle.std.proofs.lemmas.List.{drop_more, length-append, length-map, length-replicate, length-take, map-append, take-append-drop, take-replicate, take_more}
+use Rattle.std.proofs.lemmas.List.Concat.{flat_map-append}
+use Rattle.std.proofs.lemmas.List.Elements.{All-replicate}
+use Rattle.std.proofs.lemmas.Str.{chars_past_char, chars-nil}
+use Rattle.std.proofs.Math.Seq.{take-append-add}
+use Rattle.std.specs.Char.{encode_utf8}
+use Rattle.std.specs.Str.{IsCharBoundary, IsUtf8, chars}
+use Rattle.std.specs.Fmt.{decimal}
+use Rattle.std.specs.List.{flat_map, join_with_byte, sum}
+use Rattle.tera_report.specs.declared.span.Span.{Span}
+use Rattle.tera_report.specs.Parts.{line_feed}
+use Rattle.tera_report.specs.Report.{Note, Report, capped, space, error_lines, frame_text, line_of, line_of_note, margin, note_text, place_text, shown_lines, shown_place, underline, width}
+
+-- a run of one ASCII character may be cut at any place, and its front is a run
+pub run_cut : (n k c : ℕ) → c < 128 → k ≤ n → IsCharBoundary (replicate n c) k
+run_cut n k c low within = (
+  omega (arith, length-replicate n c, within),
+  λ inside high. absurd (omega (arith, high, All-replicate (λ b. b < 128) n c low k 0 inside)),
+)
+
+pub run_front : (n k c : ℕ) → k ≤ n → slice_range (replicate n c) 0 k ≡ replicate k c
+run_front n k c within = let all : k - 0 ≡ k = omega arith in ap (λ m. take m (replicate n c)) all ∙ take-replicate k n c within
+
+-- a length with a cap may be added to before or after it is capped
+pub capped_more : (a b : ℕ) → min (capped a + b) (2 ^ 64 - 1) ≡ capped (a + b)
+capped_more a b = omega arith
+
+pub capped_both : (a b : ℕ) → min (capped a + capped b) (2 ^ 64 - 1) ≡ capped (a + b)
+capped_both a b = omega arith
+
+-- ---- characters of a line, one after another
+
+pub columns_more : (line rest later so_far : List ℕ) (c : ℕ) → IsUtf8 rest → chars line ≡ so_far ++ chars rest → rest ≡ encode_utf8 c ++ later
+    → chars line ≡ (so_far ++ c ∷ []) ++ chars later
+columns_more line rest later so_far c utf8 split off =
+    split ∙ ap (λ cs. so_far ++ cs) (chars_past_char rest later c utf8 off) ∙ sym (append_assoc so_far (c ∷ []) (chars later))
+
+pub columns_taken : (all so_far later : List ℕ) (n : ℕ) → all ≡ so_far ++ later → length so_far ≤ n → take n all ≡ so_far ++ take (n - length so_far) later
+columns_taken all so_far later n split within =
+    let sum : n ≡ length so_far + (n - length so_far) = omega (arith, within) in
+    ap (take n) split ∙ ap (λ k. take k (so_far ++ later)) sum ∙ take-append-add so_far later (n - length so_far)
+
+pub columns_all : (all so_far later : List ℕ) (n : ℕ) → all ≡ so_far ++ later → length so_far ≤ n → (length so_far ≡ n) ⊎ (later ≡ [])
+    → take n all ≡ so_far
+columns_all all so_far later n split within (inl full) =
+    let none : n - length so_far ≡ 0 = omega (arith, full) in
+    columns_taken all so_far later n split within ∙ ap (λ k. so_far ++ take k later) none ∙ append-nil so_far
+columns_all all so_far later n split within (inr ended) =
+    columns_taken all so_far later n split within ∙ ap (λ l. so_far ++ take (n - length so_far) l) ended
+    ∙ ap (λ l. so_far ++ l) (take-nil (n - length so_far)) ∙ append-nil so_far
+  where
+    take-nil : (k : ℕ) → take {A = ℕ} k [] ≡ []
+    take-nil zero = refl
+    take-nil (suc k) = refl
+
+no_bytes : (xs : List ℕ) → length xs ≡ 0 → xs ≡ []
+no_bytes [] e = refl
+no_bytes (x ∷ xs) e = absurd (omega arith)
+
+pub no_characters : (xs : List ℕ) → length xs ≡ 0 → chars xs ≡ []
+no_characters xs e = ap chars (no_bytes xs e) ∙ chars-nil
+
+-- ---- the pieces of a report, one behind another
+
+frame_whole : (file number column line under : List ℕ) → let margin = replicate (length number) space in
+    frame_text file number column line ++ under
+    ≡ (file ++ (codes ":" ++ (number ++ (codes ":" ++ column))))
+    ++ line_feed ∷ ((margin ++ codes " |") ++ line_feed ∷ ((number ++ (codes " | " ++ line)) ++ line_feed ∷ (margin ++ (codes " | " ++ under))))
+frame_whole file number column line under = simp append_assoc
+
+pub place_whole : (file number column line : List ℕ) (span : Span) → number ≡ decimal span.start_line → column ≡ decimal (span.start_col + 1)
+    → frame_text file number column line ++ underline line span ≡ shown_place file line span
+place_whole file number column line span n c =
+    (λ i. frame_text file (n i) (c i) line ++ underline line span)
+    ∙ frame_whole file (decimal span.start_line) (decimal (span.start_col + 1)) line (underline line span)
+
+note_pieces : (label place rest : List ℕ) → (codes "\n\nnote: " ++ (label ++ (codes " " ++ []))) ++ (place ++ rest)
+    ≡ line_feed ∷ line_feed ∷ ((codes "note: " ++ (label ++ (codes " " ++ place))) ++ rest)
+note_pieces label place rest = simp append_assoc
+
+pub note_whole : (label file line : List ℕ) (note : Note) → label ≡ note.label → file ≡ note.file → line ≡ line_of_note note
+    → (codes "\n\nnote: " ++ (label ++ (codes " " ++ []))) ++ shown_place file line note.span ≡ note_text note
+note_whole label file line note l f s =
+    (λ i. (codes "\n\nnote: " ++ (l i ++ (codes " " ++ []))) ++ shown_place (f i) (s i) note.span)
+    ∙ note_pieces note.label (place_text note.file note.span) (line_feed ∷ join_with_byte line_feed (shown_lines (line_of_note note) note.span))
+
+head_pieces : (message before place rest : List ℕ) → (codes "error: " ++ (message ++ (codes "\n" ++ (before ++ (codes "--> " ++ []))))) ++ (place ++ rest)
+    ≡ (codes "error: " ++ message) ++ line_feed ∷ ((before ++ (codes "--> " ++ place)) ++ rest)
+head_pieces message before place rest = simp append_assoc
+
+pub head_whole : (message before file line : List ℕ) (report : Report) → message ≡ report.message → before ≡ margin report.span
+    → file ≡ report.file → line ≡ line_of report
+    → (codes "error: " ++ (message ++ (codes "\n" ++ (before ++ (codes "--> " ++ []))))) ++ shown_place file line report.span
+    ≡ join_with_byte line_feed (error_lines report)
+head_whole message before file line report m b f s =
+    (λ i. (codes "error: " ++ (m i ++ (codes "\n" ++ (b i ++ (codes "--> " ++ []))))) ++ shown_place (f i) (s i) report.span)
+    ∙ head_pieces report.message (margin report.span) (place_text report.file report.span)
+    (line_feed ∷ join_with_byte line_feed (shown_lines (line_of report) report.span))
+
+-- the notes are those before one, that one, and those behind it
+pub notes_split : {X Y : Type 0} (text : Y → List ℕ) (held : X → Y) (all : List X) (i : ℕ) (x : X) → i < length all → x ≡ get_or all i x
+    → flat_map text (map held (take i all)) ++ (text (held x) ++ flat_map text (map held (drop (i + 1) all))) ≡ flat_map text (map held all)
+notes_split text held all i x within is =
+    let rest : drop i all ≡ x ∷ drop (i + 1) all = drop_more all i x within ∙ ap (λ v. v ∷ drop (i + 1) all) (sym is) in
+    ap (λ l. flat_map text (map held (take i all)) ++ flat_map text (map held l)) (sym rest)
+    ∙ sym (flat_map-append text (map held (take i all)) (map held (drop i all)))
+    ∙ ap (flat_map text) (sym (map-append held (take i all) (drop i all)) ∙ ap (map held) (take-append-drop i all))
+
+-- ---- lengths
+
+frame_length : (file number column line : List ℕ) → length (frame_text file number column line)
+    ≡ length file + (1 + (length number + (1 + (length column + (1 + (length number + (3 + (length number + (3 + (length line + (1 + (length number + 3))))))))))))
+frame_length file number column line = simp (length-append, length-replicate) (omega arith)
+
+underline_length : (line : List ℕ) (span : Span) → length (underline line span) ≡ min span.start_col (length (chars line)) + width span
+underline_length line span = simp (length-append, length-map, length-take, length-replicate)
+
+pub place_length : (file number column line : List ℕ) (span : Span) (under : ℕ) → number ≡ decimal span.start_line → column ≡ decimal (span.start_col + 1)
+    → under ≡ min span.start_col (length (chars line))
+    → length (shown_place file line span)
+    ≡ sum (13 ∷ length file ∷ length number ∷ length column ∷ length number ∷ length number ∷ length line ∷ length number ∷ under ∷ width span ∷ [])
+place_length file number column line span under n c u =
+    let whole = ap length (place_whole file number column line span n c) in
+    let parts = length-append (frame_text file number column line) (underline line span) in
+    omega (arith, whole, parts, frame_length file number column line, underline_length line span, u)
+
+pub capped_in : (a b : ℕ) → capped (a + capped b) ≡ capped (a + b)
+capped_in a b = omega arith
+
+pub note_length : (label file line : List ℕ) (note : Note) → label ≡ note.label → file ≡ note.file → line ≡ line_of_note note
+    → 9 + length label + length (shown_place file line note.span) ≡ length (note_text note)
+note_length label file line note l f s =
+    let place = shown_place file line note.span in
+    let parts : length ((codes "\n\nnote: " ++ (label ++ (codes " " ++ []))) ++ place) ≡ 9 + length label + length place =
+    simp length-append (omega arith) in
+    sym parts ∙ ap length (note_whole label file line note l f s)
+
+pub head_length : (message before file line : List ℕ) (report : Report) → message ≡ report.message → before ≡ margin report.span
+    → file ≡ report.file → line ≡ line_of report
+    → 12 + length message + length before + length (shown_place file line report.span)
+    ≡ length (join_with_byte line_feed (error_lines report))
+head_length message before file line report m b f s =
+    let place = shown_place file line report.span in
+    let parts : length ((codes "error: " ++ (message ++ (codes "\n" ++ (before ++ (codes "--> " ++ []))))) ++ place) ≡ 12 + length message + length before + length place =
+    simp length-append (omega arith) in
+    sym parts ∙ ap length (head_whole message before file line report m b f s)
+
+-- one note more
+pub notes_more : {X Y : Type 0} (text : Y → List ℕ) (held : X → Y) (all : List X) (i : ℕ) (x : X) → i < length all → x ≡ get_or all i x
+    → flat_map text (map held (take (i + 1) all)) ≡ flat_map text (map held (take i all)) ++ text (held x)
+notes_more text held all i x within is =
+    ap (λ l. flat_map text (map held l)) (take_more all i x within ∙ ap (λ v. take i all ++ v ∷ []) (sym is))
+    ∙ ap (flat_map text) (map-append held (take i all) (x ∷ []))
+    ∙ flat_map-append text (map held (take i all)) (held x ∷ [])
+    ∙ ap (λ l. flat_map text (map held (take i all)) ++ l) (append-nil (text (held x)))

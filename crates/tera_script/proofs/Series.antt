@@ -1,0 +1,129 @@
+-- The loop over the parts between brackets or braces, each behind a comma but the first.
+use Rattle.std.proofs.Common.{◌≡◌, ◌≢◌, ◌<◌, ◌≤◌, ℕ, suc, max, false, List, [], ◌∷◌, ◌++◌, length, refl, ap, sym, ◌∙◌, arith, append_assoc, subst}
+use Rattle.std.specs.Str.{IsUtf8}
+use Rattle.tera_script.specs.Word.{is_blank}
+use Rattle.tera_script.specs.Readers.{Stops, front, past, is_word_byte, AllIn, MoreIn}
+use Rattle.tera_script.proofs.Fronts.{front-past, front_all, length-past}
+use Rattle.tera_script.proofs.Literals.{head, tail, bracket_or_comma}
+use Rattle.tera_script.proofs.Utf8Fronts.{utf8_past_blanks}
+use Rattle.tera_script.proofs.Utf8Texts.{after_byte}
+
+-- how deep the deepest of some parts is
+abbrev pub deepest : {E : Type 0} → (E → ℕ) → List E → ℕ
+deepest deep [] = 0
+deepest deep (e ∷ es) = max (deep e) (deepest deep es)
+
+-- what is needed of the parts: one alone stands at the front, what stands behind it is no longer, and UTF-8 goes on there
+pub record ArePartsOf {E : Type 0} (Begins : List ℕ → E → List ℕ → Type 0) (EndsPart : E → List ℕ → Type 0) (close : ℕ) : Type 0 where
+  pub only : (e : E) (xs x : List ℕ) → Begins xs e x → EndsPart e x → (f : E) (y : List ℕ) → Begins xs f y → EndsPart f y → (e ≡ f) × (x ≡ y)
+  pub stops : (e : E) (rest : List ℕ) → Stops is_word_byte rest → EndsPart e rest
+  pub shorter : (xs : List ℕ) (e : E) (rest : List ℕ) → Begins xs e rest → length rest ≤ length xs
+  pub utf8 : (xs : List ℕ) (e : E) (rest : List ℕ) → Begins xs e rest → IsUtf8 xs → IsUtf8 rest
+  pub word : is_word_byte close ≡ false
+  pub comma : close ≢ 44
+
+pub past_utf8 : (xs : List ℕ) → IsUtf8 xs → IsUtf8 (past is_blank xs)
+past_utf8 xs u = utf8_past_blanks (front is_blank xs) (past is_blank xs) (front_all is_blank xs) (subst IsUtf8 (sym (front-past is_blank xs)) u)
+
+pub past_length : (xs : List ℕ) → length (past is_blank xs) ≤ length xs
+past_length xs = length-past is_blank [] xs xs refl
+
+module _ {E : Type 0} (Begins : List ℕ → E → List ℕ → Type 0) (EndsPart : E → List ℕ → Type 0) (close : ℕ) (deep : E → ℕ) where
+  deepest_last : (es : List E) (e : E) (n : ℕ) → deepest deep es ≤ n → deep e ≤ n → deepest deep (es ++ e ∷ []) ≤ n
+  deepest_last [] e n h g = omega (arith, g)
+  deepest_last (f ∷ es) e n h g = omega (arith, deepest_last es e n (omega (arith, h)) g, h)
+
+  deepest_inside : (es : List E) (e : E) (others : List E) → deep e ≤ deepest deep (es ++ e ∷ others)
+  deepest_inside [] e others = omega arith
+  deepest_inside (f ∷ es) e others = omega (arith, deepest_inside es e others)
+
+  -- what stands at the rest
+  pub record HasPart (rest : List ℕ) (all es : List E) (end : List ℕ) : Type 0 where
+    pub part : E
+    pub others : List E
+    pub behind : List ℕ
+    pub begins : Begins rest part behind
+    pub next : MoreIn Begins close behind others end
+    pub is : all ≡ es ++ part ∷ others
+
+  -- the parts so far, and one at the rest with those behind it, are all
+  pub record IsSoFar (depth : ℕ) (inside : List ℕ) (es : List E) (rest : List ℕ) : Type 0 where
+    pub shallow : deepest deep es ≤ depth
+    pub utf8 : IsUtf8 inside → IsUtf8 rest
+    pub forward : (e : E) (others : List E) (behind end : List ℕ) → Begins rest e behind → MoreIn Begins close behind others end → AllIn Begins close inside (es ++ e ∷ others) end
+    pub backward : (all : List E) (end : List ℕ) → AllIn Begins close inside all end → HasPart rest all es end
+
+  -- none of at most these levels stands there
+  abbrev pub IsNowhere : ℕ → List ℕ → Type 0
+  IsNowhere levels inside = IsUtf8 inside → (all : List E) (end : List ℕ) → AllIn Begins close inside all end → ¬ (suc (deepest deep all) ≤ levels)
+
+  abbrev pub IsWhole : ℕ → List ℕ → List E → List ℕ → Type 0
+  IsWhole levels inside all end = AllIn Begins close inside all end × (suc (deepest deep all) ≤ levels)
+
+  -- at the first part
+  pub none_so_far : (depth : ℕ) (inside rest : List ℕ) → rest ≡ past is_blank inside → ((end : List ℕ) → rest ≢ close ∷ end) → IsSoFar depth inside [] rest
+  none_so_far depth inside rest r opened = rw r (record {
+    shallow = omega arith;
+    utf8 = past_utf8 inside;
+    forward = λ e others behind end b m. (behind, b, m);
+    backward = first;
+  })
+    where
+      first : (all : List E) (end : List ℕ) → AllIn Begins close inside all end → HasPart (past is_blank inside) all [] end
+      first [] end h = absurd (opened end (r ∙ h))
+      first (e ∷ others) end h = record { part = e; others = others; behind = h.0; begins = h.1; next = h.2; is = refl }
+
+  module _ (parts : ArePartsOf Begins EndsPart close) where
+    -- what stands behind a part ends it
+    stops_behind : (others : List E) (xs end : List ℕ) → MoreIn Begins close xs others end → Stops is_word_byte xs
+    stops_behind [] xs end h = bracket_or_comma xs close end h parts.word
+    stops_behind (e ∷ others) xs end h = bracket_or_comma xs 44 h.0 h.2 refl
+
+    pub shorter_rest : (rest : List ℕ) (e : E) (behind : List ℕ) (b : ℕ) (next after : List ℕ) → Begins rest e behind → past is_blank behind ≡ b ∷ next → after ≡ past is_blank next → length after < length rest
+    shorter_rest rest e behind b next after l m a =
+        omega (arith, ap length a, past_length next, ap length m, past_length behind, parts.shorter rest e behind l)
+
+    module _ (depth : ℕ) (inside : List ℕ) (es : List E) (rest : List ℕ) (so_far : IsSoFar depth inside es rest) (levels : ℕ) (l : levels ≡ suc depth) where
+      -- where no part stands
+      pub no_part : (IsUtf8 rest → (e : E) (behind : List ℕ) → Begins rest e behind → deep e ≤ depth → ¬ Stops is_word_byte behind) → IsNowhere levels inside
+      no_part n = λ utf8 all end h d.
+          let i = so_far.backward all end h in
+          let shallow : deep i.part ≤ depth = omega (arith, deepest_inside es i.part i.others, subst (λ a. suc (deepest deep a) ≤ levels) i.is d, l) in
+          n (so_far.utf8 utf8) i.part i.behind i.begins shallow (stops_behind i.others i.behind end i.next)
+
+      module _ (e : E) (behind : List ℕ) (b : Begins rest e behind) (ends : EndsPart e behind) where
+        -- the part that stands there is the one that was read
+        follows : (all : List E) (end : List ℕ) → AllIn Begins close inside all end → (others : List E) × MoreIn Begins close behind others end × (all ≡ es ++ e ∷ others)
+        follows all end h =
+            let i = so_far.backward all end h in
+            let same = parts.only e rest behind b ends i.part i.behind i.begins (parts.stops i.part i.behind (stops_behind i.others i.behind end i.next)) in
+            (i.others, subst (λ ys. MoreIn Begins close ys i.others end) (sym same.1) i.next, i.is ∙ ap (λ f. es ++ f ∷ i.others) (sym same.0))
+
+        -- behind it stands the closing byte or a comma
+        pub no_mark : ((end : List ℕ) → past is_blank behind ≢ close ∷ end) → ((end : List ℕ) → past is_blank behind ≢ 44 ∷ end) → IsNowhere levels inside
+        no_mark closed comma = λ utf8 all end h d. let f = follows all end h in marked f.0 end f.1
+          where
+            marked : (others : List E) (end : List ℕ) → MoreIn Begins close behind others end → ⊥
+            marked [] end m = closed end m
+            marked (f ∷ others) end m = comma m.0 m.2
+
+        -- and not the end
+        pub no_end : length (past is_blank behind) ≡ 0 → IsNowhere levels inside
+        no_end z = no_mark (λ end h. omega (arith, z, ap length h)) (λ end h. omega (arith, z, ap length h))
+
+        pub last_part : (end : List ℕ) → deep e ≤ depth → past is_blank behind ≡ close ∷ end → IsWhole levels inside (es ++ e ∷ []) end
+        last_part end d h = (so_far.forward e [] behind end b h, omega (arith, deepest_last es e depth so_far.shallow d, l))
+
+        pub one_more : (next after : List ℕ) → deep e ≤ depth → past is_blank behind ≡ 44 ∷ next → after ≡ past is_blank next → IsSoFar depth inside (es ++ e ∷ []) after
+        one_more next after d m a = rw a (record {
+          shallow = deepest_last es e depth so_far.shallow d;
+          utf8 = λ utf8. past_utf8 next (after_byte next 44 (omega arith) (subst IsUtf8 m (past_utf8 behind (parts.utf8 rest e behind b (so_far.utf8 utf8)))));
+          forward = λ f others after end c n. subst (λ all. AllIn Begins close inside all end) (sym (append_assoc es (e ∷ []) (f ∷ others))) (so_far.forward e (f ∷ others) behind end b (next, after, m, c, n));
+          backward = λ all end h. let f = follows all end h in at_next all f.0 end f.1 f.2;
+        })
+          where
+            at_next : (all others : List E) (end : List ℕ) → MoreIn Begins close behind others end → all ≡ es ++ e ∷ others → HasPart (past is_blank next) all (es ++ e ∷ []) end
+            at_next all [] end n is = absurd (parts.comma (ap head (sym n ∙ m)))
+            at_next all (f ∷ others) end n is =
+                let same : n.0 ≡ next = ap tail (sym n.2 ∙ m) in
+                record { part = f; others = others; behind = n.1; begins = subst (λ ys. Begins (past is_blank ys) f n.1) same n.3; next = n.4; is = is ∙ sym (append_assoc es (e ∷ []) (f ∷ others)) }

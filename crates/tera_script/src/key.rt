@@ -1,0 +1,69 @@
+//! Keys of a map literal: how a script spells one.
+ghost use Rattle.std.specs.Prelude.{◌≡◌, IfOk};
+ghost use Rattle.std.specs.Option.{option_map};
+ghost use Rattle.tera_meaning.specs.KeyMeaning.{number_key};
+ghost use Rattle.tera_script.specs.Readers.{key_in, plain_key_at, key_rest, integer_held, IsKeyAt};
+ghost use Rattle.tera_values.specs.Key.{key_form};
+
+use crate::literal::split_word;
+use crate::number::{Integer, number_in};
+use crate::text::take_text;
+use std::alloc::{AllocError, Global};
+use std::rc::RcStr;
+use tera_values::Key;
+
+/// The key at the front of the bytes, and the bytes behind it: a truth value, a number or a text
+/// that is not marked safe. `None` where there is none that ends as a word does. Takes memory for
+/// texts, and fails for want of it alone.
+pub(crate) fn take_key(
+    alloc: Global,
+    bytes: &[u8],
+) -> Result<Option<(Key<'static>, &[u8])>, AllocError>
+    ensures { IfOk result (λ answer. IsKeyAt bytes.now (option_map key_rest answer)) }
+{
+    let Some(behind) = bytes.strip_prefix(b"\"".as_slice()) else {
+        return Ok(take_plain_key(bytes));
+    };
+    let Some(taken) = take_text(alloc, behind)? else {
+        return Ok(None);
+    };
+    let (_, rest) = behind.split_at(taken.used);
+    let key = Key::String(RcStr::from_string(taken.text)?);
+    Ok(Some((key, rest)))
+}
+
+// The key without quotes at the front, and the bytes behind it.
+#[tactic(auto, unfolding(crate::specs::Readers::plain_key_at))]
+fn take_plain_key(bytes: &[u8]) -> Option<(Key<'static>, &[u8])>
+    ensures { option_map key_rest result ≡ plain_key_at bytes.now }
+{
+    let (word, rest) = split_word(bytes);
+    let key = key_in(word)?;
+    Some((key, rest))
+}
+
+// The key that a word spells.
+#[tactic(auto, unfolding(crate::specs::Readers::key_in))]
+fn key_in(word: &[u8]) -> Option<Key<'static>>
+    ensures { option_map key_form result ≡ key_in word.now }
+{
+    if word == b"true".as_slice() {
+        Some(Key::Bool(true))
+    } else if word == b"false".as_slice() {
+        Some(Key::Bool(false))
+    } else {
+        Some(key_of(number_in(word)?))
+    }
+}
+
+// The key that holds the number.
+fn key_of(integer: Integer) -> Key<'static>
+    ensures { key_form result ≡ number_key (integer_held integer) }
+{
+    match integer {
+        Integer::U64(n) => Key::U64(n),
+        Integer::I64(z) => Key::I64(z),
+        Integer::U128(n) => Key::U128(n),
+        Integer::I128(z) => Key::I128(z),
+    }
+}

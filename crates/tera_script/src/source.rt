@@ -1,0 +1,27 @@
+//! What a map holds under the texts of its keys.
+ghost use Rattle.std.specs.Prelude.{IfOk};
+ghost use Rattle.tera_script.specs.Readers.{IsSourceOf};
+
+use std::alloc::{AllocError, Global};
+use tera_context::Context;
+use tera_values::Value;
+
+/// The context that holds what a map has at each key under the text of the key. `None` where the
+/// value is no map, or a key is no text. Takes memory, and fails for want of it alone.
+pub(crate) fn source_of(alloc: Global, value: Value) -> Result<Option<Context>, AllocError>
+    ensures { IfOk result (λ answer. IsSourceOf value answer) }
+{
+    let Some(pairs) = value.into_map() else {
+        return Ok(None);
+    };
+    let mut source = Context::new(alloc);
+    for (key, held) in pairs {
+        let Some(name) = key.as_str() else {
+            return Ok(None);
+        };
+        let Ok(()) = source.insert_value(name, held) else {
+            return Err(AllocError);
+        };
+    }
+    Ok(Some(source))
+}

@@ -1,0 +1,176 @@
+-- Items that a walk takes one at a time.
+use Rattle.std.specs.Prelude.{◌≡◌, ◌≢◌, ◌<◌, ◌≤◌, ◌+◌, ◌-◌, ◌*◌, ◌^◌, min, ℕ, zero, suc, ℤ, pos, negsuc, int_lt, Bool, true, false, List, [], ◌∷◌, ◌++◌, reverse, length, slice_get, Option, Some, Result, Ok, Err, IfOk, IfErr}
+use Rattle.std.proofs.Common.{refl, sym, ap, ◌∙◌, subst, arith, inl, inr, length-append, ltb-true}
+use Rattle.std.proofs.lemmas.Bool.{cases_lt}
+use Rattle.std.proofs.lemmas.List.{length-reverse}
+use Rattle.std.specs.Str.{chars, encode_utf8_all}
+use Rattle.std.specs.Option.{unwrap_or}
+use Rattle.tera_report.specs.Errors.{Refuses}
+use Rattle.tera_report.specs.Refusal.{Refusal, step_of_zero}
+use Rattle.tera_report.specs.declared.errors.Error.{Error}
+use Rattle.tera_meaning.specs.Form.{Form}
+use Rattle.tera_meaning.specs.Tree.{array, items}
+use Rattle.tera_meaning.specs.TreeLaws.{list_of_items}
+use Rattle.tera_meaning.specs.Slice.{IsSliceOf, IsCutBy, IsSliced, start_place, end_place}
+use Rattle.tera_meaning.specs.Walk.{IsStrided, directed, pause, place_behind, slice_of, cut, cut_by, sliced}
+use Rattle.tera_values.specs.View.{marked}
+use Rattle.tera_meaning.proofs.SliceLaws.{same_items, slices_same, slice_of_is}
+use Rattle.tera_meaning.proofs.SlicedLaws.{sliced_is}
+use Rattle.tera_text.proofs.PositionLaws.{stride_slices}
+use Rattle.tera_text.specs.Positions.{turned}
+
+-- the walk took these so far, and stands at the next one, or at the greatest machine integer where that is less
+pub record IsSoFar {X : Type 0} (xs : List X) (from until by place : ℕ) (ys : List X) : Type 0 where
+  pub next : place ≡ min (from + length ys * by) (2 ^ 64 - 1)
+  pub before : (k : ℕ) → k < length ys → from + k * by < until
+  pub taken : (k : ℕ) → k < length ys → slice_get ys k ≡ slice_get xs (from + k * by)
+
+module _ {X : Type 0} where
+  get_front : (xs ys : List X) (k : ℕ) → k < length xs → slice_get (xs ++ ys) k ≡ slice_get xs k
+  get_front [] ys k h = absurd (omega arith)
+  get_front (x ∷ xs) ys zero h = refl
+  get_front (x ∷ xs) ys (suc k) h = get_front xs ys k (omega arith)
+
+  get_last : (xs : List X) (x : X) → slice_get (xs ++ x ∷ []) (length xs) ≡ Some x
+  get_last [] x = refl
+  get_last (y ∷ xs) x = get_last xs x
+
+  pub none_so_far : (xs ys : List X) (from until by : ℕ) → from < 2 ^ 64 → ys ≡ [] → IsSoFar xs from until by from ys
+  none_so_far xs ys from until by fits none = subst (IsSoFar xs from until by from) (sym none) (record {
+    next = omega arith;
+    before = λ k b. absurd (omega arith);
+    taken = λ k b. absurd (omega arith);
+  })
+
+  one_more : (xs ys : List X) (x : X) (from until by place : ℕ) → place < until → until < 2 ^ 64
+      → slice_get xs place ≡ Some x → IsSoFar xs from until by place ys
+      → IsSoFar xs from until by (min (place + by) (2 ^ 64 - 1)) (ys ++ x ∷ [])
+  one_more xs ys x from until by place inside fits is h =
+      let here : place ≡ from + length ys * by = omega (arith, h.next) in
+      let longer : suc (length ys) ≡ length (ys ++ x ∷ []) = omega (arith, length-append ys (x ∷ [])) in
+      record {
+        next =
+            let e : min (place + by) (2 ^ 64 - 1) ≡ min (from + suc (length ys) * by) (2 ^ 64 - 1) = omega arith in
+            e ∙ ap (λ n. min (from + n * by) (2 ^ 64 - 1)) longer;
+        before = λ k b. elim (cases_lt k (length ys)) [
+          | inl less ↦ h.before k less
+          | inr most ↦
+              let last : length ys ≡ k = omega arith in subst (λ i. from + i * by < until) last (omega arith)
+        ];
+        taken = λ k b. elim (cases_lt k (length ys)) [
+          | inl less ↦ get_front ys (x ∷ []) k less ∙ h.taken k less
+          | inr most ↦
+              let last : length ys ≡ k = omega arith in
+              subst (λ i. slice_get (ys ++ x ∷ []) i ≡ slice_get xs (from + i * by)) last
+              (get_last ys x ∙ sym is ∙ ap (slice_get xs) here)
+        ];
+      }
+
+  -- the same where a copy of the item was put, and the next place was reckoned
+  pub copied : (xs ys made : List X) (x y : X) (from until by place next : ℕ) → place < until → until < 2 ^ 64
+      → slice_get xs place ≡ Some x → IsSoFar xs from until by place ys → y ≡ x → made ≡ ys ++ y ∷ []
+      → next ≡ min (place + by) (2 ^ 64 - 1) → IsSoFar xs from until by next made
+  copied xs ys made x y from until by place next inside fits is h same put on =
+      subst (IsSoFar xs from until by next) (sym (put ∙ ap (λ z. ys ++ z ∷ []) same))
+      (subst (λ p. IsSoFar xs from until by p (ys ++ x ∷ [])) (sym on) (one_more xs ys x from until by place inside fits is h))
+
+  pub all_so_far : (xs ys : List X) (from until by place : ℕ) → until ≤ place → IsSoFar xs from until by place ys
+      → IsStrided xs from until by ys
+  all_so_far xs ys from until by place ended h = record {
+    reached = omega (arith, h.next);
+    before = h.before;
+    taken = h.taken;
+  }
+
+  -- each item from the first to the last
+  pub strided_whole : (xs ys : List X) (n : ℕ) → n ≡ length xs → IsStrided xs 0 n 1 ys → ys ≡ xs
+  strided_whole xs ys n whole h =
+      let most : length ys ≤ n = elim (cases_lt n (length ys)) [
+        | inl more ↦ let e = h.before n more in absurd (omega arith)
+        | inr most ↦ most
+      ] in
+      same_items ys xs (omega (arith, h.reached))
+      (λ k b. let e : 0 + k * 1 ≡ k = omega arith in h.taken k b ∙ ap (slice_get xs) e)
+
+  pub turned_directed : (step : ℤ) (backwards : Bool) (xs : List X) → backwards ≡ int_lt step (pos 0)
+      → turned backwards xs ≡ directed step xs
+  turned_directed (pos n) false xs e = refl
+  turned_directed (pos n) true xs e = let less = ltb-true n 0 (sym e) in absurd (omega arith)
+  turned_directed (negsuc n) false xs e = cc
+  turned_directed (negsuc n) true xs e = refl
+
+  -- what is found are the items of the slice
+  pub sliced_found : {V E : Type 0} (held : V → List X) (r : Result V E) (xs : List X) (start end : Option ℤ) (step z : ℤ)
+      (from until by : ℕ) → z ≡ step → length xs < 2 ^ 64 → until ≤ length xs
+      → place_behind z (length xs) from ≡ start_place z (length xs) start
+      → place_behind z (length xs) until ≡ end_place z (length xs) end → by ≡ min (suc (pause z)) (2 ^ 64 - 1)
+      → IfOk r (λ v. IsStrided (turned (int_lt z (pos 0)) xs) from until by (held v))
+      → IfOk r (λ v. step ≢ pos 0 → held v ≡ slice_of xs start end step)
+  sliced_found held (Err e) xs start end step z from until by same fits within s last pace h = h
+  sliced_found held (Ok v) xs start end step z from until by same fits within s last pace h =
+      subst (λ k. k ≢ pos 0 → held v ≡ slice_of xs start end k) same (λ nonzero.
+      slices_same xs (held v) (slice_of xs start end z) _ _ z
+      (stride_slices xs (held v) start end z from until by nonzero fits within s last pace
+      (subst (λ ys. IsStrided ys from until by (held v)) (turned_directed z (int_lt z (pos 0)) xs refl) h))
+      (slice_of_is xs start end z nonzero))
+
+  pub reversed_found : {V E : Type 0} (held : V → List X) (r : Result V E) (xs : List X) (n : ℕ) → n ≡ length xs
+      → IfOk r (λ v. IsStrided (reverse xs) 0 n 1 (held v)) → IfOk r (λ v. held v ≡ reverse xs)
+  reversed_found held (Err e) xs n whole h = h
+  reversed_found held (Ok v) xs n whole h = strided_whole (reverse xs) (held v) n (whole ∙ sym (length-reverse xs)) h
+
+module _ (start end : Option ℤ) (z step : ℤ) (same : z ≡ step) where
+  -- the slice of an array and of a text, from the slice of what they hold
+  pub array_cut : (v w : Form) (xs ys : List Form) → array (items xs) ≡ v → (z ≢ pos 0 → ys ≡ slice_of xs start end z)
+      → w ≡ array (items ys) → step ≢ pos 0 → cut v start end step ≡ Ok w
+  array_cut v w xs ys held h found nonzero =
+      let part = subst (λ k. k ≢ pos 0 → ys ≡ slice_of xs start end k) same h nonzero in
+      ap (λ u. cut u start end step) (sym held)
+      ∙ ap (λ (zs : List Form). Ok (array (items (slice_of zs start end step)))) (list_of_items xs)
+      ∙ ap (λ (zs : List Form). Ok (array (items zs))) (sym part) ∙ ap (λ (u : Form). Ok u) (sym found)
+
+  pub text_cut : (v : Form) (bs t : List ℕ) (safe : Bool) → marked bs safe ≡ v
+      → (z ≢ pos 0 → (cs : List ℕ) × IsSliceOf (chars bs) start end z cs × (t ≡ encode_utf8_all cs)) → step ≢ pos 0
+      → cut v start end step ≡ Ok (marked t safe)
+  text_cut v bs t safe held h nonzero =
+      let part =
+      subst (λ k. k ≢ pos 0 → (cs : List ℕ) × IsSliceOf (chars bs) start end k cs × (t ≡ encode_utf8_all cs)) same h nonzero
+      in
+      let spelled : t ≡ encode_utf8_all (slice_of (chars bs) start end step) =
+      part.2 ∙ ap encode_utf8_all
+      (slices_same (chars bs) part.0 (slice_of (chars bs) start end step) _ _ step part.1 (slice_of_is (chars bs) start end step nonzero))
+      in
+      ap (λ u. cut u start end step) (sym held) ∙ ap (λ (ds : List ℕ). Ok (marked ds safe)) (sym spelled)
+
+  pub not_zero : step ≢ pos 0 → z ≢ pos 0
+  not_zero nonzero e = nonzero (sym same ∙ e)
+
+  module _ (given : Option ℤ) (is : step ≡ unwrap_or given (pos 1)) (nonzero : step ≢ pos 0) (v : Form) where
+    cut_by_nonzero : (k : ℤ) → k ≢ pos 0 → cut v start end k ≡ cut_by k v start end
+    cut_by_nonzero (pos zero) some = absurd (some refl)
+    cut_by_nonzero (pos (suc n)) some = refl
+    cut_by_nonzero (negsuc n) some = refl
+
+    cut_is_sliced : cut v start end z ≡ sliced v start end given
+    cut_is_sliced =
+        cut_by_nonzero z (not_zero nonzero) ∙ ap (λ k. cut_by k v start end) (same ∙ is)
+
+    pub slice_found : {E : Type 0} (r : Result Form E) → IfOk r (λ w. z ≢ pos 0 → cut v start end z ≡ Ok w)
+        → IfOk r (λ w. IsSliced v start end given (Ok w))
+    slice_found (Err e) h = h
+    slice_found (Ok w) h =
+        subst (λ (o : Result Form Refusal). IsSliced v start end given o) (sym cut_is_sliced ∙ h (not_zero nonzero))
+        (sliced_is v start end given)
+
+    pub slice_refused : {W : Type 0} (r : Result W Error) → IfErr r (Refuses (cut v start end z))
+        → IfErr r (λ e. (outcome : Result Form Refusal) × IsSliced v start end given outcome × Refuses outcome e)
+    slice_refused (Ok w) h = h
+    slice_refused (Err e) h = (
+      sliced v start end given,
+      sliced_is v start end given,
+      subst (λ (o : Result Form Refusal). Refuses o e) cut_is_sliced h,
+    )
+
+pub zero_refused : (v : Form) (start end given : Option ℤ) → unwrap_or given (pos 1) ≡ pos 0
+    → IsSliced v start end given (Err step_of_zero)
+zero_refused v start end given e = subst (λ k. IsCutBy k v start end (Err step_of_zero)) (sym e) refl

@@ -1,0 +1,20 @@
+use Rattle.std.proofs.Common.{List, ℕ, sym, ap, ◌∙◌}
+use Rattle.std.proofs.lemmas.Int.{to_z-of_z}
+use Rattle.std.specs.Int.{w128}
+use Rattle.tera_meaning.specs.Form.{Form}
+use Rattle.tera_meaning.specs.Tree.{array, items}
+use Rattle.tera_values.specs.View.{form_of, marked}
+use Rattle.tera_values.proofs.SliceLemmas.{array_cut, text_cut}
+use Rattle.tera_values.proofs.value.Value.cut.Goals as goal
+
+pub returns-in_ok-part-in-Array-clause-ok : goal.returns-in_ok-part-in-Array-clause-ok
+returns-in_ok-part-in-Array-clause-ok c =
+    array_cut c.args.start c.args.end _ c.args.step (to_z-of_z w128 c.args.step c.ranges.step) c.args.self.now c.of_array.result _ _
+    (ap (λ (xs : List Form). array (items xs)) c.as_slice.ensures.value ∙ sym (ap form_of c.in-Array.is) ∙ c.self.view_is)
+    c.in_ok-part-in-Array.ensures.ok c.of_array.ensures
+
+pub returns-in_ok-part-in-String-clause-ok : goal.returns-in_ok-part-in-String-clause-ok
+returns-in_ok-part-in-String-clause-ok c =
+    text_cut c.args.start c.args.end _ c.args.step (to_z-of_z w128 c.args.step c.ranges.step) c.args.self.now _ _ c.in-String.safe
+    (ap (λ (bs : List ℕ). marked bs c.in-String.safe) c.as_str.ensures.value ∙ sym (ap form_of c.in-String.is) ∙ c.self.view_is)
+    c.in_ok-part-in-String.ensures

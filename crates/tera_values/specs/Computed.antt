@@ -1,0 +1,12 @@
+-- What the refusals of arithmetic tell.
+use Rattle.std.specs.Prelude.{pos}
+use Rattle.tera_numbers.specs.Operation.{operator_of, refusal_of}
+use Rattle.tera_report.specs.Refusal.{Refusal, not_a_number, operand_outside_i128}
+use Rattle.tera_values.specs.declared.number.NotComputed.{NotComputed}
+use Rattle.tera_values.specs.declared.number.NotComputed.TheVariants as not_computed
+
+-- the refusal that says why nothing is computed
+abbrev pub refusal_told : NotComputed → Refusal
+refusal_told (not_computed.NotANumber kind) = not_a_number kind.now
+refusal_told (not_computed.OperandOutsideI128 operand) = operand_outside_i128 (pos operand)
+refusal_told (not_computed.NoResult op left right why) = refusal_of (operator_of op) left right why

@@ -1,0 +1,214 @@
+//! What a value has at an attribute or an item, and the key that it is.
+ghost use Rattle.std.specs.Prelude.{◌≡◌, false, None, Ok, IfOk, IfErr, IsOk, is_some, unwrap_or};
+ghost use Rattle.std.specs.Option.{option_copied};
+ghost use Rattle.tera_meaning.specs.Lookup.{attr, as_key, key_in, paired, item, indexed, part_at};
+ghost use Rattle.tera_report.specs.Refusal.{in_array};
+ghost use Rattle.tera_text.specs.Whole.{whole_value};
+ghost use Rattle.tera_meaning.specs.Read.{text_in, iterable_in};
+ghost use Rattle.tera_meaning.specs.Tree.{undefined, object, members};
+ghost use Rattle.tera_report.specs.Errors.{Refuses, IsOutOfMemory};
+ghost use Rattle.tera_values.specs.Key.{key_form};
+ghost use Rattle.tera_values.specs.Map.{pairs_in};
+ghost use Rattle.tera_values.specs.View.{marked};
+
+use crate::map::{find_key, find_text};
+use crate::refused::{not_a_key, not_a_map_key, not_a_text_index, not_an_array_index};
+use crate::value::ValueInner;
+use crate::{Key, Map, Value};
+use std::alloc::Global;
+use std::rc::RcStr;
+use tera_report::TeraResult;
+use tera_text::{Whole, character, place};
+
+impl Value {
+    /// What the map has at that text, lent; nothing where it has nothing there, and on every other
+    /// value. Mirrors `Value::get_attr`, which is private there. Takes no memory.
+    #[tactic(auto, using(tera_meaning::specs::TreeLaws::list_of_members))]
+    pub fn get_attr<'a>(&'a self, name: &'a str) -> Option<&'a Value>
+        ensures { option_copied result ≡ attr self.now name.now }
+    {
+        match &self.inner {
+            ValueInner::Map(all) => find_text(all, name),
+            ValueInner::Undefined => None,
+            ValueInner::None => None,
+            ValueInner::Bool(_) => None,
+            ValueInner::U64(_) => None,
+            ValueInner::I64(_) => None,
+            ValueInner::U128(_) => None,
+            ValueInner::I128(_) => None,
+            ValueInner::String(_, _) => None,
+            ValueInner::Array(_) => None,
+            ValueInner::Bytes(_) => None,
+        }
+    }
+
+    /// The key that it is: a truth value, an integer in its kind, a text of its own. Mirrors
+    /// `Value::as_key`.
+    ///
+    /// Refuses every other value with `Not a valid key type`. Takes memory for a text, and for the
+    /// refusal's; want of it, `Out of memory`, is answered in the place of either.
+    pub fn as_key(&self, alloc: Global) -> TeraResult<Key<'static>>
+        ensures ok { IfOk result (λ key. as_key self.now ≡ Ok (key_form key)) }
+        ensures err { IfErr result (Refuses (as_key self.now)) }
+        ensures succeeds { IsOk (as_key self.now) → text_in self.now ≡ None → IsOk result }
+    {
+        match &self.inner {
+            ValueInner::Bool(b) => Ok(Key::Bool(*b)),
+            ValueInner::U64(n) => Ok(Key::U64(*n)),
+            ValueInner::I64(z) => Ok(Key::I64(*z)),
+            ValueInner::U128(n) => Ok(Key::U128(*n)),
+            ValueInner::I128(z) => Ok(Key::I128(*z)),
+            ValueInner::String(text, _) => {
+                Ok(Key::String(RcStr::from_str(alloc, text.as_str())?))
+            }
+            ValueInner::Undefined => Err(not_a_key(alloc)),
+            ValueInner::None => Err(not_a_key(alloc)),
+            ValueInner::Array(_) => Err(not_a_key(alloc)),
+            ValueInner::Bytes(_) => Err(not_a_key(alloc)),
+            ValueInner::Map(_) => Err(not_a_key(alloc)),
+        }
+    }
+
+    /// A copy of what it has at an item: a map at the key that the item is, whatever its kind; an
+    /// array or a text at an index, one below 0 being counted from the end. A character keeps the
+    /// text's flag. Undefined where there is nothing, and on every other value. Mirrors
+    /// `Value::get_item`.
+    ///
+    /// Refuses an item of a map that is no key with ``Map keys must be strings, integers, or bools,
+    /// got `N`.``, and one of an array or a text that is no integer with ``Array index must be an
+    /// integer, got `N`.`` or ``String index must be an integer, got `N`.``, where N is the name of
+    /// the item's kind. Takes memory for the copy and for a refusal's text; want of it, `Out of
+    /// memory`, is answered in the place of either.
+    pub fn get_item(&self, alloc: Global, at: &Value) -> TeraResult<Value>
+        ensures ok { IfOk result (λ part. item self.now at.now ≡ Ok part) }
+        ensures err { IfErr result (Refuses (item self.now at.now)) }
+        ensures succeeds { IfOk (item self.now at.now)
+            (λ part. iterable_in part ≡ false → IsOk result) }
+    {
+        match &self.inner {
+            ValueInner::Map(all) => item_of_map(alloc, all, at),
+            ValueInner::Array(all) => item_of_array(alloc, all.as_slice(), at),
+            ValueInner::String(text, safe) => item_of_text(alloc, text.as_str(), *safe, at),
+            ValueInner::Undefined => Ok(Value::undefined()),
+            ValueInner::None => Ok(Value::undefined()),
+            ValueInner::Bool(_) => Ok(Value::undefined()),
+            ValueInner::U64(_) => Ok(Value::undefined()),
+            ValueInner::I64(_) => Ok(Value::undefined()),
+            ValueInner::U128(_) => Ok(Value::undefined()),
+            ValueInner::I128(_) => Ok(Value::undefined()),
+            ValueInner::Bytes(_) => Ok(Value::undefined()),
+        }
+    }
+
+    // Whether it is a key.
+    fn is_key(&self) -> bool
+        ensures { result ≡ is_some (key_in self.now) }
+    {
+        match &self.inner {
+            ValueInner::Bool(_) => true,
+            ValueInner::U64(_) => true,
+            ValueInner::I64(_) => true,
+            ValueInner::U128(_) => true,
+            ValueInner::I128(_) => true,
+            ValueInner::String(_, _) => true,
+            ValueInner::Undefined => false,
+            ValueInner::None => false,
+            ValueInner::Array(_) => false,
+            ValueInner::Bytes(_) => false,
+            ValueInner::Map(_) => false,
+        }
+    }
+}
+
+/// What a map has at the key that a value is, lent; nothing where the value is no key. Takes no
+/// memory.
+pub(crate) fn find_value<'a>(all: &'a Map, key: &'a Value) -> Option<&'a Value>
+    ensures { option_copied result ≡ paired (pairs_in all.now) (key_in key.now) }
+{
+    match &key.inner {
+        ValueInner::Bool(b) => find_key(all, &Key::Bool(*b)),
+        ValueInner::U64(n) => find_key(all, &Key::U64(*n)),
+        ValueInner::I64(z) => find_key(all, &Key::I64(*z)),
+        ValueInner::U128(n) => find_key(all, &Key::U128(*n)),
+        ValueInner::I128(z) => find_key(all, &Key::I128(*z)),
+        ValueInner::String(text, _) => find_text(all, text.as_str()),
+        ValueInner::Undefined => None,
+        ValueInner::None => None,
+        ValueInner::Array(_) => None,
+        ValueInner::Bytes(_) => None,
+        ValueInner::Map(_) => None,
+    }
+}
+
+// What a map has at an item.
+#[tactic(auto, using(tera_meaning::specs::TreeLaws::list_of_members))]
+fn item_of_map(alloc: Global, all: &Map, at: &Value) -> TeraResult<Value>
+    ensures ok { IfOk result
+        (λ part. item (object (members (pairs_in all.now))) at.now ≡ Ok part) }
+    ensures err { IfErr result (Refuses (item (object (members (pairs_in all.now))) at.now)) }
+    ensures succeeds { IfOk (item (object (members (pairs_in all.now))) at.now)
+        (λ part. iterable_in part ≡ false → IsOk result) }
+{
+    if !at.is_key() {
+        return Err(not_a_map_key(alloc, at));
+    }
+    copy_of(alloc, find_value(all, at))
+}
+
+// What an array has at an item.
+fn item_of_array(alloc: Global, all: &[Value], at: &Value) -> TeraResult<Value>
+    ensures ok { IfOk result (λ made. indexed in_array at.now (part_at all.now) ≡ Ok made) }
+    ensures err { IfErr result (Refuses (indexed in_array at.now (part_at all.now))) }
+    ensures succeeds { IfOk (indexed in_array at.now (part_at all.now))
+        (λ made. iterable_in made ≡ false → IsOk result) }
+{
+    let Some(index) = at.whole() else {
+        return Err(not_an_array_index(alloc, at));
+    };
+    copy_of(alloc, part(all, index))
+}
+
+// The part at an index.
+fn part<T>(all: &[T], index: Whole) -> Option<&T>
+    ensures { option_copied result ≡ part_at all.now (whole_value index) }
+{
+    match place(index, all.len()) {
+        Some(place) => all.get(place),
+        None => None,
+    }
+}
+
+// What a text has at an item.
+fn item_of_text(alloc: Global, text: &str, safe: bool, at: &Value) -> TeraResult<Value>
+    ensures ok { IfOk result (λ part. item (marked text.now safe) at.now ≡ Ok part) }
+    ensures err { IfErr result (Refuses (item (marked text.now safe) at.now)) }
+    ensures succeeds { IfOk (item (marked text.now safe) at.now)
+        (λ part. iterable_in part ≡ false → IsOk result) }
+{
+    let Some(index) = at.whole() else {
+        return Err(not_a_text_index(alloc, at));
+    };
+    match character(text, index) {
+        Some(found) => {
+            let mut made = String::new(alloc);
+            made.push(found)?;
+            Ok(Value {
+                inner: ValueInner::String(made, safe),
+            })
+        }
+        None => Ok(Value::undefined()),
+    }
+}
+
+// A copy of the part, undefined where there is none.
+fn copy_of(alloc: Global, part: Option<&Value>) -> TeraResult<Value>
+    ensures ok { IfOk result (λ made. unwrap_or (option_copied part.entry) undefined ≡ made) }
+    ensures err { IfErr result IsOutOfMemory }
+    ensures succeeds { iterable_in (unwrap_or (option_copied part.entry) undefined) ≡ false
+        → IsOk result }
+{
+    match part {
+        Some(part) => part.clone(alloc),
+        None => Ok(Value::undefined()),
+    }
+}

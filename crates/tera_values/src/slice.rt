@@ -1,0 +1,195 @@
+//! Slices of values, and their reversal.
+ghost use Rattle.std.specs.Prelude.{◌≡◌, ◌≢◌, ◌<◌, ◌≤◌, Result, Ok, Some, IfOk, IfErr, IsOk, pos};
+ghost use Rattle.std.specs.Prelude.{[], reverse, length, slice_get, unwrap_or};
+ghost use Rattle.tera_meaning.specs.Form.{Form};
+ghost use Rattle.tera_meaning.specs.Read.{items_in};
+ghost use Rattle.tera_meaning.specs.Slice.{IsSliced, reversed};
+ghost use Rattle.tera_meaning.specs.Walk.{cut, slice_of, IsStrided};
+ghost use Rattle.tera_report.specs.Errors.{IsOutOfMemory, Refuses};
+ghost use Rattle.tera_report.specs.Refusal.{Refusal};
+ghost use Rattle.tera_text.specs.Positions.{turned};
+
+use crate::Value;
+use crate::refused::{not_reversible, not_sliceable, step_of_zero};
+use crate::value::ValueInner;
+use std::alloc::Global;
+use tera_report::TeraResult;
+use tera_text::{Stride, reversed_text, sliced_text};
+
+impl Value {
+    /// The items of an array or the characters of a text from a start up to an end, by a step that
+    /// may go backwards. A bound below 0 counts from the end, and one past an end is clamped to it;
+    /// an absent step is 1, and an absent bound is where the items begin or end in the direction of
+    /// the step. Items keep their forms, and a text keeps its flag. Mirrors `Value::slice`.
+    ///
+    /// Refuses a step of 0 with `Slicing step cannot be 0`, and then every other value with
+    /// ``Slicing can only be used on arrays or strings, not on `N`.``, where N is the name of its
+    /// kind. Takes memory for what it gives, unless the array is empty, and for a refusal's text;
+    /// want of it, `Out of memory`, is answered in the place of either.
+    pub fn slice(
+        &self,
+        alloc: Global,
+        start: Option<i128>,
+        end: Option<i128>,
+        step: Option<i128>,
+    ) -> TeraResult<Value>
+        ensures ok { IfOk result (λ v. IsSliced self.now start end step (Ok v)) }
+        ensures err { IfErr result (λ e. (outcome : Result Form Refusal)
+            × IsSliced self.now start end step outcome × Refuses outcome e) }
+        ensures succeeds { items_in self.now ≡ Some [] → unwrap_or step (pos 1) ≢ pos 0
+            → IsOk result }
+    {
+        let step = step.unwrap_or(1);
+        if step == 0 {
+            return Err(step_of_zero(alloc));
+        }
+        self.cut(alloc, start, end, step)
+    }
+
+    /// The items of an array, the characters of a text or the bytes of bytes in the opposite order.
+    /// Items keep their forms; a reversed text is not safe. Mirrors `Value::reverse`, where bytes
+    /// become an array of numbers.
+    ///
+    /// Refuses every other value with `Value of type N cannot be reversed`, where N is the name of
+    /// its kind. Takes memory for what it gives, unless the array is empty, and for a refusal's
+    /// text; want of it, `Out of memory`, is answered in the place of either.
+    #[tactic(auto, using(tera_meaning::specs::TreeLaws::list_of_items))]
+    pub fn reverse(&self, alloc: Global) -> TeraResult<Value>
+        ensures ok { IfOk result (λ v. reversed self.now ≡ Ok v) }
+        ensures err { IfErr result (Refuses (reversed self.now)) }
+        ensures succeeds { items_in self.now ≡ Some [] → IsOk result }
+    {
+        match &self.inner {
+            ValueInner::Array(all) => {
+                Ok(Value::of_array(reversed_items(alloc, all.as_slice())?))
+            }
+            ValueInner::String(text, _) => Ok(Value {
+                inner: ValueInner::String(reversed_text(alloc, text.as_str())?, false),
+            }),
+            ValueInner::Bytes(held) => Ok(Value::bytes(reversed_bytes(alloc, held.as_slice())?)),
+            ValueInner::Undefined => Err(not_reversible(alloc, self)),
+            ValueInner::None => Err(not_reversible(alloc, self)),
+            ValueInner::Bool(_) => Err(not_reversible(alloc, self)),
+            ValueInner::U64(_) => Err(not_reversible(alloc, self)),
+            ValueInner::I64(_) => Err(not_reversible(alloc, self)),
+            ValueInner::U128(_) => Err(not_reversible(alloc, self)),
+            ValueInner::I128(_) => Err(not_reversible(alloc, self)),
+            ValueInner::Map(_) => Err(not_reversible(alloc, self)),
+        }
+    }
+
+    // The slice by a step other than 0.
+    #[tactic(auto, using(tera_meaning::specs::TreeLaws::list_of_items))]
+    fn cut(
+        &self,
+        alloc: Global,
+        start: Option<i128>,
+        end: Option<i128>,
+        step: i128,
+    ) -> TeraResult<Value>
+        ensures ok { IfOk result (λ v. step ≢ pos 0 → cut self.now start end step ≡ Ok v) }
+        ensures err { IfErr result (Refuses (cut self.now start end step)) }
+        ensures succeeds { items_in self.now ≡ Some [] → IsOk result }
+    {
+        match &self.inner {
+            ValueInner::Array(all) => {
+                let part = sliced_items(alloc, all.as_slice(), start, end, step)?;
+                Ok(Value::of_array(part))
+            }
+            ValueInner::String(text, safe) => {
+                let part = sliced_text(alloc, text.as_str(), start, end, step)?;
+                Ok(Value {
+                    inner: ValueInner::String(part, *safe),
+                })
+            }
+            ValueInner::Undefined => Err(not_sliceable(alloc, self)),
+            ValueInner::None => Err(not_sliceable(alloc, self)),
+            ValueInner::Bool(_) => Err(not_sliceable(alloc, self)),
+            ValueInner::U64(_) => Err(not_sliceable(alloc, self)),
+            ValueInner::I64(_) => Err(not_sliceable(alloc, self)),
+            ValueInner::U128(_) => Err(not_sliceable(alloc, self)),
+            ValueInner::I128(_) => Err(not_sliceable(alloc, self)),
+            ValueInner::Bytes(_) => Err(not_sliceable(alloc, self)),
+            ValueInner::Map(_) => Err(not_sliceable(alloc, self)),
+        }
+    }
+}
+
+// Copies of the items of a slice.
+fn sliced_items(
+    alloc: Global,
+    all: &[Value],
+    start: Option<i128>,
+    end: Option<i128>,
+    step: i128,
+) -> TeraResult<Vec<Value>>
+    ensures ok { IfOk result (λ ys. step ≢ pos 0 → ys.items ≡ slice_of all.now start end step) }
+    ensures err { IfErr result IsOutOfMemory }
+    ensures succeeds { all.now ≡ [] → IsOk result }
+{
+    strided_items(
+        alloc,
+        all,
+        step < 0,
+        Stride::new(all.len(), start, end, step),
+    )
+}
+
+// Copies of the items in the opposite order.
+fn reversed_items(alloc: Global, all: &[Value]) -> TeraResult<Vec<Value>>
+    ensures ok { IfOk result (λ ys. ys.items ≡ reverse all.now) }
+    ensures err { IfErr result IsOutOfMemory }
+    ensures succeeds { all.now ≡ [] → IsOk result }
+{
+    let whole = Stride {
+        from: 0,
+        until: all.len(),
+        by: 1,
+    };
+    strided_items(alloc, all, true, whole)
+}
+
+// Copies of the items that a walk takes, from the front or from the back.
+fn strided_items(
+    alloc: Global,
+    all: &[Value],
+    backwards: bool,
+    stride: Stride,
+) -> TeraResult<Vec<Value>>
+    requires moves { 0 < stride.by }
+    requires within { stride.until ≤ length all.now }
+    ensures ok { IfOk result (λ ys. IsStrided (turned backwards all.now) stride.from stride.until
+        stride.by ys.items) }
+    ensures err { IfErr result IsOutOfMemory }
+    ensures succeeds { all.now ≡ [] → IsOk result }
+{
+    let mut made = Vec::with_capacity(alloc, stride.count())?;
+    let mut at = stride.from;
+    while at < stride.until {
+        made.push(item_from(all, backwards, at).clone(alloc)?)?;
+        at = at.saturating_add(stride.by);
+    }
+    Ok(made)
+}
+
+// The item so many behind the first one, or before the last one.
+fn item_from(all: &[Value], backwards: bool, at: usize) -> &Value
+    requires { at < length all.now }
+    ensures { slice_get (turned backwards all.now) at ≡ Some result.now }
+{
+    if backwards {
+        &all[all.len() - 1 - at]
+    } else {
+        &all[at]
+    }
+}
+
+// The bytes in the opposite order.
+fn reversed_bytes(alloc: Global, held: &[u8]) -> TeraResult<Vec<u8>>
+    ensures ok { IfOk result (λ made. made.items ≡ reverse held.now) }
+    ensures err { IfErr result IsOutOfMemory }
+{
+    let mut made = held.to_vec(alloc)?;
+    made.reverse();
+    Ok(made)
+}

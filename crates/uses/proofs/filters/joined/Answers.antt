@@ -1,0 +1,23 @@
+use Rattle.std.proofs.Common.{ap, ◌∙◌, ◌++◌, arith}
+use Rattle.std.specs.String.{string_bytes}
+use Rattle.uses.specs.Filters.{shown}
+use Rattle.uses.proofs.Joined.{first_joined, next_joined}
+use Rattle.uses.proofs.filters.joined.Goals as goal
+use Rattle.uses.proofs.filters.joined.Goals.{then-place-gt0+in_ok-put_shown, else-place-gt0}
+
+pub loop-place-preserved : goal.loop-place-preserved
+loop-place-preserved g c =
+    let as_shown = shown g.S.Autoescape.escapes g.S.Autoescape.escaped c.args.state.now in
+    let grown = c.in_ok-put_shown-2.ensures.ok in
+    elim c.if-place-gt0.branch [
+      | then-place-gt0+in_ok-put_shown w ↦
+          next_joined as_shown (as_shown c.args.between.now) c.args.parts.now c.loop-place.place c.index-parts-place.result
+          (string_bytes c.put_shown-in-loop-place.new.out) (string_bytes c.loop-place.joined)
+          c.loop-place-test.true c.index-parts-place.is w.if-place-gt0.true c.loop-place.invariant
+          (grown ∙ ap (λ t. t ++ as_shown c.index-parts-place.result) (ap (λ t. string_bytes t) w.joined-is ∙ w.in_ok-put_shown.ensures.ok))
+      | else-place-gt0 w ↦
+          first_joined as_shown (as_shown c.args.between.now) c.args.parts.now c.loop-place.place c.index-parts-place.result
+          (string_bytes c.put_shown-in-loop-place.new.out) (string_bytes c.loop-place.joined)
+          c.loop-place-test.true c.index-parts-place.is (omega (arith, w.if-place-gt0.false)) c.loop-place.invariant
+          (grown ∙ ap (λ t. t ++ as_shown c.index-parts-place.result) (ap (λ t. string_bytes t) w.joined-is))
+    ]

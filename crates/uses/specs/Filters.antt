@@ -1,0 +1,57 @@
+-- What the filters of these programs give.
+use Rattle.std.specs.Prelude.{◌≡◌, ◌⊎◌, ◌++◌, ℕ, pos, Bool, List, [], ◌∷◌, map, codes, if◌then◌else◌}
+use Rattle.std.specs.Prelude.{Option, None, Some, Ok, MatchOption}
+use Rattle.std.specs.List.{AllZip}
+use Rattle.std.specs.Option.{IsSomeAnd}
+use Rattle.tera_arguments.specs.Rendered.{is_shown_plain}
+use Rattle.tera_arguments.specs.Taken.{Denies, DeniesItems, IsNoArray, as_marked_text}
+use Rattle.tera_meaning.specs.Conversion.{IntegerType, converted}
+use Rattle.tera_meaning.specs.Form.{Form, MarkedText}
+use Rattle.tera_meaning.specs.Read.{items_in}
+use Rattle.tera_meaning.specs.Slice.{IsSliced}
+use Rattle.tera_meaning.specs.Tree.{text}
+use Rattle.tera_report.specs.Errors.{IsOutOfMemory, Raises}
+use Rattle.tera_report.specs.Refusal.{missing_argument}
+use Rattle.tera_report.specs.declared.errors.Error.{Error}
+use Rattle.tera_values.specs.View.{marked}
+
+-- a text up to the length that is given, with its flag
+abbrev pub IsTruncated : MarkedText → Option Form → Form → Type 0
+IsTruncated t given v = IsSomeAnd given (λ length. (n : ℕ) × (converted IntegerType.u64 length ≡ Ok (pos n))
+    × IsSliced (text t) None (Some (pos n)) None (Ok v))
+
+-- no length is given, or it is none
+abbrev pub RefusesLength : Option Form → Error → Type 0
+RefusesLength given e = MatchOption given (Raises (missing_argument (codes "length")) e)
+    (λ length. Denies (converted IntegerType.u64 length) e)
+
+-- texts one after another, with one between them
+abbrev pub joined : List ℕ → List (List ℕ) → List ℕ
+joined between [] = []
+joined between (t ∷ []) = t
+joined between (t ∷ (next ∷ texts)) = t ++ (between ++ joined between (next ∷ texts))
+
+module _ {S : Type 0} (escapes : S → Bool) (escaped : S → List ℕ → List ℕ) (state : S) where
+  -- a text as it is shown
+  abbrev pub shown : MarkedText → List ℕ
+  shown t = if is_shown_plain escapes state t then t.spelled else escaped state t.spelled
+
+  -- the texts of an array as they are shown, with the one that is given between them
+  abbrev pub IsJoined : Form → Option Form → Form → Type 0
+  IsJoined value given v = (parts : List MarkedText) × (held : List Form) × (between : MarkedText)
+      × (items_in value ≡ Some held) × AllZip (λ item part. as_marked_text item ≡ Ok part) held parts
+      × IsSomeAnd given (λ sep. as_marked_text sep ≡ Ok between)
+      × (v ≡ marked (joined (shown between) (map shown parts)) (escapes state))
+
+-- the value is no array of texts
+abbrev pub RefusesTexts : Form → Error → Type 0
+RefusesTexts value e =
+    DeniesItems items_in IsNoArray (λ item part. as_marked_text item ≡ Ok part) (λ item. Denies (as_marked_text item)) value e
+
+-- no separator is given, or it is no text
+abbrev pub RefusesSeparator : Option Form → Error → Type 0
+RefusesSeparator given e = MatchOption given (Raises (missing_argument (codes "sep")) e) (λ sep. Denies (as_marked_text sep) e)
+
+-- a text was not escaped, or there was no memory
+abbrev pub EscapeRefuses : {S : Type 0} → (S → List ℕ → Error → Type 0) → S → Error → Type 0
+EscapeRefuses refuses state e = IsOutOfMemory e ⊎ ((t : List ℕ) × refuses state t e)

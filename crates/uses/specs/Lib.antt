@@ -1,0 +1,4 @@
+pub mod Maps
+pub mod Filters
+pub mod Render
+pub mod Nested

@@ -1,0 +1,15 @@
+-- A map of an array of a map, as it is held.
+use Rattle.std.specs.Prelude.{[], ◌∷◌, pos, false, codes}
+use Rattle.tera_meaning.specs.Form.{Form}
+use Rattle.tera_meaning.specs.Integer.{u64}
+use Rattle.tera_meaning.specs.KeyMeaning.{text_key, borrowed}
+use Rattle.tera_meaning.specs.Tree.{array, object, items, members}
+use Rattle.tera_values.specs.View.{integer, marked}
+
+-- {"b": "x"}
+abbrev pub inner : Form
+inner = object (members ((text_key (borrowed (codes "b")), marked (codes "x") false) ∷ []))
+
+-- {"a": [1, {"b": "x"}]}
+abbrev pub nested : Form
+nested = object (members ((text_key (borrowed (codes "a")), array (items (integer u64 (pos 1) ∷ inner ∷ []))) ∷ []))

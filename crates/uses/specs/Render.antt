@@ -1,0 +1,59 @@
+-- What a page of pieces is.
+use Rattle.std.specs.Prelude.{◌≡◌, ◌++◌, ℕ, Bool, true, false, List, [], ◌∷◌, Option, None, Some, IfSome, ⊤}
+use Rattle.std.specs.FinMap.{get}
+use Rattle.std.specs.Option.{option_and_then, option_map}
+use Rattle.std.specs.String.{string_bytes}
+use Rattle.tera_meaning.specs.Form.{Form}
+use Rattle.tera_meaning.specs.Meaning.{plain}
+use Rattle.tera_meaning.specs.Path.{path}
+use Rattle.tera_meaning.specs.Printed.{Prints, IsExact, shown_in_page}
+use Rattle.tera_meaning.specs.Read.{safe_in}
+use Rattle.tera_meaning.specs.State.{State}
+use Rattle.tera_report.specs.Escaping.{Spells}
+use Rattle.uses.specs.declared.render.Piece.{Piece}
+use Rattle.uses.specs.declared.render.Piece.TheVariants.{Text, Path}
+
+-- what is found at a name, or by a path from there
+abbrev pub found : State → List ℕ → Option (List ℕ) → Option Form
+found state name None = get state name
+found state name (Some to) = option_and_then (λ value. path value to) (get state name)
+
+-- what stands for a text: the text itself where it is safe, and else its spelling
+abbrev pub StandsFor : Bool → List ℕ → List ℕ → Type 0
+StandsFor true shown text = shown ≡ text
+StandsFor false shown text = Spells shown text
+
+-- what a value shows: what stands for its printed text
+abbrev pub ShowsValue : Form → List ℕ → Type 0
+ShowsValue value shown = (text : List ℕ) × Prints (plain value) text × StandsFor (safe_in value) shown text
+
+-- and what is found: nothing is shown where nothing is
+abbrev pub ShowsFound : Option Form → List ℕ → Type 0
+ShowsFound None shown = shown ≡ []
+ShowsFound (Some value) shown = ShowsValue value shown
+
+-- what a piece shows: a text itself, or what is found
+abbrev pub ShowsPiece : State → Piece → List ℕ → Type 0
+ShowsPiece state (Text text) shown = shown ≡ string_bytes text
+ShowsPiece state (Path name to) shown = ShowsFound (found state (string_bytes name) (option_map string_bytes to)) shown
+
+-- the page of pieces: what the first shows, and then the page of the rest
+abbrev pub IsRendered : State → List Piece → List ℕ → Type 0
+IsRendered state [] page = page ≡ []
+IsRendered state (piece ∷ pieces) page =
+    (shown rest : List ℕ) × ShowsPiece state piece shown × IsRendered state pieces rest × (page ≡ shown ++ rest)
+
+-- what a piece finds has one printed text
+abbrev pub IsExactPiece : State → Piece → Type 0
+IsExactPiece state (Text text) = ⊤
+IsExactPiece state (Path name to) =
+    IfSome (found state (string_bytes name) (option_map string_bytes to)) (λ value. IsExact (plain value))
+
+-- and then it shows this
+abbrev pub shown_if_found : Option Form → List ℕ
+shown_if_found None = []
+shown_if_found (Some value) = shown_in_page value
+
+abbrev pub shown_by : State → Piece → List ℕ
+shown_by state (Text text) = string_bytes text
+shown_by state (Path name to) = shown_if_found (found state (string_bytes name) (option_map string_bytes to))

@@ -1,0 +1,56 @@
+//! Steps over contexts: one before others, and others behind a value that is kept.
+ghost use Rattle.std.specs.Prelude.{◌≡◌, List, ◌∷◌, map, IfOk, IfErr};
+ghost use Rattle.std.specs.FinMap.{insert};
+ghost use Rattle.std.specs.List.{AllZip};
+ghost use Rattle.tera_context.specs.Call.{command_of};
+ghost use Rattle.tera_context.specs.Steps.{ShowsOutcome};
+ghost use Rattle.tera_meaning.specs.Outcome.{Outcome};
+ghost use Rattle.tera_meaning.specs.Run.{IsRun, NoneWantsMemory, state_after_all};
+ghost use Rattle.tera_report.specs.Errors.{IsOutOfMemory};
+
+use tera_context::{Answer, Context, Step, run, step};
+use tera_meaning::runs::runs_give_their_outcomes;
+use tera_report::TeraResult;
+use tera_values::Value;
+
+/// A step, and then the later ones: one run of them all. The answer to the first stands by itself.
+///
+/// Takes memory for the list of the later answers; want of it, `Out of memory`, is the only
+/// refusal, and then the first step was done.
+pub fn step_and_run(
+    context: &mut Context,
+    first: Step,
+    later: Vec<Step>,
+) -> TeraResult<(TeraResult<Answer>, Vec<TeraResult<Answer>>)>
+    ensures run { IfOk result (λ answers. (outcome : Outcome) × (outcomes : List Outcome)
+        × ShowsOutcome answers.0 outcome × AllZip ShowsOutcome answers.1.items outcomes
+        × IsRun context.old (command_of first ∷ map command_of later.items) (outcome ∷ outcomes)
+        context.new) }
+    ensures err { IfErr result IsOutOfMemory }
+{
+    let answer = step(context, first);
+    let answers = run(context, later)?;
+    Ok((answer, answers))
+}
+
+/// Keeps a value under a name, and then does the steps. Where none of them wants memory the
+/// context is what they leave of that.
+///
+/// Takes memory; want of it for the value or for the list of answers, `Out of memory`, is the only
+/// refusal.
+pub fn run_with(
+    context: &mut Context,
+    name: &str,
+    value: Value,
+    steps: Vec<Step>,
+) -> TeraResult<Vec<TeraResult<Answer>>>
+    ensures run { IfOk result (λ answers. (outcomes : List Outcome)
+        × AllZip ShowsOutcome answers.items outcomes
+        × (NoneWantsMemory outcomes → context.new
+        ≡ state_after_all (insert context.old name.now value) (map command_of steps.items))) }
+    ensures err { IfErr result IsOutOfMemory }
+{
+    runs_give_their_outcomes();
+    context.insert_value(name, value)?;
+    run(context, steps)
+}

@@ -1,0 +1,65 @@
+#!/usr/bin/env python3
+"""Every line of the language on operands of no part, one part and 1,000 parts, with ample memory.
+
+`python3 tests/ample.py PROGRAM`: the program answers as tests/second.py does, and no answer is want of memory.
+"""
+import subprocess
+import sys
+
+import second
+
+COUNTS = (0, 1, 1000)
+TYPES = "u8 u16 u32 u64 u128 usize i8 i16 i32 i64 i128 isize".split()
+
+
+def literals(count):
+    """A literal of each kind that has parts, and a number of that many digits at most 38."""
+    items = [f'[{i}, "t{i}"]' for i in range(count)]
+    pairs = [f'"k{i:04}": {i}' for i in range(count)]
+    text = "".join("aé<"[i % 3] for i in range(count))
+    return {
+        "text": f'"{text}"',
+        "safe": f's"{text}"',
+        "bytes": f'x"{"7f" * count}"',
+        "array": f"[{', '.join(items)}]",
+        "map": f"{{{', '.join(pairs)}}}",
+        "number": "9" * min(max(count, 1), 38),
+    }
+
+
+def asked(name, others):
+    """Each line of a name, and each of two with the others."""
+    yield from (f"{verb} {name}" for verb in "has get len truthy fields kind is_safe print escape negate reverse".split())
+    yield from (f"{verb} {name} -> kept" for verb in ("get", "reverse", "negate", "mark_safe"))
+    yield from (f"read {kind} {name}{into}" for kind in TYPES for into in ("", " -> kept"))
+    yield from (f"slice {name} {bounds} -> kept" for bounds in ("_ _ _", "_ _ -1", "1 -1 2"))
+    for text in ("", "k0999", "999.1", "0", "t0"):
+        yield from (f'path {name} "{text}" -> kept', f'attr {name} "{text}" -> kept')
+    for other in others:
+        for verb in "eq cmp try_cmp contains item add sub mul rem floor_div pow".split():
+            yield f"{verb} {name} {other}"
+
+
+def script():
+    names = {f"{kind}{count}": literal for count in COUNTS for kind, literal in literals(count).items()}
+    yield from (f"set {name} {literal}" for name, literal in names.items())
+    for name in names:
+        yield from asked(name, names)
+        yield from (f"mark_safe {name}", f"is_safe {name}")
+    for count in COUNTS:
+        yield f"extend {literals(count)['map']}"
+        yield from (f"remove k{max(count - 1, 0):04}", f"has k{max(count - 1, 0):04}")
+
+
+def main():
+    lines = [*script()]
+    given = "".join(f"{line}\n" for line in lines).encode()
+    ran = subprocess.run([sys.argv[1]], input=given, capture_output=True)
+    wanted = second.run(given)
+    if (ran.stdout, ran.stderr, ran.returncode) != wanted or b"error: Out of memory\n" in ran.stdout:
+        sys.exit("the answers differ, or memory was wanted")
+    print(f"ample: end, {len(lines)} lines")
+
+
+if __name__ == "__main__":
+    main()
