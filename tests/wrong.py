@@ -4,7 +4,7 @@
 An edit is written as those of must-fail/ are: a line 'file: src/SUBJECT.rt', and pairs of lines 'old: TEXT' and
 'new: TEXT', where each old text stands in that file, or in that function, exactly once. FUNCTION is the name of its
 function, with its type and trait as the prover spells them ('Value.format', 'ValueFromU8.from'), or that of a constant or
-another item. An edit of a macro stands at a function of its file that uses the macro and is to be refused.
+another item.
 
 A check takes an edit of each of many functions, and the edits of a large crate are tried in several lists at once. An
 edit is refused where a goal of its function's contract is not proved: a return's, or an invariant's, but not that a sum
@@ -165,10 +165,8 @@ class Edit:
                 return f"this stands {len(at)} times in its file or function: {old}"
             self.at += at
         places = [self.place(lines, at) for at in self.at]
-        if not places[0]:
-            places = [self.user(lines)]
         if not places[0] or {*places} - {places[0], None}:
-            return "it stands in several functions" if places[0] else "its first change stands in no function, constant or macro of one"
+            return "it stands in several functions" if places[0] else "its first change stands in no function or constant"
         self.home = self.home_of(lines, places[0])
         while lines[self.first - 1].lstrip().startswith("#["):
             self.first -= 1
@@ -176,12 +174,6 @@ class Edit:
 
     def place(self, lines, at):
         return place_of(lines, self.text[:at].count("\n"))
-
-    def user(self, lines):
-        """The function that the edit's folder names, which uses the macro that is edited."""
-        name = os.path.basename(os.path.dirname(self.path))
-        named = [at for at, line in enumerate(lines) if (found := FUNCTION.match(line)) and found[2] == name]
-        return place_of(lines, named[0]) if len(named) == 1 else None
 
     def home_of(self, lines, place):
         """Where the edits of the item at a place stand: its file, then its name."""

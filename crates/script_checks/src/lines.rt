@@ -15,15 +15,15 @@ fn takes_a_text(rt: HostRuntime) -> Result<(), Fail> {
 // Whether a line is a step that keeps its answer under that name.
 fn is_kept_under(alloc: Global, line: &[u8], name: &str) -> bool {
     match read_line(alloc, line) {
-        Ok(
-            Reading::Says(
-                Step {
-                    into: Some(kept),
-                    ..
-                },
-            ),
-        ) => kept.as_str() == name,
+        Ok(Reading::Says(step)) => is_into(&step, name),
         _ => false,
+    }
+}
+
+fn is_into(step: &Step, name: &str) -> bool {
+    match &step.into {
+        Some(kept) => kept.as_str() == name,
+        None => false,
     }
 }
 
