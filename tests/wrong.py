@@ -361,7 +361,7 @@ def edits_below(folder, crate):
     return [Edit(it, folder, crate) for it in paths]
 
 
-def shares(edits, most=120):
+def shares(edits, most=200):
     """The edits in as few lists of about that many as can be, those of one function in one list."""
     functions = [*dict.fromkeys(os.path.dirname(it.path) for it in edits)]
     parts = -(-len(edits) // most)
