@@ -119,6 +119,11 @@ fn texts_are_not_safe(rt: HostRuntime) {
     );
 }
 
+// A reference to it gives a value that is held so.
+fn gives_as_lent(alloc: Global, value: Value, wanted: &str) -> bool {
+    gives(alloc, &value, wanted)
+}
+
 #[test]
 fn values_are_given_as_they_are(rt: HostRuntime) {
     let alloc = rt.alloc();
@@ -129,8 +134,8 @@ fn values_are_given_as_they_are(rt: HostRuntime) {
             gives(alloc, text(alloc, "<"), "String(\"<\", false)"),
             gives(alloc, Value::from(7u128), "U128(7)"),
             gives(alloc, Value::undefined(), "Undefined"),
-            gives(alloc, &safe(alloc, "<"), "String(\"<\", true)"),
-            gives(alloc, &Value::from(7i128), "I128(7)"),
+            gives_as_lent(alloc, safe(alloc, "<"), "String(\"<\", true)"),
+            gives_as_lent(alloc, Value::from(7i128), "I128(7)"),
         ],
     );
 }

@@ -133,19 +133,28 @@ pub fn is_owned(answer: &TeraResult<CowStr<'_>>, wanted: &str) -> bool {
     }
 }
 
+// It is taken as that text, lent.
+fn stands(alloc: Global, value: Value, wanted: &str) -> bool {
+    is_lent(&taken(alloc, &value), wanted)
+}
+
+// It is taken as that text, printed.
+fn is_printed(alloc: Global, value: Value, wanted: &str) -> bool {
+    is_owned(&taken(alloc, &value), wanted)
+}
+
 #[test]
 fn texts_are_lent_and_other_values_printed(rt: HostRuntime) {
     let alloc = rt.alloc();
-    let list = numbers(alloc, &[1, 2]);
     hold(
         &rt,
         &[
-            is_lent(&taken(alloc, &text(alloc, "é<")), "é<"),
-            is_lent(&taken(alloc, &safe(alloc, "é<")), "é<"),
-            is_lent(&taken(alloc, &text(alloc, "")), ""),
-            is_owned(&taken(alloc, &Value::from(5u8)), "5"),
-            is_owned(&taken(alloc, &Value::none()), ""),
-            is_owned(&taken(alloc, &list), "[1, 2]"),
+            stands(alloc, text(alloc, "é<"), "é<"),
+            stands(alloc, safe(alloc, "é<"), "é<"),
+            stands(alloc, text(alloc, ""), ""),
+            is_printed(alloc, Value::from(5u8), "5"),
+            is_printed(alloc, Value::none(), ""),
+            is_printed(alloc, numbers(alloc, &[1, 2]), "[1, 2]"),
         ],
     );
 }
