@@ -4,7 +4,8 @@
 An edit is written as those of must-fail/ are: a line 'file: src/SUBJECT.rt', and pairs of lines 'old: TEXT' and
 'new: TEXT', where each old text stands in that file, or in that function, exactly once. FUNCTION is the name of its
 function, with its type and trait as the prover spells them ('Value.format', 'ValueFromU8.from'), or that of a constant or
-another item.
+another item. An edit of a definition or of a macro has a line 'only: PATH' too: the function that it makes false, such as
+a law. Its file may stand in specs/, FUNCTION is PATH's, and the edit is tried alone, on that function.
 
 A check takes an edit of each of many functions, and the edits of a large crate are tried in several lists at once. An
 edit is refused where a goal of its function's contract is not proved: a return's, or an invariant's, but not that a sum
@@ -148,15 +149,19 @@ class Edit:
         text = read(path)
         self.file = "".join(re.findall(r"(?m)^file: (\S+)", text)[:1])
         self.changes = re.findall(r"(?m)^old: (.*)\nnew: ?(.*)$", text)
+        # the function that an edit of a definition makes false
+        self.breaks = "".join(re.findall(r"(?m)^only: (\S+)", text)[:1])
         self.fault = self.placed(crate)
 
     def placed(self, crate):
         """Finds where the edit stands, and answers why it cannot be tried, if so."""
-        if not self.changes or not self.file.startswith("src/"):
-            return "it changes no file of src/"
+        if not self.changes or not self.file.startswith(("src/", "specs/") if self.breaks else "src/"):
+            return "it changes no file of src/, nor one of specs/ with a function that it makes false"
         self.text = read(f"{crate.folder}/{self.file}")
         lines = self.text.split("\n")
         self.at = []
+        if self.breaks:
+            return self.placed_anywhere()
         for old, _ in self.changes:
             at = [it.start() for it in re.finditer(re.escape(old), self.text)]
             if len(at) > 1:
@@ -171,6 +176,18 @@ class Edit:
         while lines[self.first - 1].lstrip().startswith("#["):
             self.first -= 1
         return None if os.path.dirname(self.path) == self.home else f"it belongs in {self.home}/"
+
+    def placed_anywhere(self):
+        """The same for an edit of a definition or of a macro, which makes another function false."""
+        for old, _ in self.changes:
+            if self.text.count(old) != 1:
+                return f"this stands {self.text.count(old)} times in its file: {old}"
+            self.at.append(self.text.index(old))
+        self.only, self.own = self.breaks, re.compile(rf"{re.escape(self.breaks)}$")
+        subject = re.sub(r"\.\w+$", "", self.file.removeprefix("src/"))
+        *modules, last = self.breaks.split("::")
+        home = f"{subject}/{'.'.join([*(it for it in modules if it[0].isupper()), last])}"
+        return None if os.path.dirname(self.path) == home else f"it belongs in {home}/"
 
     def place(self, lines, at):
         return place_of(lines, self.text[:at].count("\n"))
@@ -207,7 +224,7 @@ class Edit:
         return not self.own or bool(self.own.match(path))
 
     def is_around(self, said):
-        return bool(said) and (not self.own or said[1] == self.file and self.first < int(said[2]) <= self.last + 1)
+        return bool(said) and (self.breaks or not self.own or said[1] == self.file and self.first < int(said[2]) <= self.last + 1)
 
 
 class Said:
@@ -307,8 +324,8 @@ class Trial:
         for edit in edits:
             if edit.fault:
                 self.settle(edit, None, edit.fault)
-        alone = [(it, None) for it in edits if not it.fault and not it.own]
-        edits = [it for it in edits if not it.fault and it.own]
+        alone = [(it, None) for it in edits if not it.fault and (it.breaks or not it.own)]
+        edits = [it for it in edits if not it.fault and it.own and not it.breaks]
         while edits:
             batch = [*{(it.file, it.first): it for it in reversed(edits)}.values()][::-1]
             lines = self.checked(" ".join(it.name for it in batch), batch)
@@ -390,6 +407,7 @@ def main():
     words = argparse.ArgumentParser(description=__doc__, formatter_class=argparse.RawDescriptionHelpFormatter)
     words.add_argument("names", nargs="*", metavar="NAME", help="the crates; without names all")
     words.add_argument("--folder", default="wrong", help="where the edits stand in a crate's folder")
+    words.add_argument("--edit", default="", metavar="WORD", help="just the edits whose paths have this word")
     words.add_argument("--kept", help="a folder in which work is kept between runs")
     words.add_argument("--told", help="a file to which what the prover said is appended")
     given = words.parse_args()
@@ -397,7 +415,7 @@ def main():
     rt = kit()
     rt.rtlib.guarded()
     crates = [it for it in rt.rtlib.crates_below(os.getcwd()) if not given.names or it.name in given.names]
-    edits = {it: edits_below(f"{it.folder}/{given.folder}", it) for it in crates}
+    edits = {it: [edit for edit in edits_below(f"{it.folder}/{given.folder}", it) if given.edit in edit.path] for it in crates}
     edits = {it: edits[it] for it in sorted(crates, key=lambda it: -len(edits[it])) if edits[it]}
     below = {low.name: low for it in edits for low in it.below()}.values()
     for low in sorted(below, key=lambda it: len(it.below())):

@@ -19,6 +19,8 @@ mod reports;
 #[cfg(test)]
 mod sizes;
 #[cfg(test)]
+mod sources;
+#[cfg(test)]
 mod spans;
 #[cfg(test)]
 mod texts;

@@ -1,14 +1,16 @@
 -- The parts of a text are the only ones; and the line of a number, from a later line on.
-use Rattle.std.proofs.Common.{◌≡◌, ◌≢◌, ◌==◌, ℕ, suc, ◌+◌, ◌-◌, ◌<◌, ◌≤◌, Bool, true, false, List, [], ◌∷◌, ◌++◌, All, Option, None, length, get_or, take, drop, slice_range, refl, sym, ap, ◌∙◌, subst, arith}
+use Rattle.std.proofs.Common.{◌≡◌, ◌≢◌, ◌==◌, ℕ, zero, suc, ◌+◌, ◌-◌, ◌<◌, ◌≤◌, Bool, true, false, List, [], ◌∷◌, ◌++◌, ◌⊎◌, inl, inr, All, length, get_or, take, drop, slice_range, refl, sym, ap, ◌∙◌, subst, arith}
 use Rattle.std.proofs.Common.{ne_eqb}
 use Rattle.std.proofs.lemmas.Bool.{eqb-false, eq-eqb}
-use Rattle.std.proofs.lemmas.List.{get_or_default, get_or-take, length-take-le, take-append-drop}
+use Rattle.std.proofs.lemmas.List.{get_or_default, get_or-take, length-drop, length-take-le, take-append-drop}
 use Rattle.std.proofs.lemmas.List.Elements.{All-nil, All-cons, All-head, All-tail}
 use Rattle.std.proofs.lemmas.List.Splits.{join_with_byte-slice_split, length-slice_split, slice_split_none, slice_split_at, slice_split-cons_yes, slice_split-cons_no}
-use Rattle.std.proofs.Math.Seq.{drop-cons}
+use Rattle.std.proofs.Math.Seq.{drop-cons, drop-nil}
+use Rattle.std.proofs.lemmas.Option.{slice_get_past}
 use Rattle.std.specs.List.{join_with_byte, onto_first, slice_get}
 use Rattle.tera_report.specs.Parts.{HasNone, HasNoLineFeed, AreParts, parts_of, line_feed}
-use Rattle.tera_report.specs.Report.{pieces_of}
+use Rattle.std.specs.Option.{unwrap_or}
+use Rattle.tera_report.specs.Report.{numbered_line, pieces_of}
 
 module _ (separator : ℕ) where
   abbrev Free : List ℕ → Type 0
@@ -57,20 +59,50 @@ module _ (separator : ℕ) where
   pub only_these_are_parts : (text : List ℕ) (parts : List (List ℕ)) → AreParts separator text parts → parts ≡ parts_of separator text
   only_these_are_parts text parts (some, apart, is) = sym (parts_joined parts some apart) ∙ ap (parts_of separator) is
 
--- a line later is one line less to go
-pub line_later : (front back rest : List ℕ) (k at : ℕ) (o : Option (List ℕ)) → at < k → HasNoLineFeed front → rest ≡ front ++ line_feed ∷ back
-    → slice_get (pieces_of rest) (k - at) ≡ o → slice_get (pieces_of back) (k - (at + 1)) ≡ o
-line_later front back rest k at o less free is h =
-    let split = ap pieces_of is ∙ first_part line_feed front back free in
-    let next : k - at ≡ suc (k - (at + 1)) = omega (arith, less) in
-    ap (λ n. slice_get (front ∷ pieces_of back) n) (sym next)
-    ∙ ap (λ l. slice_get l (k - at)) (sym split) ∙ h
+-- what is left of a list from a place on begins with the element there
+first_left : {X : Type 0} (xs : List X) (n : ℕ) → slice_get (drop n xs) 0 ≡ slice_get xs n
+first_left [] n = ap (λ l. slice_get l 0) (drop-nil n)
+first_left (x ∷ xs) zero = refl
+first_left (x ∷ xs) (suc n) = first_left xs n
 
--- no line is behind the last one
-pub no_line_later : (rest : List ℕ) (k at : ℕ) → at < k → HasNoLineFeed rest → slice_get (pieces_of rest) (k - at) ≡ None
-no_line_later rest k at less free =
-    let next : k - at ≡ suc (k - (at + 1)) = omega (arith, less) in
-    ap (λ l. slice_get l (k - at)) (one_part line_feed rest free) ∙ ap (λ n. slice_get (rest ∷ []) n) next
+-- and goes on with what is left from the next place on
+next_left : {X : Type 0} (xs : List X) (n : ℕ) (x : X) (rest : List X) → drop n xs ≡ x ∷ rest → drop (suc n) xs ≡ rest
+next_left [] n x rest h = absurd (nil_is_no_cons (sym (drop-nil n) ∙ h))
+  where
+    nil_is_no_cons : [] ≡ x ∷ rest → ⊥
+    nil_is_no_cons e = cc
+next_left (y ∷ ys) zero x rest h = cc
+next_left (y ∷ ys) (suc n) x rest h = next_left ys n x rest h
+
+-- the lines from a line on begin with that line
+pub line_from : (source rest : List ℕ) (number : ℕ) → 0 < number → pieces_of rest ≡ drop (number - 1) (pieces_of source)
+    → numbered_line rest 1 ≡ numbered_line source number
+line_from source rest zero some is = absurd (omega (arith, some))
+line_from source rest (suc n) some is =
+    let before : suc n - 1 ≡ n = omega arith in
+    ap (λ l. unwrap_or (slice_get l 0) []) (is ∙ ap (λ k. drop k (pieces_of source)) before)
+    ∙ ap (λ o. unwrap_or o []) (first_left (pieces_of source) n)
+
+-- there is no line of a number past the last one's
+pub no_line_of : (source : List ℕ) (number : ℕ) → (number ≡ 0) ⊎ (length (pieces_of source) < number) → numbered_line source number ≡ []
+no_line_of source zero past = refl
+no_line_of source (suc n) (inl zeroth) = absurd (omega (arith, zeroth))
+no_line_of source (suc n) (inr past) = ap (λ o. unwrap_or o []) (slice_get_past (pieces_of source) n (omega (arith, past)))
+
+-- behind a line feed stand the lines from the next line on
+pub line_later : (source front back rest : List ℕ) (at : ℕ) → HasNoLineFeed front → rest ≡ front ++ line_feed ∷ back
+    → pieces_of rest ≡ drop at (pieces_of source) → pieces_of back ≡ drop (at + 1) (pieces_of source)
+line_later source front back rest at free is stands =
+    let next : at + 1 ≡ suc at = omega arith in
+    let left = sym stands ∙ ap pieces_of is ∙ first_part line_feed front back free in
+    sym (ap (λ k. drop k (pieces_of source)) next ∙ next_left (pieces_of source) at front (pieces_of back) left)
+
+-- a rest without a line feed is the last line
+pub last_line : (source rest : List ℕ) (at : ℕ) → HasNoLineFeed rest → pieces_of rest ≡ drop at (pieces_of source)
+    → length (pieces_of source) ≡ at + 1
+last_line source rest at free stands =
+    let one = ap length (sym (one_part line_feed rest free) ∙ stands) ∙ length-drop at (pieces_of source) in
+    omega (arith, one)
 
 -- a text is cut around its first line feed
 pub cut_at_feed : (text front back : List ℕ) (at : ℕ) → at < length text → get_or text at 0 ≡ line_feed

@@ -11,6 +11,8 @@ mod length;
 mod source;
 mod text;
 
+pub use source::from_line;
+
 use crate::errors::TeraResult;
 use crate::growing::Growing;
 use crate::sink::Sink;

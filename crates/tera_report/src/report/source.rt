@@ -1,11 +1,12 @@
 // The lines of a source.
-ghost use Rattle.std.specs.Prelude.{◌≡◌, [], ◌++◌, ◌∷◌, IfSome, IfNone};
+ghost use Rattle.std.specs.Prelude.{◌≡◌, ◌<◌, ◌-◌, ◌++◌, ◌∷◌, ◌⊎◌, length, drop, IfSome, IfNone};
 ghost use Rattle.tera_report.specs.Parts.{HasNoLineFeed, line_feed};
-ghost use Rattle.tera_report.specs.Report.{numbered_line};
+ghost use Rattle.tera_report.specs.Report.{numbered_line, pieces_of};
 
 use memchr::memchr;
 
 /// The line of that number, counted from 1, without its line feed; empty where there is none.
+#[tactic(auto, using(crate::proofs::PartLemmas::line_from, crate::proofs::PartLemmas::no_line_of))]
 pub(super) fn numbered_line(source: &str, number: usize) -> &str
     ensures { result.now ≡ numbered_line source.now number }
 {
@@ -15,11 +16,12 @@ pub(super) fn numbered_line(source: &str, number: usize) -> &str
     }
 }
 
-// The source from the line of that number on, if there is one.
-fn from_line(source: &str, number: usize) -> Option<&str>
-    ensures found { IfSome result (λ rest.
-        numbered_line rest.now 1 ≡ numbered_line source.now number) }
-    ensures none { IfNone result (numbered_line source.now number ≡ []) }
+/// The source from the line of that number on, counted from 1, if it has one. It has a line more
+/// than line feeds. Takes no memory.
+pub fn from_line(source: &str, number: usize) -> Option<&str>
+    ensures found { IfSome result (λ rest. (0 < number)
+        × (pieces_of rest.now ≡ drop (number - 1) (pieces_of source.now))) }
+    ensures none { IfNone result ((number ≡ 0) ⊎ (length (pieces_of source.now) < number)) }
 {
     let before = number.checked_sub(1)?;
     let mut rest = source;
@@ -49,6 +51,3 @@ fn split_line(text: &str) -> Option<(&str, &str)>
     let at = memchr(b'\n', text.as_bytes())?;
     Some((&text[..at], &text[at + 1..]))
 }
-
-#[cfg(test)]
-mod tests;

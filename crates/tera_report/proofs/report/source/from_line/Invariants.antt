@@ -1,12 +1,9 @@
--- The line that is wanted is so many lines from the rest.
-use Rattle.std.proofs.Common.{◌≡◌, ◌-◌}
-use Rattle.std.specs.List.{slice_get}
+-- The rest begins at the line that the loop has come to.
+use Rattle.std.proofs.Common.{◌≡◌, drop}
 use Rattle.tera_report.specs.Report.{pieces_of}
 use denote.Text.{Utf8}
 use denote.Shadow.{shadow}
 use Rattle.tera_report.proofs.report.source.from_line.Given as goal
 
 abbrev pub invariant-loop-line : goal.invariant-loop-line
-invariant-loop-line l =
-    shadow (Utf8 l.rest)
-    × (slice_get (pieces_of l.rest) (l.before - l.line) ≡ slice_get (pieces_of l.source) l.before)
+invariant-loop-line l = shadow (Utf8 l.rest) × (pieces_of l.rest ≡ drop l.line (pieces_of l.source))

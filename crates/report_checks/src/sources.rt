@@ -1,4 +1,5 @@
-use super::from_line;
+//! The lines of a source.
+use tera_report::report::from_line;
 
 const SOURCE: &str = "foo\nbar\r\n\nbaz";
 
