@@ -1,5 +1,5 @@
-# Whether a program stands that is newer than all that it is built from. Read by `./replay` and tests/program.sh, in
-# which `top` is the repository's folder.
+# Whether a program stands that is newer than all that it is built from. Read by `./replay`, tools/prove.py and
+# tests/program.sh, in which `top` is the repository's folder.
 is_fresh() {
     [ -x "$1" ] || return 1
     [ -z "$(find "$top/crates" "$top/crates.txt" -path '*/out' -prune -o \

@@ -10,10 +10,97 @@ tell() {
     if [ "$2" -eq 0 ]; then echo "pass $1"; else echo "FAIL $1"; fi
 }
 
-# Builds the program; what is timed or compared below is the program alone.
-./replay </dev/null >/dev/null 2>"$work/build"
-tell "the empty script ends with status 0" $?
+# Builds the program. What is timed or compared below is the program alone, and without it no test goes on.
 program=crates/tera_replay/out/tera_replay
+. tests/fresh.sh
+./replay --prove >"$work/out" 2>"$work/build" && [ ! -s "$work/out" ] && is_fresh "$program"
+made=$?
+tell "./replay --prove makes the proved program" "$made"
+[ "$made" -eq 0 ] || { cat "$work/build"; exit 1; }
+
+./replay </dev/null >"$work/out" 2>"$work/err" && [ ! -s "$work/out" ] && [ ! -s "$work/err" ]
+tell "the empty script ends with status 0" $?
+
+# Copies the repository, without what was built in it.
+clone() {
+    mkdir "$1" && tar --exclude=out --exclude=.git -cf - . | tar -xf - -C "$1"
+}
+
+# In a clone where nothing is built: a script's answers, its status, and on standard error one line before its report.
+first_answer() {
+    clone "$work/clone" || return 1
+    { printf 'set a 1u64\nkind a\n' && sleep 3 && printf 'frob\nkind a\n'; } |
+        "$work/clone/replay" >"$work/first.out" 2>"$work/first.err"
+    [ $? -eq 2 ] && [ "$(cat "$work/first.out")" = "$(printf 'ok\nkind u64')" ] || return 1
+    head -n 1 "$work/first.err" | grep -q '^replay: .* not by the proved program, which `./replay --prove` makes' || return 1
+    printf 'error: bad line\n --> line 3:1:1\n  |\n1 | frob\n  | ^^^^\n' >"$work/first.report"
+    sed 1d "$work/first.err" | cmp -s - "$work/first.report"
+}
+# It takes about a minute of one core, beside the tests below.
+first_answer &
+first=$!
+
+# Whether `./replay` on standard input has no answer, and says why in one line that has these words.
+has_no_answer() {
+    "$@" "$work/bare/replay" >"$work/out" 2>"$work/err"
+    [ $? -eq 3 ] && [ ! -s "$work/out" ] && [ "$(wc -l <"$work/err")" -eq 2 ] &&
+        sed -n 2p "$work/err" | grep -q "^replay: no answer: .*$words"
+}
+clone "$work/bare"
+tell "the repository is copied" $?
+words="64 MiB.*./replay --prove"
+truncate -s 64M "$work/script"
+has_no_answer timeout 20 <"$work/script"
+tell "unproved, a script of 64 MiB is told to be too long" $?
+words="standard input could not be read"
+has_no_answer env <"$work"
+tell "unproved, a folder for standard input has no answer" $?
+
+# In the place of the kit: says what `rt try` says where it has no answer, and notes each crate that is to be proved.
+mkdir "$work/kit"
+cat >"$work/kit/rt" <<'KIT'
+#!/bin/sh
+crate=${PWD##*/}
+case $1 in
+    try)
+        cat "$SAYS" >&2
+        exit "$ENDS"
+        ;;
+esac
+[ "$crate" != "$FAILS" ] || exit 1
+mkdir -p out/rlib
+echo "$crate" >>"$NOTES"
+[ "$1" = lib ] || { printf '#!/bin/sh\necho proved\n' >"out/$crate" && chmod +x "out/$crate"; }
+KIT
+chmod +x "$work/kit/rt"
+export NOTES="$work/notes" SAYS="$work/says" ENDS=6 FAILS=
+printf '%s\n' "the end of the program's standard output:" "| ok" "checked: no-answer: the program wrote more than 1048576 bytes to standard output or to standard error, the limit on each" \
+    "run=no-answer proved=no" >"$SAYS"
+words="1 MiB.*./replay --prove"
+has_no_answer env PATH="$work/kit:$PATH" </dev/null
+tell "unproved, too many answers are told" $?
+printf 'error: expected an expression\nrun=none proved=no\n' >"$SAYS"
+ENDS=1
+words="the sources do not compile; the words of .rt try. are in $work/bare/crates/tera_replay/out/try.log"
+has_no_answer env PATH="$work/kit:$PATH" </dev/null && cmp -s "$SAYS" "$work/bare/crates/tera_replay/out/try.log"
+tell "unproved, sources that do not compile are told" $?
+
+# Whether each crate was proved after those that it uses, and the program last.
+in_order() {
+    awk -v last=tera_replay 'NR == FNR { sub(/#.*/, ""); name = $1; sub(/:$/, "", name); listed[name] = 1; $1 = ""; uses[name] = $0; next }
+        { count = split(uses[$1], used); for (at = 1; at <= count; at++) if (used[at] in listed && !(used[at] in proved)) bad = 1
+          proved[$1] = 1; ended = $1 }
+        END { exit bad || ended != last }' crates.txt "$NOTES"
+}
+: >"$NOTES"
+FAILS=tera_values PATH="$work/kit:$PATH" "$work/bare/replay" --prove >"$work/out" 2>"$work/err"
+[ $? -eq 1 ] && [ ! -s "$work/out" ] &&
+    tail -n 1 "$work/err" | grep -q "^replay: tera_values: not proved, .*; see $work/bare/crates/tera_replay/out/prove/tera_values.log$"
+tell "a crate that is not proved is told, with its log" $?
+: >"$NOTES"
+PATH="$work/kit:$PATH" "$work/bare/replay" --prove >"$work/out" 2>"$work/err" && [ ! -s "$work/out" ] && in_order &&
+    [ "$("$work/bare/replay" 2>&1 </dev/null)" = proved ]
+tell "crates are proved after those that they stand on, and ./replay is then the program" $?
 
 for script in examples/*.replay; do
     name=${script%.replay}
@@ -21,21 +108,21 @@ for script in examples/*.replay; do
     [ -f "$name.status" ] && wanted=$(cat "$name.status")
     ./replay <"$script" >"$work/out" 2>"$work/err"
     status=$?
-    [ "$status" -eq "$wanted" ] && cmp -s "$work/out" "$name.answers"
+    [ "$status" -eq "$wanted" ] && cmp -s "$work/out" "$name.answers" && ! grep -q '^replay: ' "$work/err"
     tell "$script" $?
 done
 
-./replay <examples/first.replay >/dev/full 2>"$work/err"
+"$program" <examples/first.replay >/dev/full 2>"$work/err"
 status=$?
 [ "$status" -eq 1 ] && [ "$(cat "$work/err")" = "error: writing failed" ]
 tell "a full device is a failed write" $?
 
-printf 'eq a b\nfrob\n' | ./replay >"$work/out" 2>/dev/full
+printf 'eq a b\nfrob\n' | "$program" >"$work/out" 2>/dev/full
 status=$?
 [ "$status" -eq 2 ] && [ "$(cat "$work/out")" = "true" ]
 tell "a report that cannot be written changes nothing" $?
 
-printf 'eq a b\nfrob\neq a b\n' | ./replay >"$work/out" 2>"$work/err"
+printf 'eq a b\nfrob\neq a b\n' | "$program" >"$work/out" 2>"$work/err"
 status=$?
 [ "$status" -eq 2 ] && [ "$(cat "$work/out")" = "true" ] && [ "$(cat "$work/err")" = "$(printf 'error: bad line\n --> line 2:1:1\n  |\n1 | frob\n  | ^^^^')" ]
 tell "a bad line ends the run" $?
@@ -117,7 +204,7 @@ a {"a": 1}
 SOURCES
 tell "what is no map of texts is no source" $?
 
-./replay <"$work" >"$work/out" 2>"$work/err"
+"$program" <"$work" >"$work/out" 2>"$work/err"
 status=$?
 [ "$status" -eq 1 ] && [ ! -s "$work/out" ] && [ "$(cat "$work/err")" = "error: reading failed" ]
 tell "a folder for standard input is a failed read" $?
@@ -263,7 +350,6 @@ tell "the worked script cut at every byte" $?
 # Builds the calls that take memory, where they are not built.
 calls=crates/memory_calls/out/memory_calls
 calls_answers=crates/memory_calls/stdout
-. tests/fresh.sh
 is_fresh "$calls" || (cd crates/memory_calls && rt run && touch out/memory_calls) </dev/null >"$work/build" 2>&1
 "$calls" </dev/null >"$work/out" 2>"$work/err"
 cmp -s "$work/out" "$calls_answers"
@@ -316,5 +402,8 @@ all_refused() {
 }
 all_refused
 tell "the calls that take memory with all memory refused from a request on" $?
+
+wait "$first"
+tell "the first answer of a fresh clone, with its status and both streams" $?
 
 echo "program tests: end"
