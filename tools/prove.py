@@ -155,6 +155,9 @@ def main():
     if not shutil.which("rt"):
         tell("Rattle's kit is needed, and no `rt` is on the path")
         return 1
+    if is_fresh():
+        tell("the proved program stands")
+        return 0
     os.makedirs(f"{OUT}/prove", exist_ok=True)
     # An earlier run that was killed may have left these.
     for name in os.listdir(f"{OUT}/beside") if os.path.isdir(f"{OUT}/beside") else []:
