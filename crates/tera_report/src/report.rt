@@ -11,12 +11,11 @@ mod length;
 mod source;
 mod text;
 
-pub use source::from_line;
-
 use crate::errors::TeraResult;
 use crate::growing::Growing;
 use crate::sink::Sink;
 use crate::span::Span;
+pub use source::from_line;
 use std::alloc::{AllocError, Global};
 
 /// An error that shows its place in a source, and notes on other places. Mirrors
