@@ -5,9 +5,14 @@ use made_values::{at_numbers, at_texts, one_item, one_pair, safe, text, two_item
 use std::alloc::Global;
 use tera_values::{Key, Value};
 
+// What was found is that part.
+fn is(found: Option<&Value>, part: i64) -> bool {
+    found == Some(&Value::from(part))
+}
+
 // The path leads to that part.
 pub fn leads(of: Value, path: &str, part: i64) -> bool {
-    of.get_from_path(path) == Some(&Value::from(part))
+    is(of.get_from_path(path), part)
 }
 
 // The path leads nowhere.
@@ -54,7 +59,7 @@ fn paths_lead_nowhere(rt: HostRuntime) {
 
 // The attribute is that part.
 pub fn has_attribute(of: Value, name: &str, part: i64) -> bool {
-    of.get_attr(name) == Some(&Value::from(part))
+    is(of.get_attr(name), part)
 }
 
 // There is no such attribute.
