@@ -6,14 +6,14 @@ use std::process::Abort;
 use tera_values::Value;
 
 // Whether they compare so.
-fn compare(left: &Value, right: &Value, order: Ordering) -> bool {
+fn compare<T: Ord>(left: &T, right: &T, order: Ordering) -> bool {
     left.cmp(right) == order
         && left.partial_cmp(right) == Some(order)
         && (left == right) == (order == Ordering::Equal)
 }
 
-// Each is less than all that follow.
-fn rise(rt: &impl Abort, values: &[Value]) {
+/// Each is less than all that follow.
+pub fn rise<T: Ord>(rt: &impl Abort, values: &[T]) {
     for (i, left) in values.iter().enumerate() {
         for (j, right) in values.iter().enumerate() {
             assert!(rt; compare(left, right, i.cmp(&j)), "at {i} and {j}");
@@ -33,11 +33,17 @@ fn are_undecided(rt: &impl Abort, values: &[Value]) {
     }
 }
 
-// All of them compare so with that value.
-fn are_all(rt: &impl Abort, values: &[Value], other: Value, order: Ordering) {
-    for (i, value) in values.iter().enumerate() {
-        assert!(rt; compare(value, &other, order), "at {i}");
+/// All of them compare so with that one.
+pub fn are_all<T: Ord + Drop>(values: &[T], other: T, order: Ordering) -> bool {
+    compare_all(values, &other, order)
+}
+
+fn compare_all<T: Ord>(values: &[T], other: &T, order: Ordering) -> bool {
+    let mut so_far = true;
+    for value in values {
+        so_far = compare(value, other, order) && so_far;
     }
+    so_far
 }
 
 #[test]
@@ -48,13 +54,18 @@ fn integers_compare_by_number(rt: HostRuntime) {
         Value::from(1u128),
         Value::from(1i128),
     ];
-    are_all(&rt, &ones, Value::from(1u64), Ordering::Equal);
-    are_all(&rt, &ones, Value::from(1i64), Ordering::Equal);
-    are_all(&rt, &ones, Value::from(1u128), Ordering::Equal);
-    are_all(&rt, &ones, Value::from(1i128), Ordering::Equal);
-    are_all(&rt, &ones, Value::from(-1i64), Ordering::Greater);
-    are_all(&rt, &ones, Value::from(u128::MAX), Ordering::Less);
-    are_all(&rt, &ones, Value::from(true), Ordering::Greater);
+    hold(
+        &rt,
+        &[
+            are_all(&ones, Value::from(1u64), Ordering::Equal),
+            are_all(&ones, Value::from(1i64), Ordering::Equal),
+            are_all(&ones, Value::from(1u128), Ordering::Equal),
+            are_all(&ones, Value::from(1i128), Ordering::Equal),
+            are_all(&ones, Value::from(-1i64), Ordering::Greater),
+            are_all(&ones, Value::from(u128::MAX), Ordering::Less),
+            are_all(&ones, Value::from(true), Ordering::Greater),
+        ],
+    );
 }
 
 #[test]

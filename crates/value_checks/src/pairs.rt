@@ -3,19 +3,22 @@ use made_values::with;
 use std::alloc::Global;
 use tera_values::{Key, Map, Value, maps};
 
-// At a text the map has that number.
-fn text_has(map: &Map, text: &str, number: u8) -> bool {
-    maps::get_text(map, text) == Some(&Value::from(number))
+// What was found is that number.
+fn is(found: Option<&Value>, number: u8) -> bool {
+    found == Some(&Value::from(number))
 }
 
 // At a key, in whatever width, the map has that number.
-fn key_has(map: &Map, key: &Key<'static>, number: u8) -> bool {
-    maps::get(map, key) == Some(&Value::from(number))
+fn key_has(map: &Map, key: Key<'static>, number: u8) -> bool {
+    is(maps::get(map, &key), number)
 }
 
 // The walk goes on with that pair.
-fn comes_next(left: &mut maps::PairsLeft<'_>, key: &Key<'static>, number: u8) -> bool {
-    left.next() == Some((key, &Value::from(number)))
+fn comes_next(left: &mut maps::PairsLeft<'_>, key: Key<'static>, number: u8) -> bool {
+    match left.next() {
+        Some((found, value)) => *found == key && is(Some(value), number),
+        None => false,
+    }
 }
 
 // A number and a text as keys, and the number put once more in another width.
@@ -28,7 +31,7 @@ fn filled(alloc: Global) -> Map {
 #[test]
 fn what_is_put_is_found(rt: HostRuntime) {
     let map = filled(rt.alloc());
-    let found = text_has(&map, "a", 1) && key_has(&map, &Key::I64(7), 3);
+    let found = is(maps::get_text(&map, "a"), 1) && key_has(&map, Key::I64(7), 3);
     assert!(rt; found && maps::len(&map) == 2);
 }
 
@@ -36,7 +39,7 @@ fn what_is_put_is_found(rt: HostRuntime) {
 fn pairs_come_in_the_order_of_their_keys(rt: HostRuntime) {
     let map = filled(rt.alloc());
     let mut left = maps::pairs(&map);
-    let first = comes_next(&mut left, &Key::U64(7), 3);
-    let second = comes_next(&mut left, &Key::Str("a"), 1);
+    let first = comes_next(&mut left, Key::U64(7), 3);
+    let second = comes_next(&mut left, Key::Str("a"), 1);
     assert!(rt; first && second && left.next().is_none());
 }

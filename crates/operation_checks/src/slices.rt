@@ -1,6 +1,6 @@
 //! Slices of values, and their reversal.
 use crate::held::hold;
-use crate::lookups::is_refused;
+use crate::refused::is_refused;
 use made_values::{bytes, numbers, or_undefined, printed, safe, text};
 use std::alloc::Global;
 use tera_values::Value;

@@ -2,11 +2,12 @@
 use crate::held::hold;
 use made_values::{bytes, one_item, one_pair, safe, shows, text};
 use std::alloc::Global;
+use std::fmt::Debug;
 use tera_values::{Key, Value, ValueKind};
 
-// Its debug text is that.
-fn tells(alloc: Global, value: Value, wanted: &str) -> bool {
-    shows(alloc, &value, wanted)
+/// Its debug text is that.
+pub fn tells<D: Debug + Drop>(alloc: Global, it: D, wanted: &str) -> bool {
+    shows(alloc, &it, wanted)
 }
 
 #[test]
@@ -49,25 +50,32 @@ fn arrays_and_maps_show_their_parts(rt: HostRuntime) {
     let alloc = rt.alloc();
     let array = "Value { inner: Array([Value { inner: None }]) }";
     let map = "Value { inner: Map({Str(\"a\"): Value { inner: None }}) }";
-    assert!(rt; tells(alloc, one_item(alloc, Value::none()), array));
-    assert!(rt; tells(alloc, one_pair(alloc, Key::Str("a"), Value::none()), map));
+    hold(
+        &rt,
+        &[
+            tells(alloc, one_item(alloc, Value::none()), array),
+            tells(alloc, one_pair(alloc, Key::Str("a"), Value::none()), map),
+        ],
+    );
 }
 
 #[test]
 fn kinds_show_their_names(rt: HostRuntime) {
-    for (kind, wanted) in [
-        (ValueKind::Undefined, "Undefined"),
-        (ValueKind::None, "None"),
-        (ValueKind::Bool, "Bool"),
-        (ValueKind::U64, "U64"),
-        (ValueKind::I64, "I64"),
-        (ValueKind::U128, "U128"),
-        (ValueKind::I128, "I128"),
-        (ValueKind::String, "String"),
-        (ValueKind::Array, "Array"),
-        (ValueKind::Map, "Map"),
-        (ValueKind::Bytes, "Bytes"),
-    ] {
-        assert!(rt; shows(rt.alloc(), &kind, wanted), "{wanted}");
-    }
+    let alloc = rt.alloc();
+    hold(
+        &rt,
+        &[
+            tells(alloc, ValueKind::Undefined, "Undefined"),
+            tells(alloc, ValueKind::None, "None"),
+            tells(alloc, ValueKind::Bool, "Bool"),
+            tells(alloc, ValueKind::U64, "U64"),
+            tells(alloc, ValueKind::I64, "I64"),
+            tells(alloc, ValueKind::U128, "U128"),
+            tells(alloc, ValueKind::I128, "I128"),
+            tells(alloc, ValueKind::String, "String"),
+            tells(alloc, ValueKind::Array, "Array"),
+            tells(alloc, ValueKind::Map, "Map"),
+            tells(alloc, ValueKind::Bytes, "Bytes"),
+        ],
+    );
 }

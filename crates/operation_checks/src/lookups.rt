@@ -1,13 +1,18 @@
 //! What look-ups find and refuse.
 use crate::held::hold;
+use crate::refused::is_refused;
 use made_values::{at_numbers, at_texts, one_item, one_pair, safe, text, two_items};
 use std::alloc::Global;
-use tera_report::{Error, ErrorKind, TeraResult};
 use tera_values::{Key, Value};
+
+// What was found is that part.
+fn is(found: Option<&Value>, part: i64) -> bool {
+    found == Some(&Value::from(part))
+}
 
 // The path leads to that part.
 pub fn leads(of: Value, path: &str, part: i64) -> bool {
-    of.get_from_path(path) == Some(&Value::from(part))
+    is(of.get_from_path(path), part)
 }
 
 // The path leads nowhere.
@@ -54,7 +59,7 @@ fn paths_lead_nowhere(rt: HostRuntime) {
 
 // The attribute is that part.
 pub fn has_attribute(of: Value, name: &str, part: i64) -> bool {
-    of.get_attr(name) == Some(&Value::from(part))
+    is(of.get_attr(name), part)
 }
 
 // There is no such attribute.
@@ -142,22 +147,6 @@ fn characters_keep_the_flag(rt: HostRuntime) {
     );
 }
 
-// The refusal has that text.
-fn says(refused: &Error, text: &str) -> bool {
-    match refused.kind() {
-        ErrorKind::Msg(told) => told.as_str() == text,
-        _ => false,
-    }
-}
-
-// It is refused with that text.
-pub fn is_refused<T: Drop>(answer: TeraResult<T>, text: &str) -> bool {
-    match answer {
-        Err(refused) => says(&refused, text),
-        Ok(_) => false,
-    }
-}
-
 // The item is refused with that text.
 fn item_is_refused(alloc: Global, of: Value, at: Value, text: &str) -> bool {
     is_refused(of.get_item(alloc, &at), text)
@@ -183,9 +172,9 @@ fn one_map(alloc: Global) -> Value {
     at_texts(alloc, &[("a", 1)])
 }
 
-// Whether it holds the value, or nothing where that is refused.
-pub fn holds(alloc: Global, of: Value, needle: Value) -> Option<bool> {
-    of.contains(alloc, &needle).ok()
+// Whether it holds the value is answered so, and not refused.
+pub fn holds(alloc: Global, of: Value, needle: Value, wanted: bool) -> bool {
+    of.contains(alloc, &needle).unwrap_or(!wanted) == wanted
 }
 
 #[test]
@@ -194,12 +183,17 @@ fn containers_hold(rt: HostRuntime) {
     hold(
         &rt,
         &[
-            holds(alloc, text(alloc, "abc"), text(alloc, "")) == Some(true),
-            holds(alloc, text(alloc, "abc"), safe(alloc, "bc")) == Some(true),
-            holds(alloc, text(alloc, "a1"), Value::from(1u8)) == Some(false),
-            holds(alloc, one_item(alloc, Value::from(1u8)), Value::from(1u128)) == Some(true),
-            holds(alloc, one_map(alloc), text(alloc, "a")) == Some(true),
-            holds(alloc, one_map(alloc), ten_and_twenty(alloc)) == Some(false),
+            holds(alloc, text(alloc, "abc"), text(alloc, ""), true),
+            holds(alloc, text(alloc, "abc"), safe(alloc, "bc"), true),
+            holds(alloc, text(alloc, "a1"), Value::from(1u8), false),
+            holds(
+                alloc,
+                one_item(alloc, Value::from(1u8)),
+                Value::from(1u128),
+                true,
+            ),
+            holds(alloc, one_map(alloc), text(alloc, "a"), true),
+            holds(alloc, one_map(alloc), ten_and_twenty(alloc), false),
         ],
     );
 }
@@ -214,7 +208,7 @@ fn numbers_hold_nothing(rt: HostRuntime) {
 
 // The key that it is equals that.
 fn is_key(alloc: Global, of: Value, key: Key<'static>) -> bool {
-    of.as_key(alloc).ok() == Some(key)
+    of.as_key(alloc).unwrap_or(Key::Str("none")) == key
 }
 
 #[test]

@@ -2,11 +2,14 @@
 use crate::held::hold;
 use made_values::{and, bytes, no_items, no_pairs, one_item, printed, safe, text, two_items, with};
 use std::alloc::Global;
+use std::fmt::Display;
 use tera_values::{Key, Value, maps};
 
-// What `{}` makes of it at a width and a fill.
-fn widely(alloc: Global, value: &Value) -> String {
-    format!(in alloc; "{value:#<60}").unwrap_or(String::new(alloc))
+/// Whether `{}` makes that of it, whatever width and fill it has.
+pub fn displays<D: Display>(alloc: Global, it: &D, wanted: &str) -> bool {
+    let shown = format!(in alloc; "{it}{it:#<60}{it:*>60}").unwrap_or(String::new(alloc));
+    let thrice = format!(in alloc; "{wanted}{wanted}{wanted}").unwrap_or(String::new(alloc));
+    shown.len() >= wanted.len() && shown.as_str() == thrice.as_str()
 }
 
 // `format` writes that.
@@ -18,9 +21,8 @@ fn formats_to(alloc: Global, value: &Value, wanted: &str) -> bool {
 
 // It prints that: as a text of its own, by `{}` at any width and fill, and to a writer.
 fn prints(alloc: Global, value: Value, wanted: &str) -> bool {
-    let plain = printed(alloc, &value);
-    let wide = widely(alloc, &value);
-    plain.as_str() == wanted && wide.as_str() == wanted && formats_to(alloc, &value, wanted)
+    let has_text = printed(alloc, &value).as_str() == wanted;
+    has_text && displays(alloc, &value, wanted) && formats_to(alloc, &value, wanted)
 }
 
 #[test]

@@ -30,9 +30,13 @@ fn format_breaks(alloc: Global, value: &Value, text: &str, room: usize) -> bool 
 // A fault is told at each room that is too small for its text; and where there is room, all is
 // written.
 fn tells(rt: &(impl Abort + AllocGlobal), value: Value, text: &str) {
+    breaks_everywhere(rt, &value, text);
+}
+
+fn breaks_everywhere(rt: &(impl Abort + AllocGlobal), value: &Value, text: &str) {
     for room in 0..text.len() + 1 {
         assert!(rt;
-            format_breaks(rt.alloc(), &value, text, room),
+            format_breaks(rt.alloc(), value, text, room),
             "room for {room}"
         );
     }
@@ -81,7 +85,7 @@ fn inside_an_array_a_text_is_quoted_and_faults_are_told(rt: HostRuntime) {
 }
 
 // `format` of the key breaks there.
-fn key_breaks(alloc: Global, key: &Key<'_>, text: &str, room: usize) -> bool {
+fn key_breaks(alloc: Global, key: Key<'static>, text: &str, room: usize) -> bool {
     let mut out = narrow(alloc, room);
     let told = key.format(&mut out).is_err();
     breaks_there(text.as_bytes(), room, out.taken.as_slice(), told)
@@ -90,13 +94,8 @@ fn key_breaks(alloc: Global, key: &Key<'_>, text: &str, room: usize) -> bool {
 #[test]
 fn keys_tell_faults_of_their_writer(rt: HostRuntime) {
     for room in 0..5 {
-        assert!(rt;
-            key_breaks(rt.alloc(), &Key::Str("key"), "key", room),
-            "room for {room}"
-        );
-        assert!(rt;
-            key_breaks(rt.alloc(), &Key::I64(-12), "-12", room),
-            "room for {room}"
-        );
+        let breaks_of_text = key_breaks(rt.alloc(), Key::Str("key"), "key", room);
+        let breaks_of_number = key_breaks(rt.alloc(), Key::I64(-12), "-12", room);
+        assert!(rt; breaks_of_text && breaks_of_number, "room for {room}");
     }
 }

@@ -6,7 +6,7 @@ use crate::lookups::{
 use crate::slices::{reversed, reverses_to, slices_to};
 use made_values::{bytes, many_items, many_pairs, numbers_below, repeated, text};
 use std::alloc::Global;
-use tera_values::Value;
+use tera_values::{Key, Value};
 
 #[test]
 fn attributes_of_maps_of_any_size(rt: HostRuntime) {
@@ -123,17 +123,26 @@ fn characters_of_texts_of_any_size(rt: HostRuntime) {
 #[test]
 fn maps_and_arrays_of_any_size_hold(rt: HostRuntime) {
     let alloc = rt.alloc();
-    let (held, lacking) = (Some(true), Some(false));
     hold(
         &rt,
         &[
-            holds(alloc, many_pairs(alloc, 0), text(alloc, "key é 0")) == lacking,
-            holds(alloc, many_pairs(alloc, 1), text(alloc, "key é 0")) == held,
-            holds(alloc, many_pairs(alloc, 1000), text(alloc, "key é 999")) == held,
-            holds(alloc, numbers_below(alloc, 0), Value::from(0u8)) == lacking,
-            holds(alloc, numbers_below(alloc, 1), Value::from(0u8)) == held,
-            holds(alloc, numbers_below(alloc, 1000), Value::from(999u16)) == held,
-            holds(alloc, numbers_below(alloc, 1000), Value::from(1000u16)) == lacking,
+            holds(alloc, many_pairs(alloc, 0), text(alloc, "key é 0"), false),
+            holds(alloc, many_pairs(alloc, 1), text(alloc, "key é 0"), true),
+            holds(
+                alloc,
+                many_pairs(alloc, 1000),
+                text(alloc, "key é 999"),
+                true,
+            ),
+            holds(alloc, numbers_below(alloc, 0), Value::from(0u8), false),
+            holds(alloc, numbers_below(alloc, 1), Value::from(0u8), true),
+            holds(alloc, numbers_below(alloc, 1000), Value::from(999u16), true),
+            holds(
+                alloc,
+                numbers_below(alloc, 1000),
+                Value::from(1000u16),
+                false,
+            ),
         ],
     );
 }
@@ -141,22 +150,23 @@ fn maps_and_arrays_of_any_size_hold(rt: HostRuntime) {
 #[test]
 fn texts_of_any_size_hold(rt: HostRuntime) {
     let alloc = rt.alloc();
-    let (held, lacking) = (Some(true), Some(false));
     hold(
         &rt,
         &[
-            holds(alloc, accents(alloc, 0), text(alloc, "é")) == lacking,
-            holds(alloc, accents(alloc, 1), text(alloc, "é")) == held,
-            holds(alloc, accents(alloc, 1000), accents(alloc, 1000)) == held,
-            holds(alloc, accents(alloc, 1000), accents(alloc, 1001)) == lacking,
+            holds(alloc, accents(alloc, 0), text(alloc, "é"), false),
+            holds(alloc, accents(alloc, 1), text(alloc, "é"), true),
+            holds(alloc, accents(alloc, 1000), accents(alloc, 1000), true),
+            holds(alloc, accents(alloc, 1000), accents(alloc, 1001), false),
         ],
     );
 }
 
-// How many bytes the key of a text of so many accents has.
-fn key_size(alloc: Global, count: usize) -> Option<usize> {
-    let key = accents(alloc, count).as_key(alloc).ok()?;
-    Some(key.as_str()?.len())
+// The key of a text of so many accents has so many bytes.
+fn has_key_of(alloc: Global, count: usize, size: usize) -> bool {
+    let key = accents(alloc, count)
+        .as_key(alloc)
+        .unwrap_or(Key::Bool(false));
+    key.as_str().unwrap_or("none").len() == size
 }
 
 #[test]
@@ -165,9 +175,9 @@ fn texts_of_any_size_are_keys(rt: HostRuntime) {
     hold(
         &rt,
         &[
-            key_size(alloc, 0) == Some(0),
-            key_size(alloc, 1) == Some(2),
-            key_size(alloc, 1000) == Some(2000),
+            has_key_of(alloc, 0, 0),
+            has_key_of(alloc, 1, 2),
+            has_key_of(alloc, 1000, 2000),
         ],
     );
 }

@@ -1,0 +1,169 @@
+//! Conversions of values, and what they refuse.
+use crate::held::hold;
+use made_values::{shows, text};
+use std::alloc::Global;
+use std::fmt::Display;
+use tera_numbers::Number;
+use tera_values::{ConversionRefused, Value};
+
+// The value becomes that.
+fn becomes<T>(of: Value, wanted: T) -> bool
+where
+    T: TryFrom<Value, Error = ConversionRefused> + PartialEq + Drop,
+{
+    T::try_from(of).ok() == Some(wanted)
+}
+
+// The value is refused.
+fn is_refused<T>(of: Value) -> bool
+where
+    T: TryFrom<Value, Error = ConversionRefused> + Drop,
+{
+    T::try_from(of).is_err()
+}
+
+// Both numbers become what stands beside them, the ends of the type.
+fn ends<T>(least: (i128, T), greatest: (u128, T)) -> bool
+where
+    T: TryFrom<Value, Error = ConversionRefused> + PartialEq + Drop,
+{
+    let has_least = becomes(Value::from(least.0), least.1);
+    let has_greatest = becomes(Value::from(greatest.0), greatest.1);
+    has_least && has_greatest
+}
+
+#[test]
+fn ends_of_integer_types(rt: HostRuntime) {
+    hold(
+        &rt,
+        &[
+            ends((u8::MIN as i128, u8::MIN), (u8::MAX as u128, u8::MAX)),
+            ends((u16::MIN as i128, u16::MIN), (u16::MAX as u128, u16::MAX)),
+            ends((u32::MIN as i128, u32::MIN), (u32::MAX as u128, u32::MAX)),
+            ends((u64::MIN as i128, u64::MIN), (u64::MAX as u128, u64::MAX)),
+            ends(
+                (usize::MIN as i128, usize::MIN),
+                (usize::MAX as u128, usize::MAX),
+            ),
+            ends((u128::MIN as i128, u128::MIN), (u128::MAX, u128::MAX)),
+            ends((i8::MIN as i128, i8::MIN), (i8::MAX as u128, i8::MAX)),
+            ends((i16::MIN as i128, i16::MIN), (i16::MAX as u128, i16::MAX)),
+            ends((i32::MIN as i128, i32::MIN), (i32::MAX as u128, i32::MAX)),
+            ends((i64::MIN as i128, i64::MIN), (i64::MAX as u128, i64::MAX)),
+            ends(
+                (isize::MIN as i128, isize::MIN),
+                (isize::MAX as u128, isize::MAX),
+            ),
+            ends((i128::MIN, i128::MIN), (i128::MAX as u128, i128::MAX)),
+        ],
+    );
+}
+
+// Both numbers are refused, which the type has not.
+fn has_neither<T>(below: i128, above: u128) -> bool
+where
+    T: TryFrom<Value, Error = ConversionRefused> + Drop,
+{
+    is_refused::<T>(Value::from(below)) && is_refused::<T>(Value::from(above))
+}
+
+#[test]
+fn numbers_past_the_ends_of_integer_types(rt: HostRuntime) {
+    let above_i128 = 170141183460469231731687303715884105728u128;
+    hold(
+        &rt,
+        &[
+            has_neither::<u8>(-1, 256),
+            has_neither::<u16>(-1, 65536),
+            has_neither::<u32>(-1, 4294967296),
+            has_neither::<u64>(-1, 18446744073709551616),
+            has_neither::<usize>(-1, 18446744073709551616),
+            is_refused::<u128>(Value::from(-1i128)),
+            has_neither::<i8>(-129, 128),
+            has_neither::<i16>(-32769, 32768),
+            has_neither::<i32>(-2147483649, 2147483648),
+            has_neither::<i64>(-9223372036854775809, 9223372036854775808),
+            has_neither::<isize>(-9223372036854775809, 9223372036854775808),
+            is_refused::<i128>(Value::from(above_i128)),
+        ],
+    );
+}
+
+#[test]
+fn truth_values_are_converted(rt: HostRuntime) {
+    hold(
+        &rt,
+        &[
+            becomes(Value::from(true), true),
+            is_refused::<bool>(Value::from(1u8)),
+        ],
+    );
+}
+
+// It displays that.
+fn displays<D: Display>(alloc: Global, it: &D, wanted: &str) -> bool {
+    let shown = it.to_string(alloc).unwrap_or(String::new(alloc));
+    shown.as_str() == wanted
+}
+
+// The refusal shows this text, and its error too.
+fn tells(alloc: Global, refused: ConversionRefused, text: &str) -> bool {
+    let shown = displays(alloc, &refused, text);
+    displays(alloc, &refused.into_error(alloc), text) && shown
+}
+
+// The conversion to `u8` is refused by this text.
+fn is_told(alloc: Global, of: Value, text: &str) -> bool {
+    match u8::try_from(of) {
+        Err(refused) => tells(alloc, refused, text),
+        Ok(_) => false,
+    }
+}
+
+#[test]
+fn numbers_outside_are_told(rt: HostRuntime) {
+    let alloc = rt.alloc();
+    let past = "Value `300` is out of range for `u8`";
+    let below = "Value `-1` is out of range for `u8`";
+    hold(
+        &rt,
+        &[
+            is_told(alloc, Value::from(300u64), past),
+            is_told(alloc, Value::from(-1i8), below),
+        ],
+    );
+}
+
+#[test]
+fn other_kinds_are_told(rt: HostRuntime) {
+    let alloc = rt.alloc();
+    let of_text = "Invalid type for the value, expected `u8` but got `string`";
+    let of_none = "Invalid type for the value, expected `u8` but got `none`";
+    hold(
+        &rt,
+        &[
+            is_told(alloc, text(alloc, "x"), of_text),
+            is_told(alloc, Value::none(), of_none),
+        ],
+    );
+}
+
+// The debug text of the conversion to `u8` is that.
+fn is_debugged(alloc: Global, of: Value, wanted: &str) -> bool {
+    shows(alloc, &u8::try_from(of), wanted)
+}
+
+#[test]
+fn what_is_debugged(rt: HostRuntime) {
+    let alloc = rt.alloc();
+    let told = "Err(WrongType { expected: \"u8\", actual: \"none\" })";
+    let number = Number::Integer(-5);
+    hold(
+        &rt,
+        &[
+            is_debugged(alloc, Value::none(), told),
+            displays(alloc, &number, "-5"),
+            shows(alloc, &number, "Integer(-5)"),
+        ],
+    );
+}

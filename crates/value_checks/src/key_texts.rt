@@ -1,0 +1,42 @@
+//! What keys print.
+use crate::debug::tells;
+use crate::held::hold;
+use crate::keys::owned;
+use crate::printed::displays;
+use std::alloc::Global;
+use tera_values::Key;
+
+// `format` puts that behind what the writer holds.
+fn formats_to(alloc: Global, key: &Key<'_>, wanted: &str) -> bool {
+    let mut out = Vec::from_slice(alloc, b"> ").unwrap_or(Vec::new(alloc));
+    let is_told = key.format(&mut out).is_ok();
+    is_told && out.as_slice().strip_prefix(b"> ".as_slice()) == Some(wanted.as_bytes())
+}
+
+// The key prints that, by `{}` at any width and fill, and to a writer.
+fn prints(alloc: Global, key: Key<'static>, wanted: &str) -> bool {
+    displays(alloc, &key, wanted) && formats_to(alloc, &key, wanted)
+}
+
+#[test]
+fn printed_keys(rt: HostRuntime) {
+    let alloc = rt.alloc();
+    let greatest = "340282366920938463463374607431768211455";
+    let least = "-170141183460469231731687303715884105728";
+    hold(
+        &rt,
+        &[
+            prints(alloc, Key::Bool(true), "true"),
+            prints(alloc, Key::Bool(false), "false"),
+            prints(alloc, Key::U64(u64::MAX), "18446744073709551615"),
+            prints(alloc, Key::I64(i64::MIN), "-9223372036854775808"),
+            prints(alloc, Key::U128(u128::MAX), greatest),
+            prints(alloc, Key::I128(i128::MIN), least),
+            prints(alloc, Key::Str("a \"é\"\n日本"), "a \"é\"\n日本"),
+            prints(alloc, owned(alloc, "e\u{301}🦀"), "e\u{301}🦀"),
+            tells(alloc, Key::I64(-7), "I64(-7)"),
+            tells(alloc, Key::Str("a"), "Str(\"a\")"),
+            tells(alloc, owned(alloc, "a"), "String(\"a\")"),
+        ],
+    );
+}

@@ -1,0 +1,182 @@
+//! Keys of every kind beside one another: what is equal, what hashes alike, what is copied.
+use crate::held::hold;
+use crate::order::{are_all, rise};
+use made_values::{or_undefined, repeated, shows};
+use std::alloc::Global;
+use std::cmp::Ordering;
+use std::hash::{DefaultHasher, Hash, Hasher};
+use std::rc::RcStr;
+use tera_values::Key;
+
+/// A key that owns that text, or one of another kind where memory is wanting.
+pub fn owned(alloc: Global, text: &str) -> Key<'static> {
+    match RcStr::from_str(alloc, text) {
+        Ok(text) => Key::String(text),
+        Err(_) => Key::Bool(false),
+    }
+}
+
+#[test]
+fn one_number_is_one_key(rt: HostRuntime) {
+    let ones = [Key::U64(1), Key::I64(1), Key::U128(1), Key::I128(1)];
+    let greatest = [Key::U128(u128::MAX), Key::U64(u64::MAX)];
+    hold(
+        &rt,
+        &[
+            are_all(&ones, Key::U64(1), Ordering::Equal),
+            are_all(&ones, Key::I64(1), Ordering::Equal),
+            are_all(&ones, Key::U128(1), Ordering::Equal),
+            are_all(&ones, Key::I128(1), Ordering::Equal),
+            are_all(&ones, Key::Str("1"), Ordering::Less),
+            are_all(&ones, Key::Bool(true), Ordering::Greater),
+            are_all(&greatest, Key::I128(-1), Ordering::Greater),
+            are_all(&greatest, Key::I64(-1), Ordering::Greater),
+            are_one(Key::I64(-1), Key::I128(-1)),
+        ],
+    );
+}
+
+fn are_one(left: Key<'static>, right: Key<'static>) -> bool {
+    left == right && left.cmp(&right) == Ordering::Equal
+}
+
+// What std's hasher answers once it is fed the value.
+fn hash_of<T: Hash>(value: &T) -> u64 {
+    let mut state = DefaultHasher::new();
+    value.hash(&mut state);
+    state.finish()
+}
+
+// The key feeds a hasher what feeds it to that hash.
+fn feeds(key: Key<'static>, wanted: u64) -> bool {
+    hash_of(&key) == wanted
+}
+
+fn fed_natural(n: u128) -> u64 {
+    hash_of(&(0u8, n))
+}
+
+fn fed_negative(z: i128) -> u64 {
+    hash_of(&(1u8, z))
+}
+
+// The writes that a hasher is fed, named by what else makes them.
+#[test]
+fn hashes_go_by_meaning(rt: HostRuntime) {
+    hold(
+        &rt,
+        &[
+            feeds(Key::U64(1), fed_natural(1)),
+            feeds(Key::I64(1), fed_natural(1)),
+            feeds(Key::U128(1), fed_natural(1)),
+            feeds(Key::I128(1), fed_natural(1)),
+            feeds(Key::I64(-1), fed_negative(-1)),
+            feeds(Key::I128(-1), fed_negative(-1)),
+            feeds(Key::I64(-2), fed_negative(-2)),
+            feeds(Key::I128(i128::MIN), fed_negative(i128::MIN)),
+            feeds(Key::U128(u128::MAX), fed_natural(u128::MAX)),
+            feeds(Key::Bool(true), hash_of(&true)),
+            feeds(Key::Str("é"), hash_of(&"é")),
+            feeds(owned(rt.alloc(), "é"), hash_of(&"é")),
+            !feeds(Key::Str("1"), fed_natural(1)),
+        ],
+    );
+}
+
+#[test]
+fn keys_in_order(rt: HostRuntime) {
+    let rising = [
+        Key::Bool(false),
+        Key::Bool(true),
+        Key::I128(i128::MIN),
+        Key::I64(-1),
+        Key::U64(0),
+        Key::U128(1),
+        Key::I64(2),
+        Key::U128(u128::MAX),
+        Key::Str(""),
+        Key::Str("1"),
+        owned(rt.alloc(), "a"),
+        Key::Str("aa"),
+        Key::Str("b"),
+        Key::Str("é"),
+    ];
+    rise(&rt, &rising);
+}
+
+// The debug text of its value, which tells the kind and the flag, is that.
+fn has_value(alloc: Global, key: Key<'static>, wanted: &str) -> bool {
+    shows(alloc, &or_undefined(key.as_value(alloc)), wanted)
+}
+
+#[test]
+fn values_of_keys(rt: HostRuntime) {
+    let alloc = rt.alloc();
+    let text = "Value { inner: String(\"a\", false) }";
+    hold(
+        &rt,
+        &[
+            has_value(alloc, Key::Bool(true), "Value { inner: Bool(true) }"),
+            has_value(alloc, Key::U64(1), "Value { inner: U64(1) }"),
+            has_value(alloc, Key::I64(1), "Value { inner: I64(1) }"),
+            has_value(alloc, Key::from(1u128), "Value { inner: U128(1) }"),
+            has_value(alloc, Key::from(1i128), "Value { inner: I128(1) }"),
+            has_value(alloc, Key::from("a"), text),
+            has_value(alloc, owned(alloc, "a"), text),
+        ],
+    );
+}
+
+// Its copy is equal, and of the kind that its debug text tells.
+fn is_copied(alloc: Global, key: Key<'static>, wanted: &str) -> bool {
+    let copy = key.clone(alloc).unwrap_or(Key::Str("none"));
+    copy == key && shows(alloc, &copy, wanted)
+}
+
+#[test]
+fn copies_of_keys(rt: HostRuntime) {
+    let alloc = rt.alloc();
+    hold(
+        &rt,
+        &[
+            is_copied(alloc, Key::Bool(true), "Bool(true)"),
+            is_copied(alloc, Key::U64(1), "U64(1)"),
+            is_copied(alloc, Key::I64(1), "I64(1)"),
+            is_copied(alloc, Key::from(1u128), "U128(1)"),
+            is_copied(alloc, Key::from(1i128), "I128(1)"),
+            is_copied(alloc, Key::from("a"), "Str(\"a\")"),
+            is_copied(alloc, owned(alloc, "a"), "String(\"a\")"),
+        ],
+    );
+}
+
+// The key's copy holds that text, and so does the value of the copy.
+fn holds(alloc: Global, key: &Key<'_>, text: &str) -> bool {
+    let copy = key.clone(alloc).unwrap_or(Key::Bool(false));
+    let value = or_undefined(copy.as_value(alloc));
+    copy.as_str() == Some(text) && value.as_str() == Some(text)
+}
+
+// Keys of so many characters hold them, whether the text is owned or lent.
+fn hold_many(alloc: Global, count: usize) -> bool {
+    let made = repeated(alloc, 'é', count, "");
+    made.len() == Some(count) && are_held(alloc, made.as_str().unwrap_or("none"))
+}
+
+fn are_held(alloc: Global, text: &str) -> bool {
+    holds(alloc, &owned(alloc, text), text) && holds(alloc, &Key::Str(text), text)
+}
+
+// Texts of no character, of one and of 1,000 are copied whole.
+#[test]
+fn texts_of_any_length(rt: HostRuntime) {
+    let alloc = rt.alloc();
+    hold(
+        &rt,
+        &[
+            hold_many(alloc, 0),
+            hold_many(alloc, 1),
+            hold_many(alloc, 1000),
+        ],
+    );
+}
