@@ -7,8 +7,14 @@ use tera_report::{Error, ErrorKind};
 
 // It displays that, and a width and a fill change nothing.
 fn says(alloc: Global, error: Error, wanted: &str) -> bool {
+    let is_so = displays(alloc, &error, wanted) && displays_wide(alloc, &error, wanted);
+    drop(error);
+    is_so
+}
+
+fn displays_wide(alloc: Global, error: &Error, wanted: &str) -> bool {
     let wide = format!(in alloc; "{error:*>200}").unwrap_or(String::new(alloc));
-    displays(alloc, &error, wanted) && wide.as_str() == wanted
+    wide.as_str() == wanted
 }
 
 // The refusal of an extension over these templates says that.
@@ -123,15 +129,19 @@ fn io_kinds_by_name(rt: HostRuntime) {
 
 // Its cause displays that.
 fn has_cause(alloc: Global, error: Error, wanted: &str) -> bool {
-    match error.source() {
+    let is_so = match error.source() {
         Some(cause) => displays(alloc, cause, wanted),
         None => false,
-    }
+    };
+    drop(error);
+    is_so
 }
 
 // It has no cause.
 fn has_none(error: Error) -> bool {
-    error.source().is_none()
+    let is_so = error.source().is_none();
+    drop(error);
+    is_so
 }
 
 // The error of bytes that are no text.

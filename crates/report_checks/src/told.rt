@@ -10,14 +10,15 @@ use tera_report::{Error, ErrorKind};
 // It is told as that into a text that grows.
 fn grows(alloc: Global, error: &Error, wanted: &str) -> bool {
     let mut made = Growing::new(alloc);
-    error.tell_to(&mut made).is_ok() && made.as_str() == wanted
+    let is_told = error.tell_to(&mut made).is_ok();
+    is_told && made.as_str() == wanted
 }
 
 // Its kind is told as that into a room of just that size, which then has none for more.
 fn fills(alloc: Global, error: &Error, wanted: &str) -> bool {
-    match Room::new(alloc, wanted.len()) {
-        Ok(room) => fills_room(error, wanted, room),
-        Err(_) => false,
+    match Room::new(alloc, wanted.len()).ok() {
+        Some(room) => fills_room(error, wanted, room),
+        None => false,
     }
 }
 
@@ -28,7 +29,9 @@ fn fills_room(error: &Error, wanted: &str, room: Room) -> bool {
 }
 
 fn tells(alloc: Global, error: Error, wanted: &str) -> bool {
-    grows(alloc, &error, wanted) && fills(alloc, &error, wanted)
+    let is_so = grows(alloc, &error, wanted) && fills(alloc, &error, wanted);
+    drop(error);
+    is_so
 }
 
 #[test]
