@@ -1,8 +1,10 @@
-//! Kinds of errors, which are their copies and no other kinds, and their Debug, as a derived Debug of
-//! Rust has it. What owns an error hands it to `drop`, so that no function writes out how it ends.
+//! Kinds of errors, which are their copies and no other kinds, and their Debug, as a derived Debug
+//! of Rust has it. What owns an error hands it to `drop`, so that no function writes out how it
+//! ends.
 use crate::held::hold;
 use crate::made::{names, shows};
-use std::alloc::Global;
+use crate::texts::is_said;
+use std::alloc::{AllocError, AllocFailed, Global};
 use std::io;
 use tera_report::{Error, ErrorKind};
 
@@ -82,14 +84,10 @@ fn kinds_of_templates(rt: HostRuntime) {
     );
 }
 
-// It tells that, and is not that no file was found.
-fn tells_fault(alloc: Global, error: Error, wanted: &str) -> bool {
-    tells(
-        alloc,
-        error,
-        wanted,
-        &ErrorKind::Io(io::ErrorKind::NotFound),
-    )
+// It tells that and says that, and is not that no file was found.
+fn tells_and_says(alloc: Global, error: Error, wanted: &str, said: &str) -> bool {
+    let not_found = ErrorKind::Io(io::ErrorKind::NotFound);
+    is_said(alloc, &error, said) && tells(alloc, error, wanted, &not_found)
 }
 
 #[test]
@@ -101,28 +99,52 @@ fn kinds_of_arguments(rt: HostRuntime) {
     hold(
         &rt,
         &[
-            tells_fault(
+            tells_and_says(
                 alloc,
                 Error::invalid_arg_type(alloc, "u8", "string"),
                 of_type,
+                "Invalid type for the value, expected `u8` but got `string`",
             ),
-            tells_fault(alloc, Error::missing_arg(alloc, "n"), missing),
-            tells_fault(alloc, Error::out_of_range_arg(alloc, "300", "u8"), of_range),
+            tells_and_says(
+                alloc,
+                Error::missing_arg(alloc, "n"),
+                missing,
+                "Missing keyword argument `n`",
+            ),
+            tells_and_says(
+                alloc,
+                Error::out_of_range_arg(alloc, "300", "u8"),
+                of_range,
+                "Value `300` is out of range for `u8`",
+            ),
         ],
     );
+}
+
+// It tells and says that there is no memory.
+fn is_want_of_memory(alloc: Global, error: Error) -> bool {
+    tells_and_says(alloc, error, "OutOfMemory", "Out of memory")
 }
 
 #[test]
 fn kinds_that_hold_no_text(rt: HostRuntime) {
     let alloc = rt.alloc();
     let broken = ErrorKind::Io(io::ErrorKind::BrokenPipe);
-    let no_text = ErrorKind::Utf8Conversion;
+    let broken_pipe = "Io error while writing rendered value to output: BrokenPipe";
+    let no_text = "Invalid UTF-8 characters found while rendering.";
     hold(
         &rt,
         &[
-            tells_fault(alloc, Error::new(broken), "Io(BrokenPipe)"),
-            tells_fault(alloc, Error::new(no_text), "Utf8Conversion"),
-            tells_fault(alloc, Error::new(ErrorKind::OutOfMemory), "OutOfMemory"),
+            tells_and_says(alloc, Error::new(broken), "Io(BrokenPipe)", broken_pipe),
+            tells_and_says(
+                alloc,
+                Error::new(ErrorKind::Utf8Conversion),
+                "Utf8Conversion",
+                no_text,
+            ),
+            is_want_of_memory(alloc, Error::new(ErrorKind::OutOfMemory)),
+            is_want_of_memory(alloc, Error::from(AllocError)),
+            is_want_of_memory(alloc, Error::from(AllocFailed { value: 1u8 })),
         ],
     );
 }

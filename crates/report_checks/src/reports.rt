@@ -5,7 +5,7 @@ use crate::made::{displays, many, owned, shows};
 use std::alloc::Global;
 use std::io::ErrorKind as Fault;
 use tera_report::watch::Watched;
-use tera_report::{Error, ErrorKind, ReportError, Span};
+use tera_report::{Error, ErrorKind, ReportError, Span, TeraResult};
 
 // From one column of a line to another.
 fn on(line: usize, from: usize, to: usize) -> Span {
@@ -27,10 +27,14 @@ fn made(alloc: Global, message: &str, file: &str, source: &str, span: Span) -> R
 // It reads so, also where an error displays it.
 fn reads(alloc: Global, report: ReportError, wanted: &str) -> bool {
     let text = report.generate_report(alloc).unwrap_or(String::new(alloc));
-    match Box::new(alloc, report).ok() {
+    match boxed(alloc, report).ok() {
         Some(report) => text.as_str() == wanted && is_displayed(alloc, report, wanted),
         None => false,
     }
+}
+
+fn boxed(alloc: Global, report: ReportError) -> TeraResult<Box<ReportError>> {
+    Ok(Box::new(alloc, report)?)
 }
 
 // An error of that report displays so.
