@@ -54,6 +54,7 @@ fn slices_are_arrays_or_bytes(rt: HostRuntime) {
             gives(alloc, no_bytes, "Bytes([])"),
         ],
     );
+    drop(values);
 }
 
 #[test]

@@ -8,8 +8,15 @@ use std::rc::RcStr;
 use tera_conversions::ToValue;
 use tera_values::{Key, Number, Value};
 
+// The value is held so.
+pub fn is_held(alloc: Global, value: Value, wanted: &str) -> bool {
+    let is_so = tells_held(alloc, &value, wanted);
+    drop(value);
+    is_so
+}
+
 // The value is held so, in the words of Debug, which tell the kind and the flag of each part.
-pub fn is_held(alloc: Global, value: &Value, wanted: &str) -> bool {
+pub fn tells_held(alloc: Global, value: &Value, wanted: &str) -> bool {
     let shown = format!(in alloc; "{value:?}").unwrap_or(String::new(alloc));
     inside(shown.as_str()) == Some(wanted)
 }
@@ -21,7 +28,7 @@ fn inside(shown: &str) -> Option<&str> {
 
 // It gives a value that is held so.
 pub fn gives<T: ToValue>(alloc: Global, source: T, wanted: &str) -> bool {
-    is_held(alloc, &or_undefined(source.to_value(alloc)), wanted)
+    is_held(alloc, or_undefined(source.to_value(alloc)), wanted)
 }
 
 #[test]
@@ -121,7 +128,9 @@ fn texts_are_not_safe(rt: HostRuntime) {
 
 // A reference to it gives a value that is held so.
 fn gives_as_lent(alloc: Global, value: Value, wanted: &str) -> bool {
-    gives(alloc, &value, wanted)
+    let is_so = gives(alloc, &value, wanted);
+    drop(value);
+    is_so
 }
 
 #[test]

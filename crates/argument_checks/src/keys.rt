@@ -10,10 +10,16 @@ use tera_values::Key;
 
 // It gives a key that is held so, in the words of Debug.
 fn gives_key<K: ToKey>(alloc: Global, source: K, wanted: &str) -> bool {
-    match source.to_key(alloc) {
-        Ok(key) => shows(alloc, &key, wanted),
-        Err(_) => false,
+    match source.to_key(alloc).ok() {
+        Some(key) => is_key(alloc, key, wanted),
+        None => false,
     }
+}
+
+fn is_key(alloc: Global, key: Key<'static>, wanted: &str) -> bool {
+    let is_so = shows(alloc, &key, wanted);
+    drop(key);
+    is_so
 }
 
 #[test]

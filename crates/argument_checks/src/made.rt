@@ -2,11 +2,18 @@
 //! test which looks at it fails.
 use std::alloc::Global;
 use std::collections::{BTreeMap, BTreeSet, HashMap};
+use std::fmt::Display;
 use std::hash::Hash;
 
 /// A text of its own.
 pub fn owned(alloc: Global, of: &str) -> String {
     String::from_str(alloc, of).unwrap_or(String::new(alloc))
+}
+
+/// Whether it displays that.
+pub fn displays<D: Display>(alloc: Global, it: &D, wanted: &str) -> bool {
+    let text = format!(in alloc; "{it}").unwrap_or(String::new(alloc));
+    text.as_str() == wanted
 }
 
 /// A list of no item.

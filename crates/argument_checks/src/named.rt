@@ -31,9 +31,9 @@ where
 
 // It is there, and is that.
 fn is_there<T: PartialEq + Drop>(got: TeraResult<Option<T>>, wanted: &T) -> bool {
-    match got {
-        Ok(Some(taken)) => taken == *wanted,
-        _ => false,
+    match got.ok().flatten() {
+        Some(taken) => taken == *wanted,
+        None => false,
     }
 }
 
@@ -43,9 +43,9 @@ where
     V: Parts,
     T: ArgFromValue<'k, V, Output = T> + Drop,
 {
-    match of.get::<T>(alloc, name) {
-        Ok(None) => true,
-        _ => false,
+    match of.get::<T>(alloc, name).ok() {
+        Some(found) => found.is_none(),
+        None => false,
     }
 }
 
@@ -72,6 +72,7 @@ fn an_argument_is_taken_by_its_type(rt: HostRuntime) {
             lacks::<Value, &str>(alloc, &hello, "hell"),
         ],
     );
+    drop(hello);
 }
 
 #[test]
@@ -90,6 +91,8 @@ fn a_number_outside_is_told_by_its_type(rt: HostRuntime) {
             gets(alloc, &negative, "n", -1i8),
         ],
     );
+    drop(wide);
+    drop(negative);
 }
 
 // It is refused as missing.
@@ -117,6 +120,8 @@ fn what_has_to_be_there_is_told(rt: HostRuntime) {
             lacks::<Value, u8>(alloc, &none, "n"),
         ],
     );
+    drop(none);
+    drop(text_at_n);
 }
 
 // What was made of pairs, or no argument.
@@ -148,6 +153,8 @@ fn of_equal_keys_the_later_value_stands(rt: HostRuntime) {
             count(&apart) == 2,
         ],
     );
+    drop(same);
+    drop(apart);
 }
 
 #[test]
@@ -159,7 +166,14 @@ fn of_equal_keys_the_first_key_stands(rt: HostRuntime) {
     ];
     let made = or_none(alloc, Kwargs::from_pairs(alloc, pairs));
     let shown = "KwargsOf { values: Value { inner: Map({U64(7): Value { inner: U64(2) }}) } }";
-    assert!(rt; shows(alloc, &made, shown));
+    assert!(rt; is_shown(alloc, made, shown));
+}
+
+// The arguments show that.
+fn is_shown(alloc: Global, of: Kwargs, wanted: &str) -> bool {
+    let is_so = shows(alloc, &of, wanted);
+    drop(of);
+    is_so
 }
 
 // How many arguments come.
@@ -176,8 +190,16 @@ fn arguments_may_have_no_pair(rt: HostRuntime) {
     let alloc = rt.alloc();
     let pairs: [(&'static str, Value); 0] = [];
     let made = Kwargs::from_pairs(alloc, pairs);
-    assert!(rt; made.is_ok());
-    assert!(rt; count(&or_none(alloc, made)) == 0);
+    assert!(rt; is_of_no_pair(alloc, made));
+}
+
+// Arguments were made, and there is none.
+fn is_of_no_pair(alloc: Global, made: TeraResult<Kwargs>) -> bool {
+    let is_made = made.is_ok();
+    let of = or_none(alloc, made);
+    let is_empty = count(&of) == 0;
+    drop(of);
+    is_made && is_empty
 }
 
 // A pair is at the name of its number.
@@ -188,10 +210,17 @@ fn is_at_its_name(alloc: Global, key: &Key<'static>, value: &Value) -> bool {
     }
 }
 
-// The walk gives so many arguments, each once and at its name, and then ends for good.
+// The walk over so many arguments gives each once.
 fn walks_once(alloc: Global, count: i64) -> bool {
     let of = arguments(alloc, many_pairs(alloc, count));
-    let mut left: KwargsIter<'_> = of.iter();
+    let is_so = comes_once(alloc, of.iter(), count);
+    drop(of);
+    is_so
+}
+
+// The walk gives so many arguments, each once and at its name, and then ends for good.
+fn comes_once(alloc: Global, walk: KwargsIter<'_>, count: i64) -> bool {
+    let mut left = walk;
     let mut seen = BTreeSet::new(alloc);
     for _ in 0..count {
         if let Some((key, value)) = left.next()
@@ -200,7 +229,9 @@ fn walks_once(alloc: Global, count: i64) -> bool {
             let _ = seen.insert(value.as_i64());
         }
     }
-    seen.len() as i128 == count as i128 && left.next().is_none() && left.next().is_none()
+    let is_each = seen.len() as i128 == count as i128;
+    drop(seen);
+    is_each && left.next().is_none() && left.next().is_none()
 }
 
 #[test]
@@ -231,6 +262,8 @@ fn arguments_of_any_size(rt: HostRuntime) {
             lacks::<Value, i16>(alloc, &many, "key é 1000"),
         ],
     );
+    drop(one);
+    drop(many);
 }
 
 // The arguments of 1,000 pairs, each a number at its own, which falls.
@@ -253,19 +286,29 @@ fn make_999(key: &Key<'static>, value: &Value) -> bool {
 #[test]
 fn each_pair_of_many_is_an_argument(rt: HostRuntime) {
     let of = thousand_pairs(rt.alloc());
+    let right = count_of_999(&of);
+    drop(of);
+    assert!(rt; right == 1000);
+}
+
+// How many arguments have a key and a value that make 999.
+fn count_of_999(of: &Kwargs) -> u16 {
     let mut right = 0u16;
     for (key, value) in of.iter() {
         if make_999(key, value) {
             right = right.saturating_add(1);
         }
     }
-    assert!(rt; right == 1000);
+    right
 }
 
-// The copy shows that.
-fn copy_shows(alloc: Global, of: &Kwargs, wanted: &str) -> bool {
-    of.clone(alloc)
-        .is_ok_and(|copy| shows(alloc, &copy, wanted))
+// The arguments show that, and so does a copy of them.
+fn copy_shows(alloc: Global, of: Kwargs, wanted: &str) -> bool {
+    let is_shown_by_copy = match of.clone(alloc).ok() {
+        Some(copy) => is_shown(alloc, copy, wanted),
+        None => false,
+    };
+    is_shown(alloc, of, wanted) && is_shown_by_copy
 }
 
 #[test]
@@ -282,10 +325,9 @@ fn copies_keep_kinds_and_flags(rt: HostRuntime) {
     hold(
         &rt,
         &[
-            shows(alloc, &marked, shown),
-            copy_shows(alloc, &marked, shown),
-            copy_shows(alloc, &wide, told),
-            shows(alloc, &none, empty),
+            copy_shows(alloc, marked, shown),
+            copy_shows(alloc, wide, told),
+            copy_shows(alloc, none, empty),
         ],
     );
 }

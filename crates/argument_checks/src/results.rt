@@ -1,7 +1,7 @@
 //! What functions of templates answer.
 use crate::given::is_held;
 use crate::held::hold;
-use crate::made::{one_of, owned, set_of, table_of, tree_of};
+use crate::made::{displays, one_of, owned, set_of, table_of, tree_of};
 use made_values::{or_undefined, safe};
 use std::alloc::Global;
 use std::borrow::CowStr;
@@ -11,7 +11,7 @@ use tera_values::{Key, Number, Value};
 
 // It answers a value that is held so.
 fn answers<F: FunctionResult>(alloc: Global, answer: F, wanted: &str) -> bool {
-    is_held(alloc, &or_undefined(answer.into_result(alloc)), wanted)
+    is_held(alloc, or_undefined(answer.into_result(alloc)), wanted)
 }
 
 #[test]
@@ -70,6 +70,7 @@ fn collections_are_answered(rt: HostRuntime) {
             answers(alloc, tree_of(alloc, "a", 1u8), pair),
         ],
     );
+    drop(values);
 }
 
 #[test]
@@ -90,21 +91,22 @@ fn what_succeeds_is_answered(rt: HostRuntime) {
 
 // The answer is an error of that text, and its cause is one of that.
 fn fails_with(alloc: Global, answer: TeraResult<Value>, text: &str, cause: &str) -> bool {
-    match answer {
-        Ok(_) => false,
-        Err(error) => {
-            let told = format!(in alloc; "{error}").unwrap_or(String::new(alloc));
-            told.as_str() == text && is_caused_by(alloc, &error, cause)
-        }
+    match answer.err() {
+        Some(error) => is_of_cause(alloc, error, text, cause),
+        None => false,
     }
+}
+
+// The error is one of that text, and its cause is one of that.
+fn is_of_cause(alloc: Global, error: Error, text: &str, cause: &str) -> bool {
+    let is_so = displays(alloc, &error, text) && is_caused_by(alloc, &error, cause);
+    drop(error);
+    is_so
 }
 
 fn is_caused_by(alloc: Global, error: &Error, cause: &str) -> bool {
     match error.source() {
-        Some(source) => {
-            let told = format!(in alloc; "{source}").unwrap_or(String::new(alloc));
-            told.as_str() == cause
-        }
+        Some(source) => displays(alloc, source, cause),
         None => false,
     }
 }

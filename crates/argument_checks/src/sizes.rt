@@ -1,5 +1,5 @@
 //! What is given and taken of values without parts, with one and with 1,000.
-use crate::held::hold;
+use crate::held::{all, hold};
 use crate::inputs::rendered;
 use crate::made::{falling_set, many_in_table, many_in_tree, owned, rising};
 use crate::taken::{copied_map, is_lent, is_owned, taken, takes};
@@ -17,27 +17,41 @@ fn are_alike(alloc: Global, found: &Value, wanted: &Value) -> bool {
     !told.is_empty() && shown.as_str() == told.as_str()
 }
 
+// The value is held as that.
+fn is_alike(alloc: Global, found: Value, wanted: &Value) -> bool {
+    let is_so = are_alike(alloc, &found, wanted);
+    drop(found);
+    is_so
+}
+
 // It gives a value that is held as that.
 fn gives_alike<T: ToValue>(alloc: Global, source: T, wanted: &Value) -> bool {
-    are_alike(alloc, &or_undefined(source.to_value(alloc)), wanted)
+    is_alike(alloc, or_undefined(source.to_value(alloc)), wanted)
 }
 
 // Lists and sets of so many numbers.
 fn gives_lists(alloc: Global, count: i64) -> bool {
     let wanted = numbers_below(alloc, count);
     let answer: TeraResult<Vec<i64>> = Ok(rising(alloc, count));
-    gives_alike(alloc, rising(alloc, count), &wanted)
-        && gives_alike(alloc, falling_set(alloc, count), &wanted)
-        && are_alike(alloc, &or_undefined(answer.into_result(alloc)), &wanted)
+    let answered = or_undefined(answer.into_result(alloc));
+    let rows = [
+        gives_alike(alloc, rising(alloc, count), &wanted),
+        gives_alike(alloc, falling_set(alloc, count), &wanted),
+        is_alike(alloc, answered, &wanted),
+    ];
+    drop(wanted);
+    all(&rows)
 }
 
 // A slice of so many values.
 fn gives_slice(alloc: Global, count: i64) -> bool {
-    let held = many_items(alloc, count)
-        .into_vec()
-        .unwrap_or(Vec::new(alloc));
+    let held = many_values(alloc, count);
+    let wanted = many_items(alloc, count);
     let given = or_undefined(held.as_slice().to_value(alloc));
-    are_alike(alloc, &given, &many_items(alloc, count))
+    let is_so = is_alike(alloc, given, &wanted);
+    drop(held);
+    drop(wanted);
+    is_so
 }
 
 #[test]
@@ -67,19 +81,30 @@ fn gives_texts(alloc: Global, count: usize) -> bool {
     let text = long(alloc, count);
     let wanted = repeated(alloc, 'é', count, "");
     let raw = bytes(alloc, text.as_bytes());
-    gives_alike(alloc, text.as_str(), &wanted)
-        && gives_alike(alloc, CowStr::Borrowed(text.as_str()), &wanted)
-        && gives_alike(alloc, text.as_bytes(), &raw)
-        && gives_alike(alloc, CowStr::Owned(long(alloc, count)), &wanted)
-        && gives_alike(alloc, text, &wanted)
+    let rows = [
+        gives_alike(alloc, text.as_str(), &wanted),
+        gives_alike(alloc, CowStr::Borrowed(text.as_str()), &wanted),
+        gives_alike(alloc, text.as_bytes(), &raw),
+        gives_alike(alloc, CowStr::Owned(long(alloc, count)), &wanted),
+        gives_alike(alloc, text, &wanted),
+    ];
+    drop(wanted);
+    drop(raw);
+    all(&rows)
 }
 
 // It gives the key of that text.
 fn gives_key<K: ToKey>(alloc: Global, source: K, text: &str) -> bool {
-    match source.to_key(alloc) {
-        Ok(key) => key.as_str() == Some(text),
-        Err(_) => false,
+    match source.to_key(alloc).ok() {
+        Some(key) => is_text_key(key, text),
+        None => false,
     }
+}
+
+fn is_text_key(key: Key<'static>, text: &str) -> bool {
+    let is_so = key.as_str() == Some(text);
+    drop(key);
+    is_so
 }
 
 // Keys of a text of so many characters.
@@ -132,22 +157,40 @@ fn is_map_of(found: &Value, wanted: &Value) -> bool {
 // Maps of so many pairs.
 fn gives_maps(alloc: Global, count: i64) -> bool {
     let wanted = many_pairs(alloc, count);
-    let tree = or_undefined(many_in_tree(alloc, count).to_value(alloc));
-    let table = or_undefined(many_in_table(alloc, count).to_value(alloc));
-    is_map_of(&tree, &wanted) && is_map_of(&table, &wanted)
+    let rows = [
+        gives_map(alloc, many_in_tree(alloc, count), &wanted),
+        gives_map(alloc, many_in_table(alloc, count), &wanted),
+    ];
+    drop(wanted);
+    all(&rows)
+}
+
+// It gives that map.
+fn gives_map<T: ToValue>(alloc: Global, source: T, wanted: &Value) -> bool {
+    is_whole_map(or_undefined(source.to_value(alloc)), wanted)
+}
+
+fn is_whole_map(found: Value, wanted: &Value) -> bool {
+    let is_so = is_map_of(&found, wanted);
+    drop(found);
+    is_so
 }
 
 // How many pairs the map has that is lent.
-fn lent_count(alloc: Global, value: &Value) -> TeraResult<usize> {
-    let map: &Map = taken(alloc, value)?;
-    Ok(maps::len(map))
+fn lent_count(alloc: Global, value: &Value) -> Option<usize> {
+    match taken::<Value, &Map>(alloc, value).ok() {
+        Some(map) => Some(maps::len(map)),
+        None => None,
+    }
 }
 
 // A copy of a map of so many pairs, and the map lent.
 fn takes_maps(alloc: Global, count: i64) -> bool {
     let of = many_pairs(alloc, count);
-    let copied = or_undefined(copied_map(alloc, &of));
-    is_map_of(&copied, &of) && lent_count(alloc, &of).ok() == of.len()
+    let is_copied = is_whole_map(or_undefined(copied_map(alloc, &of)), &of);
+    let is_lent = lent_count(alloc, &of) == of.len();
+    drop(of);
+    is_copied && is_lent
 }
 
 #[test]
@@ -173,13 +216,26 @@ fn many_values(alloc: Global, count: i64) -> Vec<Value> {
         .unwrap_or(Vec::new(alloc))
 }
 
-// Lists of so many items, copies of them, and the items lent.
+// A list of so many items, a copy of it, and the items lent.
 fn takes_lists(alloc: Global, count: i64) -> bool {
     let of = many_items(alloc, count);
-    takes(alloc, &numbers_below(alloc, count), rising(alloc, count))
-        && takes(alloc, &of, many_values(alloc, count).as_slice())
-        && takes(alloc, &of, many_values(alloc, count))
-        && are_alike(alloc, &or_undefined(taken(alloc, &of)), &of)
+    let held = many_values(alloc, count);
+    let rows = [
+        takes(alloc, &of, held.as_slice()),
+        takes(alloc, &of, many_values(alloc, count)),
+        is_alike(alloc, or_undefined(taken(alloc, &of)), &of),
+    ];
+    drop(of);
+    drop(held);
+    all(&rows)
+}
+
+// A list of so many numbers.
+fn takes_numbers(alloc: Global, count: i64) -> bool {
+    let of = numbers_below(alloc, count);
+    let is_so = takes(alloc, &of, rising(alloc, count));
+    drop(of);
+    is_so
 }
 
 #[test]
@@ -191,6 +247,9 @@ fn lists_of_any_size_are_taken(rt: HostRuntime) {
             takes_lists(alloc, 0),
             takes_lists(alloc, 1),
             takes_lists(alloc, 1000),
+            takes_numbers(alloc, 0),
+            takes_numbers(alloc, 1),
+            takes_numbers(alloc, 1000),
         ],
     );
 }
@@ -200,11 +259,16 @@ fn takes_texts(alloc: Global, count: usize) -> bool {
     let of = repeated(alloc, 'é', count, "<");
     let text = of.as_str().unwrap_or("");
     let shown = repeated(alloc, 'é', count, "&lt;");
-    takes(alloc, &of, text)
-        && takes(alloc, &of, owned(alloc, text))
-        && is_lent(&taken(alloc, &of), text)
-        && is_owned(&rendered(alloc, &of, true), shown.as_str().unwrap_or(""))
-        && is_lent(&rendered(alloc, &of, false), text)
+    let rows = [
+        takes(alloc, &of, text),
+        takes(alloc, &of, owned(alloc, text)),
+        is_lent(taken(alloc, &of), text),
+        is_owned(rendered(alloc, &of, true), shown.as_str().unwrap_or("")),
+        is_lent(rendered(alloc, &of, false), text),
+    ];
+    drop(of);
+    drop(shown);
+    all(&rows)
 }
 
 #[test]

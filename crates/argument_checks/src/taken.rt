@@ -1,14 +1,15 @@
-//! What values are taken as, and what is refused.
-use crate::given::is_held;
+//! What values are taken as, and what is refused. What is generic takes its value by reference, and
+//! each owner is handed to `drop`, so that no function writes out how a value ends.
+use crate::given::{is_held, tells_held};
 use crate::held::hold;
-use crate::made::{none_of, one_of, owned, two_of};
+use crate::made::{displays, none_of, one_of, owned, two_of};
 use made_values::{
     at_texts, bytes, no_items, no_pairs, numbers, one_item, or_undefined, safe, text, two_items,
 };
 use std::alloc::Global;
 use std::borrow::CowStr;
 use tera_arguments::{ArgFromValue, StringInput};
-use tera_report::TeraResult;
+use tera_report::{Error, TeraResult};
 use tera_values::{Map, Number, Value, maps};
 
 // It is taken as that.
@@ -21,9 +22,9 @@ where
 
 // The answer is that.
 pub fn is_that<T: PartialEq + Drop>(answer: TeraResult<T>, wanted: &T) -> bool {
-    match answer {
-        Ok(taken) => taken == *wanted,
-        Err(_) => false,
+    match answer.ok() {
+        Some(taken) => taken == *wanted,
+        None => false,
     }
 }
 
@@ -37,40 +38,67 @@ where
 
 // The answer is an error of that text, which has no cause.
 pub fn is_refused<T: Drop>(alloc: Global, answer: TeraResult<T>, text: &str) -> bool {
-    match answer {
-        Ok(_) => false,
-        Err(error) => {
-            let told = format!(in alloc; "{error}").unwrap_or(String::new(alloc));
-            told.as_str() == text && error.source().is_none()
-        }
+    match answer.err() {
+        Some(error) => is_alone(alloc, error, text),
+        None => false,
     }
+}
+
+// The error has that text and no cause.
+fn is_alone(alloc: Global, error: Error, text: &str) -> bool {
+    let is_so = displays(alloc, &error, text) && error.source().is_none();
+    drop(error);
+    is_so
 }
 
 #[test]
 fn numbers_are_taken_from_any_kind(rt: HostRuntime) {
     let alloc = rt.alloc();
+    let of = [
+        Value::from(7u64),
+        Value::from(7i64),
+        Value::from(7u128),
+        Value::from(7i128),
+    ];
+    let [whole, signed, wide, wide_signed] = &of;
     hold(
         &rt,
         &[
-            takes(alloc, &Value::from(7u64), 7i8),
-            takes(alloc, &Value::from(7i64), 7u16),
-            takes(alloc, &Value::from(7u128), 7i32),
-            takes(alloc, &Value::from(7i128), 7u64),
-            takes(alloc, &Value::from(true), true),
-            takes(alloc, &Value::from(false), false),
+            takes(alloc, whole, 7i8),
+            takes(alloc, signed, 7u16),
+            takes(alloc, wide, 7i32),
+            takes(alloc, wide_signed, 7u64),
         ],
     );
+    drop(of);
+}
+
+// A truth value is taken as itself.
+fn keeps_truth(alloc: Global, truth: bool) -> bool {
+    let of = Value::from(truth);
+    let is_so = takes(alloc, &of, truth);
+    drop(of);
+    is_so
+}
+
+// It is taken as that text, lent.
+fn lends_text(alloc: Global, value: Value, wanted: &str) -> bool {
+    let is_so = takes(alloc, &value, wanted);
+    drop(value);
+    is_so
 }
 
 #[test]
-fn texts_are_lent(rt: HostRuntime) {
+fn truth_and_texts_are_taken_as_they_are(rt: HostRuntime) {
     let alloc = rt.alloc();
     hold(
         &rt,
         &[
-            takes(alloc, &text(alloc, "é<"), "é<"),
-            takes(alloc, &safe(alloc, "é<"), "é<"),
-            takes(alloc, &text(alloc, ""), ""),
+            keeps_truth(alloc, true),
+            keeps_truth(alloc, false),
+            lends_text(alloc, text(alloc, "é<"), "é<"),
+            lends_text(alloc, safe(alloc, "é<"), "é<"),
+            lends_text(alloc, text(alloc, ""), ""),
         ],
     );
 }
@@ -93,6 +121,13 @@ pub fn taken<'k, V, T: ArgFromValue<'k, V, Output = T>>(
     T::from_value(alloc, value)
 }
 
+// It is taken as a text of its own, which is that.
+fn prints_as(alloc: Global, value: Value, wanted: &str) -> bool {
+    let is_so = takes(alloc, &value, owned(alloc, wanted));
+    drop(value);
+    is_so
+}
+
 #[test]
 fn texts_are_printed(rt: HostRuntime) {
     let alloc = rt.alloc();
@@ -100,14 +135,14 @@ fn texts_are_printed(rt: HostRuntime) {
     hold(
         &rt,
         &[
-            takes(alloc, &Value::none(), String::new(alloc)),
-            takes(alloc, &Value::undefined(), String::new(alloc)),
-            takes(alloc, &Value::from(5u8), owned(alloc, "5")),
-            takes(alloc, &Value::from(true), owned(alloc, "true")),
-            takes(alloc, &safe(alloc, "é<"), owned(alloc, "é<")),
-            takes(alloc, &bytes(alloc, b"a\xff"), owned(alloc, "a\u{fffd}")),
-            takes(alloc, &mixed, owned(alloc, "[1, \"é\"]")),
-            takes(alloc, &one_pair_of(alloc), owned(alloc, "{\"é\": 7}")),
+            prints_as(alloc, Value::none(), ""),
+            prints_as(alloc, Value::undefined(), ""),
+            prints_as(alloc, Value::from(5u8), "5"),
+            prints_as(alloc, Value::from(true), "true"),
+            prints_as(alloc, safe(alloc, "é<"), "é<"),
+            prints_as(alloc, bytes(alloc, b"a\xff"), "a\u{fffd}"),
+            prints_as(alloc, mixed, "[1, \"é\"]"),
+            prints_as(alloc, one_pair_of(alloc), "{\"é\": 7}"),
         ],
     );
 }
@@ -118,29 +153,37 @@ fn one_pair_of(alloc: Global) -> Value {
 }
 
 // The text is lent, and is that.
-pub fn is_lent(answer: &TeraResult<CowStr<'_>>, wanted: &str) -> bool {
-    match answer {
+pub fn is_lent(answer: TeraResult<CowStr<'_>>, wanted: &str) -> bool {
+    let is_so = match &answer {
         Ok(CowStr::Borrowed(text)) => *text == wanted,
         _ => false,
-    }
+    };
+    drop(answer);
+    is_so
 }
 
 // The text is one of its own, and is that.
-pub fn is_owned(answer: &TeraResult<CowStr<'_>>, wanted: &str) -> bool {
-    match answer {
+pub fn is_owned(answer: TeraResult<CowStr<'_>>, wanted: &str) -> bool {
+    let is_so = match &answer {
         Ok(CowStr::Owned(text)) => text.as_str() == wanted,
         _ => false,
-    }
+    };
+    drop(answer);
+    is_so
 }
 
 // It is taken as that text, lent.
 fn stands(alloc: Global, value: Value, wanted: &str) -> bool {
-    is_lent(&taken(alloc, &value), wanted)
+    let is_so = is_lent(taken(alloc, &value), wanted);
+    drop(value);
+    is_so
 }
 
 // It is taken as that text, printed.
 fn is_printed(alloc: Global, value: Value, wanted: &str) -> bool {
-    is_owned(&taken(alloc, &value), wanted)
+    let is_so = is_owned(taken(alloc, &value), wanted);
+    drop(value);
+    is_so
 }
 
 #[test]
@@ -160,16 +203,20 @@ fn texts_are_lent_and_other_values_printed(rt: HostRuntime) {
 }
 
 // The copy that is taken is held so.
-fn copies(alloc: Global, value: &Value, wanted: &str) -> bool {
-    is_held(alloc, &or_undefined(taken(alloc, value)), wanted)
+fn copies(alloc: Global, value: Value, wanted: &str) -> bool {
+    let copy = or_undefined(taken(alloc, &value));
+    drop(value);
+    is_held(alloc, copy, wanted)
 }
 
 // What is lent is held so.
-fn lends(alloc: Global, value: &Value, wanted: &str) -> bool {
-    match taken::<Value, &Value>(alloc, value) {
-        Ok(lent) => is_held(alloc, lent, wanted),
-        Err(_) => false,
-    }
+fn lends(alloc: Global, value: Value, wanted: &str) -> bool {
+    let is_so = match taken::<Value, &Value>(alloc, &value).ok() {
+        Some(lent) => tells_held(alloc, lent, wanted),
+        None => false,
+    };
+    drop(value);
+    is_so
 }
 
 #[test]
@@ -180,14 +227,21 @@ fn values_are_copied_or_lent(rt: HostRuntime) {
     hold(
         &rt,
         &[
-            copies(alloc, &safe(alloc, "<"), safe_text),
-            copies(alloc, &Value::from(7u128), "U128(7)"),
-            copies(alloc, &one_item(alloc, safe(alloc, "<")), array),
-            lends(alloc, &safe(alloc, "<"), safe_text),
-            lends(alloc, &Value::from(7i128), "I128(7)"),
-            lends(alloc, &one_item(alloc, safe(alloc, "<")), array),
+            copies(alloc, safe(alloc, "<"), safe_text),
+            copies(alloc, Value::from(7u128), "U128(7)"),
+            copies(alloc, one_item(alloc, safe(alloc, "<")), array),
+            lends(alloc, safe(alloc, "<"), safe_text),
+            lends(alloc, Value::from(7i128), "I128(7)"),
+            lends(alloc, one_item(alloc, safe(alloc, "<")), array),
         ],
     );
+}
+
+// It is taken as that number.
+fn is_number(alloc: Global, value: Value, wanted: i128) -> bool {
+    let is_so = takes(alloc, &value, Number::Integer(wanted));
+    drop(value);
+    is_so
 }
 
 #[test]
@@ -198,14 +252,14 @@ fn numbers_of_an_i128_are_taken(rt: HostRuntime) {
     hold(
         &rt,
         &[
-            takes(alloc, &Value::from(7u64), Number::Integer(7)),
-            takes(alloc, &Value::from(-7i64), Number::Integer(-7)),
-            takes(alloc, &Value::from(7u128), Number::Integer(7)),
-            takes(alloc, &Value::from(i128::MIN), Number::Integer(i128::MIN)),
+            is_number(alloc, Value::from(7u64), 7),
+            is_number(alloc, Value::from(-7i64), -7),
+            is_number(alloc, Value::from(7u128), 7),
+            is_number(alloc, Value::from(i128::MIN), i128::MIN),
             refuses::<Value, Number>(alloc, &wide, told),
-            is_no::<Value, Number>(alloc, &text(alloc, "7"), "Number", "string"),
         ],
     );
+    drop(wide);
 }
 
 // The copy of the map that is taken.
@@ -215,33 +269,61 @@ pub fn copied_map(alloc: Global, value: &Value) -> TeraResult<Value> {
 }
 
 // That copy is held so.
-fn copies_map(alloc: Global, value: &Value, wanted: &str) -> bool {
-    is_held(alloc, &or_undefined(copied_map(alloc, value)), wanted)
+fn copies_map(alloc: Global, value: Value, wanted: &str) -> bool {
+    let copy = or_undefined(copied_map(alloc, &value));
+    drop(value);
+    is_held(alloc, copy, wanted)
 }
 
 // In the map that is lent, a text has that number.
-fn lends_map(alloc: Global, value: &Value, key: &str, wanted: i64) -> bool {
-    match taken::<Value, &Map>(alloc, value) {
-        Ok(map) => maps::get_text(map, key) == Some(&Value::from(wanted)),
-        Err(_) => false,
+fn lends_map(alloc: Global, value: Value, key: &str, wanted: i64) -> bool {
+    let is_so = match taken::<Value, &Map>(alloc, &value).ok() {
+        Some(map) => has_number(map, key, wanted),
+        None => false,
+    };
+    drop(value);
+    is_so
+}
+
+// In the map a text has that number.
+fn has_number(map: &Map, key: &str, wanted: i64) -> bool {
+    match maps::get_text(map, key) {
+        Some(found) => found.as_i64() == Some(wanted),
+        None => false,
     }
 }
 
 #[test]
 fn maps_are_copied_or_lent(rt: HostRuntime) {
     let alloc = rt.alloc();
-    let of = one_pair_of(alloc);
     let map = "Map({Str(\"é\"): Value { inner: I64(7) }})";
+    let items = no_items(alloc);
     hold(
         &rt,
         &[
-            copies_map(alloc, &of, map),
-            lends_map(alloc, &of, "é", 7),
-            copies_map(alloc, &no_pairs(alloc), "Map({})"),
-            is_no::<Value, Map>(alloc, &no_items(alloc), "Map", "array"),
-            is_no::<Value, &Map>(alloc, &no_items(alloc), "Map", "array"),
+            copies_map(alloc, one_pair_of(alloc), map),
+            lends_map(alloc, one_pair_of(alloc), "é", 7),
+            copies_map(alloc, no_pairs(alloc), "Map({})"),
+            is_no::<Value, Map>(alloc, &items, "Map", "array"),
+            is_no::<Value, &Map>(alloc, &items, "Map", "array"),
         ],
     );
+    drop(items);
+}
+
+// Items are lent that are equal to these.
+fn lends_items(alloc: Global, value: Value, wanted: Vec<Value>) -> bool {
+    let is_so = takes(alloc, &value, wanted.as_slice());
+    drop(value);
+    drop(wanted);
+    is_so
+}
+
+// It is refused where items are to be lent.
+fn has_no_items(alloc: Global, value: Value, name: &str) -> bool {
+    let is_so = is_no::<Value, &[Value]>(alloc, &value, "&[Value]", name);
+    drop(value);
+    is_so
 }
 
 #[test]
@@ -251,9 +333,9 @@ fn items_are_lent(rt: HostRuntime) {
     hold(
         &rt,
         &[
-            takes(alloc, &numbers(alloc, &[1, 2]), held.as_slice()),
-            is_no::<Value, &[Value]>(alloc, &no_pairs(alloc), "&[Value]", "map/struct"),
-            is_no::<Value, &[Value]>(alloc, &bytes(alloc, b"\x01"), "&[Value]", "bytes"),
+            lends_items(alloc, numbers(alloc, &[1, 2]), held),
+            has_no_items(alloc, no_pairs(alloc), "map/struct"),
+            has_no_items(alloc, bytes(alloc, b"\x01"), "bytes"),
         ],
     );
 }
@@ -261,61 +343,83 @@ fn items_are_lent(rt: HostRuntime) {
 #[test]
 fn lists_are_taken_item_by_item(rt: HostRuntime) {
     let alloc = rt.alloc();
-    let nested = two_items(alloc, numbers(alloc, &[1, 255]), no_items(alloc));
+    let of = [
+        two_items(alloc, numbers(alloc, &[1, 255]), no_items(alloc)),
+        two_items(alloc, Value::from(5u8), text(alloc, "é")),
+        one_item(alloc, text(alloc, "é")),
+        one_item(alloc, Value::from(true)),
+        no_items(alloc),
+    ];
+    let [nested, both, one_text, one_truth, none] = &of;
     let lists = two_of(alloc, two_of(alloc, 1u8, 255u8), Vec::new(alloc));
-    let both = two_items(alloc, Value::from(5u8), text(alloc, "é"));
     let texts = two_of(alloc, owned(alloc, "5"), owned(alloc, "é"));
     hold(
         &rt,
         &[
-            takes(alloc, &nested, lists),
-            takes(alloc, &both, texts),
-            takes(
-                alloc,
-                &one_item(alloc, text(alloc, "é")),
-                one_of(alloc, "é"),
-            ),
-            takes(
-                alloc,
-                &one_item(alloc, Value::from(true)),
-                one_of(alloc, true),
-            ),
-            takes(alloc, &no_items(alloc), none_of::<u8>(alloc)),
+            takes(alloc, nested, lists),
+            takes(alloc, both, texts),
+            takes(alloc, one_text, one_of(alloc, "é")),
+            takes(alloc, one_truth, one_of(alloc, true)),
+            takes(alloc, none, none_of::<u8>(alloc)),
         ],
     );
+    drop(of);
+}
+
+// It is no list of bytes: it is refused as a value of another type than the one of that name.
+fn is_no_list(alloc: Global, value: Value, wanted: &str, name: &str) -> bool {
+    let is_so = is_no::<Value, Vec<u8>>(alloc, &value, wanted, name);
+    drop(value);
+    is_so
 }
 
 #[test]
 fn the_first_refusal_of_an_item_is_passed_on(rt: HostRuntime) {
     let alloc = rt.alloc();
-    let one_and_text = two_items(alloc, Value::from(1u8), text(alloc, "x"));
+    let of = [
+        two_items(alloc, Value::from(1u8), text(alloc, "x")),
+        two_items(alloc, Value::from(300u16), text(alloc, "x")),
+    ];
+    let [one_and_text, wide_and_text] = &of;
     let text_and_wide = two_items(alloc, text(alloc, "x"), Value::from(300u16));
-    let wide_and_text = two_items(alloc, Value::from(300u16), text(alloc, "x"));
     let told = "Value `300` is out of range for `u8`";
     hold(
         &rt,
         &[
-            is_no::<Value, Vec<u8>>(alloc, &one_and_text, "u8", "string"),
-            is_no::<Value, Vec<u8>>(alloc, &text_and_wide, "u8", "string"),
-            refuses::<Value, Vec<u8>>(alloc, &wide_and_text, told),
-            is_no::<Value, Vec<u8>>(alloc, &bytes(alloc, b"\x01"), "Vec<Value>", "bytes"),
-            is_no::<Value, Vec<Vec<u8>>>(alloc, &one_and_text, "Vec<Value>", "u64"),
+            is_no::<Value, Vec<u8>>(alloc, one_and_text, "u8", "string"),
+            is_no_list(alloc, text_and_wide, "u8", "string"),
+            refuses::<Value, Vec<u8>>(alloc, wide_and_text, told),
+            is_no_list(alloc, bytes(alloc, b"\x01"), "Vec<Value>", "bytes"),
+            is_no::<Value, Vec<Vec<u8>>>(alloc, one_and_text, "Vec<Value>", "u64"),
         ],
     );
+    drop(of);
 }
 
 #[test]
 fn other_kinds_are_refused(rt: HostRuntime) {
     let alloc = rt.alloc();
+    let of = [
+        Value::from(1u8),
+        Value::from(-1i8),
+        Value::none(),
+        text(alloc, "x"),
+        Value::from(7u128),
+        Value::undefined(),
+        text(alloc, "7"),
+    ];
+    let [number, negative, none, letter, wide, undefined, digit] = &of;
     hold(
         &rt,
         &[
-            is_no::<Value, bool>(alloc, &Value::from(1u8), "bool", "u64"),
-            is_no::<Value, &str>(alloc, &Value::from(-1i8), "&str", "i64"),
-            is_no::<Value, StringInput<'_>>(alloc, &Value::none(), "string", "none"),
-            is_no::<Value, u8>(alloc, &text(alloc, "x"), "u8", "string"),
-            is_no::<Value, Map>(alloc, &Value::from(7u128), "Map", "u128"),
-            is_no::<Value, Number>(alloc, &Value::undefined(), "Number", "undefined"),
+            is_no::<Value, bool>(alloc, number, "bool", "u64"),
+            is_no::<Value, &str>(alloc, negative, "&str", "i64"),
+            is_no::<Value, StringInput<'_>>(alloc, none, "string", "none"),
+            is_no::<Value, u8>(alloc, letter, "u8", "string"),
+            is_no::<Value, Map>(alloc, wide, "Map", "u128"),
+            is_no::<Value, Number>(alloc, undefined, "Number", "undefined"),
+            is_no::<Value, Number>(alloc, digit, "Number", "string"),
         ],
     );
+    drop(of);
 }

@@ -3,8 +3,6 @@
 #![tactic(auto)]
 
 #[cfg(test)]
-mod debug;
-#[cfg(test)]
 mod escaping;
 #[cfg(test)]
 mod failing;

@@ -5,7 +5,7 @@ use crate::made::{displays, many, owned, shows};
 use std::alloc::Global;
 use std::io::ErrorKind as Fault;
 use tera_report::watch::Watched;
-use tera_report::{Error, ErrorKind, ReportError, Span};
+use tera_report::{Error, ErrorKind, ReportError, Span, TeraResult};
 
 // From one column of a line to another.
 fn on(line: usize, from: usize, to: usize) -> Span {
@@ -27,13 +27,22 @@ fn made(alloc: Global, message: &str, file: &str, source: &str, span: Span) -> R
 // It reads so, also where an error displays it.
 fn reads(alloc: Global, report: ReportError, wanted: &str) -> bool {
     let text = report.generate_report(alloc).unwrap_or(String::new(alloc));
-    match Box::new(alloc, report) {
-        Ok(report) => {
-            let error = Error::new(ErrorKind::RenderingError(report));
-            text.as_str() == wanted && displays(alloc, &error, wanted)
-        }
-        Err(_) => false,
+    match boxed(alloc, report).ok() {
+        Some(report) => text.as_str() == wanted && is_displayed(alloc, report, wanted),
+        None => false,
     }
+}
+
+fn boxed(alloc: Global, report: ReportError) -> TeraResult<Box<ReportError>> {
+    Ok(Box::new(alloc, report)?)
+}
+
+// An error of that report displays so.
+fn is_displayed(alloc: Global, report: Box<ReportError>, wanted: &str) -> bool {
+    let error = Error::new(ErrorKind::RenderingError(report));
+    let is_so = displays(alloc, &error, wanted);
+    drop(error);
+    is_so
 }
 
 // The report on that source reads so.
@@ -89,7 +98,7 @@ fn reports_of_lines(rt: HostRuntime) {
 fn noted(alloc: Global, labels: &[&str]) -> ReportError {
     let mut report = made(alloc, "bad", "a", "xy", on(1, 0, 2));
     for label in labels {
-        let _ = report.add_note(alloc, label, "b", "z", &on(1, 0, 1));
+        drop(report.add_note(alloc, label, "b", "z", &on(1, 0, 1)));
     }
     report
 }
@@ -123,7 +132,11 @@ fn is_given_a_source(alloc: Global) -> bool {
 
 fn lends_its_parts(alloc: Global) -> bool {
     let report = made(alloc, "bad", "a", "xy", on(1, 0, 2));
-    report.message() == "bad" && report.filename() == "a" && *report.span() == on(1, 0, 2)
+    let is_so = report.message() == "bad"
+        && report.filename() == "a"
+        && *report.span() == on(1, 0, 2);
+    drop(report);
+    is_so
 }
 
 #[test]
@@ -144,14 +157,22 @@ fn parts_of_reports(rt: HostRuntime) {
             displays(alloc, &error, syntax),
         ],
     );
+    drop(error);
 }
 
 // It is its clone, and is not that report.
-fn is_its_clone(alloc: Global, report: &ReportError, other: &ReportError) -> bool {
-    match report.clone(alloc) {
-        Ok(copy) => copy == *report && copy != *other,
-        Err(_) => false,
-    }
+fn is_its_clone(alloc: Global, report: &ReportError, other: ReportError) -> bool {
+    let is_cloned = match report.clone(alloc).ok() {
+        Some(copy) => is_that(copy, report),
+        None => false,
+    };
+    is_cloned && !is_that(other, report)
+}
+
+fn is_that(copy: ReportError, report: &ReportError) -> bool {
+    let is_so = copy == *report;
+    drop(copy);
+    is_so
 }
 
 #[test]
@@ -161,12 +182,13 @@ fn reports_are_equal_by_their_parts(rt: HostRuntime) {
     hold(
         &rt,
         &[
-            is_its_clone(alloc, &report, &noted(alloc, &["b"])),
-            is_its_clone(alloc, &report, &noted(alloc, &[])),
-            is_its_clone(alloc, &report, &noted(alloc, &["a", "a"])),
-            is_its_clone(alloc, &report, &made(alloc, "", "a", "xy", on(1, 0, 2))),
+            is_its_clone(alloc, &report, noted(alloc, &["b"])),
+            is_its_clone(alloc, &report, noted(alloc, &[])),
+            is_its_clone(alloc, &report, noted(alloc, &["a", "a"])),
+            is_its_clone(alloc, &report, made(alloc, "", "a", "xy", on(1, 0, 2))),
         ],
     );
+    drop(report);
 }
 
 // A report of so many carets finds no memory, and stays as it was.
@@ -174,19 +196,29 @@ fn reports_are_equal_by_their_parts(rt: HostRuntime) {
 fn a_report_that_is_too_long(rt: HostRuntime) {
     let alloc = rt.alloc();
     let report = made(alloc, "m", "f", "x", on(1, 0, usize::MAX));
-    let is_refused = match report.generate_report(alloc) {
-        Ok(_) => false,
-        Err(error) => *error.kind() == ErrorKind::OutOfMemory,
+    let is_refused = match report.generate_report(alloc).err() {
+        Some(error) => is_want_of_memory(error),
+        None => false,
     };
     let same = made(alloc, "m", "f", "x", on(1, 0, usize::MAX));
-    hold(&rt, &[is_refused, report == same]);
+    hold(&rt, &[is_refused, is_that(same, &report)]);
+    drop(report);
+}
+
+fn is_want_of_memory(error: Error) -> bool {
+    let is_so = *error.kind() == ErrorKind::OutOfMemory;
+    drop(error);
+    is_so
 }
 
 // Told to a writer that takes so many bytes it is answered by this.
 fn is_answered(alloc: Global, left: usize, wanted: Option<Fault>) -> bool {
     let mut writer = fails_after(left, 3, false);
     let mut watched = Watched::new(&mut writer);
-    kind_of(noted(alloc, &["called from"]).tell_to(&mut watched)) == wanted
+    let report = noted(alloc, &["called from"]);
+    let is_so = kind_of(report.tell_to(&mut watched)) == wanted;
+    drop(report);
+    is_so
 }
 
 #[test]
@@ -214,10 +246,18 @@ fn is_whole(alloc: Global, count: usize) -> bool {
         on(line, 0, count),
     );
     for _ in 0..count {
-        let _ = report.add_note(alloc, "l", "f", "x", &on(1, 0, 1));
+        drop(report.add_note(alloc, "l", "f", "x", &on(1, 0, 1)));
     }
+    is_cloned_whole(alloc, report)
+}
+
+// It is its clone and no other report, and makes a text.
+fn is_cloned_whole(alloc: Global, report: ReportError) -> bool {
     let other = made(alloc, "other", "f", "", on(1, 0, 1));
-    is_its_clone(alloc, &report, &other) && report.generate_report(alloc).is_ok()
+    let is_cloned = is_its_clone(alloc, &report, other);
+    let is_made = report.generate_report(alloc).is_ok();
+    drop(report);
+    is_cloned && is_made
 }
 
 #[test]
@@ -240,11 +280,8 @@ fn debug_of_a_report(rt: HostRuntime) {
     let rest = "span:  @ 1:0-1:2 (0..0), notes: []";
     let wanted = format!(in alloc; "ReportError {{ {texts}, {rest} }}");
     let wanted = wanted.unwrap_or(String::new(alloc));
-    assert!(rt;
-        shows(
-            alloc,
-            &made(alloc, "m", "f", "é", on(1, 0, 2)),
-            wanted.as_str()
-        )
-    );
+    let report = made(alloc, "m", "f", "é", on(1, 0, 2));
+    let is_shown = shows(alloc, &report, wanted.as_str());
+    drop(report);
+    assert!(rt; is_shown);
 }

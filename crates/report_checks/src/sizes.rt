@@ -16,7 +16,9 @@ fn escapes(alloc: Global, count: usize) -> bool {
 fn says_all(alloc: Global, count: usize) -> bool {
     let text = many(alloc, '<', count);
     let error = Error::message(alloc, text.as_str());
-    displays(alloc, &error, text.as_str())
+    let is_so = displays(alloc, &error, text.as_str());
+    drop(error);
+    is_so
 }
 
 // A kind with two texts of so many `<` is its clone.
@@ -48,7 +50,10 @@ fn chain(alloc: Global, count: usize) -> Vec<String> {
 fn chain_is_copied(alloc: Global, count: usize) -> bool {
     let error = Error::circular_extend(alloc, "a", chain(alloc, count));
     let copy = error.kind().clone(alloc).unwrap_or(ErrorKind::OutOfMemory);
-    is_chain_of(&copy, count)
+    drop(error);
+    let is_so = is_chain_of(&copy, count);
+    drop(copy);
+    is_so
 }
 
 #[test]

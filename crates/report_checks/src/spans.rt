@@ -32,9 +32,9 @@ fn expanded() -> Span {
 
 // It is its clone, and is not the other.
 fn is_its_clone(span: Span, other: Span) -> bool {
-    match span.clone() {
-        Ok(copy) => copy == span && span != other,
-        Err(_) => false,
+    match span.clone().ok() {
+        Some(copy) => copy == span && span != other,
+        None => false,
     }
 }
 
@@ -57,9 +57,9 @@ type Node = Spanned<Option<u8>>;
 
 // Its copy is the node, and is not the other.
 fn is_its_copy(alloc: Global, node: &Node, other: &Node) -> bool {
-    match node.clone(alloc) {
-        Ok(copy) => copy == *node && copy != *other && *copy.node() == Some(7),
-        Err(_) => false,
+    match node.clone(alloc).ok() {
+        Some(copy) => copy == *node && copy != *other && *copy.node() == Some(7),
+        None => false,
     }
 }
 

@@ -1,19 +1,33 @@
-//! What errors display, and their causes.
+//! What errors display and tell, and their causes.
 use crate::held::hold;
 use crate::made::{displays, names};
-use std::alloc::{AllocError, AllocFailed, Global};
+use crate::told::tells;
+use std::alloc::Global;
 use std::io;
-use tera_report::{Error, ErrorKind};
+use tera_report::Error;
 
-// It displays that, and a width and a fill change nothing.
+// It says that.
 fn says(alloc: Global, error: Error, wanted: &str) -> bool {
-    let wide = format!(in alloc; "{error:*>200}").unwrap_or(String::new(alloc));
-    displays(alloc, &error, wanted) && wide.as_str() == wanted
+    let is_so = is_said(alloc, &error, wanted);
+    drop(error);
+    is_so
 }
 
-// The refusal of an extension over these templates says that.
-fn extend_says(alloc: Global, chain: &[&str], wanted: &str) -> bool {
-    let error = Error::circular_extend(alloc, "a", names(alloc, chain));
+/// It displays that, where a width and a fill change nothing, and is told so piece by piece.
+pub fn is_said(alloc: Global, error: &Error, wanted: &str) -> bool {
+    displays(alloc, error, wanted)
+        && displays_wide(alloc, error, wanted)
+        && tells(alloc, error, wanted)
+}
+
+fn displays_wide(alloc: Global, error: &Error, wanted: &str) -> bool {
+    let wide = format!(in alloc; "{error:*>200}").unwrap_or(String::new(alloc));
+    wide.as_str() == wanted
+}
+
+// The refusal of an extension of that template over these says that.
+fn extend_says(alloc: Global, name: &str, chain: &[&str], wanted: &str) -> bool {
+    let error = Error::circular_extend(alloc, name, names(alloc, chain));
     says(alloc, error, wanted)
 }
 
@@ -30,10 +44,13 @@ fn texts_of_chains(rt: HostRuntime) {
     let quoted =
         "Circular include detected for template 'é'. Include chain: `[\"é\\\"\", \"\\u{7f}\"]`";
     let empty = "Circular include detected for template 'a'. Include chain: `[]`";
+    let three =
+        "Circular extend detected for template 'é'. Inheritance chain: `[\"é\\\"\", \"'\", \"\"]`";
     hold(
         &rt,
         &[
-            extend_says(alloc, &["a", "b"], extend),
+            extend_says(alloc, "a", &["a", "b"], extend),
+            extend_says(alloc, "é", &["é\"", "'", ""], three),
             include_says(alloc, "é", &["é\"", "\u{7f}"], quoted),
             include_says(alloc, "a", &[], empty),
         ],
@@ -53,41 +70,6 @@ fn texts_of_names(rt: HostRuntime) {
             says(alloc, Error::missing_parent(alloc, "a", "b"), parent),
             says(alloc, Error::template_not_found(alloc, "é"), template),
             says(alloc, Error::component_not_found(alloc, "a"), component),
-        ],
-    );
-}
-
-#[test]
-fn texts_of_arguments(rt: HostRuntime) {
-    let alloc = rt.alloc();
-    let of_type = "Invalid type for the value, expected `u8` but got `string`";
-    let of_range = "Value `300` is out of range for `u8`";
-    let missing = "Missing keyword argument `n`";
-    hold(
-        &rt,
-        &[
-            says(
-                alloc,
-                Error::invalid_arg_type(alloc, "u8", "string"),
-                of_type,
-            ),
-            says(alloc, Error::out_of_range_arg(alloc, "300", "u8"), of_range),
-            says(alloc, Error::missing_arg(alloc, "n"), missing),
-        ],
-    );
-}
-
-#[test]
-fn texts_of_fixed_words(rt: HostRuntime) {
-    let alloc = rt.alloc();
-    let no_text = "Invalid UTF-8 characters found while rendering.";
-    let no_memory = "Out of memory";
-    hold(
-        &rt,
-        &[
-            says(alloc, Error::new(ErrorKind::Utf8Conversion), no_text),
-            says(alloc, Error::from(AllocError), no_memory),
-            says(alloc, Error::from(AllocFailed { value: 1u8 }), no_memory),
         ],
     );
 }
@@ -123,15 +105,19 @@ fn io_kinds_by_name(rt: HostRuntime) {
 
 // Its cause displays that.
 fn has_cause(alloc: Global, error: Error, wanted: &str) -> bool {
-    match error.source() {
+    let is_so = match error.source() {
         Some(cause) => displays(alloc, cause, wanted),
         None => false,
-    }
+    };
+    drop(error);
+    is_so
 }
 
 // It has no cause.
 fn has_none(error: Error) -> bool {
-    error.source().is_none()
+    let is_so = error.source().is_none();
+    drop(error);
+    is_so
 }
 
 // The error of bytes that are no text.

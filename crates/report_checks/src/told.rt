@@ -2,22 +2,22 @@
 use crate::held::hold;
 use crate::made::names;
 use std::alloc::Global;
-use std::io;
+use tera_report::Error;
 use tera_report::quote::{put_quoted, put_quoted_list};
 use tera_report::sink::{Growing, Room};
-use tera_report::{Error, ErrorKind};
 
 // It is told as that into a text that grows.
 fn grows(alloc: Global, error: &Error, wanted: &str) -> bool {
     let mut made = Growing::new(alloc);
-    error.tell_to(&mut made).is_ok() && made.as_str() == wanted
+    let is_told = error.tell_to(&mut made).is_ok();
+    is_told && made.as_str() == wanted
 }
 
 // Its kind is told as that into a room of just that size, which then has none for more.
 fn fills(alloc: Global, error: &Error, wanted: &str) -> bool {
-    match Room::new(alloc, wanted.len()) {
-        Ok(room) => fills_room(error, wanted, room),
-        Err(_) => false,
+    match Room::new(alloc, wanted.len()).ok() {
+        Some(room) => fills_room(error, wanted, room),
+        None => false,
     }
 }
 
@@ -27,25 +27,9 @@ fn fills_room(error: &Error, wanted: &str, room: Room) -> bool {
     is_told && room.as_str() == wanted && error.tell_to(&mut room).is_err()
 }
 
-fn tells(alloc: Global, error: Error, wanted: &str) -> bool {
-    grows(alloc, &error, wanted) && fills(alloc, &error, wanted)
-}
-
-#[test]
-fn texts_that_no_clause_says(rt: HostRuntime) {
-    let alloc = rt.alloc();
-    let writing = Error::new(ErrorKind::Io(io::ErrorKind::NotFound));
-    let not_found = "Io error while writing rendered value to output: NotFound";
-    let extend = Error::circular_extend(alloc, "é", names(alloc, &["é\"", "'", ""]));
-    let chain =
-        "Circular extend detected for template 'é'. Inheritance chain: `[\"é\\\"\", \"'\", \"\"]`";
-    hold(
-        &rt,
-        &[
-            tells(alloc, writing, not_found),
-            tells(alloc, extend, chain),
-        ],
-    );
+/// It is told as that, into a text that grows and into a room.
+pub fn tells(alloc: Global, error: &Error, wanted: &str) -> bool {
+    grows(alloc, error, wanted) && fills(alloc, error, wanted)
 }
 
 // A text is put in debug form as that.
