@@ -155,11 +155,11 @@ fn operators_are_written(rt: HostRuntime) {
 // How a value is read: whether it is a number, as what arithmetic takes, and as integers.
 type Read = (bool, Option<Number>, Option<u128>, Option<i64>, Option<u64>);
 
+// It is read so.
 fn reads(value: Value, wanted: Read) -> bool {
     is_read(&value, wanted)
 }
 
-// It is read so.
 fn is_read(value: &Value, wanted: Read) -> bool {
     let (is_number, number, wide, signed, unsigned) = wanted;
     let is_known = value.is_number() == is_number && value.as_number() == number;

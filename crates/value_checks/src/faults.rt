@@ -27,12 +27,13 @@ fn format_breaks(alloc: Global, value: &Value, text: &str, room: usize) -> bool 
     breaks_there(text.as_bytes(), room, out.taken.as_slice(), told)
 }
 
-// A fault is told at each room that is too small for its text; and where there is room, all is
-// written.
+// The value breaks in every room, and is let go.
 fn tells(rt: &(impl Abort + AllocGlobal), value: Value, text: &str) {
     breaks_everywhere(rt, &value, text);
 }
 
+// A fault is told at each room that is too small for its text; and where there is room, all is
+// written.
 fn breaks_everywhere(rt: &(impl Abort + AllocGlobal), value: &Value, text: &str) {
     for room in 0..text.len() + 1 {
         assert!(rt;

@@ -36,6 +36,7 @@ fn one_number_is_one_key(rt: HostRuntime) {
     );
 }
 
+// They are one key.
 fn are_one(left: Key<'static>, right: Key<'static>) -> bool {
     left == right && left.cmp(&right) == Ordering::Equal
 }
@@ -157,12 +158,13 @@ fn holds(alloc: Global, key: &Key<'_>, text: &str) -> bool {
     copy.as_str() == Some(text) && value.as_str() == Some(text)
 }
 
-// Keys of so many characters hold them, whether the text is owned or lent.
+// Keys of so many characters hold them.
 fn hold_many(alloc: Global, count: usize) -> bool {
     let made = repeated(alloc, 'é', count, "");
     made.len() == Some(count) && are_held(alloc, made.as_str().unwrap_or("none"))
 }
 
+// Keys of that text hold it, whether it is owned or lent.
 fn are_held(alloc: Global, text: &str) -> bool {
     holds(alloc, &owned(alloc, text), text) && holds(alloc, &Key::Str(text), text)
 }

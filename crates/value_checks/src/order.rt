@@ -38,6 +38,7 @@ pub fn are_all<T: Ord + Drop>(values: &[T], other: T, order: Ordering) -> bool {
     compare_all(values, &other, order)
 }
 
+// Each of them compares so.
 fn compare_all<T: Ord>(values: &[T], other: &T, order: Ordering) -> bool {
     let mut so_far = true;
     for value in values {
