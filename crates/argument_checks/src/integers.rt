@@ -27,9 +27,22 @@ where
     refuses::<V, T>(alloc, value, told.unwrap_or(String::new(alloc)).as_str())
 }
 
+// What is no number, and the numbers around the ends of a type, in the kinds that hold them.
+fn around(low: [i128; 2], high: [u128; 2]) -> [Value; 5] {
+    let [below, least] = low;
+    let [greatest, above] = high;
+    [
+        Value::none(),
+        Value::from(below),
+        Value::from(least),
+        Value::from(greatest),
+        Value::from(above),
+    ]
+}
+
 // Of four numbers behind what is none the two in the middle are taken as those, and the others are
 // refused: told are these two as they print, and the name of the type.
-fn keeps_to<'k, V, T>(alloc: Global, of: [&'k V; 5], ends: [T; 2], told: [&str; 3]) -> bool
+fn keeps_to<'k, V, T>(alloc: Global, of: &'k [V; 5], ends: [T; 2], told: [&str; 3]) -> bool
 where
     T: ArgFromValue<'k, V, Output = T> + PartialEq + Drop,
 {
@@ -43,170 +56,105 @@ where
 #[test]
 fn ends_of_small_types_without_a_sign(rt: HostRuntime) {
     let alloc = rt.alloc();
-    let of = [
-        Value::none(),
-        Value::from(-1i128),
-        Value::from(0i128),
-        Value::from(255u128),
-        Value::from(256u128),
-        Value::from(65535u128),
-        Value::from(65536u128),
-    ];
-    let [none, below, least, of_8, past_8, of_16, past_16] = &of;
+    let of_8 = around([-1, 0], [255, 256]);
+    let of_16 = around([-1, 0], [65535, 65536]);
     hold(
         &rt,
         &[
-            keeps_to(
-                alloc,
-                [none, below, least, of_8, past_8],
-                [u8::MIN, u8::MAX],
-                ["-1", "256", "u8"],
-            ),
-            keeps_to(
-                alloc,
-                [none, below, least, of_16, past_16],
-                [u16::MIN, u16::MAX],
-                ["-1", "65536", "u16"],
-            ),
+            keeps_to(alloc, &of_8, [u8::MIN, u8::MAX], ["-1", "256", "u8"]),
+            keeps_to(alloc, &of_16, [u16::MIN, u16::MAX], ["-1", "65536", "u16"]),
         ],
     );
-    drop(of);
+    drop(of_8);
+    drop(of_16);
 }
 
 #[test]
 fn ends_of_types_without_a_sign(rt: HostRuntime) {
     let alloc = rt.alloc();
-    let of = [
-        Value::none(),
-        Value::from(-1i128),
-        Value::from(0i128),
-        Value::from(4294967295u128),
-        Value::from(4294967296u128),
-        Value::from(18446744073709551615u128),
-        Value::from(18446744073709551616u128),
-    ];
-    let [none, below, least, of_32, past_32, of_64, past_64] = &of;
+    let of_32 = around([-1, 0], [4294967295, 4294967296]);
+    let of_64 = around([-1, 0], [18446744073709551615, 18446744073709551616]);
     hold(
         &rt,
         &[
             keeps_to(
                 alloc,
-                [none, below, least, of_32, past_32],
+                &of_32,
                 [u32::MIN, u32::MAX],
                 ["-1", "4294967296", "u32"],
             ),
             keeps_to(
                 alloc,
-                [none, below, least, of_64, past_64],
+                &of_64,
                 [u64::MIN, u64::MAX],
                 ["-1", "18446744073709551616", "u64"],
             ),
             keeps_to(
                 alloc,
-                [none, below, least, of_64, past_64],
+                &of_64,
                 [usize::MIN, usize::MAX],
                 ["-1", "18446744073709551616", "usize"],
             ),
         ],
     );
-    drop(of);
+    drop(of_32);
+    drop(of_64);
 }
 
 #[test]
 fn ends_of_small_types_with_a_sign(rt: HostRuntime) {
     let alloc = rt.alloc();
-    let of = [
-        Value::none(),
-        Value::from(-129i128),
-        Value::from(-128i128),
-        Value::from(127u128),
-        Value::from(128u128),
-        Value::from(-32769i128),
-        Value::from(-32768i128),
-        Value::from(32767u128),
-        Value::from(32768u128),
-    ];
-    let [
-        none,
-        below_8,
-        least_8,
-        of_8,
-        past_8,
-        below_16,
-        least_16,
-        of_16,
-        past_16,
-    ] = &of;
+    let of_8 = around([-129, -128], [127, 128]);
+    let of_16 = around([-32769, -32768], [32767, 32768]);
     hold(
         &rt,
         &[
+            keeps_to(alloc, &of_8, [i8::MIN, i8::MAX], ["-129", "128", "i8"]),
             keeps_to(
                 alloc,
-                [none, below_8, least_8, of_8, past_8],
-                [i8::MIN, i8::MAX],
-                ["-129", "128", "i8"],
-            ),
-            keeps_to(
-                alloc,
-                [none, below_16, least_16, of_16, past_16],
+                &of_16,
                 [i16::MIN, i16::MAX],
                 ["-32769", "32768", "i16"],
             ),
         ],
     );
-    drop(of);
+    drop(of_8);
+    drop(of_16);
 }
 
 #[test]
-fn ends_of_an_i32(rt: HostRuntime) {
+fn ends_of_types_with_a_sign(rt: HostRuntime) {
     let alloc = rt.alloc();
-    let of = [
-        Value::none(),
-        Value::from(-2147483649i128),
-        Value::from(-2147483648i128),
-        Value::from(2147483647u128),
-        Value::from(2147483648u128),
-    ];
-    let [none, below, least, greatest, above] = &of;
-    let is_kept = keeps_to(
-        alloc,
-        [none, below, least, greatest, above],
-        [i32::MIN, i32::MAX],
-        ["-2147483649", "2147483648", "i32"],
+    let of_32 = around([-2147483649, -2147483648], [2147483647, 2147483648]);
+    let of_64 = around(
+        [-9223372036854775809, -9223372036854775808],
+        [9223372036854775807, 9223372036854775808],
     );
-    drop(of);
-    assert!(rt; is_kept);
-}
-
-#[test]
-fn ends_of_64_bits_with_a_sign(rt: HostRuntime) {
-    let alloc = rt.alloc();
-    let of = [
-        Value::none(),
-        Value::from(-9223372036854775809i128),
-        Value::from(-9223372036854775808i128),
-        Value::from(9223372036854775807u128),
-        Value::from(9223372036854775808u128),
-    ];
-    let [none, below, least, greatest, above] = &of;
     hold(
         &rt,
         &[
             keeps_to(
                 alloc,
-                [none, below, least, greatest, above],
+                &of_32,
+                [i32::MIN, i32::MAX],
+                ["-2147483649", "2147483648", "i32"],
+            ),
+            keeps_to(
+                alloc,
+                &of_64,
                 [i64::MIN, i64::MAX],
                 ["-9223372036854775809", "9223372036854775808", "i64"],
             ),
             keeps_to(
                 alloc,
-                [none, below, least, greatest, above],
+                &of_64,
                 [isize::MIN, isize::MAX],
                 ["-9223372036854775809", "9223372036854775808", "isize"],
             ),
         ],
     );
-    drop(of);
+    drop(of_32);
+    drop(of_64);
 }
 
 #[test]
