@@ -127,6 +127,14 @@ status=$?
 [ "$status" -eq 2 ] && [ "$(cat "$work/out")" = "true" ] && [ "$(cat "$work/err")" = "$(printf 'error: bad line\n --> line 2:1:1\n  |\n1 | frob\n  | ^^^^')" ]
 tell "a bad line ends the run" $?
 
+# A bad line past ASCII has a caret for each character; one that is no UTF-8 is shown as an empty line.
+printf 'frob \303\251' | "$program" >"$work/out" 2>"$work/err"
+[ $? -eq 2 ] && [ ! -s "$work/out" ] &&
+    printf 'error: bad line\n --> line 1:1:1\n  |\n1 | frob \303\251\n  | ^^^^^^\n' | cmp -s - "$work/err" &&
+    { printf '\377' | "$program" >"$work/out" 2>"$work/err"; [ $? -eq 2 ]; } && [ ! -s "$work/out" ] &&
+    printf 'error: bad line\n --> line 1:1:1\n  |\n1 | \n  | ^\n' | cmp -s - "$work/err"
+tell "bad lines past ASCII have their reports" $?
+
 # Whether each line of standard input, behind this word, is bad: no answer, and the report of it.
 are_bad() {
     while IFS= read -r line; do
