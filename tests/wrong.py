@@ -239,8 +239,11 @@ class Said:
         for said in filter(None, map(BY_HAND.match, lines)):
             file, path, goal, text = said.groups()
             *modules, last = path.split("/")
-            # a goal of a cycle's proof begins with its function
-            if edit.is_own("::".join([*modules, (goal or "").split("-")[0] if last.startswith("+") else last])):
+            # a goal of a cycle's proof begins with its function, but where that is the only one
+            if last.startswith("+"):
+                first = (goal or "").split("-")[0]
+                last = last[1:] if first in ("returns", "loop") else first
+            if edit.is_own("::".join([*modules, last])):
                 self.lost.add((file, goal or "")) if MISSES.search(text) else self.by_hand.append(goal or file)
 
     def refused_by(self):
