@@ -83,7 +83,8 @@ pub enum Call {
         of: String,
         to: IntType,
     },
-    /// The characters of a text, the items of an array, the bytes of bytes. Answers `Size`.
+    /// The characters of a text, the items of an array, the pairs of a map, the bytes of bytes.
+    /// Answers `Size`.
     Len {
         of: String,
     },

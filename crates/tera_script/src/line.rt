@@ -24,7 +24,7 @@ pub enum Reading {
 
 /// What a line says. The line comes without its end of line.
 ///
-/// Takes memory for names, texts, byte strings and arrays; the only refusal is want of it. A line
+/// Takes memory for names, texts, bytes, arrays and maps; the only refusal is want of it. A line
 /// that is skipped or is no UTF-8 takes none.
 pub fn read_line(alloc: Global, line: &[u8]) -> Result<Reading, AllocError>
     ensures reading { IfOk result (IsReadingOf line.now) }
