@@ -13,7 +13,7 @@ instructions() {
 
 # Builds the program itself.
 build_replay() {
-    "$top/replay" </dev/null
+    "$top/replay" --prove
     program=$top/crates/tera_replay/out/tera_replay
 }
 
