@@ -4,7 +4,7 @@ use crate::made::Asked::{Extend, Of};
 use crate::made::{Asked, One, hold_answers, numbered};
 use made_values::{safe, shows};
 use std::alloc::Global;
-use tera_context::{Context, context};
+use tera_context::{Context, ToValue, context};
 use tera_report::TeraResult;
 use tera_values::Value;
 
@@ -33,12 +33,20 @@ fn many_commas(alloc: Global) -> TeraResult<Context> {
     Ok(context! { alloc; foo,,, con => 69i64,, })
 }
 
+// A context of two names, by insertions.
+fn by_hand<A: ToValue, B: ToValue>(alloc: Global, first: (&str, A), second: (&str, B)) -> Context {
+    let mut context = Context::new(alloc);
+    let _ = context.insert(first.0, first.1);
+    let _ = context.insert(second.0, second.1);
+    context
+}
+
 // It is what insertions give.
 fn is_by_hand(alloc: Global, made: TeraResult<Context>) -> bool {
-    let mut context = Context::new(alloc);
-    let _ = context.insert("foo", "Bar");
-    let _ = context.insert("con", &69);
-    are_equal(or_empty(alloc, made), context)
+    are_equal(
+        or_empty(alloc, made),
+        by_hand(alloc, ("foo", "Bar"), ("con", &69)),
+    )
 }
 
 #[test]
@@ -120,18 +128,14 @@ fn extend_is_a_call(rt: HostRuntime) {
     hold_answers(&rt, &EXTENDED);
 }
 
-fn of_a_text(alloc: Global) -> TeraResult<Context> {
-    Ok(context! { alloc; n => 1u64, t => "<" })
-}
-
-fn of_a_marked_text(alloc: Global) -> TeraResult<Context> {
-    Ok(context! { alloc; n => 1i128, t => safe(alloc, "<") })
+fn of_a_marked_text(alloc: Global) -> Context {
+    by_hand(alloc, ("t", safe(alloc, "<")), ("n", 1i128))
 }
 
 // The widths of numbers and the flags of texts do not count.
 fn equal_by_meaning(alloc: Global) -> bool {
-    let left = or_empty(alloc, of_a_text(alloc));
-    are_equal(left, or_empty(alloc, of_a_marked_text(alloc)))
+    let left = by_hand(alloc, ("n", 1u64), ("t", "<"));
+    are_equal(left, of_a_marked_text(alloc))
 }
 
 fn are_unequal(alloc: Global, left: Numbers, right: Numbers) -> bool {
@@ -164,6 +168,5 @@ fn goes_its_own_way(alloc: Global, first: Context) -> bool {
 #[test]
 fn a_copy_goes_its_own_way(rt: HostRuntime) {
     let alloc = rt.alloc();
-    let first = or_empty(alloc, of_a_marked_text(alloc));
-    hold(&rt, &[goes_its_own_way(alloc, first)]);
+    hold(&rt, &[goes_its_own_way(alloc, of_a_marked_text(alloc))]);
 }
