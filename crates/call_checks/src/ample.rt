@@ -1,10 +1,9 @@
 //! Each call through `run`, on operands of no part, one part and a thousand: none wants memory.
 use crate::held::hold;
-use crate::made::Asked::{Both, Kept, KeptBoth, Of};
-use crate::made::{Asked, One, Two, and, extend, made, plain, set, then};
+use crate::made::{kept, name, plain, set};
 use made_values::{many_pairs, numbers_below, repeated};
 use std::alloc::Global;
-use tera_context::{Answer, Context, Step, run};
+use tera_context::{Answer, BinaryOp, Call, Context, IntType, Step, run};
 use tera_report::{ErrorKind, TeraResult};
 use tera_values::Value;
 
@@ -26,31 +25,83 @@ fn runs(alloc: Global, steps: Vec<Step>) -> bool {
     answers.len() == count && answers.iter().all(is_ample)
 }
 
-// What is asked of `a`, how it is weighed with itself and computed of, and what is found in it.
-const EVERY_CALL: [Asked; 22] = [
-    Of(One::Has, "a"),
-    Of(One::Truthy, "a"),
-    Of(One::IsSafe, "a"),
-    Of(One::Len, "a"),
-    Of(One::Kind, "a"),
-    Of(One::Print, "a"),
-    Of(One::Escape, "a"),
-    Of(One::Fields, "a"),
-    Both(Two::Equal, "a", "a"),
-    Both(Two::Compare, "a", "a"),
-    Both(Two::TryCompare, "a", "a"),
-    Both(Two::Contains, "a", "a"),
-    KeptBoth(Two::Add, "a", "a", "b"),
-    Kept(One::ReadU8, "a", "b"),
-    Kept(One::Negate, "a", "b"),
-    KeptBoth(Two::Path, "a", "999", "b"),
-    KeptBoth(Two::Attr, "a", "999", "b"),
-    KeptBoth(Two::Item, "a", "a", "b"),
-    Kept(One::EverySecond, "a", "b"),
-    Kept(One::Reverse, "a", "b"),
-    Kept(One::Get, "a", "b"),
-    Kept(One::MarkSafe, "a", "c"),
-];
+// The steps and one more.
+fn and(steps: Vec<Step>, step: Step) -> Vec<Step> {
+    let mut steps = steps;
+    let _ = steps.push(step);
+    steps
+}
+
+// The name of the operand.
+fn a(alloc: Global) -> String {
+    name(alloc, "a")
+}
+
+// What is asked of it.
+fn asked(alloc: Global, steps: Vec<Step>) -> Vec<Step> {
+    let steps = and(steps, plain(Call::Has { name: a(alloc) }));
+    let steps = and(steps, plain(Call::Truthy { of: a(alloc) }));
+    let steps = and(steps, plain(Call::IsSafe { of: a(alloc) }));
+    let steps = and(steps, plain(Call::Len { of: a(alloc) }));
+    let steps = and(steps, plain(Call::Kind { of: a(alloc) }));
+    let steps = and(steps, plain(Call::Print { of: a(alloc) }));
+    let steps = and(steps, plain(Call::Escape { of: a(alloc) }));
+    and(steps, plain(Call::Fields { of: a(alloc) }))
+}
+
+// How it is weighed with itself, and what is computed of it.
+fn weighed(alloc: Global, steps: Vec<Step>) -> Vec<Step> {
+    let (left, right) = (a(alloc), a(alloc));
+    let equal = Call::Equal { left, right };
+    let (left, right) = (a(alloc), a(alloc));
+    let compare = Call::Compare { left, right };
+    let (left, right) = (a(alloc), a(alloc));
+    let try_compare = Call::TryCompare { left, right };
+    let (of, needle) = (a(alloc), a(alloc));
+    let contains = Call::Contains { of, needle };
+    let (left, right) = (a(alloc), a(alloc));
+    let op = BinaryOp::Add;
+    let binary = Call::Binary { op, left, right };
+    let of = a(alloc);
+    let to = IntType::U8;
+    let read = Call::Read { of, to };
+    let negate = Call::Negate { of: a(alloc) };
+    let steps = and(steps, plain(equal));
+    let steps = and(steps, plain(compare));
+    let steps = and(steps, plain(try_compare));
+    let steps = and(steps, plain(contains));
+    let steps = and(steps, kept(alloc, binary, "b"));
+    let steps = and(steps, kept(alloc, read, "b"));
+    and(steps, kept(alloc, negate, "b"))
+}
+
+// What is found in it, and kept.
+fn found(alloc: Global, steps: Vec<Step>) -> Vec<Step> {
+    let (of, path) = (a(alloc), name(alloc, "999"));
+    let path = Call::Path { of, path };
+    let (of, attr) = (a(alloc), name(alloc, "999"));
+    let attr = Call::Attr { of, attr };
+    let (of, item) = (a(alloc), a(alloc));
+    let item = Call::Item { of, item };
+    let of = a(alloc);
+    let (start, end, step) = (Some(1), None, Some(2));
+    let slice = Call::Slice {
+        of,
+        start,
+        end,
+        step,
+    };
+    let reverse = Call::Reverse { of: a(alloc) };
+    let get = Call::Get { name: a(alloc) };
+    let mark = Call::MarkSafe { of: a(alloc) };
+    let steps = and(steps, kept(alloc, path, "b"));
+    let steps = and(steps, kept(alloc, attr, "b"));
+    let steps = and(steps, kept(alloc, item, "b"));
+    let steps = and(steps, kept(alloc, slice, "b"));
+    let steps = and(steps, kept(alloc, reverse, "b"));
+    let steps = and(steps, kept(alloc, get, "b"));
+    and(steps, kept(alloc, mark, "c"))
+}
 
 // A context of as many names.
 fn named(alloc: Global, count: i64) -> Context {
@@ -66,10 +117,14 @@ fn named(alloc: Global, count: i64) -> Context {
 
 // Every call on a value, with a source of as many names.
 fn every_call(alloc: Global, value: Value, count: i64) -> bool {
-    let steps = then(Vec::new(alloc), set(alloc, "a", value));
-    let steps = and(alloc, steps, &EVERY_CALL);
-    let steps = then(steps, plain(extend(named(alloc, count))));
-    runs(alloc, then(steps, made(alloc, Of(One::Remove, "a"))))
+    let steps = and(Vec::new(alloc), set(alloc, "a", value));
+    let steps = asked(alloc, steps);
+    let steps = weighed(alloc, steps);
+    let steps = found(alloc, steps);
+    let source = named(alloc, count);
+    let steps = and(steps, plain(Call::Extend { source }));
+    let steps = and(steps, plain(Call::Remove { name: a(alloc) }));
+    runs(alloc, steps)
 }
 
 fn of_parts(alloc: Global, count: i64, length: usize) -> bool {

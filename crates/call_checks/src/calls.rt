@@ -1,73 +1,155 @@
 //! Calls on the values of a context, and what they keep.
-use crate::made::Asked::{Both, Kept, Of, Set};
-use crate::made::Given::{Text, U64};
-use crate::made::One::{Escape, Get, Has, IsSafe, Kind, Len, MarkSafe, Remove, Truthy};
-use crate::made::Two::Equal;
-use crate::made::{Asked, hold_answers};
+use crate::held::hold;
+use crate::made::{answers, equal, has, kept, name, plain, with};
+use made_values::text;
+use std::alloc::Global;
+use tera_context::{Call, Context};
+use tera_values::Value;
 
-// A text that is marked elsewhere, and in its place.
-const MARKED: [(Asked, &str); 7] = [
-    (Set("t", Text("<")), "Ok(Done)"),
-    (Kept(MarkSafe, "t", "u"), "Ok(Done)"),
-    (Of(IsSafe, "t"), "Ok(Truth(false))"),
-    (Of(IsSafe, "u"), "Ok(Truth(true))"),
-    (Both(Equal, "t", "u"), "Ok(Truth(true))"),
-    (Of(MarkSafe, "t"), "Ok(Done)"),
-    (Of(IsSafe, "t"), "Ok(Truth(true))"),
-];
+fn is_safe(alloc: Global, context: &mut Context, of: &str, wanted: &str) -> bool {
+    let of = name(alloc, of);
+    answers(alloc, context, plain(Call::IsSafe { of }), wanted)
+}
 
-const MARKED_ABSENT: [(Asked, &str); 4] = [
-    (Of(MarkSafe, "nope"), "Ok(Done)"),
-    (Kept(MarkSafe, "nope", "v"), "Ok(Done)"),
-    (Of(Has, "nope"), "Ok(Truth(false))"),
-    (Of(Has, "v"), "Ok(Truth(true))"),
-];
+// A call that marks what a name has.
+fn mark(alloc: Global, of: &str) -> Call {
+    let of = name(alloc, of);
+    Call::MarkSafe { of }
+}
+
+// A context in which `t` is a text that is not marked.
+fn with_a_text(alloc: Global, of: &str) -> Context {
+    with(alloc, "t", text(alloc, of))
+}
 
 #[test]
-fn values_are_marked(rt: HostRuntime) {
-    hold_answers(&rt, &MARKED);
-    hold_answers(&rt, &MARKED_ABSENT);
+fn a_marked_copy_is_kept_elsewhere(rt: HostRuntime) {
+    let alloc = rt.alloc();
+    let mut context = with_a_text(alloc, "<");
+    let marked = kept(alloc, mark(alloc, "t"), "u");
+    hold(
+        &rt,
+        &[
+            answers(alloc, &mut context, marked, "Ok(Done)"),
+            is_safe(alloc, &mut context, "t", "Ok(Truth(false))"),
+            is_safe(alloc, &mut context, "u", "Ok(Truth(true))"),
+            answers(
+                alloc,
+                &mut context,
+                equal(alloc, "t", "u"),
+                "Ok(Truth(true))",
+            ),
+        ],
+    );
+}
+
+#[test]
+fn a_text_is_marked_in_its_place(rt: HostRuntime) {
+    let alloc = rt.alloc();
+    let mut context = with_a_text(alloc, "<");
+    let marked = plain(mark(alloc, "t"));
+    assert!(rt; answers(alloc, &mut context, marked, "Ok(Done)"));
+    assert!(rt; is_safe(alloc, &mut context, "t", "Ok(Truth(true))"));
+}
+
+#[test]
+fn an_absent_name_stays_absent_when_marked(rt: HostRuntime) {
+    let alloc = rt.alloc();
+    let mut context = Context::new(alloc);
+    let marked = plain(mark(alloc, "nope"));
+    let copied = kept(alloc, mark(alloc, "nope"), "v");
+    hold(
+        &rt,
+        &[
+            answers(alloc, &mut context, marked, "Ok(Done)"),
+            answers(alloc, &mut context, copied, "Ok(Done)"),
+            answers(alloc, &mut context, has(alloc, "nope"), "Ok(Truth(false))"),
+            answers(alloc, &mut context, has(alloc, "v"), "Ok(Truth(true))"),
+        ],
+    );
+}
+
+fn get(alloc: Global, of: &str) -> Call {
+    let name = name(alloc, of);
+    Call::Get { name }
+}
+
+fn len(alloc: Global, of: &str) -> Call {
+    let of = name(alloc, of);
+    Call::Len { of }
 }
 
 const SEVEN: &str = "Ok(Found(Some(Value { inner: U64(7) })))";
 
-// What is found is answered or kept; a length is kept nowhere, and nothing where nothing is found.
-const FOUND: [(Asked, &str); 8] = [
-    (Set("a", U64(7)), "Ok(Done)"),
-    (Of(Get, "a"), SEVEN),
-    (Kept(Get, "a", "b"), "Ok(Done)"),
-    (Of(Get, "b"), SEVEN),
-    (Kept(Get, "x", "c"), "Ok(Found(None))"),
-    (Of(Has, "c"), "Ok(Truth(false))"),
-    (Kept(Len, "a", "c"), "Ok(Size(None))"),
-    (Of(Has, "c"), "Ok(Truth(false))"),
-];
-
-const REMOVED: [(Asked, &str); 3] = [
-    (Set("a", U64(7)), "Ok(Done)"),
-    (Of(Remove, "a"), SEVEN),
-    (Of(Has, "a"), "Ok(Truth(false))"),
-];
-
-const OF_A_TEXT: [(Asked, &str); 5] = [
-    (Set("t", Text("é<")), "Ok(Done)"),
-    (Of(Len, "t"), "Ok(Size(Some(2)))"),
-    (Of(Truthy, "t"), "Ok(Truth(true))"),
-    (Of(Kind, "t"), "Ok(Kind(String))"),
-    (Of(Escape, "t"), "Ok(Text(\"é&lt;\"))"),
-];
-
 #[test]
 fn what_is_found_is_answered_or_kept(rt: HostRuntime) {
-    hold_answers(&rt, &FOUND);
+    let alloc = rt.alloc();
+    let mut context = with(alloc, "a", Value::from(7u64));
+    let copied = kept(alloc, get(alloc, "a"), "b");
+    hold(
+        &rt,
+        &[
+            answers(alloc, &mut context, plain(get(alloc, "a")), SEVEN),
+            answers(alloc, &mut context, copied, "Ok(Done)"),
+            answers(alloc, &mut context, plain(get(alloc, "b")), SEVEN),
+        ],
+    );
+}
+
+#[test]
+fn nothing_is_kept_where_nothing_is_found(rt: HostRuntime) {
+    let alloc = rt.alloc();
+    let mut context = Context::new(alloc);
+    let absent = kept(alloc, get(alloc, "x"), "c");
+    assert!(rt; answers(alloc, &mut context, absent, "Ok(Found(None))"));
+    assert!(rt; answers(alloc, &mut context, has(alloc, "c"), "Ok(Truth(false))"));
+}
+
+#[test]
+fn a_length_is_kept_nowhere(rt: HostRuntime) {
+    let alloc = rt.alloc();
+    let mut context = Context::new(alloc);
+    let size = kept(alloc, len(alloc, "a"), "c");
+    assert!(rt; answers(alloc, &mut context, size, "Ok(Size(None))"));
+    assert!(rt; answers(alloc, &mut context, has(alloc, "c"), "Ok(Truth(false))"));
 }
 
 #[test]
 fn a_name_is_taken_away_once(rt: HostRuntime) {
-    hold_answers(&rt, &REMOVED);
+    let alloc = rt.alloc();
+    let mut context = with(alloc, "a", Value::from(7u64));
+    let removed = Call::Remove {
+        name: name(alloc, "a"),
+    };
+    assert!(rt; answers(alloc, &mut context, plain(removed), SEVEN));
+    assert!(rt; answers(alloc, &mut context, has(alloc, "a"), "Ok(Truth(false))"));
 }
 
 #[test]
 fn what_is_asked_of_a_text(rt: HostRuntime) {
-    hold_answers(&rt, &OF_A_TEXT);
+    let alloc = rt.alloc();
+    let mut context = with_a_text(alloc, "é<");
+    let truthy = Call::Truthy {
+        of: name(alloc, "t"),
+    };
+    let kind = Call::Kind {
+        of: name(alloc, "t"),
+    };
+    let escaped = Call::Escape {
+        of: name(alloc, "t"),
+    };
+    hold(
+        &rt,
+        &[
+            answers(
+                alloc,
+                &mut context,
+                plain(len(alloc, "t")),
+                "Ok(Size(Some(2)))",
+            ),
+            answers(alloc, &mut context, plain(truthy), "Ok(Truth(true))"),
+            answers(alloc, &mut context, plain(kind), "Ok(Kind(String))"),
+            answers(alloc, &mut context, plain(escaped), "Ok(Text(\"é&lt;\"))"),
+        ],
+    );
 }

@@ -1,45 +1,50 @@
 //! Contexts and runs.
 use crate::held::hold;
-use crate::made::Asked::{Both, Of, Set};
-use crate::made::Given::{EmptyMap, I128, Nothing, Safe, U64};
-use crate::made::One::Print;
-use crate::made::Two::{Compare, Equal, TryCompare};
-use crate::made::{Asked, and, hold_answers};
-use made_values::shows;
+use crate::made::{answers, compare, equal, name, plain, print, set, with};
+use made_values::{no_pairs, safe, shows};
 use std::alloc::Global;
-use tera_context::{Context, run};
-
-// Those steps, run on that context, are answered so.
-fn runs(alloc: Global, context: &mut Context, steps: &[Asked], wanted: &str) -> bool {
-    let answers = run(context, and(alloc, Vec::new(alloc), steps));
-    shows(alloc, &answers, wanted)
-}
-
-// Two numbers that are equal, compared twice, and a text that is printed and compared.
-const FIRST: [Asked; 7] = [
-    Set("a", U64(1)),
-    Set("b", I128(1)),
-    Both(Equal, "a", "b"),
-    Both(Compare, "a", "b"),
-    Set("c", Safe("<x>")),
-    Of(Print, "c"),
-    Both(Compare, "b", "c"),
-];
-
-const FIRST_ANSWERS: &str = "Ok([Ok(Done), Ok(Done), Ok(Truth(true)), Ok(Order(Some(Equal))), \
-    Ok(Done), Ok(Text(\"<x>\")), Ok(Order(Some(Less)))])";
+use tera_context::{Call, Context, Step, run};
+use tera_values::Value;
 
 #[test]
-fn runs_answer_step_by_step(rt: HostRuntime) {
+fn an_empty_run_answers_nothing(rt: HostRuntime) {
+    let alloc = rt.alloc();
+    let mut context = with(alloc, "a", Value::from(1u64));
+    let answers = run(&mut context, Vec::new(alloc));
+    assert!(rt; shows(alloc, &answers, "Ok([])"));
+    assert!(rt; context.get("a").is_some() && context.get("b").is_none());
+}
+
+// The steps and one more.
+fn and(steps: Vec<Step>, step: Step) -> Vec<Step> {
+    let mut steps = steps;
+    let _ = steps.push(step);
+    steps
+}
+
+// Two numbers that are equal, compared twice.
+fn numbers(alloc: Global) -> Vec<Step> {
+    let steps = and(Vec::new(alloc), set(alloc, "a", Value::from(1u64)));
+    let steps = and(steps, set(alloc, "b", Value::from(1i128)));
+    let steps = and(steps, equal(alloc, "a", "b"));
+    and(steps, compare(alloc, "a", "b"))
+}
+
+// These, and a text that is printed and compared.
+fn with_text(alloc: Global) -> Vec<Step> {
+    let steps = and(numbers(alloc), set(alloc, "c", safe(alloc, "<x>")));
+    let steps = and(steps, print(alloc, "c"));
+    and(steps, compare(alloc, "b", "c"))
+}
+
+#[test]
+fn a_first_run(rt: HostRuntime) {
     let alloc = rt.alloc();
     let mut context = Context::new(alloc);
-    let rows = [
-        runs(alloc, &mut context, &[Set("a", U64(1))], "Ok([Ok(Done)])"),
-        runs(alloc, &mut context, &[], "Ok([])"),
-        context.get("a").is_some() && context.get("b").is_none(),
-        runs(alloc, &mut context, &FIRST, FIRST_ANSWERS),
-    ];
-    hold(&rt, &rows);
+    let answers = run(&mut context, with_text(alloc));
+    let wanted = "Ok([Ok(Done), Ok(Done), Ok(Truth(true)), Ok(Order(Some(Equal))), Ok(Done), \
+        Ok(Text(\"<x>\")), Ok(Order(Some(Less)))])";
+    assert!(rt; shows(alloc, &answers, wanted));
 }
 
 const EQUAL: &str = "Ok(Order(Some(Equal)))";
@@ -50,36 +55,69 @@ const GREATER: &str = "Ok(Order(Some(Greater)))";
 
 const UNDECIDED: &str = "Ok(Order(None))";
 
-// Absent names are undefined.
-const ABSENT: [(Asked, &str); 5] = [
-    (Set("n", Nothing), "Ok(Done)"),
-    (Both(Equal, "x", "y"), "Ok(Truth(true))"),
-    (Both(Compare, "x", "y"), EQUAL),
-    (Of(Print, "n"), "Ok(Text(\"\"))"),
-    (Both(Compare, "n", "m"), LESS),
-];
-
-const REPLACED: [(Asked, &str); 3] = [
-    (Set("a", U64(1)), "Ok(Done)"),
-    (Set("a", U64(2)), "Ok(Done)"),
-    (Of(Print, "a"), "Ok(Text(\"2\"))"),
-];
-
-// The partial order leaves ranks and maps undecided.
-const TRIED: [(Asked, &str); 8] = [
-    (Set("one", U64(1)), "Ok(Done)"),
-    (Set("two", I128(2)), "Ok(Done)"),
-    (Set("map", EmptyMap), "Ok(Done)"),
-    (Both(TryCompare, "one", "two"), LESS),
-    (Both(TryCompare, "two", "one"), GREATER),
-    (Both(TryCompare, "nope", "none"), EQUAL),
-    (Both(TryCompare, "map", "map"), UNDECIDED),
-    (Both(TryCompare, "one", "map"), UNDECIDED),
-];
+#[test]
+fn absent_names_are_undefined(rt: HostRuntime) {
+    let alloc = rt.alloc();
+    let mut context = with(alloc, "n", Value::none());
+    hold(
+        &rt,
+        &[
+            answers(
+                alloc,
+                &mut context,
+                equal(alloc, "x", "y"),
+                "Ok(Truth(true))",
+            ),
+            answers(alloc, &mut context, compare(alloc, "x", "y"), EQUAL),
+            answers(alloc, &mut context, print(alloc, "n"), "Ok(Text(\"\"))"),
+            answers(alloc, &mut context, compare(alloc, "n", "m"), LESS),
+        ],
+    );
+}
 
 #[test]
-fn values_are_weighed_by_their_names(rt: HostRuntime) {
-    hold_answers(&rt, &ABSENT);
-    hold_answers(&rt, &REPLACED);
-    hold_answers(&rt, &TRIED);
+fn a_later_value_replaces_the_first(rt: HostRuntime) {
+    let alloc = rt.alloc();
+    let mut context = with(alloc, "a", Value::from(1u64));
+    let later = set(alloc, "a", Value::from(2u64));
+    assert!(rt; answers(alloc, &mut context, later, "Ok(Done)"));
+    assert!(rt; answers(alloc, &mut context, print(alloc, "a"), "Ok(Text(\"2\"))"));
+}
+
+// `try_cmp` of the two names is answered so.
+fn tries(alloc: Global, context: &mut Context, names: [&str; 2], wanted: &str) -> bool {
+    let [left, right] = names;
+    let left = name(alloc, left);
+    let right = name(alloc, right);
+    answers(
+        alloc,
+        context,
+        plain(Call::TryCompare { left, right }),
+        wanted,
+    )
+}
+
+// The names `one`, `two` and `map` for these.
+fn of_three_names(alloc: Global) -> Vec<Step> {
+    let steps = and(Vec::new(alloc), set(alloc, "one", Value::from(1u64)));
+    let steps = and(steps, set(alloc, "two", Value::from(2i128)));
+    and(steps, set(alloc, "map", no_pairs(alloc)))
+}
+
+#[test]
+fn the_partial_order_leaves_ranks_and_maps_undecided(rt: HostRuntime) {
+    let alloc = rt.alloc();
+    let mut context = Context::new(alloc);
+    let made = run(&mut context, of_three_names(alloc));
+    hold(
+        &rt,
+        &[
+            made.is_ok(),
+            tries(alloc, &mut context, ["one", "two"], LESS),
+            tries(alloc, &mut context, ["two", "one"], GREATER),
+            tries(alloc, &mut context, ["nope", "none"], EQUAL),
+            tries(alloc, &mut context, ["map", "map"], UNDECIDED),
+            tries(alloc, &mut context, ["one", "map"], UNDECIDED),
+        ],
+    );
 }

@@ -1,61 +1,48 @@
 //! Contexts by their entries, compared, copied and extended.
 use crate::held::hold;
-use crate::made::Asked::{Extend, Of};
-use crate::made::{Asked, One, hold_answers, numbered};
+use crate::made::{answers, name, plain};
 use made_values::{safe, shows};
 use std::alloc::Global;
-use tera_context::{Context, ToValue, context};
+use tera_context::{Call, Context, context};
 use tera_report::TeraResult;
 use tera_values::Value;
 
-// What was made, or no name.
-fn or_empty(alloc: Global, made: TeraResult<Context>) -> Context {
-    made.unwrap_or(Context::new(alloc))
+fn holds(told: TeraResult<bool>) -> bool {
+    told.is_ok_and(|it| it)
 }
 
-fn are_equal(left: Context, right: Context) -> bool {
-    left == right
+fn named_by_hand(alloc: Global) -> TeraResult<Context> {
+    let mut context = Context::new(alloc);
+    context.insert("foo", "Bar")?;
+    context.insert("con", &69)?;
+    Ok(context)
 }
 
-fn entries(alloc: Global) -> TeraResult<Context> {
-    Ok(context! { alloc; foo => "Bar", con => &69 })
+fn entries_are_insertions(alloc: Global) -> TeraResult<bool> {
+    let made = context! { alloc; foo => "Bar", con => &69 };
+    Ok(made == named_by_hand(alloc)?)
 }
 
-// Local names are captured.
-fn local_names(alloc: Global) -> TeraResult<Context> {
+fn local_names_are_captured(alloc: Global) -> TeraResult<bool> {
     let foo = "Bar";
     let con = 69;
-    Ok(context! { alloc; foo, con => &con, })
+    let made = context! { alloc; foo, con => &con, };
+    Ok(made == named_by_hand(alloc)?)
 }
 
-fn many_commas(alloc: Global) -> TeraResult<Context> {
+fn commas_may_be_many(alloc: Global) -> TeraResult<bool> {
     let foo = "Bar";
-    Ok(context! { alloc; foo,,, con => 69i64,, })
-}
-
-// A context of two names, by insertions.
-fn by_hand<A: ToValue, B: ToValue>(alloc: Global, first: (&str, A), second: (&str, B)) -> Context {
-    let mut context = Context::new(alloc);
-    let _ = context.insert(first.0, first.1);
-    let _ = context.insert(second.0, second.1);
-    context
-}
-
-// It is what insertions give.
-fn is_by_hand(alloc: Global, made: TeraResult<Context>) -> bool {
-    are_equal(
-        or_empty(alloc, made),
-        by_hand(alloc, ("foo", "Bar"), ("con", &69)),
-    )
+    let made = context! { alloc; foo,,, con => 69i64,, };
+    Ok(made == named_by_hand(alloc)?)
 }
 
 #[test]
 fn contexts_are_made_by_their_entries(rt: HostRuntime) {
     let alloc = rt.alloc();
     let rows = [
-        is_by_hand(alloc, entries(alloc)),
-        is_by_hand(alloc, local_names(alloc)),
-        is_by_hand(alloc, many_commas(alloc)),
+        holds(entries_are_insertions(alloc)),
+        holds(local_names_are_captured(alloc)),
+        holds(commas_may_be_many(alloc)),
     ];
     hold(&rt, &rows);
 }
@@ -64,109 +51,118 @@ fn ages(alloc: Global) -> TeraResult<Context> {
     Ok(context! { alloc; name => "John Doe", age => &42, })
 }
 
-fn is(found: Option<&Value>, wanted: Value) -> bool {
-    found == Some(&wanted)
-}
-
 #[test]
 fn names_are_there_with_their_values(rt: HostRuntime) {
     let alloc = rt.alloc();
-    let context = or_empty(alloc, ages(alloc));
-    let text = "Some(Value { inner: String(\"John Doe\", false) })";
+    let context = ages(alloc).unwrap_or(Context::new(alloc));
     let rows = [
         context.contains_key("age"),
-        is(context.get("age"), Value::from(42u8)),
+        context
+            .get("age")
+            .is_some_and(|it| *it == Value::from(42u8)),
         context.get("na").is_none(),
-        shows(alloc, &context.get("name"), text),
+        shows(
+            alloc,
+            &context.get("name"),
+            "Some(Value { inner: String(\"John Doe\", false) })",
+        ),
     ];
     hold(&rt, &rows);
 }
 
-fn extended(target: Context, source: Context) -> Context {
-    let mut target = target;
-    let _ = target.extend(source);
-    target
+// A name is in the place of a number.
+fn numbered(alloc: Global, of: &[(&str, i64)]) -> TeraResult<Context> {
+    let mut context = Context::new(alloc);
+    for (name, number) in of {
+        context.insert_value(*name, Value::from(*number))?;
+    }
+    Ok(context)
 }
 
-const ONE: [(&str, i64); 1] = [("a", 1)];
-
-const TWO: [(&str, i64); 2] = [("a", 1), ("b", 2)];
-
-const LATER: [(&str, i64); 2] = [("b", 3), ("d", 4)];
-
-const BOTH: [(&str, i64); 3] = [("a", 1), ("b", 3), ("d", 4)];
-
-// The target with the source is that.
-fn extends(alloc: Global, target: Numbers, source: Numbers, wanted: Numbers) -> bool {
-    let target = extended(numbered(alloc, target), numbered(alloc, source));
-    are_equal(target, numbered(alloc, wanted))
+fn extended(alloc: Global) -> TeraResult<bool> {
+    let mut target = numbered(alloc, &[("a", 1), ("b", 2)])?;
+    target.extend(numbered(alloc, &[("b", 3), ("d", 4)])?)?;
+    Ok(target == numbered(alloc, &[("a", 1), ("b", 3), ("d", 4)])?)
 }
 
-type Numbers = &'static [(&'static str, i64)];
+fn extended_by_nothing(alloc: Global) -> TeraResult<bool> {
+    let mut target = numbered(alloc, &[("a", 1)])?;
+    target.extend(Context::new(alloc))?;
+    let mut empty = Context::new(alloc);
+    empty.extend(numbered(alloc, &[("a", 1)])?)?;
+    Ok(target == empty)
+}
 
 #[test]
 fn a_source_replaces_and_adds(rt: HostRuntime) {
     let alloc = rt.alloc();
-    let rows = [
-        extends(alloc, &TWO, &LATER, &BOTH),
-        extends(alloc, &ONE, &[], &ONE),
-        extends(alloc, &[], &ONE, &ONE),
-    ];
-    hold(&rt, &rows);
+    hold(
+        &rt,
+        &[holds(extended(alloc)), holds(extended_by_nothing(alloc))],
+    );
 }
-
-const EXTENDED: [(Asked, &str); 2] = [
-    (Extend(&[("b", 3)]), "Ok(Done)"),
-    (
-        Of(One::Get, "b"),
-        "Ok(Found(Some(Value { inner: I64(3) })))",
-    ),
-];
 
 #[test]
 fn extend_is_a_call(rt: HostRuntime) {
-    hold_answers(&rt, &EXTENDED);
-}
-
-fn of_a_marked_text(alloc: Global) -> Context {
-    by_hand(alloc, ("t", safe(alloc, "<")), ("n", 1i128))
+    let alloc = rt.alloc();
+    let mut context = Context::new(alloc);
+    let source = numbered(alloc, &[("b", 3)]).unwrap_or(Context::new(alloc));
+    let extend = plain(Call::Extend { source });
+    let of = plain(Call::Get {
+        name: name(alloc, "b"),
+    });
+    assert!(rt; answers(alloc, &mut context, extend, "Ok(Done)"));
+    assert!(rt;
+        answers(
+            alloc,
+            &mut context,
+            of,
+            "Ok(Found(Some(Value { inner: I64(3) })))"
+        )
+    );
 }
 
 // The widths of numbers and the flags of texts do not count.
-fn equal_by_meaning(alloc: Global) -> bool {
-    let left = by_hand(alloc, ("n", 1u64), ("t", "<"));
-    are_equal(left, of_a_marked_text(alloc))
+fn equal_by_meaning(alloc: Global) -> TeraResult<bool> {
+    let left = context! { alloc; n => 1u64, t => "<" };
+    let right = context! { alloc; n => 1i128, t => safe(alloc, "<") };
+    Ok(left == right)
 }
 
-fn are_unequal(alloc: Global, left: Numbers, right: Numbers) -> bool {
-    !are_equal(numbered(alloc, left), numbered(alloc, right))
+fn unequal_names(alloc: Global) -> TeraResult<bool> {
+    let left = numbered(alloc, &[("a", 1)])?;
+    Ok(left != numbered(alloc, &[("b", 1)])? && left != Context::new(alloc))
+}
+
+fn unequal_values(alloc: Global) -> TeraResult<bool> {
+    let left = numbered(alloc, &[("a", 1), ("b", 2)])?;
+    Ok(left != numbered(alloc, &[("a", 1), ("b", 3)])?)
 }
 
 #[test]
 fn contexts_are_equal_by_meaning(rt: HostRuntime) {
     let alloc = rt.alloc();
     let rows = [
-        equal_by_meaning(alloc),
-        are_unequal(alloc, &ONE, &[("b", 1)]),
-        are_unequal(alloc, &ONE, &[]),
-        are_unequal(alloc, &TWO, &[("a", 1), ("b", 3)]),
-        are_equal(Context::new(alloc), Context::new(alloc)),
+        holds(equal_by_meaning(alloc)),
+        holds(unequal_names(alloc)),
+        holds(unequal_values(alloc)),
+        Context::new(alloc) == Context::new(alloc),
     ];
     hold(&rt, &rows);
 }
 
 // A copy keeps the flag, and goes its own way.
-fn goes_its_own_way(alloc: Global, first: Context) -> bool {
-    let mut second = or_empty(alloc, first.clone());
-    let text = "Some(Value { inner: String(\"<\", true) })";
-    let is_marked = shows(alloc, &second.get("t"), text);
+fn copied(alloc: Global) -> TeraResult<bool> {
+    let first = context! { alloc; t => safe(alloc, "<"), n => 1 };
+    let mut second = first.clone()?;
+    let flag = second.get("t").is_some_and(|it| it.is_safe());
     let was_equal = first == second;
-    let _ = second.insert("n", 2);
-    is_marked && was_equal && first != second
+    second.insert("n", 2)?;
+    Ok(flag && was_equal && first != second)
 }
 
 #[test]
 fn a_copy_goes_its_own_way(rt: HostRuntime) {
     let alloc = rt.alloc();
-    hold(&rt, &[goes_its_own_way(alloc, of_a_marked_text(alloc))]);
+    assert!(rt; holds(copied(alloc)));
 }
