@@ -2,7 +2,7 @@
 # Instructions a key of comparing, cloning, looking up and printing maps of text keys.
 # usage: bench/maps.sh   (proves the libraries first, in a folder of its own)
 . "$(dirname "$0")/common.sh"
-build_over maps tera_report tera_meaning tera_text tera_numbers tera_values
+build_over maps tera_report tera_meaning tera_scalars tera_values
 
 for does in eq cmp near clone get print; do
     for keys in 10 100 1000 10000; do

@@ -2,7 +2,7 @@
 # Instructions a byte of slices and of reversal, on texts of one letter: of one byte, of two and of three.
 # usage: bench/slices.sh   (proves the libraries first, in a folder of its own)
 . "$(dirname "$0")/common.sh"
-build_over slices tera_report tera_meaning tera_text tera_numbers tera_values
+build_over slices tera_report tera_meaning tera_scalars tera_values
 
 # One round takes what two more take beside one, by halves. usage: measure LETTER BYTES WORD..
 measure() {

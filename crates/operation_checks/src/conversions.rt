@@ -3,7 +3,7 @@ use crate::held::hold;
 use made_values::{shows, text};
 use std::alloc::Global;
 use std::fmt::Display;
-use tera_numbers::Number;
+use tera_scalars::Number;
 use tera_values::{ConversionRefused, Value};
 
 // The value becomes that.

@@ -2,8 +2,8 @@
 use crate::held::hold;
 use made_values::or_undefined;
 use std::alloc::Global;
-use tera_numbers::{BinaryOp, Number};
 use tera_report::TeraResult;
+use tera_scalars::{BinaryOp, Number};
 use tera_values::number::{
     NotComputed, add, calculate, compute, floor_div, mul, negate, pow, rem, sub,
 };

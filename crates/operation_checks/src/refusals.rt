@@ -4,7 +4,7 @@ use crate::numbers::{answer, negated};
 use crate::refused::is_refused;
 use made_values::text;
 use std::alloc::Global;
-use tera_numbers::BinaryOp;
+use tera_scalars::BinaryOp;
 use tera_values::Value;
 
 // The operator refuses these operands by that text.

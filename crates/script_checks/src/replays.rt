@@ -2,7 +2,7 @@
 use std::alloc::Global;
 use std::io::{BufWriter, Error, ErrorKind, Read, Result, Write};
 use std::test::Fail;
-use tera_replayer::{InputPieces, replay, replay_from};
+use tera_replies::{InputPieces, replay, replay_from};
 use tera_report::sink::Growing;
 
 // Gives these bytes, at most `size` at a read, and then ends or is interrupted.

@@ -9,7 +9,7 @@ ghost use Rattle.tera_meaning.specs.Conversion.{IntegerType, as_truth, number_of
 ghost use Rattle.tera_meaning.specs.Form.{Form};
 ghost use Rattle.tera_meaning.specs.Meaning.{plain};
 ghost use Rattle.tera_meaning.specs.Read.{iterable_in, text_in};
-ghost use Rattle.tera_numbers.specs.Number.{number_value};
+ghost use Rattle.tera_scalars.specs.Number.{number_value};
 ghost use Rattle.tera_report.specs.Errors.{IsOutOfMemory, Refuses};
 ghost use Rattle.tera_report.specs.declared.errors.Error.{Error};
 ghost use Rattle.tera_values.specs.Map.{pairs_in};

@@ -9,7 +9,7 @@ use Rattle.tera_meaning.specs.Question
 use Rattle.tera_meaning.specs.Request.{Request, set, extend, remove, mark_safe, ask, weigh, find, Command}
 use Rattle.tera_meaning.specs.Search
 use Rattle.tera_meaning.specs.Weighing
-use Rattle.tera_numbers.specs.Operation.{operator_of}
+use Rattle.tera_scalars.specs.Operation.{operator_of}
 use Rattle.tera_values.specs.Converted.{integer_type}
 use Rattle.tera_values.specs.Kind.{kind_form}
 use Rattle.tera_context.specs.declared.call.Answer.{Answer as CodeAnswer}

@@ -2,7 +2,7 @@
 
 use crate::context::Context;
 use std::cmp::Ordering;
-use tera_numbers::BinaryOp;
+use tera_scalars::BinaryOp;
 use tera_values::{IntType, Value, ValueKind};
 
 /// A call, and the name under which what it finds is to be kept. Only `Get`, `Path`, `Attr`,

@@ -9,7 +9,7 @@ ghost use Rattle.tera_meaning.specs.Request.{find};
 ghost use Rattle.tera_meaning.specs.Search;
 ghost use Rattle.tera_meaning.specs.Search.{Search, found_at};
 ghost use Rattle.tera_meaning.specs.Step.{IsStep};
-ghost use Rattle.tera_numbers.specs.Operation.{operator_of};
+ghost use Rattle.tera_scalars.specs.Operation.{operator_of};
 ghost use Rattle.tera_report.specs.Errors.{Raises};
 ghost use Rattle.tera_report.specs.Refusal.{stated};
 ghost use Rattle.tera_values.specs.Computed.{refusal_told};
@@ -21,8 +21,8 @@ use crate::call::Answer;
 use crate::context::Context;
 use crate::finds::keep_or_answer;
 use std::alloc::Global;
-use tera_numbers::BinaryOp;
 use tera_report::TeraResult;
+use tera_scalars::BinaryOp;
 use tera_values::number::NotComputed;
 use tera_values::{IntType, Value, number};
 

@@ -16,5 +16,5 @@ pub use tera_arguments::{
     ArgFromValue, Autoescape, Kwargs, KwargsIter, KwargsOf, Parts, StringInput,
 };
 pub use tera_conversions::{FunctionResult, ToKey, ToValue};
-pub use tera_numbers::BinaryOp;
+pub use tera_scalars::BinaryOp;
 pub use tera_values::IntType;

@@ -7,7 +7,7 @@ ghost use Rattle.tera_meaning.specs.Arithmetic.{as_i128};
 ghost use Rattle.tera_meaning.specs.Form.{Form};
 ghost use Rattle.tera_meaning.specs.Integer.{u64, i64, u128, i128};
 ghost use Rattle.tera_meaning.specs.Tree.{none, truth};
-ghost use Rattle.tera_numbers.specs.Number.{number_value};
+ghost use Rattle.tera_scalars.specs.Number.{number_value};
 ghost use Rattle.tera_report.specs.Errors.{IsOutOfMemory};
 ghost use Rattle.tera_report.specs.declared.errors.Error.{Error};
 ghost use Rattle.tera_values.specs.Key.{key_form, key_value};

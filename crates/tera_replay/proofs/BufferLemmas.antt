@@ -4,9 +4,9 @@ use Rattle.std.specs.FinMap.{empty}
 use Rattle.std.specs.declared.io.Error.{Error}
 use Rattle.tera_report.specs.declared.watch.Watched.{Watched}
 use Rattle.tera_report.specs.Watch.{WatchedTakes, WatchedFails}
-use Rattle.tera_replayer.specs.Output.{TakesOrFails}
-use Rattle.tera_replayer.specs.Replay.{Replays, lines_given}
-use Rattle.tera_replayer.proofs.SplitLemmas.{splits}
+use Rattle.tera_replies.specs.Output.{TakesOrFails}
+use Rattle.tera_replies.specs.Replay.{Replays, lines_given}
+use Rattle.tera_replies.proofs.SplitLemmas.{splits}
 
 -- the first of no lines are answered, and this is told
 pub nothing_read : (first : Option (List ℕ)) (OutGets : List ℕ → Type 0) (OutBroke : Type 0) (ErrGets : List ℕ → Type 0)

@@ -3,7 +3,7 @@ use Rattle.std.specs.Prelude.{◌≡◌, ℕ, ◌⊎◌, List, [], Option, Resul
 use Rattle.std.specs.declared.io.Error.{Error}
 use Rattle.std.specs.declared.io.buffered.BufWriter.{BufWriter}
 use Rattle.std.specs.Io.Buffered.{writer_inner, writer_buffer}
-use Rattle.tera_replayer.specs.Output.{WriterGets, WriterBroke}
+use Rattle.tera_replies.specs.Output.{WriterGets, WriterBroke}
 
 -- it stands before that output, and nothing is in it
 abbrev pub IsEmptyBefore : {W A : Type 0} → W → BufWriter W A → Type 0

@@ -3,13 +3,13 @@
 
 ghost use Rattle.std.specs.Prelude.{◌≡◌, ◌≤◌, IfSome, None};
 ghost use Rattle.tera_replay.specs.Buffered.{BufferBroke, BufferGets};
-ghost use Rattle.tera_replayer.specs.Output.{WriterTakesOrFails};
-ghost use Rattle.tera_replayer.specs.Replay.{Replays};
+ghost use Rattle.tera_replies.specs.Output.{WriterTakesOrFails};
+ghost use Rattle.tera_replies.specs.Replay.{Replays};
 
 use std::alloc::Global;
 use std::io::{BufWriter, Read, Write};
 use std::process::ExitCode;
-use tera_replayer::replay;
+use tera_replies::replay;
 use tera_report::watch::{Watched, Writer};
 
 fn main(rt: HostRuntime) -> ExitCode {

@@ -1,7 +1,7 @@
 -- The look-up of words, tried on the word of each verb.
 use Rattle.std.proofs.Common.{◌≡◌, ℕ, List, [], ◌∷◌, length, Option, Some, None, refl, ap, sym, ◌∙◌, arith}
 use Rattle.std.specs.Prelude.{◌≢◌}
-use Rattle.tera_numbers.specs.declared.operation.BinaryOp.TheVariants as op
+use Rattle.tera_scalars.specs.declared.operation.BinaryOp.TheVariants as op
 use Rattle.tera_script.specs.declared.verb.Verb.{Verb}
 use Rattle.tera_script.specs.declared.verb.Verb.TheVariants as verb
 use Rattle.tera_script.specs.declared.verb.OneName.TheVariants as one

@@ -4,9 +4,9 @@ use Rattle.tera_meaning.specs.Question
 use Rattle.tera_meaning.specs.Request.{Request, remove, mark_safe, ask, weigh, find}
 use Rattle.tera_meaning.specs.Search
 use Rattle.tera_meaning.specs.Weighing
-use Rattle.tera_numbers.specs.Operation.{operator_of}
-use Rattle.tera_numbers.specs.declared.operation.BinaryOp.{BinaryOp}
-use Rattle.tera_numbers.specs.declared.operation.BinaryOp.TheVariants as op
+use Rattle.tera_scalars.specs.Operation.{operator_of}
+use Rattle.tera_scalars.specs.declared.operation.BinaryOp.{BinaryOp}
+use Rattle.tera_scalars.specs.declared.operation.BinaryOp.TheVariants as op
 use Rattle.tera_script.specs.declared.verb.Verb.{Verb}
 use Rattle.tera_script.specs.declared.verb.Verb.TheVariants as verb
 use Rattle.tera_script.specs.declared.verb.OneName.{OneName}

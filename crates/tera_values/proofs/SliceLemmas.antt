@@ -16,8 +16,8 @@ use Rattle.tera_meaning.specs.Walk.{IsStrided, directed, pause, place_behind, sl
 use Rattle.tera_values.specs.View.{marked}
 use Rattle.tera_meaning.proofs.SliceLaws.{same_items, slices_same, slice_of_is}
 use Rattle.tera_meaning.proofs.SlicedLaws.{sliced_is}
-use Rattle.tera_text.proofs.PositionLaws.{stride_slices}
-use Rattle.tera_text.specs.Positions.{turned}
+use Rattle.tera_scalars.proofs.PositionLaws.{stride_slices}
+use Rattle.tera_scalars.specs.Positions.{turned}
 
 -- the walk took these so far, and stands at the next one, or at the greatest machine integer where that is less
 pub record IsSoFar {X : Type 0} (xs : List X) (from until by place : ℕ) (ys : List X) : Type 0 where

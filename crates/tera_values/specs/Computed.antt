@@ -1,6 +1,6 @@
 -- What the refusals of arithmetic tell.
 use Rattle.std.specs.Prelude.{pos}
-use Rattle.tera_numbers.specs.Operation.{operator_of, refusal_of}
+use Rattle.tera_scalars.specs.Operation.{operator_of, refusal_of}
 use Rattle.tera_report.specs.Refusal.{Refusal, not_a_number, operand_outside_i128}
 use Rattle.tera_values.specs.declared.number.NotComputed.{NotComputed}
 use Rattle.tera_values.specs.declared.number.NotComputed.TheVariants as not_computed

@@ -13,13 +13,13 @@ ghost use Rattle.tera_meaning.specs.Tree.{truth, number, text, bytes, array, obj
 ghost use Rattle.tera_meaning.specs.Tree.{members};
 ghost use Rattle.tera_values.specs.Map.{pairs_in};
 ghost use Rattle.tera_values.specs.Unlike.{unlike, maps_order};
-ghost use Rattle.tera_text.specs.Whole.{whole_value};
+ghost use Rattle.tera_scalars.specs.Whole.{whole_value};
 
 use crate::map::{Unlike, goes_on, least_difference};
 use crate::value::ValueInner;
 use crate::{Map, Value};
 use std::cmp::Ordering;
-use tera_text::Whole;
+use tera_scalars::Whole;
 
 /// Values are equal exactly where their meanings are: integers by number, texts whatever their
 /// flags, arrays item by item, maps as sets of pairs. Mirrors `PartialEq` of `tera::Value`. Takes

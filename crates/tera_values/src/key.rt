@@ -19,7 +19,7 @@ ghost use Rattle.tera_report.specs.Writer.{Breaks};
 ghost use Rattle.tera_values.specs.Key.{integer_key, key_form, meaning_of_key, text_in_key};
 ghost use Rattle.tera_values.specs.Key.{owned_in_key, number_in_key, key_value, shown_key};
 ghost use Rattle.tera_values.specs.Key.{fed_number, fed};
-ghost use Rattle.tera_text.specs.Whole.{whole_value};
+ghost use Rattle.tera_scalars.specs.Whole.{whole_value};
 
 use crate::Value;
 use crate::print::truth_text;
@@ -31,7 +31,7 @@ use std::{fmt, io};
 use tera_report::TeraResult;
 use tera_report::sink::{Full, Room, Sink};
 use tera_report::watch::{Watched, Writer};
-use tera_text::{Whole, put_integer};
+use tera_scalars::{Whole, put_integer};
 
 /// The key of a pair of a map. Mirrors `tera::value::Key`.
 #[derive(Debug, Drop)]

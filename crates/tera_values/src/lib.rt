@@ -27,6 +27,6 @@ pub use convert::ConversionRefused;
 pub use integers::IntType;
 pub use key::Key;
 pub use kind::{ValueKind, kinds_equal_where_the_same};
-pub use tera_numbers::{BinaryOp, NoResult, Number};
+pub use tera_scalars::{BinaryOp, NoResult, Number};
 pub use value::{Map, Value};
 pub use well_made::is_well_made;

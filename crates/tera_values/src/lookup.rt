@@ -3,7 +3,7 @@ ghost use Rattle.std.specs.Prelude.{◌≡◌, false, None, Ok, IfOk, IfErr, IsO
 ghost use Rattle.std.specs.Option.{option_copied};
 ghost use Rattle.tera_meaning.specs.Lookup.{attr, as_key, key_in, paired, item, indexed, part_at};
 ghost use Rattle.tera_report.specs.Refusal.{in_array};
-ghost use Rattle.tera_text.specs.Whole.{whole_value};
+ghost use Rattle.tera_scalars.specs.Whole.{whole_value};
 ghost use Rattle.tera_meaning.specs.Read.{text_in, iterable_in};
 ghost use Rattle.tera_meaning.specs.Tree.{undefined, object, members};
 ghost use Rattle.tera_report.specs.Errors.{Refuses, IsOutOfMemory};
@@ -18,7 +18,7 @@ use crate::{Key, Map, Value};
 use std::alloc::Global;
 use std::rc::RcStr;
 use tera_report::TeraResult;
-use tera_text::{Whole, character, place};
+use tera_scalars::{Whole, character, place};
 
 impl Value {
     /// What the map has at that text, lent; nothing where it has nothing there, and on every other

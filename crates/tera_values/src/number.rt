@@ -5,8 +5,8 @@ ghost use Rattle.std.specs.Result.{result_map_both};
 ghost use Rattle.tera_meaning.specs.Arithmetic.{operand, calculated, negated, as_i128};
 ghost use Rattle.tera_meaning.specs.Conversion.{IntegerType, number_of};
 ghost use Rattle.tera_meaning.specs.Read.{number_in};
-ghost use Rattle.tera_numbers.specs.Number.{number_value};
-ghost use Rattle.tera_numbers.specs.Operation.{operator_of};
+ghost use Rattle.tera_scalars.specs.Number.{number_value};
+ghost use Rattle.tera_scalars.specs.Operation.{operator_of};
 ghost use Rattle.tera_report.specs.Errors.{Raises, Refuses};
 ghost use Rattle.tera_report.specs.Refusal.{plus, minus, times, remainder, floor_division, power};
 ghost use Rattle.tera_report.specs.Refusal.{stated};
@@ -14,12 +14,11 @@ ghost use Rattle.tera_values.specs.Computed.{refusal_told};
 
 use crate::Value;
 use std::alloc::Global;
-use tera_numbers::{
-    BinaryOp, NoResult, Number, negated_no_number, negation, negation_outside_i128, no_result,
-    not_a_number, operand_outside_i128,
-};
 use tera_report::{Error, TeraResult};
-use tera_text::Whole;
+use tera_scalars::{
+    BinaryOp, NoResult, Number, Whole, negated_no_number, negation, negation_outside_i128,
+    no_result, not_a_number, operand_outside_i128,
+};
 
 impl Value {
     /// Whether it is a number. Mirrors `Value::is_number`. Takes no memory.

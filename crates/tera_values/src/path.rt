@@ -5,7 +5,7 @@ ghost use Rattle.tera_meaning.specs.Path.{path, place, elements_of, followed, re
 
 use crate::Value;
 use crate::value::ValueInner;
-use tera_text::place_in_path;
+use tera_scalars::place_in_path;
 
 impl Value {
     /// What a path leads to, lent: from undefined nothing, from none itself, and from every other

@@ -25,7 +25,7 @@ use tera_report::TeraResult;
 use tera_report::quote::put_quoted;
 use tera_report::sink::{Full, Growing, Room, Sink};
 use tera_report::watch::{Watched, Writer};
-use tera_text::{put_integer, put_lossy};
+use tera_scalars::{put_integer, put_lossy};
 
 impl Value {
     /// Writes the printed text. Undefined and none print nothing, a text itself, bytes the text

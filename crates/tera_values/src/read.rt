@@ -6,13 +6,13 @@ ghost use Rattle.tera_meaning.specs.Read.{truth_in, number_in, text_in, bytes_in
 ghost use Rattle.tera_meaning.specs.Read.{members_in, safe_in, marked_safe, truthy_in, size_in};
 ghost use Rattle.tera_meaning.specs.Read.{iterable_in, is_nonempty};
 ghost use Rattle.tera_values.specs.Map.{pairs_in};
-ghost use Rattle.tera_text.specs.Whole.{whole_value};
+ghost use Rattle.tera_scalars.specs.Whole.{whole_value};
 
 use crate::map::pair_count;
 use crate::value::ValueInner;
 use crate::{Map, Value};
 use tera_report::words::characters;
-use tera_text::Whole;
+use tera_scalars::Whole;
 
 impl Value {
     /// The truth value that it is. Mirrors `Value::as_bool`. Takes no memory.

@@ -7,14 +7,14 @@ ghost use Rattle.tera_meaning.specs.Slice.{IsSliced, reversed};
 ghost use Rattle.tera_meaning.specs.Walk.{cut, slice_of, IsStrided};
 ghost use Rattle.tera_report.specs.Errors.{IsOutOfMemory, Refuses};
 ghost use Rattle.tera_report.specs.Refusal.{Refusal};
-ghost use Rattle.tera_text.specs.Positions.{turned};
+ghost use Rattle.tera_scalars.specs.Positions.{turned};
 
 use crate::Value;
 use crate::refused::{not_reversible, not_sliceable, step_of_zero};
 use crate::value::ValueInner;
 use std::alloc::Global;
 use tera_report::TeraResult;
-use tera_text::{Stride, reversed_text, sliced_text};
+use tera_scalars::{Stride, reversed_text, sliced_text};
 
 impl Value {
     /// The items of an array or the characters of a text from a start up to an end, by a step that

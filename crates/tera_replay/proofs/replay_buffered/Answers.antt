@@ -1,8 +1,8 @@
 -- A replay through a buffer, and the text for want of one.
 use Rattle.std.proofs.Common.{inl, inr, refl, rules}
 use Rattle.tera_replay.proofs.BufferLemmas.{nothing_read, took_or_failed}
-use Rattle.tera_replayer.proofs.ReplayLemmas.{replays_weaker}
-use Rattle.tera_replayer.proofs.WatchedLemmas.{told_same, told_writer}
+use Rattle.tera_replies.proofs.ReplayLemmas.{replays_weaker}
+use Rattle.tera_replies.proofs.WatchedLemmas.{told_same, told_writer}
 use Rattle.tera_replay.proofs.replay_buffered.Goals as goal
 
 pub returns-in-Ok-clause-known : goal.returns-in-Ok-clause-known

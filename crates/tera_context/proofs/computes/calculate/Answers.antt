@@ -5,7 +5,7 @@ use Rattle.tera_meaning.specs.Arithmetic.{calculated, as_i128}
 use Rattle.tera_meaning.specs.Search
 use Rattle.tera_meaning.specs.Search.{found_at, one_found}
 use Rattle.tera_meaning.specs.State.{form_at}
-use Rattle.tera_numbers.specs.Operation.{operator_of}
+use Rattle.tera_scalars.specs.Operation.{operator_of}
 use Rattle.tera_values.specs.Computed.{refusal_told}
 use Rattle.tera_context.proofs.Found.{number_not_found}
 use Rattle.tera_context.proofs.computes.calculate.Goals as goal

@@ -1,6 +1,6 @@
 -- The items so far are those that the walk takes.
 use Rattle.std.proofs.Common.{◌-◌}
-use Rattle.tera_text.specs.Positions.{turned}
+use Rattle.tera_scalars.specs.Positions.{turned}
 use Rattle.tera_values.proofs.SliceLemmas.{IsSoFar}
 use Rattle.tera_values.proofs.slice.strided_items.Given as goal
 

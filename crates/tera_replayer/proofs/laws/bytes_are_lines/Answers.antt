@@ -1,6 +1,0 @@
--- Byte by byte.
-use Rattle.tera_replayer.proofs.SplitLemmas.{splits}
-use Rattle.tera_replayer.proofs.laws.bytes_are_lines.Goals as goal
-
-pub returns : goal.returns
-returns c = splits

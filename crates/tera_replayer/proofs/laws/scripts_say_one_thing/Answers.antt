@@ -1,5 +1,0 @@
-use Rattle.tera_replayer.proofs.ScriptLemmas.{one_script}
-use Rattle.tera_replayer.proofs.laws.scripts_say_one_thing.Goals as goal
-
-pub returns : goal.returns
-returns c = one_script c.one_command.ensures c.skipped_says_nothing.ensures

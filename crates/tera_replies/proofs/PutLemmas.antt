@@ -1,0 +1,40 @@
+-- What was put, and what a failed put stands for.
+use Rattle.std.proofs.Common.{◌≡◌, ℕ, List, sym, subst}
+use Rattle.std.specs.Prelude.{Result, Ok, Err, MatchResult, OnOk, IfOk, IfErr, IsErrAnd}
+use Rattle.tera_report.specs.Sink.{Puts, Sends, Broke}
+use Rattle.tera_report.specs.SentLaws.{sends_put, broke_put}
+use Rattle.tera_replies.specs.declared.fault.Fault.{Fault}
+use Rattle.tera_replies.specs.declared.fault.Fault.TheVariants.{WriteFailed}
+use Rattle.tera_replies.specs.Stretch.{ReplyStops}
+
+module _ {S E : Type 0} (takes fails : S → List ℕ → S → Type 0) where
+  pub puts_weaker : (P Q : List ℕ → Type 0) (result : Result (Unit {0}) E) (old new : S) → ((bytes : List ℕ) → P bytes → Q bytes)
+      → Puts takes fails result P old new → Puts takes fails result Q old new
+  puts_weaker P Q (Ok done) old new weaker (bytes, has, h) = (bytes, weaker bytes has, h)
+  puts_weaker P Q (Err fault) old new weaker (bytes, has, h) = (bytes, weaker bytes has, h)
+
+-- a fault that is passed on is the one that was met
+pub fault_passed : {T : Type 0} (result : Result T Fault) (fault : Fault) (P : Fault → Type 0)
+    → IsErrAnd result (λ passed. passed ≡ fault) → P fault → IfErr result P
+fault_passed (Ok done) fault P is has = absurd is
+fault_passed (Err passed) fault P is has = subst P (sym is) has
+
+-- what stands of each answer, where one stands of it
+pub answered : {T E : Type 0} (result : Result T E) (P Q : T → Type 0) → ((answer : T) → P answer → Q answer)
+    → IfOk result P → IfOk result Q
+answered (Ok answer) P Q then has = then answer has
+answered (Err fault) P Q then has = tt
+
+-- a reply was put, or a write failed
+module _ {S : Type 0} (takes fails : S → List ℕ → S → Type 0) (flushes flush_fails : S → S → Type 0) where
+  abbrev pub Replied : (List ℕ → Type 0) → S → S → Result (Unit {0}) Fault → Type 0
+  Replied P old new result =
+      OnOk result ((line : List ℕ) × P line × Sends takes flushes old line new)
+      × IfErr result (ReplyStops (Broke takes fails flushes flush_fails old new))
+
+  pub replied : {E : Type 0} (P : List ℕ → Type 0) (put : Result (Unit {0}) E) (result : Result (Unit {0}) Fault) (old new : S)
+      → MatchResult put (λ _. result ≡ Ok tt) (λ _. result ≡ Err WriteFailed) → Puts takes fails put P old new → Replied P old new result
+  replied P (Ok done) result old new is (bytes, has, h) =
+      subst (Replied P old new) (sym is) ((bytes, has, sends_put takes flushes old bytes new h), tt)
+  replied P (Err fault) result old new is (bytes, has, h) =
+      subst (Replied P old new) (sym is) (tt, broke_put takes flushes fails flush_fails old bytes new h)

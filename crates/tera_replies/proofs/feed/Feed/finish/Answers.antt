@@ -1,0 +1,35 @@
+-- Nothing follows the last line feed.
+use Rattle.std.proofs.Common.{rules, ◌≡◌, ◌||◌, ℕ, false, List, [], ◌∷◌, length, refl, sym, ap, ◌∙◌, subst, arith}
+use Rattle.std.proofs.lemmas.Bool.{eqb-true, eqb-false}
+use Rattle.std.proofs.lemmas.List.{nil_from_length}
+use Rattle.tera_replies.specs.Script.{last_line}
+use Rattle.tera_report.specs.SentLaws.{sends_nothing}
+use Rattle.tera_replies.specs.Stretch.{Runs}
+use Rattle.tera_replies.proofs.RunLemmas.{Runs-none, or_false}
+use Rattle.tera_replies.proofs.feed.Feed.finish.Goals as goal
+use Rattle.tera_replies.proofs.feed.Feed.finish.Goals.{then-self, else-self}
+
+pub returns-then-is_empty-clause-ok : goal.returns-then-is_empty-clause-ok
+returns-then-is_empty-clause-ok g c =
+    let feed = c.args.self.now in
+    let nothing : feed.part.items ≡ [] = nil_from_length feed.part.items (omega (arith, feed.part.ok.0, eqb-true _ _ (sym c.if-is_empty.ensures))) in
+    let P : List ℕ → Type 0 = λ part. Runs feed.number feed.context (last_line part) [] false feed.context in
+    ([], false, subst P (sym nothing) (Runs-none feed.number feed.context), or_false feed.wanted_memory, sends_nothing _ _ _)
+
+last_some : (xs : List ℕ) → (length xs ≡ 0 → ⊥) → last_line xs ≡ xs ∷ []
+last_some [] some = absurd (some refl)
+last_some (x ∷ xs) some = refl
+
+pub returns-clause-ok : goal.returns-clause-ok
+returns-clause-ok g c =
+    let feed = c.args.self.now in
+    let (text, runs, sent) = c.in_ok-wanted.ensures.ok in
+    let some : length feed.part.items ≡ 0 → ⊥ = λ none. eqb-false _ _ (sym c.if-is_empty.ensures) (omega (arith, feed.part.ok.0, none)) in
+    let line = ap (λ l. l ∷ []) c.as_slice-line.ensures.value ∙ sym (last_some feed.part.items some) in
+    let wanted : c.if-self.result ≡ (feed.wanted_memory || c.in_ok-wanted.wanted) = elim c.if-self.branch [ then-self w ↦ search rules | else-self w ↦ search rules ] in (
+      text,
+      c.in_ok-wanted.wanted,
+      subst (λ (lines : List (List ℕ)). Runs feed.number feed.context lines text c.in_ok-wanted.wanted c.answer_line.new.context) line runs,
+      wanted,
+      sent,
+    )

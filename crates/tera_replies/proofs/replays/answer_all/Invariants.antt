@@ -1,0 +1,15 @@
+-- What the source gave so far is answered.
+use Rattle.std.proofs.Common.{◌≡◌, ◌+◌, ◌*◌, ◌≤◌}
+use Rattle.tera_replies.specs.Place.{place_of}
+use Rattle.tera_replies.proofs.InputLemmas.{Fed}
+use Rattle.tera_replies.proofs.replays.answer_all.Given as goal
+
+abbrev pub invariant-pieces : goal.invariant-pieces
+invariant-pieces g l =
+    let source = g.S.Source in
+    let sink = g.W.Sink in
+    record {
+      fed : Fed sink.takes sink.flushes (source.left l.fn.input) (source.left l.input) l._turn (place_of l.feed) l.fn.out l.out;
+      fails : source.fails l.input ≡ source.fails l.fn.input;
+      room : l.feed.number ≤ 1 + 8192 * l._turn;
+    }

@@ -1,0 +1,132 @@
+-- What a replay writes, and the status with which it ends.
+use Rattle.std.specs.Prelude.{◌≡◌, ℕ, ◌-◌, ◌^◌, ◌≤◌, ◌⊎◌, Bool, true, false, List, [], ◌++◌, map}
+use Rattle.std.specs.Prelude.{length, codes, decimal, Option, None, Some, IsSome}
+use Rattle.std.specs.Prelude.{if◌then◌else◌}
+use Rattle.std.specs.List.{list_any}
+use Rattle.std.specs.FinMap.{empty}
+use Rattle.std.specs.Str.{chars, is_utf8}
+use Rattle.tera_report.specs.declared.span.Span.{Span}
+use Rattle.tera_meaning.specs.State.{State}
+use Rattle.tera_meaning.specs.Outcome.{Outcome, is_want}
+use Rattle.tera_meaning.specs.Request.{Command}
+use Rattle.tera_meaning.specs.Run.{IsRun}
+use Rattle.tera_report.specs.Report.{Report, report_text}
+use Rattle.tera_replies.specs.Script.{BadLine, Splits, Script, without_return, last_line, ended}
+use Rattle.tera_replies.specs.Reply.{AreReplies}
+use Rattle.tera_replies.specs.Source.{MayErr}
+
+-- some answer was want of memory. No other refusal counts
+abbrev pub wants_memory : List Outcome → Bool
+wants_memory outcomes = list_any is_want outcomes
+
+-- what the lines say up to the first bad line, from an empty context on, comes to these outcomes
+pub record AreAnswered (lines : List (List ℕ)) (bad : Option BadLine) (outcomes : List Outcome)
+    : Type 0 where
+  pub commands : List Command
+  pub state : State
+  pub script : Script 1 lines commands bad
+  pub run : IsRun empty commands outcomes state
+
+-- what of a bad line its report shows: all of it, and nothing where it is no UTF-8
+abbrev pub source_of : List ℕ → List ℕ
+source_of line = if is_utf8 line then line else []
+
+-- from the first character of the report's one line to its end
+abbrev pub whole_line : List ℕ → Span
+whole_line source =
+    record {
+      start_line = 1;
+      start_col = 0;
+      end_line = 1;
+      end_col = length (chars source);
+      range = record { start = 0; end = length source };
+    }
+
+-- the report of a bad line
+abbrev pub line_report : BadLine → Report
+line_report bad =
+    record {
+      message = codes "bad line";
+      file = codes "line " ++ decimal bad.number;
+      source = source_of bad.line;
+      span = whole_line (source_of bad.line);
+      notes = [];
+    }
+
+-- what the program writes about a bad line
+abbrev pub report : Option BadLine → List ℕ
+report None = []
+report (Some bad) = ended (report_text (line_report bad))
+
+abbrev pub status_of : Option BadLine → List Outcome → ℕ
+status_of None outcomes = if wants_memory outcomes then 1 else 0
+status_of (Some bad) outcomes = 2
+
+-- the lines that a source gives whole. What follows the last line feed is one too, unless the
+-- source fails there
+abbrev pub lines_given : Option Bool → List (List ℕ) → List ℕ → List (List ℕ)
+lines_given (Some true) lines part = map without_return lines
+lines_given (Some false) lines part = map without_return lines ++ last_line part
+lines_given None lines part = map without_return lines ++ last_line part
+
+-- The input ended, or a line that was given whole is bad: each line up to there is answered.
+pub record AllAnswered (bytes : List ℕ) (fails : Option Bool) (out err : List ℕ) (status : ℕ)
+    : Type 0 where
+  pub lines : List (List ℕ)
+  pub part : List ℕ
+  pub bad : Option BadLine
+  pub outcomes : List Outcome
+  pub split : Splits bytes lines part
+  pub answers : AreAnswered (lines_given fails lines part) bad outcomes
+  pub ended : fails ≡ Some true → IsSome bad
+  pub replied : AreReplies outcomes out
+  pub err_is : err ≡ report bad
+  pub status_is : status ≡ status_of bad outcomes
+
+-- Reading failed after the bytes given, or went on past its bound: each line that was given whole
+-- is answered.
+pub record ReadingFailed (bytes : List ℕ) (fails : Option Bool) (out err : List ℕ) (status : ℕ)
+    : Type 0 where
+  pub given : List ℕ
+  pub rest : List ℕ
+  pub lines : List (List ℕ)
+  pub part : List ℕ
+  pub outcomes : List Outcome
+  pub front : bytes ≡ given ++ rest
+  pub cause : MayErr fails (Some rest) ⊎ (2 ^ 64 - 1 ≤ length given)
+  pub split : Splits given lines part
+  pub answers : AreAnswered (map without_return lines) None outcomes
+  pub replied : AreReplies outcomes out
+  pub err_is : err ≡ codes "error: reading failed\n"
+  pub status_is : status ≡ 1
+
+-- The program itself found no memory: the first of the lines are answered.
+pub record MemoryFailed (bytes : List ℕ) (fails : Option Bool) (out err : List ℕ) (status : ℕ)
+    : Type 0 where
+  pub lines : List (List ℕ)
+  pub part : List ℕ
+  pub first : List (List ℕ)
+  pub later : List (List ℕ)
+  pub outcomes : List Outcome
+  pub split : Splits bytes lines part
+  pub front : lines_given fails lines part ≡ first ++ later
+  pub answers : AreAnswered first None outcomes
+  pub replied : AreReplies outcomes out
+  pub err_is : err ≡ codes "error: Out of memory\n"
+  pub status_is : status ≡ 1
+
+-- From a source with these bytes, which then fails or ends (or that isn't known), the program
+-- writes out and err.
+abbrev pub Writes : List ℕ → Option Bool → List ℕ → List ℕ → ℕ → Type 0
+Writes bytes fails out err status =
+    AllAnswered bytes fails out err status
+    ⊎ (ReadingFailed bytes fails out err status ⊎ MemoryFailed bytes fails out err status)
+
+-- The same of what is written to: `out` got its bytes and `err` its own; or `out` broke, and `err`
+-- got the text for that.
+abbrev pub Replays : List ℕ → Option Bool → (List ℕ → Type 0) → Type 0 → (List ℕ → Type 0)
+    → ℕ → Type 0
+Replays bytes fails OutGets OutBroke ErrGets status =
+    ((out : List ℕ) × (err : List ℕ) × Writes bytes fails out err status × OutGets out
+    × ErrGets err)
+    ⊎ (OutBroke × (status ≡ 1) × ErrGets (codes "error: writing failed\n"))

@@ -1,0 +1,77 @@
+-- The line that answers a call.
+use Rattle.std.specs.Prelude.{◌≡◌, ℕ, true, false, List, ◌++◌, codes, decimal, Option, None, Some}
+use Rattle.std.specs.Prelude.{IsSome, Ok, Err, IsTrue, ⊤}
+use Rattle.std.specs.Fmt.{debug_list, debug_str}
+use Rattle.std.specs.List.{AllZip, flat_map}
+use Rattle.std.specs.declared.cmp.Ordering.{Ordering}
+use Rattle.std.specs.declared.cmp.Ordering.TheVariants.{Less, Equal, Greater}
+use Rattle.tera_report.specs.Quoted.{QuotesList}
+use Rattle.tera_report.specs.Refusal.{Tells, text_of}
+use Rattle.tera_meaning.specs.Answer
+use Rattle.tera_meaning.specs.Form.{Form}
+use Rattle.tera_meaning.specs.Kind.{kind_name}
+use Rattle.tera_meaning.specs.Meaning.{plain}
+use Rattle.tera_meaning.specs.Outcome.{Outcome}
+use Rattle.tera_meaning.specs.Printed.{is_exact_inside, PrintsInside}
+use Rattle.tera_meaning.specs.Tree.{undefined, none, truth, number, text, bytes, array, object}
+use Rattle.tera_replies.specs.Script.{ended}
+
+abbrev pub order_name : Option Ordering → List ℕ
+order_name None = codes "undecided"
+order_name (Some Less) = codes "less"
+order_name (Some Equal) = codes "equal"
+order_name (Some Greater) = codes "greater"
+
+-- how a value that is found is written: undefined and none by their names, and else as it prints
+-- inside an array, where a text is quoted. That is one text alone where what is quoted is ASCII
+abbrev pub IsFormOf : Form → List ℕ → Type 0
+IsFormOf undefined form = form ≡ codes "undefined"
+IsFormOf none form = form ≡ codes "none"
+IsFormOf (truth b) form = PrintsInside (plain (truth b)) form
+IsFormOf (number n) form = PrintsInside (plain (number n)) form
+IsFormOf (text t) form = PrintsInside (plain (text t)) form
+IsFormOf (bytes bs) form = PrintsInside (plain (bytes bs)) form
+IsFormOf (array xs) form = PrintsInside (plain (array xs)) form
+IsFormOf (object ps) form = PrintsInside (plain (object ps)) form
+
+-- the reply to a call, without its line feed. A text stands there as it is, line feeds and all
+abbrev pub IsReply : Outcome → List ℕ → Type 0
+IsReply (Ok Answer.done) line = line ≡ codes "ok"
+IsReply (Ok (Answer.truth true)) line = line ≡ codes "true"
+IsReply (Ok (Answer.truth false)) line = line ≡ codes "false"
+IsReply (Ok (Answer.order order)) line = line ≡ order_name order
+IsReply (Ok (Answer.found None)) line = line ≡ codes "nothing"
+IsReply (Ok (Answer.found (Some value))) line =
+    (form : List ℕ) × IsFormOf value form × (line ≡ codes "value " ++ form)
+IsReply (Ok (Answer.size None)) line = line ≡ codes "nothing"
+IsReply (Ok (Answer.size (Some n))) line = line ≡ codes "size " ++ decimal n
+IsReply (Ok (Answer.kind kind)) line = line ≡ codes "kind " ++ kind_name kind
+IsReply (Ok (Answer.text printed)) line = line ≡ codes "text " ++ printed
+IsReply (Ok (Answer.texts texts)) line =
+    (listed : List ℕ) × QuotesList texts listed × (line ≡ codes "fields " ++ listed)
+IsReply (Err refusal) line =
+    (words : List ℕ) × Tells refusal words × (line ≡ codes "error: " ++ words)
+
+-- the same with its line feed
+abbrev pub IsReplyLine : Outcome → List ℕ → Type 0
+IsReplyLine outcome written =
+    (line : List ℕ) × IsReply outcome line × (written ≡ ended line)
+
+-- the reply is one text alone: but where a value that is found, or a list of texts, quotes a text
+-- past ASCII, and where the text of a refusal is not known
+abbrev pub IsFixedReply : Outcome → Type 0
+IsFixedReply (Ok Answer.done) = ⊤
+IsFixedReply (Ok (Answer.truth b)) = ⊤
+IsFixedReply (Ok (Answer.order order)) = ⊤
+IsFixedReply (Ok (Answer.found None)) = ⊤
+IsFixedReply (Ok (Answer.found (Some value))) = IsTrue (is_exact_inside (plain value))
+IsFixedReply (Ok (Answer.size n)) = ⊤
+IsFixedReply (Ok (Answer.kind kind)) = ⊤
+IsFixedReply (Ok (Answer.text printed)) = ⊤
+IsFixedReply (Ok (Answer.texts texts)) = IsSome (debug_list debug_str texts)
+IsFixedReply (Err refusal) = IsSome (text_of refusal)
+
+-- one reply with its line feed for each, in order, and nothing else
+abbrev pub AreReplies : List Outcome → List ℕ → Type 0
+AreReplies outcomes written =
+    (lines : List (List ℕ)) × AllZip IsReply outcomes lines × (written ≡ flat_map ended lines)

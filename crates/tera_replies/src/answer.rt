@@ -1,0 +1,167 @@
+// The line that answers a call.
+ghost use Rattle.std.specs.Prelude.{◌≡◌, ℕ, List, ◌++◌, Ok, Err, Some, IfOk, IfErr};
+ghost use Rattle.std.specs.Prelude.{codes, decimal, map};
+ghost use Rattle.std.specs.String.{string_bytes};
+ghost use Rattle.tera_report.specs.Errors.{kind_of, refusal_of};
+ghost use Rattle.tera_report.specs.Quoted.{QuotesList};
+ghost use Rattle.tera_report.specs.Refusal.{Tells};
+ghost use Rattle.tera_report.specs.Sink.{Broke, Puts, PutsThese, Sends};
+ghost use Rattle.tera_meaning.specs.Answer.{found, texts};
+ghost use Rattle.tera_meaning.specs.Outcome.{is_want};
+ghost use Rattle.tera_context.specs.Call.{answer_of};
+ghost use Rattle.tera_replies.specs.Reply.{IsFormOf, IsReplyLine, order_name};
+ghost use Rattle.tera_replies.specs.Script.{ended};
+ghost use Rattle.tera_replies.specs.Stated.{outcome_stated};
+ghost use Rattle.tera_replies.specs.Stretch.{ReplyStops};
+
+use crate::fault::{Fault, WriteError, put, written};
+use crate::terse::Terse;
+use itoa::Buffer;
+use std::cmp::Ordering;
+use tera_context::Answer;
+use tera_report::quote::put_quoted_list;
+use tera_report::sink::Sink;
+use tera_report::{Error, ErrorKind, TeraResult};
+use tera_values::Value;
+
+/// Writes the line that answers a call, with its line feed, and says whether the answer is want of
+/// memory. Takes no memory, and fails only where a write does.
+pub fn write_answer<W: Sink>(answer: TeraResult<Answer>, out: &mut W) -> Result<bool, Fault>
+    ensures ok { IfOk result (λ wanted. (line : List ℕ)
+        × IsReplyLine (outcome_stated answer) line
+        × Sends W.takes W.flushes out.old line out.new
+        × (wanted ≡ is_want (outcome_stated answer))) }
+    ensures err { IfErr result (ReplyStops
+        (Broke W.takes W.fails W.flushes W.flush_fails out.old out.new)) }
+{
+    match answer {
+        Ok(answer) => {
+            written(put_answer(&answer, out))?;
+            Ok(false)
+        }
+        Err(error) => {
+            written(put_refusal(&error, out))?;
+            Ok(is_want(&error))
+        }
+    }
+}
+
+// Whether the error is want of memory. No other is.
+fn is_want(error: &Error) -> bool
+    ensures { result ≡ is_want (Err (refusal_of (kind_of error.now))) }
+{
+    matches!(error.kind(), ErrorKind::OutOfMemory)
+}
+
+// Puts the line for what is given where nothing is refused.
+fn put_answer<W: Sink>(answer: &Answer, out: &mut W) -> Result<(), WriteError>
+    ensures { Puts W.takes W.fails result
+        (IsReplyLine (Ok (answer_of answer.now))) out.old out.new }
+{
+    match answer {
+        Answer::Done => put("ok\n", out),
+        Answer::Truth(true) => put("true\n", out),
+        Answer::Truth(false) => put("false\n", out),
+        Answer::Order(order) => put(order_line(*order), out),
+        Answer::Found(None) => put("nothing\n", out),
+        Answer::Found(Some(value)) => put_value(value, out),
+        Answer::Size(None) => put("nothing\n", out),
+        Answer::Size(Some(size)) => put_size(*size, out),
+        Answer::Kind(kind) => put_line("kind ", kind.name(), out),
+        Answer::Text(text) => put_line("text ", text.as_str(), out),
+        Answer::Texts(names) => put_fields(names.as_slice(), out),
+    }
+}
+
+fn order_line(order: Option<Ordering>) -> &'static str
+    ensures { result.now ≡ ended (order_name order) }
+{
+    match order {
+        None => "undecided\n",
+        Some(Ordering::Less) => "less\n",
+        Some(Ordering::Equal) => "equal\n",
+        Some(Ordering::Greater) => "greater\n",
+    }
+}
+
+// Puts the line for a length.
+#[inline(never)]
+fn put_size<W: Sink>(size: usize, out: &mut W) -> Result<(), WriteError>
+    ensures { PutsThese W.takes W.fails result
+        (ended (codes "size " ++ decimal size)) out.old out.new }
+{
+    let mut digits = Buffer::new();
+    put_line("size ", digits.format(size), out)
+}
+
+// Puts the line for the names of fields.
+#[inline(never)]
+fn put_fields<W: Sink>(names: &[String], out: &mut W) -> Result<(), WriteError>
+    ensures { Puts W.takes W.fails result
+        (IsReplyLine (Ok (texts (map string_bytes names.now)))) out.old out.new }
+{
+    put("fields ", out)?;
+    put_list(names, out)?;
+    put("\n", out)
+}
+
+// Puts some texts in debug form.
+fn put_list<W: Sink>(texts: &[String], out: &mut W) -> Result<(), WriteError>
+    ensures { Puts W.takes W.fails result
+        (QuotesList (map string_bytes texts.now)) out.old out.new }
+{
+    put_quoted_list(texts, &mut Terse::new(out))
+}
+
+// Puts the line for a value.
+#[inline(never)]
+fn put_value<W: Sink>(value: &Value, out: &mut W) -> Result<(), WriteError>
+    ensures { Puts W.takes W.fails result
+        (IsReplyLine (Ok (found (Some value.now)))) out.old out.new }
+{
+    put("value ", out)?;
+    put_form(value, out)?;
+    put("\n", out)
+}
+
+// Puts a value: undefined and none by their names, and any other as it prints inside an array.
+fn put_form<W: Sink>(value: &Value, out: &mut W) -> Result<(), WriteError>
+    ensures { Puts W.takes W.fails result (IsFormOf value.now) out.old out.new }
+{
+    if value.is_undefined() {
+        return put("undefined", out);
+    }
+    if value.is_none() {
+        return put("none", out);
+    }
+    value.print_inside_to(&mut Terse::new(out))
+}
+
+// Puts the line for a refusal.
+#[inline(never)]
+fn put_refusal<W: Sink>(error: &Error, out: &mut W) -> Result<(), WriteError>
+    ensures { Puts W.takes W.fails result
+        (IsReplyLine (Err (refusal_of (kind_of error.now)))) out.old out.new }
+{
+    put("error: ", out)?;
+    put_words(error, out)?;
+    put("\n", out)
+}
+
+// Puts what tells a refusal.
+fn put_words<W: Sink>(error: &Error, out: &mut W) -> Result<(), WriteError>
+    ensures { Puts W.takes W.fails result
+        (Tells (refusal_of (kind_of error.now))) out.old out.new }
+{
+    error.tell_to(&mut Terse::new(out))
+}
+
+// Puts a text as it is behind a word, line feeds and all.
+#[inline(always)]
+pub(crate) fn put_line<W: Sink>(word: &str, text: &str, out: &mut W) -> Result<(), WriteError>
+    ensures { PutsThese W.takes W.fails result (ended (word.now ++ text.now)) out.old out.new }
+{
+    put(word, out)?;
+    put(text, out)?;
+    put("\n", out)
+}

@@ -1,0 +1,231 @@
+// From pieces of a script to its lines, each answered once it is whole.
+ghost use Rattle.std.specs.Prelude.{◌≡◌, ◌+◌, ◌^◌, ◌<◌, ◌≤◌, ℕ, Bool, ◌||◌, List, [], ◌∷◌, ◌++◌};
+ghost use Rattle.std.specs.Prelude.{IfOk, OnOk, IfErr, IfSome, IfNone, length};
+ghost use Rattle.tera_report.specs.Sink.{Broke, Sends};
+ghost use Rattle.tera_report.specs.Errors.{report_of};
+ghost use Rattle.tera_replies.specs.declared.fault.Fault.TheVariants.{OutOfMemory};
+ghost use Rattle.tera_replies.specs.Replay.{line_report, source_of, whole_line};
+ghost use Rattle.tera_replies.specs.Script.{HasNoLineFeed, without_return, last_line, ended};
+ghost use Rattle.tera_replies.specs.Stretch.{bad_at, Goes, Runs, Stops, LineStops, start};
+
+use crate::answer::write_answer;
+use crate::fault::Fault;
+use itoa::Buffer;
+use memchr::memchr;
+use std::alloc::Global;
+use std::str::from_utf8;
+use tera_context::{Context, step};
+use tera_report::sink::Sink;
+use tera_report::words::characters;
+use tera_report::{ReportError, Span};
+use tera_script::{Reading, read_line};
+
+/// What a replay keeps between two pieces of its script.
+#[derive(Drop)]
+pub struct Feed {
+    /// The number of the line at hand.
+    number: u128,
+    /// What was read of that line.
+    part: Vec<u8>,
+    context: Context,
+    /// Whether an answer was want of memory.
+    wanted_memory: bool,
+}
+
+impl Feed {
+    ghost use Rattle.tera_replies.specs.Place.{place_of};
+
+    /// Before the first byte. Takes no memory.
+    pub fn new(alloc: Global) -> Feed
+        ensures { place_of result ≡ start }
+    {
+        Feed {
+            number: 1,
+            part: Vec::new(alloc),
+            context: Context::new(alloc),
+            wanted_memory: false,
+        }
+    }
+
+    /// Takes a piece of the script, and answers each line that is whole now.
+    pub fn take_piece<W: Sink>(
+        &mut self,
+        alloc: Global,
+        piece: &[u8],
+        out: &mut W,
+    ) -> Result<(), Fault>
+        requires room { self.old.number + length piece.now < 2 ^ 128 }
+        requires part { HasNoLineFeed self.old.part.items }
+        ensures ok { OnOk result ((text : List ℕ)
+            × Goes (place_of self.old) piece.now text (place_of self.new)
+            × Sends W.takes W.flushes out.old text out.new) }
+        ensures number { OnOk result (self.new.number ≤ self.old.number + length piece.now) }
+        ensures err { IfErr result
+            (Stops (place_of self.old) piece.now
+            (λ text. Sends W.takes W.flushes out.old text out.new)
+            (Broke W.takes W.fails W.flushes W.flush_fails out.old out.new)) }
+    {
+        let mut rest = piece;
+        'lines: while let Some((line, later)) = split_line(rest) {
+            self.end_line(alloc, line, out)?;
+            rest = later;
+        }
+        self.part.extend_from_slice(rest)?;
+        Ok(())
+    }
+
+    // Takes the rest of the line at hand, which a line feed ends.
+    fn end_line<W: Sink>(&mut self, alloc: Global, rest: &[u8], out: &mut W) -> Result<(), Fault>
+        requires room { self.old.number + 1 < 2 ^ 128 }
+        requires part { HasNoLineFeed self.old.part.items }
+        requires rest { HasNoLineFeed rest.now }
+        ensures ok { OnOk result ((text : List ℕ)
+            × Goes (place_of self.old) (ended rest.now) text (place_of self.new)
+            × Sends W.takes W.flushes out.old text out.new) }
+        ensures number { OnOk result (self.new.number ≡ self.old.number + 1) }
+        ensures err { IfErr result
+            (LineStops self.old.number (without_return (self.old.part.items ++ rest.now))
+            (Sends W.takes W.flushes out.old [] out.new)
+            (Broke W.takes W.fails W.flushes W.flush_fails out.old out.new)) }
+    {
+        let wanted = self.answer_at_hand(alloc, rest, out)?;
+        self.part.clear();
+        self.number += 1;
+        self.wanted_memory = self.wanted_memory || wanted;
+        Ok(())
+    }
+
+    // Answers the line at hand. Where all of it lies in `rest` it isn't copied.
+    fn answer_at_hand<W: Sink>(
+        &mut self,
+        alloc: Global,
+        rest: &[u8],
+        out: &mut W,
+    ) -> Result<bool, Fault>
+        ensures ok { IfOk result (λ wanted. (text : List ℕ)
+            × Runs self.old.number self.old.context
+            (without_return (self.old.part.items ++ rest.now) ∷ []) text wanted self.new.context
+            × Sends W.takes W.flushes out.old text out.new) }
+        ensures err { IfErr result
+            (LineStops self.old.number (without_return (self.old.part.items ++ rest.now))
+            (Sends W.takes W.flushes out.old [] out.new)
+            (Broke W.takes W.fails W.flushes W.flush_fails out.old out.new)) }
+        ensures number { self.new.number ≡ self.old.number }
+        ensures wanted { self.new.wanted_memory ≡ self.old.wanted_memory }
+    {
+        if self.part.is_empty() {
+            answer_line(alloc, self.number, trimmed(rest), &mut self.context, out)
+        } else {
+            self.part.extend_from_slice(rest)?;
+            let line = trimmed(self.part.as_slice());
+            answer_line(alloc, self.number, line, &mut self.context, out)
+        }
+    }
+
+    /// Answers what follows the last line feed, if it is a line. Says whether any answer was want
+    /// of memory.
+    pub fn finish<W: Sink>(&mut self, alloc: Global, out: &mut W) -> Result<bool, Fault>
+        ensures ok { IfOk result (λ wanted. (text : List ℕ) × (last : Bool)
+            × Runs self.old.number self.old.context (last_line self.old.part.items)
+            text last self.new.context
+            × (wanted ≡ (self.old.wanted_memory || last))
+            × Sends W.takes W.flushes out.old text out.new) }
+        ensures err { IfErr result
+            (λ fault. (last_line self.old.part.items ≡ self.old.part.items ∷ [])
+            × LineStops self.old.number self.old.part.items
+            (Sends W.takes W.flushes out.old [] out.new)
+            (Broke W.takes W.fails W.flushes W.flush_fails out.old out.new) fault) }
+        ensures number { self.new.number ≡ self.old.number }
+        ensures wanted { self.new.wanted_memory ≡ self.old.wanted_memory }
+    {
+        if self.part.is_empty() {
+            return Ok(self.wanted_memory);
+        }
+        let line = self.part.as_slice();
+        let wanted = answer_line(alloc, self.number, line, &mut self.context, out)?;
+        Ok(self.wanted_memory || wanted)
+    }
+}
+
+// Answers a line, and says whether the answer was want of memory.
+fn answer_line<W: Sink>(
+    alloc: Global,
+    number: u128,
+    line: &[u8],
+    context: &mut Context,
+    out: &mut W,
+) -> Result<bool, Fault>
+    ensures ok { IfOk result (λ wanted. (text : List ℕ)
+        × Runs number context.old (line.now ∷ []) text wanted context.new
+        × Sends W.takes W.flushes out.old text out.new) }
+    ensures err { IfErr result (LineStops number line.now
+        (Sends W.takes W.flushes out.old [] out.new)
+        (Broke W.takes W.fails W.flushes W.flush_fails out.old out.new)) }
+{
+    match read_line(alloc, line)? {
+        Reading::Skipped => Ok(false),
+        Reading::Bad => Err(Fault::BadLine(bad_line(alloc, number, line)?)),
+        Reading::Says(call) => write_answer(step(context, call), out),
+    }
+}
+
+// The report of a bad line. A line that is no UTF-8 shows nothing.
+fn bad_line(alloc: Global, number: u128, line: &[u8]) -> Result<Box<ReportError>, Fault>
+    ensures same { IfOk result (λ report.
+        report_of report.value ≡ line_report (bad_at number line.now)) }
+    ensures refused { IfErr result (λ fault. fault ≡ OutOfMemory) }
+{
+    let source = shown_source(line);
+    let span = whole_line(source);
+    let message = String::from_str(alloc, "bad line")?;
+    let filename = ["line ", Buffer::new().format(number)].concat(alloc)?;
+    match ReportError::new(alloc, message, filename.as_str(), source, &span) {
+        Ok(report) => Ok(Box::new(alloc, report)?),
+        Err(_) => Err(Fault::OutOfMemory),
+    }
+}
+
+// What of a bad line its report shows.
+fn shown_source(line: &[u8]) -> &str
+    ensures { result.now ≡ source_of line.now }
+{
+    match from_utf8(line) {
+        Ok(text) => text,
+        Err(_) => "",
+    }
+}
+
+// From the first character of the report's one line to its end.
+fn whole_line(source: &str) -> Span
+    ensures { result ≡ whole_line source.now }
+{
+    Span {
+        start_line: 1,
+        start_col: 0,
+        end_line: 1,
+        end_col: characters(source),
+        range: 0..source.len(),
+    }
+}
+
+// What stands before the first line feed, and after it.
+fn split_line(bytes: &[u8]) -> Option<(&[u8], &[u8])>
+    ensures found { IfSome result
+        (λ parts. HasNoLineFeed parts.0.now × (bytes.now ≡ ended parts.0.now ++ parts.1.now)) }
+    ensures none { IfNone result (HasNoLineFeed bytes.now) }
+{
+    let at = memchr(b'\n', bytes)?;
+    Some((&bytes[..at], &bytes[at + 1..]))
+}
+
+// A line without the carriage return at its end, if it has one.
+fn trimmed(line: &[u8]) -> &[u8]
+    ensures { result.now ≡ without_return line.now }
+{
+    let len = line.len();
+    if len > 0 && line[len - 1] == b'\r' {
+        &line[..len - 1]
+    } else {
+        line
+    }
+}

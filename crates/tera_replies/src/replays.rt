@@ -1,0 +1,152 @@
+// From a script's bytes to the bytes of its answers.
+ghost use Rattle.std.specs.Prelude.{◌≡◌, ◌≤◌, IfSome, IfErr, IsOk, OnOk, None, Some};
+ghost use Rattle.tera_report.specs.Sink.{Broke, Delivers, PutsThese, Sends};
+ghost use Rattle.tera_replies.specs.declared.fault.Fault.TheVariants.{WriteFailed};
+ghost use Rattle.tera_replies.specs.Output.{TakesOrFails, WriterBroke, WriterGets};
+ghost use Rattle.tera_replies.specs.Output.{WriterTakesOrFails};
+ghost use Rattle.tera_report.specs.Errors.{report_of};
+ghost use Rattle.tera_report.specs.Report.{report_text};
+ghost use Rattle.tera_replies.specs.Replay.{Replays};
+ghost use Rattle.tera_replies.specs.Script.{ended};
+ghost use Rattle.tera_replies.specs.Stretch.{Ends, EndsFlushed, status_at, told};
+
+use crate::fault::{Fault, WriteError, put, written};
+use crate::feed::Feed;
+use crate::source::Source;
+use crate::terse::Terse;
+use std::alloc::Global;
+use std::io::Read;
+use tera_report::ReportError;
+use tera_report::sink::Sink;
+use tera_report::watch::{Watched, Writer};
+
+/// How much is read at once.
+const PIECE: usize = 8192;
+
+/// Reads a script from `input`, writes what its calls answer to `out`, each answer before more is
+/// read, and a report of what ended it early to `err`. Answers the exit status: 0 where each line
+/// is answered and none of the answers is want of memory, 1 where one is, 2 at a bad line
+/// (its report), and else 1: `error: reading failed`, `error: writing failed` where a write to
+/// `out` or a flush of it fails, and `error: Out of memory` where the replay itself finds none. A
+/// report that cannot be written changes nothing.
+///
+/// Takes memory for one line, for what its lines set, and for the reply to a refusal.
+pub fn replay<R: Read + Drop, W: Writer, E: Writer>(
+    alloc: Global,
+    mut input: R,
+    out: &mut W,
+    err: &mut E,
+) -> u8
+    ensures known { IfSome (R.remaining input) (λ bytes. Replays bytes None
+        (λ text. WriterGets W.contents W.wrote W.flushed out.old text out.new)
+        (WriterBroke W.wrote W.flushed out.old out.new)
+        (λ text. WriterTakesOrFails E.contents E.wrote err.old text err.new) result) }
+    ensures status { result ≤ 2 }
+    ensures silent { result ≡ 0 → err.new ≡ err.old }
+{
+    let mut watched_out = Watched::new(out);
+    let mut watched_err = Watched::new(err);
+    replay_from(alloc, &mut input, &mut watched_out, &mut watched_err)
+}
+
+/// The same of any source and any sinks.
+pub fn replay_from<S: Source, W: Sink, E: Sink>(
+    alloc: Global,
+    input: &mut S,
+    out: &mut W,
+    err: &mut E,
+) -> u8
+    ensures known { IfSome (S.left input.old) (λ bytes. Replays bytes (S.fails input.old)
+        (λ text. Delivers W.takes W.flushes out.old text out.new)
+        (Broke W.takes W.fails W.flushes W.flush_fails out.old out.new)
+        (λ text. TakesOrFails E.takes E.fails err.old text err.new) result) }
+    ensures status { result ≤ 2 }
+    ensures silent { result ≡ 0 → err.new ≡ err.old }
+{
+    let answered = answer_all(alloc, input, out);
+    let ending = flush_last(answered, out);
+    let _ = tell(&ending, err);
+    status(&ending)
+}
+
+// Answers line after line, and says whether an answer was want of memory.
+fn answer_all<S: Source, W: Sink>(alloc: Global, input: &mut S, out: &mut W) -> Result<bool, Fault>
+    ensures { IfSome (S.left input.old) (λ bytes. Ends bytes (S.fails input.old)
+        (λ text. Sends W.takes W.flushes out.old text out.new)
+        (Broke W.takes W.fails W.flushes W.flush_fails out.old out.new) result) }
+{
+    let mut feed = Feed::new(alloc);
+    let mut piece = [0; PIECE];
+    'pieces: for _turn in 0..u64::MAX {
+        flush(out)?;
+        let count = input.read_piece(&mut piece)?;
+        if count == 0 {
+            return feed.finish(alloc, out);
+        }
+        feed.take_piece(alloc, &piece[..count], out)?;
+    }
+    Err(Fault::ReadFailed)
+}
+
+// Passes on the answers so far.
+fn flush<W: Sink>(out: &mut W) -> Result<(), Fault>
+    ensures ok { OnOk result (W.flushes out.old out.new) }
+    ensures err { IfErr result
+        (λ fault. (fault ≡ WriteFailed) × W.flush_fails out.old out.new) }
+{
+    written(out.flush())
+}
+
+// Passes on the last answers before the end is told, unless writing has failed.
+fn flush_last<W: Sink>(answered: Result<bool, Fault>, out: &mut W) -> Result<bool, Fault>
+    ensures { EndsFlushed W.flushes W.flush_fails answered result out.old out.new }
+{
+    if matches!(answered, Err(Fault::WriteFailed)) {
+        return answered;
+    }
+    flush(out)?;
+    answered
+}
+
+// Puts what is to be said about the end.
+fn tell<E: Sink>(ending: &Result<bool, Fault>, err: &mut E) -> Result<(), WriteError>
+    ensures puts { PutsThese E.takes E.fails result (told ending.now) err.old err.new }
+    ensures silent { IsOk ending.now → err.new ≡ err.old }
+{
+    match ending {
+        Ok(_) => Ok(()),
+        Err(Fault::BadLine(report)) => tell_bad_line(report, err),
+        Err(Fault::ReadFailed) => put("error: reading failed\n", err),
+        Err(Fault::WriteFailed) => put("error: writing failed\n", err),
+        Err(Fault::OutOfMemory) => put("error: Out of memory\n", err),
+    }
+}
+
+// Puts the report of a bad line, and a line feed.
+fn tell_bad_line<E: Sink>(report: &ReportError, err: &mut E) -> Result<(), WriteError>
+    ensures { PutsThese E.takes E.fails result (ended (report_text (report_of report.now)))
+        err.old err.new }
+{
+    put_report(report, err)?;
+    put("\n", err)
+}
+
+fn put_report<E: Sink>(report: &ReportError, err: &mut E) -> Result<(), WriteError>
+    ensures { PutsThese E.takes E.fails result (report_text (report_of report.now))
+        err.old err.new }
+{
+    report.tell_to(&mut Terse::new(err))
+}
+
+// The exit status.
+fn status(ending: &Result<bool, Fault>) -> u8
+    ensures value { result ≡ status_at ending.now }
+    ensures bound { result ≤ 2 }
+{
+    match ending {
+        Ok(false) => 0,
+        Ok(true) => 1,
+        Err(Fault::BadLine(_)) => 2,
+        Err(_) => 1,
+    }
+}

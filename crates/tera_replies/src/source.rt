@@ -1,0 +1,90 @@
+// Where the script is read from.
+ghost use Rattle.std.specs.Prelude.{◌≡◌, ◌<◌, ◌≤◌, ℕ, Bool, List, Option, None, Some};
+ghost use Rattle.std.specs.Prelude.{length, IfOk, OnErr};
+ghost use Rattle.std.specs.Io.KnownBytes.{ReadConsumes};
+ghost use Rattle.tera_replies.specs.Source.{EndIsTold, MayErr, bytes_left, fails_at_end, joined};
+
+use std::io::Read;
+
+/// A read failed.
+#[derive(Debug, Drop)]
+pub struct ReadError;
+
+/// What bytes are read from, and whether it fails once it has given them.
+pub trait Source {
+    // the bytes that reads will give from here on, where they are known
+    ghost left: { Self → Option (List ℕ) };
+
+    // whether it fails after these bytes or ends, where that is known
+    ghost fails: { Self → Option Bool };
+
+    /// Reads some bytes, and answers how many: none only at the end, if there is room for one.
+    fn read_piece(&mut self, piece: &mut [u8]) -> Result<usize, ReadError>
+        ensures bound { IfOk result (λ n. n ≤ length piece.new) }
+        ensures bytes { ReadConsumes (left self.old) (left self.new) result piece.new }
+        ensures stays { fails self.new ≡ fails self.old }
+        ensures end { IfOk result (λ n. n ≡ 0 → 0 < length piece.new → EndIsTold (fails self.old)) }
+        ensures err { OnErr result (MayErr (fails self.old) (left self.old)) };
+}
+
+impl<R: Read> Source for R {
+    ghost left = { λ reader. R.remaining reader };
+
+    ghost fails = { λ _. None };
+
+    fn read_piece(&mut self, piece: &mut [u8]) -> Result<usize, ReadError> {
+        match self.read(piece) {
+            Ok(count) => Ok(count),
+            Err(_) => Err(ReadError),
+        }
+    }
+}
+
+/// Pieces of bytes, which reads give in turn, and then an end or a failure. A piece for which there
+/// is no room is given in parts, and an empty one is passed over. Takes no memory.
+#[derive(Drop)]
+pub struct InputPieces<'a> {
+    pieces: &'a [&'a [u8]],
+    /// The place of the piece at hand, and how much of it was given.
+    at: usize,
+    given: usize,
+    fails: bool,
+}
+
+impl<'a> InputPieces<'a> {
+    /// These pieces, and then an end, or a failure where it `fails`.
+    pub fn new(pieces: &'a [&'a [u8]], fails: bool) -> InputPieces<'a>
+        ensures bytes { bytes_left result ≡ joined pieces.now }
+        ensures end { fails_at_end result ≡ fails }
+    {
+        InputPieces {
+            pieces,
+            at: 0,
+            given: 0,
+            fails,
+        }
+    }
+}
+
+impl Source for InputPieces<'_> {
+    ghost left = { λ pieces. Some (bytes_left pieces) };
+
+    ghost fails = { λ pieces. Some (fails_at_end pieces) };
+
+    fn read_piece(&mut self, piece: &mut [u8]) -> Result<usize, ReadError> {
+        while self.at < self.pieces.len() {
+            let first = self.pieces[self.at];
+            if self.given < first.len() {
+                let rest = &first[self.given..];
+                let count = rest.len().min(piece.len());
+                let (front, later) = rest.split_at(count);
+                piece[..count].copy_from_slice(front);
+                self.given = first.len() - later.len();
+                return Ok(count);
+            }
+            self.at += 1;
+            self.given = 0;
+        }
+        if self.fails { Err(ReadError) } else { Ok(0) }
+    }
+}

@@ -1,0 +1,54 @@
+-- The text of bytes is that of its chunks in turn.
+use Rattle.std.proofs.Common.{◌≡◌, ℕ, ◌<◌, List, [], ◌∷◌, ◌++◌, length, drop, IsUtf8, refl, sym, ap, subst, ◌∙◌, arith, append_assoc, append-nil, drop_at, None}
+use Rattle.std.proofs.lemmas.List.{nil_from_length}
+use Rattle.std.proofs.lemmas.Str.{utf8_lossy_chunk, utf8_lossy-IsUtf8, utf8_lossy_empty, utf8_valid_len-IsValidUpTo}
+use Rattle.std.specs.Str.{IsValidUpTo}
+use Rattle.std.specs.Str.Lossy.{utf8_lossy, utf8_valid_len, utf8_invalid_len, replacement_bytes}
+use Rattle.bstr.specs.Utf8.{decoded}
+use Rattle.tera_scalars.specs.Lossy.{stand_in}
+use Rattle.bstr.proofs.lemmas.LossyLemmas.{utf8_invalid_len-decoded}
+use Rattle.bstr.proofs.lemmas.UnicodeLemmas.{none_after_valid}
+
+-- a chunk that ends in a piece that is no character
+faulty_chunk : (bs valid invalid rest : List ℕ) → bs ≡ valid ++ (invalid ++ rest) → 0 < length invalid
+    → IsValidUpTo bs (length valid)
+    → length invalid ≡ (decoded (invalid ++ rest)).size
+    → utf8_lossy bs ≡ valid ++ (replacement_bytes ++ utf8_lossy rest)
+faulty_chunk bs valid invalid rest parts some up_to size =
+    let n = length valid in
+    let front : n ≡ utf8_valid_len bs = sym (utf8_valid_len-IsValidUpTo bs n up_to) in
+    let left : drop n bs ≡ invalid ++ rest = ap (drop n) parts ∙ drop_at valid (invalid ++ rest) n refl in
+    let none = subst (λ l. (decoded l).char ≡ None) left (none_after_valid bs n up_to) in
+    let gone = size ∙ sym (utf8_invalid_len-decoded (invalid ++ rest) none) ∙ ap utf8_invalid_len (sym left)
+    ∙ ap (λ k. utf8_invalid_len (drop k bs)) front in
+    utf8_lossy_chunk bs valid invalid rest parts front gone some
+
+-- the last chunk, where it is all text
+last_chunk : (bs valid invalid rest : List ℕ) → bs ≡ valid ++ (invalid ++ rest) → IsUtf8 valid → length invalid ≡ 0
+    → length rest ≡ 0
+    → utf8_lossy bs ≡ valid ++ utf8_lossy rest
+last_chunk bs valid invalid rest parts text none end =
+    let whole : bs ≡ valid = parts ∙ ap (λ l. valid ++ (l ++ rest)) (nil_from_length invalid none)
+    ∙ ap (λ l. valid ++ l) (nil_from_length rest end) ∙ append-nil valid in
+    ap utf8_lossy whole ∙ utf8_lossy-IsUtf8 valid text ∙ sym (append-nil valid)
+    ∙ ap (λ l. valid ++ l) (sym (utf8_lossy_empty rest end))
+
+chunk_text : (bs valid invalid rest : List ℕ) → bs ≡ valid ++ (invalid ++ rest) → IsUtf8 valid
+    → (length invalid ≡ 0 → length rest ≡ 0)
+    → (0 < length invalid → IsValidUpTo bs (length valid))
+    → (0 < length invalid → length invalid ≡ (decoded (invalid ++ rest)).size)
+    → utf8_lossy bs ≡ valid ++ (stand_in invalid ++ utf8_lossy rest)
+chunk_text bs valid [] rest parts text end up_to size = last_chunk bs valid [] rest parts text refl (end refl)
+chunk_text bs valid (b ∷ invalid) rest parts text end up_to size = faulty_chunk bs valid (b ∷ invalid) rest parts (omega arith) (up_to (omega arith)) (size (omega arith))
+
+-- one more chunk is put
+pub chunk_more : (bytes bs done valid invalid rest : List ℕ) → done ++ utf8_lossy bs ≡ utf8_lossy bytes
+    → bs ≡ valid ++ (invalid ++ rest) → IsUtf8 valid
+    → (length invalid ≡ 0 → length rest ≡ 0)
+    → (0 < length invalid → IsValidUpTo bs (length valid))
+    → (0 < length invalid → length invalid ≡ (decoded (invalid ++ rest)).size)
+    → ((done ++ valid) ++ stand_in invalid) ++ utf8_lossy rest ≡ utf8_lossy bytes
+chunk_more bytes bs done valid invalid rest before parts text end up_to size =
+    append_assoc (done ++ valid) (stand_in invalid) (utf8_lossy rest)
+    ∙ append_assoc done valid (stand_in invalid ++ utf8_lossy rest)
+    ∙ ap (λ l. done ++ l) (sym (chunk_text bs valid invalid rest parts text end up_to size)) ∙ before

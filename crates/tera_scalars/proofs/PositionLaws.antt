@@ -1,0 +1,132 @@
+-- A walk over places that fit machine integers takes the slice between the bounds that it was made of.
+use Rattle.std.specs.Prelude.{◌≡◌, ◌≢◌, ◌⊎◌, ◌<◌, ◌≤◌, ◌+◌, ◌-◌, ◌*◌, ◌^◌, min, ℕ, zero, suc, ℤ, pos, negsuc, Bool, true, false, ◌||◌, List, [], ◌∷◌, length, take, drop, slice_get, Option, None, Some}
+use Rattle.std.proofs.Common.{refl, sym, ap, ◌∙◌, subst, arith, inl, inr}
+use Rattle.std.proofs.lemmas.Bool.{cases_lt}
+use Rattle.std.proofs.lemmas.Int.{ints, clamps}
+use Rattle.tera_meaning.specs.Slice.{IsSliceOf, start_place, end_place}
+use Rattle.tera_meaning.specs.Walk.{IsStrided, directed, pause, place_behind, walked}
+use Rattle.tera_meaning.proofs.SliceLaws.{strided_is_slice, walked_strides, length_directed}
+use Rattle.tera_scalars.specs.Positions.{counts_from_afar}
+
+module _ {X : Type 0} where
+  -- a step that passes the end wherever it starts takes the same as a greater one
+  widened : (xs ys : List X) (from until by step : ℕ) → by ≤ step → until ≤ by → IsStrided xs from until by ys
+      → IsStrided xs from until step ys
+  widened xs [] from until by step less far h = record {
+    reached = let e = h.reached in omega arith;
+    before = λ k b. absurd (omega arith);
+    taken = λ k b. absurd (omega arith);
+  }
+  widened xs (y ∷ []) from until by step less far h = record {
+    reached = omega arith;
+    before = λ k b. let e = h.before 0 (omega arith) in let first : k ≡ 0 = omega arith in subst (λ i. from + i * step < until) (sym first) (omega arith);
+    taken = λ k b.
+        let first : k ≡ 0 = omega arith in
+        let same : from + 0 * by ≡ from + 0 * step = omega arith in
+        subst (λ i. slice_get (y ∷ []) i ≡ slice_get xs (from + i * step)) (sym first) (h.taken 0 (omega arith) ∙ ap (slice_get xs) same);
+  }
+  widened xs (y ∷ z ∷ ys) from until by step less far h = let e = h.before 1 (omega arith) in absurd (omega arith)
+
+  paced : (xs ys : List X) (from until by : ℕ) (step : ℤ) → until < 2 ^ 64 → by ≡ min (suc (pause step)) (2 ^ 64 - 1)
+      → IsStrided xs from until by ys → IsStrided xs from until (suc (pause step)) ys
+  paced xs ys from until by step fits pace h = elim (cases_lt (2 ^ 64 - 1) (suc (pause step))) [
+    | inl far ↦ widened xs ys from until by (suc (pause step)) (omega arith) (omega arith) h
+    | inr near ↦ let same : by ≡ suc (pause step) = omega arith in subst (λ n. IsStrided xs from until n ys) same h
+  ]
+
+  pub stride_slices : (xs ys : List X) (start end : Option ℤ) (step : ℤ) (from until by : ℕ) → step ≢ pos 0
+      → length xs < 2 ^ 64 → until ≤ length xs → place_behind step (length xs) from ≡ start_place step (length xs) start
+      → place_behind step (length xs) until ≡ end_place step (length xs) end → by ≡ min (suc (pause step)) (2 ^ 64 - 1)
+      → IsStrided (directed step xs) from until by ys → IsSliceOf xs start end step ys
+  stride_slices xs ys start end step from until by nonzero fits within s e pace h =
+      strided_is_slice xs ys _ _ step from until nonzero within s e
+      (paced (directed step xs) ys from until by step (omega arith) pace h)
+
+  -- a walk that starts behind the last item takes what one does that starts there
+  settled : (xs ys : List X) (from until by m : ℕ) → until ≤ m → IsStrided xs from until by ys
+      → IsStrided xs (min from m) until by ys
+  settled xs [] from until by m within h = record {
+    reached = let e = h.reached in omega arith;
+    before = λ k b. absurd (omega arith);
+    taken = λ k b. absurd (omega arith);
+  }
+  settled xs (y ∷ ys) from until by m within h =
+      let e = h.before 0 (omega arith) in
+      let same : from ≡ min from m = omega arith in
+      subst (λ n. IsStrided xs n until by (y ∷ ys)) same h
+
+start_uncounted : (step : ℤ) (start : Option ℤ) (n m from : ℕ) → m ≤ n → counts_from_afar step start ≡ false
+    → place_behind step n from ≡ start_place step n start → place_behind step m (min from m) ≡ start_place step m start
+start_uncounted (pos s) None n m from less near e = omega (arith, ints)
+start_uncounted (negsuc s) None n m from less near e = omega (arith, ints)
+start_uncounted (pos s) (Some (pos b)) n m from less near e = omega (arith, ints, clamps)
+start_uncounted (pos s) (Some (negsuc b)) n m from less near e = cc
+start_uncounted (negsuc s) (Some (pos b)) n m from less near e = cc
+start_uncounted (negsuc s) (Some (negsuc b)) n m from less near e = omega (arith, ints, clamps)
+
+end_uncounted : (step : ℤ) (end : Option ℤ) (n m until : ℕ) → m ≤ n → counts_from_afar step end ≡ false
+    → place_behind step n until ≡ end_place step n end → place_behind step m (min until m) ≡ end_place step m end
+end_uncounted (pos s) None n m until less near e = omega (arith, ints)
+end_uncounted (negsuc s) None n m until less near e = omega (arith, ints)
+end_uncounted (pos s) (Some (pos b)) n m until less near e = omega (arith, ints, clamps)
+end_uncounted (pos s) (Some (negsuc b)) n m until less near e = cc
+end_uncounted (negsuc s) (Some (pos b)) n m until less near e = cc
+end_uncounted (negsuc s) (Some (negsuc b)) n m until less near e = omega (arith, ints, clamps)
+
+neither : (a b : Bool) → (a || b) ≡ false → (a ≡ false) × (b ≡ false)
+neither false b e = (refl, e)
+neither true b e = cc
+
+module _ {X : Type 0} where
+  -- the length is the count, or more where no bound takes the count
+  pub walk_slices : (xs : List X) (start end : Option ℤ) (step : ℤ) (n from until by : ℕ) → step ≢ pos 0
+      → n < 2 ^ 64 → length xs ≤ n → from ≤ n → until ≤ n
+      → ((counts_from_afar step start || counts_from_afar step end) ≡ false) ⊎ (n ≡ length xs)
+      → place_behind step n from ≡ start_place step n start → place_behind step n until ≡ end_place step n end
+      → by ≡ min (suc (pause step)) (2 ^ 64 - 1)
+      → IsSliceOf xs start end step (walked (by - 1) from (take until (directed step xs)))
+  walk_slices xs start end step n from until by nonzero fits less from_in until_in known s e pace =
+      let m = length xs in
+      let ys = walked (by - 1) from (take until (directed step xs)) in
+      let one_on : suc (by - 1) ≡ by = omega arith in
+      let places : (place_behind step m (min from m) ≡ start_place step m start) × (place_behind step m (min until m) ≡ end_place step m end) =
+      elim known [
+        | inl near ↦
+            let both = neither (counts_from_afar step start) (counts_from_afar step end) near in
+            (start_uncounted step start n m from less both.0 s, end_uncounted step end n m until less both.1 e)
+        | inr same ↦
+            let first : from ≡ min from m = omega arith in
+            let last : until ≡ min until m = omega arith in (
+              subst (λ d. place_behind step m d ≡ start_place step m start) first
+                  (subst (λ k. place_behind step k from ≡ start_place step k start) same s),
+              subst (λ d. place_behind step m d ≡ end_place step m end) last
+                  (subst (λ k. place_behind step k until ≡ end_place step k end) same e),
+            )
+      ]
+      in
+      let walk : IsStrided (directed step xs) from (min until m) by ys =
+      subst (λ b. IsStrided (directed step xs) from (min until m) b ys) one_on
+      (subst (λ k. IsStrided (directed step xs) from (min until k) (suc (by - 1)) ys) (length_directed step xs)
+      (walked_strides (by - 1) from until (directed step xs)))
+      in
+      stride_slices xs ys start end step (min from m) (min until m) by nonzero (omega arith) (omega arith) places.0 places.1 pace
+      (settled (directed step xs) ys from (min until m) by m (omega arith) walk)
+
+  none_taken : (p n : ℕ) → walked {X = X} p 0 (take n []) ≡ []
+  none_taken p zero = refl
+  none_taken p (suc n) = refl
+
+  -- to wait at the front is to walk over what stands behind
+  pub walked_behind : (p waits until : ℕ) (xs : List X)
+      → walked p 0 (take (until - waits) (drop waits xs)) ≡ walked p waits (take until xs)
+  walked_behind p zero until xs = let e : until - 0 ≡ until = omega arith in ap (λ n. walked p 0 (take n xs)) e
+  walked_behind p (suc waits) zero xs = let e : 0 - suc waits ≡ 0 = omega arith in ap (λ n. walked p 0 (take n (drop (suc waits) xs))) e
+  walked_behind p (suc waits) (suc until) [] = none_taken p (suc until - suc waits)
+  walked_behind p (suc waits) (suc until) (x ∷ xs) =
+      let e : suc until - suc waits ≡ until - waits = omega arith in
+      ap (λ n. walked p 0 (take n (drop waits xs))) e ∙ walked_behind p waits until xs
+
+  -- a walk by one takes each item
+  pub walked_whole : (xs : List X) → walked 0 0 xs ≡ xs
+  walked_whole [] = refl
+  walked_whole (x ∷ xs) = ap (λ ys. x ∷ ys) (walked_whole xs)

@@ -1,0 +1,6 @@
+pub mod Lossy
+pub mod Whole
+pub mod Positions
+pub mod Index
+pub mod Number
+pub mod Operation

@@ -1,0 +1,26 @@
+-- The operators of the code, and why two numbers have no result.
+use Rattle.std.specs.Prelude.{ℤ, Result}
+use Rattle.std.specs.Result.{result_map_both}
+use Rattle.tera_report.specs.Refusal.{Refusal, Operator, plus, minus, times, remainder, floor_division, power, divided_by_zero, exponent_outside_u32, not_exact}
+use Rattle.tera_scalars.specs.declared.operation.BinaryOp.{BinaryOp}
+use Rattle.tera_scalars.specs.declared.operation.BinaryOp.TheVariants.{Add, Sub, Mul, Rem, FloorDiv, Pow}
+use Rattle.tera_scalars.specs.declared.operation.NoResult.{NoResult}
+use Rattle.tera_scalars.specs.declared.operation.NoResult.TheVariants.{DividedByZero, ExponentOutsideU32, NotExact}
+
+abbrev pub operator_of : BinaryOp → Operator
+operator_of Add = plus
+operator_of Sub = minus
+operator_of Mul = times
+operator_of Rem = remainder
+operator_of FloorDiv = floor_division
+operator_of Pow = power
+
+-- the refusal of two numbers that have no result
+abbrev pub refusal_of : Operator → ℤ → ℤ → NoResult → Refusal
+refusal_of operator left right DividedByZero = divided_by_zero
+refusal_of operator left right ExponentOutsideU32 = exponent_outside_u32 right
+refusal_of operator left right NotExact = not_exact left operator right
+
+-- what the code answers of two numbers, with its refusal
+abbrev pub told : Operator → ℤ → ℤ → Result ℤ NoResult → Result ℤ Refusal
+told operator left right result = result_map_both (λ z. z) (refusal_of operator left right) result

@@ -1,0 +1,76 @@
+//! Which part of several an index names.
+ghost use Rattle.std.specs.Prelude.{◌≡◌, reverse, slice_get};
+ghost use Rattle.std.specs.Str.{chars};
+ghost use Rattle.tera_meaning.specs.Lookup.{place_of, part_at};
+ghost use Rattle.tera_scalars.specs.Index.{index_value};
+ghost use Rattle.tera_scalars.specs.Whole.{whole_value};
+
+use crate::Whole;
+
+/// How many parts stand before the one that is named, or behind it.
+#[derive(Clone, Copy, Debug)]
+pub(crate) enum Index {
+    FromFront(u128),
+    FromBack(u128),
+}
+
+// The index that a number is.
+fn as_index(number: Whole) -> Index
+    ensures { index_value result ≡ whole_value number }
+{
+    match number {
+        Whole::Unsigned(n) => Index::FromFront(n),
+        Whole::Signed(z) => {
+            if z < 0 {
+                Index::FromBack((-1 - z) as u128)
+            } else {
+                Index::FromFront(z as u128)
+            }
+        }
+    }
+}
+
+/// The place that an index names among so many parts, one below 0 being counted from the end;
+/// nothing where it names none. Takes no memory.
+pub fn place(number: Whole, count: usize) -> Option<usize>
+    ensures { result ≡ place_of count (whole_value number) }
+{
+    match as_index(number) {
+        Index::FromFront(n) if n < count as u128 => Some(n as usize),
+        Index::FromBack(n) if n < count as u128 => Some(count - 1 - n as usize),
+        _ => None,
+    }
+}
+
+/// The character of a text at an index, one below 0 being counted from the end; nothing where it
+/// names none. It decodes what stands before the character, or behind it. Takes no memory.
+pub fn character(text: &str, number: Whole) -> Option<char>
+    ensures { result ≡ part_at (chars text.now) (whole_value number) }
+{
+    match as_index(number) {
+        Index::FromFront(n) => character_from_front(text, n),
+        Index::FromBack(n) => character_from_back(text, n),
+    }
+}
+
+// The character behind the first n.
+fn character_from_front(text: &str, n: u128) -> Option<char>
+    ensures { result ≡ slice_get (chars text.now) n }
+{
+    if n < text.len() as u128 {
+        text.chars().nth(n as usize)
+    } else {
+        None
+    }
+}
+
+// The character before the last n.
+fn character_from_back(text: &str, n: u128) -> Option<char>
+    ensures { result ≡ slice_get (reverse (chars text.now)) n }
+{
+    if n < text.len() as u128 {
+        text.chars().nth_back(n as usize)
+    } else {
+        None
+    }
+}

@@ -1,5 +1,0 @@
-mod LossyLemmas
-pub mod TextLemmas
-pub mod PositionLaws
-pub mod CharLemmas
-pub mod PlaceLemmas

@@ -1,4 +1,0 @@
-pub mod Lossy
-pub mod Whole
-pub mod Positions
-pub mod Index
