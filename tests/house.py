@@ -201,6 +201,8 @@ def lengths():
 # ---- docs
 
 CODE = re.compile(r"`([^`\n]+)`")
+# what a path of the repository, or one within a crate, begins with
+TOPS = {it.split("/")[0] for it in FILES} | {"src", "specs", "proofs", "wrong", "must-fail"}
 PATH = re.compile(r"^[\w.-]+(?:/[\w.*+-]+)+/?$|^[\w-]+\.(?:md|py|sh|rt|antt|c|txt)$")
 NAME = re.compile(r"^[A-Za-z_]\w*(?:(?:::|\.)[A-Za-z_*]\w*)*$")
 
@@ -215,28 +217,30 @@ def docs():
         except UnicodeDecodeError:
             pass
     words.update(re.findall(r"\w+", " ".join(FILES)))
-    stems = {os.path.basename(it) for it in FILES} | {part for it in FILES for part in it.split("/")}
     for path in pages:
+        # what speaks of other things has other things' names
+        is_ours = os.path.basename(path) not in ("DECISIONS.md", "DIFFERENCES.md")
         text = re.sub(r"(?ms)^```.*?^```", "", read(path))
         for target in re.findall(r"\]\(([^)#:]+)\)", text):
             if not os.path.exists(os.path.join(os.path.dirname(path), target)):
                 yield f"{path}: the link {target} leads nowhere"
         for code in dict.fromkeys(CODE.findall(text)):
             if PATH.match(code):
-                if not is_there(code, path, stems):
+                if not is_there(code):
                     yield f"{path}: no file `{code}`"
-            elif NAME.match(code):
+            elif is_ours and NAME.match(code) and not code.endswith("_"):
                 missing = [it for it in re.findall(r"\w+", code) if it not in words]
                 if missing:
                     yield f"{path}: `{code}` names {', '.join(missing)}, which is nowhere"
 
 
-def is_there(code, page, stems):
-    code = code.rstrip("/")
-    if code in stems or "out" in code.split("/"):
+def is_there(code):
+    """Whether a path is there; words in capitals, and stars, stand for any name."""
+    parts = code.removeprefix("./").rstrip("/").split("/")
+    if parts[0] not in TOPS and "." not in parts[-1] or "out" in parts:
         return True
-    pattern = re.compile(rf"(?:.*/)?{re.escape(code).replace(re.escape('*'), '[^/]*')}(?:\.\w+)?(?:/.*)?$")
-    return any(pattern.match(it) for it in FILES)
+    pattern = "/".join("[^/]*" if re.fullmatch(r"[A-Z]+", it) else re.escape(it).replace(re.escape("*"), "[^/]*") for it in parts)
+    return any(re.match(rf"(?:.*/)?{pattern}(?:\.\w+)?(?:/.*)?$", it) for it in FILES)
 
 
 RULES = {
