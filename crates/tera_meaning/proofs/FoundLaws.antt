@@ -7,7 +7,7 @@ use Rattle.std.specs.Option.{option_map, option_and_then, ok_or}
 use Rattle.std.specs.Ordering.{eq_by_cmp}
 use Rattle.std.specs.Str.{chars, IsUtf8}
 use lib.Utf8.{scalars}
-use Rattle.tera_report.specs.Refusal.{Container, not_an_index, not_a_map_key}
+use Rattle.tera_report.specs.Refusal.{Container, in_array, in_text, not_an_index, not_a_map_key}
 use Rattle.tera_meaning.specs.Form.{Form, MarkedText}
 use Rattle.tera_meaning.specs.Integer.{Integer}
 use Rattle.tera_meaning.specs.KeyMeaning.{KeyForm, text_key, borrowed}
@@ -117,9 +117,9 @@ sound_item undefined i h = tt
 sound_item none i h = tt
 sound_item (truth b) i h = tt
 sound_item (number z) i h = tt
-sound_item (text t) i h = sound_index _ i _ (λ z. sound_text t (part_at (chars t.spelled) z) (sound_char_at (chars t.spelled) (place_of (length (chars t.spelled)) z) (scalars-chars t.spelled h)))
+sound_item (text t) i h = sound_index in_text i _ (λ z. sound_text t (part_at (chars t.spelled) z) (sound_char_at (chars t.spelled) (place_of (length (chars t.spelled)) z) (scalars-chars t.spelled h)))
 sound_item (bytes bs) i h = tt
-sound_item (array xs) i h = sound_index _ i _ (λ z. sound_part xs (place_of (length (items_list xs)) z) h)
+sound_item (array xs) i h = sound_index in_array i _ (λ z. sound_part xs (place_of (length (items_list xs)) z) h)
 sound_item (object ps) i h = sound_key ps i h.1
 
 pub sound_as_key : (v : Form) → IsWellMade v → IfOk (as_key v) IsWellMadeKey
