@@ -25,7 +25,8 @@ use Rattle.tera_meaning.proofs.AlikeLaws.{some_one, all_outcomes_alike, all_ask_
 use Rattle.tera_meaning.specs.Tree.{undefined}
 use Rattle.tera_meaning.specs.WellMade.{IsWellMadeState, AllBringWellMade}
 use Rattle.tera_meaning.proofs.RunLaws.{ample_outcomes}
-use Rattle.tera_meaning.proofs.WellMadeLaws.{form_at_well, held_name_well}
+use Rattle.tera_meaning.proofs.WellMadeLaws.{held_name_well}
+use Rattle.tera_meaning.proofs.Owed.{form_at_well}
 
 truth_of : OutcomeOf Meaning → Bool
 truth_of (Ok (Answer.truth b)) = b

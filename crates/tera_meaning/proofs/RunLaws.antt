@@ -1,15 +1,11 @@
 -- The outcomes of runs, in which some steps may want memory.
-use Rattle.std.specs.Prelude.{◌≡◌, ◌≢◌, ℕ, pos, Bool, true, false, List, [], ◌∷◌, ◌++◌, length, Option, Some, None, Result, Ok, Err, IfErr, refl}
+use Rattle.std.specs.Prelude.{◌≡◌, ◌≢◌, ℕ, Bool, true, false, List, [], ◌∷◌, ◌++◌, length, Option, Some, None, Ok, Err, refl}
 use Rattle.std.proofs.Common.{sym, ◌∙◌, ap, subst, inl, inr, arith}
 use Rattle.tera_report.specs.Escaping.{escaped}
 use Rattle.tera_report.specs.Refusal.{Refusal, memory_refused}
 use Rattle.tera_report.proofs.EscapeLemmas.{Spells-escaped}
 use Rattle.tera_meaning.specs.Answer
-use Rattle.std.specs.Option.{unwrap_or}
-use Rattle.tera_meaning.specs.Search.{Search, Found, found_at, one_found}
-use Rattle.tera_meaning.specs.Arithmetic.{calculated, negated}
-use Rattle.tera_meaning.specs.Conversion.{read_as}
-use Rattle.tera_meaning.proofs.ArithmeticLaws.{no_calculation_wants, no_negation_wants, no_conversion_wants}
+use Rattle.tera_meaning.specs.Search.{Found, found_at}
 use Rattle.tera_meaning.specs.Form.{Form}
 use Rattle.tera_meaning.specs.Meaning.{plain}
 use Rattle.tera_meaning.specs.Outcome.{Outcome, out_of_memory, is_want}
@@ -22,7 +18,8 @@ use Rattle.tera_meaning.specs.Run.{IsRun, AreOutcomes, AreFixed, state_after_all
 use Rattle.tera_meaning.specs.Alike.{MeanTheSame, AllAskTheSame, AreAlike, meaning_held}
 use Rattle.tera_meaning.specs.Weighing.{Weighing, weighed}
 use Rattle.tera_meaning.proofs.StepLaws.{refused_answer}
-use Rattle.tera_meaning.proofs.WantLaws.{no_item_wants, no_slice_wants, no_reversal_wants, no_container_wants}
+use Rattle.tera_meaning.proofs.ContainsLaws.{no_container_wants}
+use Rattle.tera_meaning.proofs.found.{owed}
 use Rattle.tera_meaning.proofs.AlikeLaws.{word_alike, all_outcomes_alike, states_alike}
 
 -- no request comes to want of memory
@@ -35,26 +32,6 @@ never_weighed : (weighing : Weighing) (v w : Form) → out_of_memory ≡ weighed
 never_weighed Weighing.equal v w e = cc
 never_weighed Weighing.contains v w e = no_container_wants v w e
 never_weighed weighing v w e = cc
-
--- a value that is found is no want of memory, and no other refusal is
-no_want_found : (found : Result Form Refusal) → IfErr found (λ refusal. refusal ≡ memory_refused → ⊥)
-    → one_found found ≡ Err memory_refused → ⊥
-no_want_found (Ok value) h e = cc
-no_want_found (Err refusal) h e = h cc
-
-never_searched : (state : State) (search : Search) → found_at state search ≡ Err memory_refused → ⊥
-never_searched state (Search.get name) e = cc
-never_searched state (Search.path name p) e = cc
-never_searched state (Search.attr name t) e = cc
-never_searched state (Search.item name i) e = no_item_wants (form_at state name) (form_at state i) e
-never_searched state (Search.slice name start end step) e = no_slice_wants (form_at state name) start end (unwrap_or step (pos 1)) e
-never_searched state (Search.reverse name) e = no_reversal_wants (form_at state name) e
-never_searched state (Search.calculate operator left right) e =
-    no_want_found (calculated operator (form_at state left) (form_at state right)) (no_calculation_wants operator (form_at state left) (form_at state right)) e
-never_searched state (Search.negate name) e =
-    no_want_found (negated (form_at state name)) (no_negation_wants (form_at state name)) e
-never_searched state (Search.read type name) e =
-    no_want_found (read_as type (form_at state name)) (no_conversion_wants type (form_at state name)) e
 
 want_is : (refusal : Refusal) → ◌≡◌ {A = Outcome} (Err memory_refused) (Err refusal) → refusal ≡ memory_refused
 want_is refusal e = cc
@@ -74,7 +51,7 @@ never_wanted state (remove name) into e = cc
 never_wanted state (mark_safe name) into e = cc
 never_wanted state (ask question name) into e = never_asked question _ e
 never_wanted state (weigh weighing left right) into e = never_weighed weighing (form_at state left) (form_at state right) e
-never_wanted state (find search) into e = never_found into (found_at state search) (never_searched state search) e
+never_wanted state (find search) into e = never_found into (found_at state search) ((owed search).no_want state) e
 
 -- each request comes to some outcome
 some_answer : (question : Question) (held : Option Form) → (outcome : Outcome) × IsAnswered question held outcome
