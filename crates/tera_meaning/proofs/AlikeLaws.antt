@@ -27,19 +27,13 @@ use Rattle.tera_meaning.proofs.ExtendLaws.{extended_alike}
 use Rattle.tera_meaning.specs.Request.{Request, set, extend, remove, mark_safe, ask, weigh, find, Command}
 use Rattle.tera_meaning.specs.Run.{AreOutcomes, state_after_all}
 use Rattle.tera_meaning.specs.Step.{found_or_kept, keeping, marking, marking_into, ComesTo, IsOutcome, leaves, state_after}
-use Rattle.tera_meaning.specs.Tree.{undefined, none, truth, number, text, bytes, array, object}
+use Rattle.tera_meaning.specs.Tree.{undefined, text}
 use Rattle.tera_meaning.specs.Weighing.{Weighing, weighed, truth_told}
 
 -- marking changes no meaning
 pub plain_marked : (value : Form) → plain (marked_safe value) ≡ plain value
-plain_marked undefined = refl
-plain_marked none = refl
-plain_marked (truth b) = refl
-plain_marked (number n) = refl
 plain_marked (text t) = refl
-plain_marked (bytes bs) = refl
-plain_marked (array xs) = refl
-plain_marked (object ps) = refl
+plain_marked v = refl
 
 pub some_one : (v w : Form) → option_map plain (Some v) ≡ option_map plain (Some w) → plain v ≡ plain w
 some_one v w e = ap (λ o. unwrap_or o undefined) e

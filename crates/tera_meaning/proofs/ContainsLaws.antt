@@ -45,25 +45,15 @@ holds_meant (object ps) x = Ok (is_some (paired_meant ps (key_meant x)))
 
 holds_plain : (v x : Form) → seen_by (λ b. b) (holds v x) ≡ holds_meant (plain v) (plain x)
 unfolding holds_meant
-holds_plain undefined x = refl
-holds_plain none x = refl
-holds_plain (truth b) x = refl
-holds_plain (number z) x = refl
 holds_plain (text t) x = ap (λ o. Ok (text_holds t.spelled o)) (text_plain x)
-holds_plain (bytes bs) x = refl
 holds_plain (array xs) x = ap Ok (any_plain (λ y. same y (plain x)) xs)
 holds_plain (object ps) x =
     ap Ok (sym (is_there plain (paired (members_list ps) (key_in x))) ∙ ap is_some (paired_plain ps (key_in x)) ∙ ap (λ k. is_some (paired_meant (plain_pairs ps) k)) (key_plain x))
+holds_plain v x = refl
 
 pub holds_by_meaning : (v w x y : Form) → plain v ≡ plain w → plain x ≡ plain y → seen_by (λ b. b) (holds v x) ≡ seen_by (λ b. b) (holds w y)
 holds_by_meaning v w x y same sought = holds_plain v x ∙ (λ d. holds_meant (same d) (sought d)) ∙ sym (holds_plain w y)
 
 pub no_container_wants : (v x : Form) → out_of_memory ≡ truth_told (holds v x) → ⊥
-no_container_wants undefined x e = cc
-no_container_wants none x e = cc
-no_container_wants (truth b) x e = cc
-no_container_wants (number n) x e = cc
 no_container_wants (text t) x e = cc
-no_container_wants (bytes bs) x e = cc
-no_container_wants (array xs) x e = cc
-no_container_wants (object ps) x e = cc
+no_container_wants v x e = cc

@@ -15,7 +15,7 @@ use Rattle.tera_meaning.specs.Pairs.{value_at}
 use Rattle.tera_meaning.specs.Printed.{shown_key}
 use Rattle.tera_meaning.specs.Read.{number_in, text_in}
 use Rattle.tera_meaning.specs.Slice.{shape_of}
-use Rattle.tera_meaning.specs.Tree.{Items, undefined, none, truth, number, text, bytes, array, object, no_items, items, items_list, relabeled_items, members_list, Members, item as an_item, no_members, member, relabeled_members}
+use Rattle.tera_meaning.specs.Tree.{Items, truth, number, text, array, object, no_items, items, items_list, relabeled_items, members_list, Members, item as an_item, no_members, member, relabeled_members}
 use Rattle.tera_meaning.specs.TreeLaws.{items_relabeled}
 use Rattle.tera_report.specs.Refusal.{not_a_key}
 
@@ -48,25 +48,15 @@ found_pair (member l x ps) k =
     ∙ ap (cond (eq_by_cmp key_order k (key_meaning l)) (Some (plain x))) (found_pair ps k)
 
 pub key_meant : Meaning → Option KeyMeaning
-key_meant undefined = None
-key_meant none = None
 key_meant (truth b) = Some (truth_key b)
 key_meant (number z) = Some (number_key z)
 key_meant (text s) = Some (text_key s)
-key_meant (bytes bs) = None
-key_meant (array xs) = None
-key_meant (object ps) = None
+key_meant v = None
 
 pub key_plain : (v : Form) → option_map key_meaning (key_in v) ≡ key_meant (plain v)
 unfolding key_meant
-key_plain undefined = refl
-key_plain none = refl
-key_plain (truth b) = refl
-key_plain (number z) = refl
 key_plain (text s) = refl
-key_plain (bytes bs) = refl
-key_plain (array xs) = refl
-key_plain (object ps) = refl
+key_plain v = refl
 
 seen_key : (k : Option KeyForm) → seen_by key_meaning (ok_or k not_a_key) ≡ ok_or (option_map key_meaning k) not_a_key
 seen_key None = refl
@@ -77,49 +67,25 @@ key_by_meaning v w same =
     seen_key (key_in v) ∙ ap (λ k. ok_or k not_a_key) (key_plain v ∙ ap key_meant same ∙ sym (key_plain w)) ∙ sym (seen_key (key_in w))
 
 pub number_meant : Meaning → Option ℤ
-number_meant undefined = None
-number_meant none = None
-number_meant (truth b) = None
 number_meant (number z) = Some z
-number_meant (text s) = None
-number_meant (bytes bs) = None
-number_meant (array xs) = None
-number_meant (object ps) = None
+number_meant v = None
 
 pub number_plain : (v : Form) → number_in v ≡ number_meant (plain v)
 unfolding number_meant
-number_plain undefined = refl
-number_plain none = refl
-number_plain (truth b) = refl
-number_plain (number z) = refl
 number_plain (text s) = refl
-number_plain (bytes bs) = refl
-number_plain (array xs) = refl
-number_plain (object ps) = refl
+number_plain v = refl
 
 pub number_by_meaning : (v w : Form) → plain v ≡ plain w → number_in v ≡ number_in w
 number_by_meaning v w same = number_plain v ∙ ap number_meant same ∙ sym (number_plain w)
 
 pub text_meant : Meaning → Option (List ℕ)
-text_meant undefined = None
-text_meant none = None
-text_meant (truth b) = None
-text_meant (number z) = None
 text_meant (text s) = Some s
-text_meant (bytes bs) = None
-text_meant (array xs) = None
-text_meant (object ps) = None
+text_meant v = None
 
 pub text_plain : (v : Form) → text_in v ≡ text_meant (plain v)
 unfolding text_meant
-text_plain undefined = refl
-text_plain none = refl
-text_plain (truth b) = refl
-text_plain (number z) = refl
 text_plain (text s) = refl
-text_plain (bytes bs) = refl
-text_plain (array xs) = refl
-text_plain (object ps) = refl
+text_plain v = refl
 
 -- ---- fields
 
@@ -133,25 +99,13 @@ shown_plain no_members = refl
 shown_plain (member k x ps) = ap (λ l. shown_key (key_meaning k) ∷ l) (shown_plain ps)
 
 fields_meant : Meaning → List (List ℕ)
-fields_meant undefined = []
-fields_meant none = []
-fields_meant (truth b) = []
-fields_meant (number z) = []
-fields_meant (text s) = []
-fields_meant (bytes bs) = []
-fields_meant (array xs) = []
 fields_meant (object ps) = rising_texts (shown_meant ps)
+fields_meant v = []
 
 fields_plain : (v : Form) → fields v ≡ fields_meant (plain v)
 unfolding fields_meant
-fields_plain undefined = refl
-fields_plain none = refl
-fields_plain (truth b) = refl
-fields_plain (number z) = refl
-fields_plain (text t) = refl
-fields_plain (bytes bs) = refl
-fields_plain (array xs) = refl
 fields_plain (object ps) = ap rising_texts (shown_plain ps)
+fields_plain v = refl
 
 pub fields_by_meaning : (v w : Form) → plain v ≡ plain w → fields v ≡ fields w
 fields_by_meaning v w same = fields_plain v ∙ ap fields_meant same ∙ sym (fields_plain w)

@@ -45,13 +45,10 @@ never_found (Some into) (Ok (Some value)) n e = cc
 
 pub never_wanted : (state : State) (request : Request) (into : Option (List ℕ))
     → ComesTo state request into out_of_memory → ⊥
-never_wanted state (set name value) into e = cc
-never_wanted state (extend source) into e = cc
-never_wanted state (remove name) into e = cc
-never_wanted state (mark_safe name) into e = cc
 never_wanted state (ask question name) into e = never_asked question _ e
 never_wanted state (weigh weighing left right) into e = never_weighed weighing (form_at state left) (form_at state right) e
 never_wanted state (find search) into e = never_found into (found_at state search) ((owed search).no_want state) e
+never_wanted state v into e = cc
 
 -- each request comes to some outcome
 some_answer : (question : Question) (held : Option Form) → (outcome : Outcome) × IsAnswered question held outcome
@@ -65,12 +62,7 @@ some_answer question held = (_, refl)
 pub some_outcome : (state : State) (request : Request) (into : Option (List ℕ))
     → (outcome : Outcome) × ComesTo state request into outcome
 some_outcome state (ask question name) into = some_answer question _
-some_outcome state (set name value) into = (_, refl)
-some_outcome state (extend source) into = (_, refl)
-some_outcome state (remove name) into = (_, refl)
-some_outcome state (mark_safe name) into = (_, refl)
-some_outcome state (weigh weighing left right) into = (_, refl)
-some_outcome state (find search) into = (_, refl)
+some_outcome state v into = (_, refl)
 
 -- and to one alone, where what is printed is exact
 one_answer : (question : Question) (held : Option Form) (o p : Outcome) → IsFixedAnswer question (plain (read held))
@@ -84,12 +76,7 @@ one_answer question held o p f e d = e ∙ sym d
 pub one_outcome : (state : State) (request : Request) (into : Option (List ℕ)) (o p : Outcome) → IsFixed state request
     → ComesTo state request into o → ComesTo state request into p → o ≡ p
 one_outcome state (ask question name) into o p f e d = one_answer question _ o p f e d
-one_outcome state (set name value) into o p f e d = e ∙ sym d
-one_outcome state (extend source) into o p f e d = e ∙ sym d
-one_outcome state (remove name) into o p f e d = e ∙ sym d
-one_outcome state (mark_safe name) into o p f e d = e ∙ sym d
-one_outcome state (weigh weighing left right) into o p f e d = e ∙ sym d
-one_outcome state (find search) into o p f e d = e ∙ sym d
+one_outcome state v into o p f e d = e ∙ sym d
 
 pub some_outcomes : (state : State) (commands : List Command)
     → (outcomes : List Outcome) × AreOutcomes state commands outcomes

@@ -9,40 +9,30 @@ use Rattle.std.specs.Str.{chars, encode_utf8_all, IsUtf8}
 use Rattle.tera_meaning.proofs.SliceLaws.{slice_of_is, slices_same, strided_is_slice}
 use Rattle.tera_meaning.specs.Form.{Form, MarkedText}
 use Rattle.tera_meaning.specs.Slice.{reversed, IsSliceOf, place_at, item_at, IsCut, IsCutBy, IsSliced}
-use Rattle.tera_meaning.specs.Tree.{undefined, none, truth, number, text, bytes, array, object, items, items_list}
+use Rattle.tera_meaning.specs.Tree.{text, array, items, items_list}
 use Rattle.tera_meaning.specs.TreeLaws.{list_of_items}
 use Rattle.tera_meaning.specs.Walk.{slice_of, cut, cut_by, sliced}
 use Rattle.tera_report.specs.Refusal.{Refusal}
 use Rattle.tera_meaning.proofs.SliceLaws.{slice_of_is, slices_same, strided_is_slice}
 
 cut_is : (v : Form) (start end : Option ℤ) (step : ℤ) → step ≢ pos 0 → IsCut v start end step (cut v start end step)
-cut_is undefined start end step nonzero = refl
-cut_is none start end step nonzero = refl
-cut_is (truth b) start end step nonzero = refl
-cut_is (number n) start end step nonzero = refl
 cut_is (text t) start end step nonzero =
     (slice_of (chars t.spelled) start end step, slice_of_is (chars t.spelled) start end step nonzero, refl)
-cut_is (bytes bs) start end step nonzero = refl
 cut_is (array xs) start end step nonzero =
     (slice_of (items_list xs) start end step, slice_of_is (items_list xs) start end step nonzero, refl)
-cut_is (object ps) start end step nonzero = refl
+cut_is v start end step nonzero = refl
 
 cut_only : (v : Form) (start end : Option ℤ) (step : ℤ) (outcome : Result Form Refusal) → step ≢ pos 0
     → IsCut v start end step outcome → outcome ≡ cut v start end step
-cut_only undefined start end step outcome nonzero h = h
-cut_only none start end step outcome nonzero h = h
-cut_only (truth b) start end step outcome nonzero h = h
-cut_only (number n) start end step outcome nonzero h = h
 cut_only (text t) start end step outcome nonzero h =
     let (cs, is, e) = h in
     let same = slices_same (chars t.spelled) cs _ _ _ step is (slice_of_is (chars t.spelled) start end step nonzero) in
     e ∙ ap (λ (ds : List ℕ). Ok (text (record { spelled = encode_utf8_all ds; safe = t.safe }))) same
-cut_only (bytes bs) start end step outcome nonzero h = h
 cut_only (array xs) start end step outcome nonzero h =
     let (ys, is, e) = h in
     let same = slices_same (items_list xs) ys _ _ _ step is (slice_of_is (items_list xs) start end step nonzero) in
     e ∙ ap (λ (zs : List Form). Ok (array (items zs))) same
-cut_only (object ps) start end step outcome nonzero h = h
+cut_only v start end step outcome nonzero h = h
 
 cut_by_is : (step : ℤ) (v : Form) (start end : Option ℤ) → IsCutBy step v start end (cut_by step v start end)
 cut_by_is (pos zero) v start end = refl

@@ -10,7 +10,7 @@ use Rattle.tera_meaning.specs.Integer.{Integer}
 use Rattle.tera_meaning.specs.KeyMeaning.{KeyForm}
 use Rattle.tera_meaning.specs.Lookup.{as_key}
 use Rattle.tera_meaning.specs.Pairs.{key_form_order, value_at}
-use Rattle.tera_meaning.specs.Tree.{Items, undefined, none, truth, number, text, bytes, array, object, no_items, item, items, items_list, members_list, Members, no_members, member}
+use Rattle.tera_meaning.specs.Tree.{Items, number, text, no_items, item, items, items_list, members_list, Members, no_members, member}
 use Rattle.tera_meaning.specs.WellMade.{IsWellMade, AreWellMade, AreWellMadeMembers, IsWellMadeKey}
 use lib.Utf8.{scalars, scalar}
 use mathlib.Core.List.{reverse_aux}
@@ -32,14 +32,9 @@ sound_place (item x xs) zero h = h.0
 sound_place (item x xs) (suc n) h = sound_place xs n h.1
 
 pub sound_as_key : (v : Form) → IsWellMade v → IfOk (as_key v) IsWellMadeKey
-sound_as_key undefined h = tt
-sound_as_key none h = tt
-sound_as_key (truth b) h = tt
 sound_as_key (number z) h = h
 sound_as_key (text t) h = h
-sound_as_key (bytes bs) h = tt
-sound_as_key (array xs) h = tt
-sound_as_key (object ps) h = tt
+sound_as_key v h = tt
 
 -- ---- lists of parts
 

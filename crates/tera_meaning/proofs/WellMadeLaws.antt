@@ -27,18 +27,12 @@ use Rattle.tera_meaning.proofs.found.{owed}
 use Rattle.tera_meaning.proofs.ExtendLaws.{get_extended, beginning_held}
 use Rattle.tera_meaning.specs.Request.{Command, Request, set, extend, remove, mark_safe, ask, weigh, find}
 use Rattle.tera_meaning.specs.Step.{keeping, marking, marking_into, leaves, LeavesInWant, IsStep, state_after}
-use Rattle.tera_meaning.specs.Tree.{Items, Members, undefined, none, truth, number, text, bytes, array, object, no_items, item, no_members, member, members_list, relabeled_items, relabeled_members}
+use Rattle.tera_meaning.specs.Tree.{Items, Members, number, text, bytes, array, object, no_items, item, no_members, member, members_list, relabeled_items, relabeled_members}
 use Rattle.tera_meaning.specs.WellMade.{IsWellMade, IsWellMadeKey, AreWellMade, AreWellMadeMembers, IsWellMadeMeaning, IsWellMadeKeyMeaning, AreWellMadeMeanings, AreWellMadePairs, IsWellMadeState, BringsWellMade, AllBringWellMade}
 
 pub marked_well : (value : Form) → IsWellMade value → IsWellMade (marked_safe value)
-marked_well undefined h = h
-marked_well none h = h
-marked_well (truth b) h = h
-marked_well (number n) h = h
 marked_well (text t) h = h
-marked_well (bytes bs) h = h
-marked_well (array xs) h = h
-marked_well (object ps) h = h
+marked_well v h = h
 
 name_well : (name : List ℕ) (o : Option Form) → IsHeldWell name o → IsSome o → IsUtf8 name
 name_well name None h is = cc
@@ -175,14 +169,12 @@ means_rising (member k x ps) h = (means_above k ps h.0, means_rising ps h.1)
 
 mutual
   pub meaning_well : (value : Form) → IsWellMade value → IsWellMadeMeaning (plain value)
-  meaning_well undefined h = tt
-  meaning_well none h = tt
-  meaning_well (truth b) h = tt
   meaning_well (number n) h = wide n.kind n.value h
   meaning_well (text t) h = h
   meaning_well (bytes bs) h = h
   meaning_well (array xs) h = meanings_well xs h
   meaning_well (object ps) h = (means_rising ps h.0, pairs_well ps h.1)
+  meaning_well v h = tt
 
   meanings_well : (xs : Items Integer MarkedText KeyForm) → AreWellMade xs
       → AreWellMadeMeanings (relabeled_items (λ n. n.value) (λ t. t.spelled) key_meaning xs)

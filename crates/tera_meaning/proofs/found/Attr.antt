@@ -7,31 +7,19 @@ use Rattle.tera_meaning.specs.KeyMeaning.{text_key, key_order, borrowed}
 use Rattle.tera_meaning.specs.Lookup.{attr}
 use Rattle.tera_meaning.specs.Meaning.{plain, Meaning}
 use Rattle.tera_meaning.specs.Pairs.{value_at}
-use Rattle.tera_meaning.specs.Tree.{undefined, none, truth, number, text, bytes, array, object, members_list}
+use Rattle.tera_meaning.specs.Tree.{object, members_list}
 use Rattle.tera_meaning.specs.WellMade.{IsWellMade}
 use Rattle.tera_meaning.proofs.PlainLaws.{found_pair}
 use Rattle.tera_meaning.proofs.SoundLaws.{sound_pair}
 
 attr_meant : Meaning → List ℕ → Option Meaning
-attr_meant undefined t = None
-attr_meant none t = None
-attr_meant (truth b) t = None
-attr_meant (number z) t = None
-attr_meant (text s) t = None
-attr_meant (bytes bs) t = None
-attr_meant (array xs) t = None
 attr_meant (object ps) t = value_at key_order (members_list ps) (text_key t)
+attr_meant v t = None
 
 attr_plain : (v : Form) (t : List ℕ) → option_map plain (attr v t) ≡ attr_meant (plain v) t
 unfolding attr_meant
-attr_plain undefined t = refl
-attr_plain none t = refl
-attr_plain (truth b) t = refl
-attr_plain (number n) t = refl
-attr_plain (text s) t = refl
-attr_plain (bytes bs) t = refl
-attr_plain (array xs) t = refl
 attr_plain (object ps) t = found_pair ps (text_key t)
+attr_plain v t = refl
 
 pub by_meaning : (t : List ℕ) (v w : Form) → plain v ≡ plain w → option_map plain (attr v t) ≡ option_map plain (attr w t)
 by_meaning t v w e = attr_plain v t ∙ ap (λ x. attr_meant x t) e ∙ sym (attr_plain w t)

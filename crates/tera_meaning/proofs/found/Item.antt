@@ -90,14 +90,10 @@ item_meant (object ps) n k = at_key_meant ps k
 
 item_plain : (v i : Form) → seen_by plain (item v i) ≡ item_meant (plain v) (number_in i) (option_map key_meaning (key_in i))
 unfolding item_meant
-item_plain undefined i = refl
-item_plain none i = refl
-item_plain (truth b) i = refl
-item_plain (number z) i = refl
 item_plain (text t) i = indexed_plain in_text i _ (char_at t.spelled) (char_plain t)
-item_plain (bytes bs) i = refl
 item_plain (array xs) i = indexed_plain in_array i _ (part_at (items_list (plain_items xs))) (part_plain xs)
 item_plain (object ps) i = at_key_plain ps i
+item_plain v i = refl
 
 pub by_meaning : (v i w j : Form) → plain v ≡ plain w → plain i ≡ plain j → seen_by plain (item v i) ≡ seen_by plain (item w j)
 by_meaning v i w j same index =
@@ -151,11 +147,7 @@ sound_key ps i h = by (key_in i)
     by (Some k) = sound_or (value_at key_form_order (members_list ps) k) (sound_pair ps k h)
 
 pub well_made : (v i : Form) → IsWellMade v → IfOk (item v i) IsWellMade
-well_made undefined i h = tt
-well_made none i h = tt
-well_made (truth b) i h = tt
-well_made (number z) i h = tt
 well_made (text t) i h = sound_index in_text i _ (λ z. sound_text t (part_at (chars t.spelled) z) (sound_char_at (chars t.spelled) (place_of (length (chars t.spelled)) z) (scalars-chars t.spelled h)))
-well_made (bytes bs) i h = tt
 well_made (array xs) i h = sound_index in_array i _ (λ z. sound_part xs (place_of (length (items_list xs)) z) h)
 well_made (object ps) i h = sound_key ps i h.1
+well_made v i h = tt

@@ -16,25 +16,13 @@ use Rattle.tera_meaning.proofs.found.Attr
 use Rattle.std.proofs.lemmas.Option.{none-some, same_Some, slice_get-map}
 
 place_meant : Meaning → ℕ → Option Meaning
-place_meant undefined n = None
-place_meant none n = None
-place_meant (truth b) n = None
-place_meant (number z) n = None
-place_meant (text s) n = None
-place_meant (bytes bs) n = None
 place_meant (array xs) n = slice_get (items_list xs) n
-place_meant (object ps) n = None
+place_meant v n = None
 
 placed_plain : (v : Form) (n : ℕ) → option_map plain (option_and_then (λ xs. slice_get xs n) (items_in v)) ≡ place_meant (plain v) n
 unfolding place_meant
-placed_plain undefined n = refl
-placed_plain none n = refl
-placed_plain (truth b) n = refl
-placed_plain (number z) n = refl
-placed_plain (text s) n = refl
-placed_plain (bytes bs) n = refl
 placed_plain (array xs) n = sym (slice_get-map plain (items_list xs) n) ∙ ap (λ l. slice_get l n) (sym (items_meant xs))
-placed_plain (object ps) n = refl
+placed_plain v n = refl
 
 reached_by_meaning : (v w : Form) (e : List ℕ) (p : Option ℕ) → plain v ≡ plain w → option_map plain (reached v e p) ≡ option_map plain (reached w e p)
 reached_by_meaning v w e None same = Attr.by_meaning e v w same
@@ -65,25 +53,13 @@ led (object ps) itself o = o
 
 path_led : (v : Form) (p : List ℕ) → path v p ≡ led (plain v) none (followed v (elements_of p))
 unfolding led
-path_led undefined p = refl
-path_led none p = refl
-path_led (truth b) p = refl
-path_led (number z) p = refl
 path_led (text s) p = refl
-path_led (bytes bs) p = refl
-path_led (array xs) p = refl
-path_led (object ps) p = refl
+path_led v p = refl
 
 led_plain : (x : Meaning) (o : Option Form) → option_map plain (led x none o) ≡ led x none (option_map plain o)
 unfolding led
-led_plain undefined o = refl
-led_plain none o = refl
-led_plain (truth b) o = refl
-led_plain (number z) o = refl
 led_plain (text s) o = refl
-led_plain (bytes bs) o = refl
-led_plain (array xs) o = refl
-led_plain (object ps) o = refl
+led_plain v o = refl
 
 pub by_meaning : (p : List ℕ) (v w : Form) → plain v ≡ plain w → option_map plain (path v p) ≡ option_map plain (path w p)
 by_meaning p v w same =
@@ -93,14 +69,8 @@ by_meaning p v w same =
 
 sound_reached : (v : Form) (e : List ℕ) (p : Option ℕ) → IsWellMade v → Sound (reached v e p)
 sound_reached v e None h = Attr.well_made e v h
-sound_reached undefined e (Some n) h = tt
-sound_reached none e (Some n) h = tt
-sound_reached (truth b) e (Some n) h = tt
-sound_reached (number z) e (Some n) h = tt
-sound_reached (text s) e (Some n) h = tt
-sound_reached (bytes bs) e (Some n) h = tt
 sound_reached (array xs) e (Some n) h = sound_place xs n h
-sound_reached (object ps) e (Some n) h = tt
+sound_reached v e (Some n) h = tt
 
 sound_then : (o : Option Form) (k : Form → Option Form) → Sound o → ((x : Form) → IsWellMade x → Sound (k x)) → Sound (option_and_then k o)
 sound_then None k h g = tt

@@ -6,7 +6,7 @@ use Rattle.std.specs.Str.{chars, encode_utf8_all}
 use Rattle.tera_meaning.specs.Form.{Form}
 use Rattle.tera_meaning.specs.Meaning.{plain, Meaning}
 use Rattle.tera_meaning.specs.Slice.{reversed, shape_of}
-use Rattle.tera_meaning.specs.Tree.{undefined, none, truth, number, text, bytes, array, object, items, items_list}
+use Rattle.tera_meaning.specs.Tree.{text, bytes, array, items, items_list}
 use Rattle.tera_meaning.specs.WellMade.{IsWellMade, IsByte}
 use Rattle.tera_report.specs.Refusal.{Refusal, not_reversible}
 use lib.Utf8.{scalar}
@@ -31,16 +31,10 @@ reversed_meaning (bytes bs) = Ok (bytes (reverse bs))
 reversed_meaning x = Err (not_reversible [])
 
 reversed_means : (v : Form) → shape_of (reversed v) ≡ reversed_meaning (plain v)
-reversed_means undefined = refl
-reversed_means none = refl
-reversed_means (truth b) = refl
-reversed_means (number n) = refl
-reversed_means (text t) = refl
-reversed_means (bytes bs) = refl
 reversed_means (array xs) =
     array_means (reverse (items_list xs)) (reverse (items_list (plain_items xs)))
     (reverse_mapped plain (items_list xs) ∙ ap (λ (ws : List Meaning). reverse ws) (sym (items_meant xs)))
-reversed_means (object ps) = refl
+reversed_means v = refl
 
 pub by_meaning : (v w : Form) → plain v ≡ plain w → shape_of (reversed v) ≡ shape_of (reversed w)
 by_meaning v w e = reversed_means v ∙ ap reversed_meaning e ∙ sym (reversed_means w)
@@ -52,13 +46,9 @@ no_want (array xs) = tt
 no_want v = λ e. cc
 
 pub well_made : (v : Form) → IsWellMade v → IfOk (reversed v) IsWellMade
-well_made undefined h = tt
-well_made none h = tt
-well_made (truth b) h = tt
-well_made (number n) h = tt
 well_made (text t) h =
     spelled_well (reverse (chars t.spelled))
     (all_reversed (λ c. scalar c ≡ true) (chars t.spelled) (each_scalar (chars t.spelled) (scalars-chars t.spelled h)))
 well_made (bytes bs) h = all_reversed IsByte bs h
 well_made (array xs) h = items_well (reverse (items_list xs)) (all_reversed IsWellMade (items_list xs) (listed_well xs h))
-well_made (object ps) h = tt
+well_made v h = tt

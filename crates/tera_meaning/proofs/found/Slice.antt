@@ -10,7 +10,7 @@ use Rattle.tera_meaning.proofs.SliceLaws.{slice_of_is, slices_same}
 use Rattle.tera_meaning.specs.Form.{Form}
 use Rattle.tera_meaning.specs.Meaning.{plain, Meaning}
 use Rattle.tera_meaning.specs.Slice.{IsSliceFrom, HasReached, place_at, item_at, start_place, end_place, IsSliced, shape_of}
-use Rattle.tera_meaning.specs.Tree.{undefined, none, truth, number, text, bytes, array, object, items, items_list}
+use Rattle.tera_meaning.specs.Tree.{text, array, items, items_list}
 use Rattle.tera_meaning.specs.Walk.{directed, distance, pause, walked, slice_of, cut, cut_by, sliced}
 use Rattle.tera_meaning.specs.WellMade.{IsWellMade}
 use Rattle.tera_report.specs.Refusal.{Refusal, step_of_zero, not_sliceable}
@@ -59,17 +59,11 @@ sliced_meaning (negsuc s) x start end = cut_meaning x start end (negsuc s)
 
 cut_means : (v : Form) (start end : Option ℤ) (step : ℤ) → step ≢ pos 0
     → shape_of (cut v start end step) ≡ cut_meaning (plain v) start end step
-cut_means undefined start end step nonzero = refl
-cut_means none start end step nonzero = refl
-cut_means (truth b) start end step nonzero = refl
-cut_means (number n) start end step nonzero = refl
-cut_means (text t) start end step nonzero = refl
-cut_means (bytes bs) start end step nonzero = refl
 cut_means (array xs) start end step nonzero =
     array_means (slice_of (items_list xs) start end step) (slice_of (items_list (plain_items xs)) start end step)
     (slice_of_mapped plain (items_list xs) start end step nonzero
     ∙ ap (λ (ws : List Meaning). slice_of ws start end step) (sym (items_meant xs)))
-cut_means (object ps) start end step nonzero = refl
+cut_means v start end step nonzero = refl
 
 cut_by_means : (step : ℤ) (v : Form) (start end : Option ℤ) → shape_of (cut_by step v start end) ≡ sliced_meaning step (plain v) start end
 cut_by_means (pos zero) v start end = refl
@@ -128,17 +122,12 @@ module _ {X : Type 0} (P : X → Type 0) where
       (all_first (distance step (length xs) (end_place step (length xs) end)) _ (all_directed step xs h))
 
 cut_well : (v : Form) (start end : Option ℤ) (step : ℤ) → IsWellMade v → IfOk (cut v start end step) IsWellMade
-cut_well undefined start end step h = tt
-cut_well none start end step h = tt
-cut_well (truth b) start end step h = tt
-cut_well (number n) start end step h = tt
 cut_well (text t) start end step h =
     spelled_well (slice_of (chars t.spelled) start end step)
     (all_sliced (λ c. scalar c ≡ true) (chars t.spelled) start end step (each_scalar (chars t.spelled) (scalars-chars t.spelled h)))
-cut_well (bytes bs) start end step h = tt
 cut_well (array xs) start end step h =
     items_well (slice_of (items_list xs) start end step) (all_sliced IsWellMade (items_list xs) start end step (listed_well xs h))
-cut_well (object ps) start end step h = tt
+cut_well v start end step h = tt
 
 cut_by_well : (step : ℤ) (v : Form) (start end : Option ℤ) → IsWellMade v → IfOk (cut_by step v start end) IsWellMade
 cut_by_well (pos zero) v start end h = tt
