@@ -1,4 +1,5 @@
 -- Answers depend on meanings alone.
+use Rattle.tera_meaning.proofs.PlainLaws.{is_there}
 use Rattle.std.specs.Prelude.{◌≡◌, ℕ, suc, length, Bool, true, false, cond, List, [], ◌∷◌, Option, Some, None, Result, Ok, Err, is_some, refl}
 use Rattle.std.proofs.Common.{sym, ◌∙◌, ap, subst}
 use Rattle.std.specs.Option.{option_map, unwrap_or}
@@ -38,12 +39,8 @@ plain_marked v = refl
 pub some_one : (v w : Form) → option_map plain (Some v) ≡ option_map plain (Some w) → plain v ≡ plain w
 some_one v w e = ap (λ o. unwrap_or o undefined) e
 
-is_held : (o : Option Form) → is_some (option_map plain o) ≡ is_some o
-is_held None = refl
-is_held (Some value) = refl
-
 held_alike : (o p : Option Form) → option_map plain o ≡ option_map plain p → is_some o ≡ is_some p
-held_alike o p e = sym (is_held o) ∙ ap is_some e ∙ is_held p
+held_alike o p e = sym (is_there plain o) ∙ ap is_some e ∙ is_there plain p
 
 same_found : (o p : Option Form) → ◌≡◌ {A = Result (Option Meaning) Refusal} (Ok (option_map plain o)) (Ok (option_map plain p))
     → option_map plain o ≡ option_map plain p

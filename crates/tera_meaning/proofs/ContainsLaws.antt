@@ -1,4 +1,5 @@
 -- Whether a value holds another is told by meanings, and is no want of memory.
+use Rattle.tera_meaning.proofs.PlainLaws.{is_there}
 use Rattle.std.proofs.Common.{refl, sym, ap, ◌∙◌}
 use Rattle.std.specs.List.{list_any}
 use Rattle.std.specs.Option.{option_map}
@@ -19,10 +20,6 @@ use Rattle.tera_meaning.proofs.PlainLaws.{plain_items, plain_pairs, found_pair, 
 any_plain : (test : Meaning → Bool) (xs : Items Integer MarkedText KeyForm) → list_any (λ y. test (plain y)) (items_list xs) ≡ list_any test (items_list (plain_items xs))
 any_plain test no_items = refl
 any_plain test (an_item x xs) = ap (λ b. test (plain x) || b) (any_plain test xs)
-
-is_there : {X Y : Type 0} (f : X → Y) (o : Option X) → is_some (option_map f o) ≡ is_some o
-is_there f None = refl
-is_there f (Some x) = refl
 
 paired_meant : Members ℤ (List ℕ) KeyMeaning → Option KeyMeaning → Option Meaning
 paired_meant ps None = None

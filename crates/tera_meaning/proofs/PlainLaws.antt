@@ -1,4 +1,5 @@
 -- What is read off a value by its meaning: its items and pairs, its number and its text, it as a key, and its fields.
+use Rattle.std.specs.Prelude.{is_some}
 use Rattle.std.proofs.Common.{refl, sym, ap, ◌∙◌}
 use Rattle.std.specs.Map.{lookup}
 use Rattle.std.specs.Option.{option_map, ok_or}
@@ -109,3 +110,9 @@ fields_plain v = refl
 
 pub fields_by_meaning : (v w : Form) → plain v ≡ plain w → fields v ≡ fields w
 fields_by_meaning v w same = fields_plain v ∙ ap fields_meant same ∙ sym (fields_plain w)
+
+-- ---- what is there
+
+pub is_there : {X Y : Type 0} (f : X → Y) (o : Option X) → is_some (option_map f o) ≡ is_some o
+is_there f None = refl
+is_there f (Some x) = refl

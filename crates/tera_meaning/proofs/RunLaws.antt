@@ -128,10 +128,6 @@ DoneFirst old request next others new =
     (done : List Command) × (answers : List Outcome) × WasDoneInWant request done answers next others
     × IsAmpleRun old done answers new
 
-none_next : (outcome : Outcome) (others : List Outcome) → outcome ≢ out_of_memory → NoneWantsMemory others
-    → NoneWantsMemory (outcome ∷ others)
-none_next outcome others n none = (n, none)
-
 done_in_want : (old mid : State) (request : Request) (next : List Command) (others : List Outcome) (new : State)
     → LeavesInWant old request mid → IsAmpleRun mid next others new → DoneFirst old request next others new
 done_in_want old mid (extend source) next others new (part, is, left) run = (

@@ -1,4 +1,5 @@
 -- A pair list has just the entries, and is the only rising list that has.
+use Rattle.std.proofs.lemmas.Option.{none-some}
 use Rattle.std.specs.Prelude.{◌≡◌, ◌↔◌, ◌⊎◌, false, cond, List, [], ◌∷◌, Some, None, refl}
 use Rattle.std.proofs.Common.{sym, ◌∙◌, ap, inl, inr}
 use Rattle.std.specs.BTreeMap.{insert_entry}
@@ -17,9 +18,6 @@ use Rattle.tera_meaning.proofs.PairLaws.{Below, rising_rises, found_rising}
 
 less_equal : Less ≡ Equal → ⊥
 less_equal e = cc
-
-some_none : {X : Type 0} (x : X) → Some x ≡ None → ⊥
-some_none x e = cc
 
 module _ {K V : Type 0} (order : K → K → Ordering) (total : IsTotalOrder order) where
   not_less : (e d : K × V) → e ≡ d → order d.0 e.0 ≡ Less → ⊥
@@ -61,7 +59,7 @@ module _ {K V : Type 0} (order : K → K → Ordering) (total : IsTotalOrder ord
   insert_permutes k v (e ∷ es) none =
       elim (order k e.0) as (λ r. cond (is_eq r) (Some e.1) (value_at order es k) ≡ None → IsPermutation ((k, v) ∷ e ∷ es) (match_ordering r ((k, v) ∷ e ∷ es) ((e.0, v) ∷ es) (e ∷ insert_entry order es k v))) [
         | Less ↦ λ n. IsPermutation-refl ((k, v) ∷ e ∷ es)
-        | Equal ↦ λ n. absurd (some_none e.1 n)
+        | Equal ↦ λ n. absurd (none-some e.1 (sym n))
         | Greater ↦ λ n. IsPermutation-trans ((k, v) ∷ e ∷ es) (e ∷ (k, v) ∷ es) (e ∷ insert_entry order es k v)
             (IsPermutation-insert (e ∷ es) 1 (k, v))
             (IsPermutation-cons e ((k, v) ∷ es) (insert_entry order es k v) (insert_permutes k v es n))

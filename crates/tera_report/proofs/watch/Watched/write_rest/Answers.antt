@@ -1,3 +1,4 @@
+use Rattle.std.proofs.lemmas.Bool.{true_from_ne_false}
 use Rattle.std.proofs.Common.{◌≡◌, ◌-◌, ◌++◌, true, Ok, Err, length, take, drop, ap, sym, ◌∙◌, refl, subst, append-nil, rules, IsTrue, []}
 use Rattle.std.specs.Io.KnownBytes.{Appends}
 use Rattle.std.specs.declared.io.Error.{Error}
@@ -6,7 +7,7 @@ use Rattle.tera_report.specs.SinkLaws.{keeps_appends}
 use Rattle.tera_report.specs.Watch.{watched_writer}
 use Rattle.tera_report.specs.Writer.{is_fault, once, all_taken, has_fault}
 use Rattle.tera_report.specs.WriterLaws.{tries_more, taken_more, faults_more}
-use Rattle.tera_report.proofs.WatchLemmas.{kept_by_or, quiet_before, not_quiet, loud_more, split_later, turn_took_one, failed_here, not_false}
+use Rattle.tera_report.proofs.WatchLemmas.{kept_by_or, quiet_before, not_quiet, loud_more, split_later, turn_took_one, failed_here}
 use Rattle.tera_report.proofs.watch.Watched.write_rest.Goals as goal
 use Rattle.tera_report.proofs.watch.Watched.write_rest.Goals.{in-Ok, in-Err+else-not-matches}
 
@@ -67,7 +68,7 @@ loop-turn-preserved g c =
 pub returns : goal.returns
 returns g c =
     let (attempts, calls, split, bytes, same, kept, loud, told) = c.loop-turn.invariant in
-    let fault : IsTrue (has_fault attempts) = not_false _ (λ h. let late = told h in search rules) in
+    let fault : IsTrue (has_fault attempts) = true_from_ne_false _ (λ h. let late = told h in search rules) in
     record {
       same = same;
       told = loud fault;
