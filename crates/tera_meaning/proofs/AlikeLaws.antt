@@ -79,7 +79,8 @@ asked_alike Question.len held also o p h e d s = both e d (λ i. Ok (Answer.size
 asked_alike Question.print held also o p h (t, prints, e) (u, again, d) s =
     both e d (λ i. Ok (Answer.text (text_alike (plain (read held)) (plain (read also)) t u (read_alike held also h) prints again s i)))
 asked_alike Question.escape held also o p h (t, v, prints, spells, e) (u, w, again, spelled, d) s =
-    both e d (λ i. Ok (Answer.text (word_alike v w t u (text_alike (plain (read held)) (plain (read also)) t u (read_alike held also h) prints again s) spells spelled i)))
+    both e d (λ i. Ok (Answer.text (word_alike v w t u (text_alike (plain (read held)) (plain (read also)) t u (read_alike held also h) prints again s) spells
+    spelled i)))
 asked_alike Question.fields held also o p h e d s =
     both e d (λ i. Ok (Answer.texts (fields_by_meaning (read held) (read also) (read_alike held also h) i)))
 asked_alike Question.is_safe held also o p h e d s = absurd s
@@ -109,7 +110,8 @@ module _ (f g : State) (h : MeanTheSame f g) where
   outcomes_same (ask question name) into o p e d s =
       asked_alike question (held_at f name) (held_at g name) o p (h name) e d s
   outcomes_same (weigh weighing left right) into o p e d s =
-      both e d (weighed_alike weighing (form_at f left) (form_at f right) (form_at g left) (form_at g right) (meaning_alike f g h left) (meaning_alike f g h right))
+      both e d (weighed_alike weighing (form_at f left) (form_at f right) (form_at g left) (form_at g right) (meaning_alike f g h left)
+      (meaning_alike f g h right))
   outcomes_same (find search) into o p e d s =
       both e d (kept_shape into (found_at f search) (found_at g search) ((owed search).by_meaning f g h))
 

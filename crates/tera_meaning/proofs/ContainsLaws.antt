@@ -17,7 +17,8 @@ use Rattle.tera_meaning.specs.Weighing.{truth_told}
 use Rattle.tera_report.specs.Refusal.{Refusal, not_a_container}
 use Rattle.tera_meaning.proofs.PlainLaws.{plain_items, plain_pairs, found_pair, key_meant, key_plain, text_meant, text_plain}
 
-any_plain : (test : Meaning → Bool) (xs : Items Integer MarkedText KeyForm) → list_any (λ y. test (plain y)) (items_list xs) ≡ list_any test (items_list (plain_items xs))
+any_plain : (test : Meaning → Bool) (xs : Items Integer MarkedText KeyForm) → list_any (λ y. test (plain y)) (items_list xs)
+    ≡ list_any test (items_list (plain_items xs))
 any_plain test no_items = refl
 any_plain test (an_item x xs) = ap (λ b. test (plain x) || b) (any_plain test xs)
 
@@ -25,7 +26,8 @@ paired_meant : Members ℤ (List ℕ) KeyMeaning → Option KeyMeaning → Optio
 paired_meant ps None = None
 paired_meant ps (Some k) = value_at key_order (members_list ps) k
 
-paired_plain : (ps : Members Integer MarkedText KeyForm) (k : Option KeyForm) → option_map plain (paired (members_list ps) k) ≡ paired_meant (plain_pairs ps) (option_map key_meaning k)
+paired_plain : (ps : Members Integer MarkedText KeyForm) (k : Option KeyForm) → option_map plain (paired (members_list ps) k)
+    ≡ paired_meant (plain_pairs ps) (option_map key_meaning k)
 unfolding paired_meant
 paired_plain ps None = refl
 paired_plain ps (Some k) = found_pair ps (key_meaning k)
@@ -45,7 +47,8 @@ unfolding holds_meant
 holds_plain (text t) x = ap (λ o. Ok (text_holds t.spelled o)) (text_plain x)
 holds_plain (array xs) x = ap Ok (any_plain (λ y. same y (plain x)) xs)
 holds_plain (object ps) x =
-    ap Ok (sym (is_there plain (paired (members_list ps) (key_in x))) ∙ ap is_some (paired_plain ps (key_in x)) ∙ ap (λ k. is_some (paired_meant (plain_pairs ps) k)) (key_plain x))
+    ap Ok (sym (is_there plain (paired (members_list ps) (key_in x))) ∙ ap is_some (paired_plain ps (key_in x))
+    ∙ ap (λ k. is_some (paired_meant (plain_pairs ps) k)) (key_plain x))
 holds_plain v x = refl
 
 pub holds_by_meaning : (v w x y : Form) → plain v ≡ plain w → plain x ≡ plain y → seen_by (λ b. b) (holds v x) ≡ seen_by (λ b. b) (holds w y)

@@ -25,7 +25,8 @@ same_pair p q = bytes_eq p.0 q.0 && same (plain p.1) (plain q.1)
 
 pub states_equal_laws : IsPartialEquivalence states_equal
 states_equal_laws =
-    on_per entries (lists_per (and_per (on_per (λ (p : Pair). p.0) (partial_equiv_from_equiv nat_list_eq_equiv)) (on_per (λ (p : Pair). plain p.1) same_partial_equivalence)))
+    on_per entries (lists_per (and_per (on_per (λ (p : Pair). p.0) (partial_equiv_from_equiv nat_list_eq_equiv))
+    (on_per (λ (p : Pair). plain p.1) same_partial_equivalence)))
 
 -- pairs by what they mean
 abbrev meant : List Pair → List (List ℕ × Meaning)
@@ -53,7 +54,8 @@ meant_same (p ∷ ps) (q ∷ qs) e =
     let names : p.0 ≡ q.0 = ap (λ x. x.0) first in
     let values : plain p.1 ≡ plain q.1 = ap (λ x. x.1) first in
     let rest : meant ps ≡ meant qs = cc in
-    and_from (same_pair p q) _ (and_from (bytes_eq p.0 q.0) _ ((bytes_decides p.0 q.0).1 names) ((same_is (plain p.1) (plain q.1)).1 values)) (meant_same ps qs rest)
+    and_from (same_pair p q) _ (and_from (bytes_eq p.0 q.0) _ ((bytes_decides p.0 q.0).1 names) ((same_is (plain p.1) (plain q.1)).1 values))
+    (meant_same ps qs rest)
 meant_same [] (q ∷ qs) e = cc
 meant_same (p ∷ ps) [] e = cc
 
@@ -92,7 +94,8 @@ means_the_same f g h name =
 
 are_equal : (f g : State) → MeanTheSame f g → IsTrue (states_equal f g)
 are_equal f g same =
-    meant_same (entries f) (entries g) (same_entries (slice_cmp nat_cmp) nat_list_cmp_total name_exact (meant (entries f)) (meant (entries g)) (rises_meant f) (rises_meant g) (λ name.
+    meant_same (entries f) (entries g) (same_entries (slice_cmp nat_cmp) nat_list_cmp_total name_exact (meant (entries f)) (meant (entries g)) (rises_meant f)
+    (rises_meant g) (λ name.
     sym (held_meant f name) ∙ same name ∙ held_meant g name))
 
 pub equal_is : (f g : State) → IsTrue (states_equal f g) ↔ MeanTheSame f g

@@ -206,7 +206,8 @@ module _ (whole : State) (n : ℕ) (fewer : n < len whole) where
       drop n (entries whole),
       not_none n (entries whole) some_later,
       sym (split n (entries whole))
-          ∙ ap (λ es. es ++ drop n (entries whole)) (sym (entries_of_rising (take n (entries whole)) (rising_first (take n (entries whole)) (drop n (entries whole)) rising))),
+          ∙ ap (λ es. es ++ drop n (entries whole)) (sym (entries_of_rising (take n (entries whole))
+          (rising_first (take n (entries whole)) (drop n (entries whole)) rising))),
     ),
     len-entries (from_entries (take n (entries whole)))
         ∙ ap length (entries_of_rising (take n (entries whole)) (rising_first (take n (entries whole)) (drop n (entries whole)) rising))

@@ -32,10 +32,12 @@ nonempty : (ds : List ℕ) → ds ≢ [] → is_nonempty ds ≡ true
 nonempty [] h = absurd (h refl)
 nonempty (d ∷ ds) h = refl
 
-placed : (ds : List ℕ) (n : ℕ) → place_of_digits ds ≡ Some n → (is_nonempty ds ≡ true) × (all_ascii_digits ds ≡ true) × (digits_value 10 ds ≡ n) × (digits_value 10 ds < 2 ^ 64)
+placed : (ds : List ℕ) (n : ℕ) → place_of_digits ds ≡ Some n → (is_nonempty ds ≡ true) × (all_ascii_digits ds ≡ true) × (digits_value 10 ds ≡ n)
+    × (digits_value 10 ds < 2 ^ 64)
 placed ds n = by (is_nonempty ds && (all_ascii_digits ds && nat_lt (digits_value 10 ds) (2 ^ 64))) refl
   where
-    by : (b : Bool) → (is_nonempty ds && (all_ascii_digits ds && nat_lt (digits_value 10 ds) (2 ^ 64))) ≡ b → (if b then Some (digits_value 10 ds) else None) ≡ Some n
+    by : (b : Bool) → (is_nonempty ds && (all_ascii_digits ds && nat_lt (digits_value 10 ds) (2 ^ 64))) ≡ b → (if b then Some (digits_value 10 ds) else None)
+        ≡ Some n
         → (is_nonempty ds ≡ true) × (all_ascii_digits ds ≡ true) × (digits_value 10 ds ≡ n) × (digits_value 10 ds < 2 ^ 64)
     by false e h = absurd (none-some n h)
     by true e h =

@@ -68,7 +68,8 @@ exact_items xs =
 members_told : (ps : List (KeyMeaning × Meaning)) → IsTrue (are_exact_members (members ps)) → AllByRecursion (λ p. IsExactKey p.0 × IsExactInside p.1) ps
 members_told [] h = tt
 members_told (p ∷ ps) h =
-    let key : IsExactKey p.0 × IsTrue (is_exact_inside p.1 && are_exact_members (members ps)) = and_parts (is_exact_key p.0) (is_exact_inside p.1 && are_exact_members (members ps)) h in
+    let key : IsExactKey p.0 × IsTrue (is_exact_inside p.1 && are_exact_members (members ps)) =
+    and_parts (is_exact_key p.0) (is_exact_inside p.1 && are_exact_members (members ps)) h in
     let both : IsExactInside p.1 × IsTrue (are_exact_members (members ps)) = and_parts (is_exact_inside p.1) (are_exact_members (members ps)) key.1 in
     ((key.0, both.0), members_told ps both.1)
 
@@ -79,5 +80,8 @@ members_tell (p ∷ ps) h =
     (and_from (is_exact_inside p.1) (are_exact_members (members ps)) h.0.1 (members_tell ps h.1))
 
 pub exact_members : (ps : List (KeyMeaning × Meaning)) → IsTrue (are_exact_members (members ps)) ↔ All (λ p. IsExactKey p.0 × IsExactInside p.1) ps
-exact_members ps =
-    (λ h. All-from_recursion (λ p. IsExactKey p.0 × IsExactInside p.1) ps (members_told ps h), λ h. members_tell ps (recursion_from_All (λ p. IsExactKey p.0 × IsExactInside p.1) ps h))
+exact_members ps = (
+  λ h. All-from_recursion (λ p. IsExactKey p.0 × IsExactInside p.1) ps (members_told ps h),
+  λ h. members_tell ps
+      (recursion_from_All (λ p. IsExactKey p.0 × IsExactInside p.1) ps h),
+)

@@ -140,7 +140,8 @@ done_in_want old mid (set name value) next others new left run = (next, others, 
 done_in_want old mid (remove name) next others new left run = (next, others, (refl, refl), subst (λ state. IsAmpleRun state next others new) left run)
 done_in_want old mid (mark_safe name) next others new left run = (next, others, (refl, refl), subst (λ state. IsAmpleRun state next others new) left run)
 done_in_want old mid (ask question name) next others new left run = (next, others, (refl, refl), subst (λ state. IsAmpleRun state next others new) left run)
-done_in_want old mid (weigh weighing left right) next others new same run = (next, others, (refl, refl), subst (λ state. IsAmpleRun state next others new) same run)
+done_in_want old mid (weigh weighing left right) next others new same run =
+    (next, others, (refl, refl), subst (λ state. IsAmpleRun state next others new) same run)
 done_in_want old mid (find search) next others new left run = (next, others, (refl, refl), subst (λ state. IsAmpleRun state next others new) left run)
 
 done_first : (old : State) (command : Command) (commands : List Command) (outcome : Outcome) (outcomes : List Outcome)
@@ -193,8 +194,11 @@ outcomes_run old (command ∷ commands) [] are = absurd are
 outcomes_given : (old : State) (commands : List Command) (outcomes : List Outcome) → AreOutcomes old commands outcomes
     → NoneWantsMemory outcomes
 outcomes_given old [] [] are = tt
-outcomes_given old (command ∷ commands) (outcome ∷ outcomes) are =
-    ((λ e. never_wanted old command.request command.into (subst (IsOutcome old command) e are.0)), outcomes_given (state_after old command) commands outcomes are.1)
+outcomes_given old (command ∷ commands) (outcome ∷ outcomes) are = (
+  (λ e. never_wanted old command.request command.into (subst (IsOutcome old command) e are.0)),
+  outcomes_given (state_after old command) commands outcomes
+      are.1,
+)
 outcomes_given old [] (outcome ∷ outcomes) are = absurd are
 outcomes_given old (command ∷ commands) [] are = absurd are
 
@@ -230,7 +234,8 @@ pub run_through : (old : State) (first : List Command) (command : Command) (late
 run_through old [] command later [] o ps new e (next, step, run) = (old, next, refl, step, run)
 run_through old (c ∷ first) command later (p ∷ os) o ps new e (mid, step, run) =
     let same : length first ≡ length os = omega (arith, e) in
-    let rest : (from next : State) × IsRun mid first os from × IsStep from command o next × IsRun next later ps new = run_through mid first command later os o ps new same run in
+    let rest : (from next : State) × IsRun mid first os from × IsStep from command o next × IsRun next later ps new =
+    run_through mid first command later os o ps new same run in
     (rest.0, rest.1, (mid, step, rest.2), rest.3, rest.4)
 run_through old [] command later (p ∷ os) o ps new e run = absurd (omega (arith, e))
 run_through old (c ∷ first) command later [] o ps new e run = absurd (omega (arith, e))

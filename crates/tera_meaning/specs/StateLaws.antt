@@ -66,4 +66,5 @@ removed_absent state name other false e h = refl
 
 pub remove_absent : (state : State) (name : List ℕ) → get state name ≡ None → remove state name ≡ state
 remove_absent state name h =
-    same_state (remove state name) state (λ other. get-remove nat_list_cmp_total state name other ∙ removed_absent state name other (eq_by_cmp (slice_cmp nat_cmp) other name) refl h)
+    same_state (remove state name) state (λ other. get-remove nat_list_cmp_total state name other
+    ∙ removed_absent state name other (eq_by_cmp (slice_cmp nat_cmp) other name) refl h)

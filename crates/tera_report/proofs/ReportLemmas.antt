@@ -105,7 +105,8 @@ notes_split text held all i x within is =
 -- ---- lengths
 
 frame_length : (file number column line : List ℕ) → length (frame_text file number column line)
-    ≡ length file + (1 + (length number + (1 + (length column + (1 + (length number + (3 + (length number + (3 + (length line + (1 + (length number + 3))))))))))))
+    ≡ length file + (1 + (length number + (1 + (length column + (1 + (length number +
+    (3 + (length number + (3 + (length line + (1 + (length number + 3))))))))))))
 frame_length file number column line = simp (length-append, length-replicate) (omega arith)
 
 underline_length : (line : List ℕ) (span : Span) → length (underline line span) ≡ min span.start_col (length (chars line)) + width span

@@ -25,9 +25,11 @@ not_quiet x false e h = absurd (cc)
 -- what a slice from n on holds
 pub split_later : (all done rest : List ℕ) (n : ℕ) → all ≡ done ++ rest → all ≡ (done ++ take n rest) ++ take (length rest - n) (drop n rest)
 split_later all done rest n e =
-    e ∙ ap (λ l. done ++ l) (sym (take-append-drop n rest)) ∙ sym (append_assoc done (take n rest) (drop n rest)) ∙ ap (λ l. (done ++ take n rest) ++ l) (sym (take_rest rest n))
+    e ∙ ap (λ l. done ++ l) (sym (take-append-drop n rest)) ∙ sym (append_assoc done (take n rest) (drop n rest))
+    ∙ ap (λ l. (done ++ take n rest) ++ l) (sym (take_rest rest n))
 
-pub turn_took_one : (rest : List ℕ) (turn n most : ℕ) → n ≢ 0 → n ≤ length rest → turn + length rest ≤ most → turn + 1 + length (take (length rest - n) (drop n rest)) ≤ most
+pub turn_took_one : (rest : List ℕ) (turn n most : ℕ) → n ≢ 0 → n ≤ length rest → turn + length rest ≤ most
+    → turn + 1 + length (take (length rest - n) (drop n rest)) ≤ most
 turn_took_one rest turn n most some fits before =
     rw (take_rest rest n) (rw (length-drop n rest) (omega arith))
 
@@ -77,5 +79,6 @@ module _ {W : Type 0} (contents : W → Option (List ℕ)) (wrote : W → List �
           rest = rest;
           part = ap (λ l. l ++ rest) nothing ∙ sym split;
         };
-        grows = subst (Appends (held contents old) (held contents new)) (sym (taken_more attempts rest answer)) (Appends-trans _ _ _ (all_taken attempts) (bytes_taken answer rest) grows more);
+        grows = subst (Appends (held contents old) (held contents new)) (sym (taken_more attempts rest answer))
+            (Appends-trans _ _ _ (all_taken attempts) (bytes_taken answer rest) grows more);
       }

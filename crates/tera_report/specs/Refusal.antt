@@ -67,17 +67,21 @@ pub data Refusal : Type 0 where
 
 -- The refusals of a kind, one row each
 abbrev pub not_a_number : List ℕ → Refusal
-not_a_number actual = wrong_kind (codes "Only numbers can be used in arithmetic. This is a `") actual (codes "`")
+not_a_number actual =
+    wrong_kind (codes "Only numbers can be used in arithmetic. This is a `") actual (codes "`")
 
 abbrev pub negated_no_number : List ℕ → Refusal
-negated_no_number actual = wrong_kind (codes "Only numbers can be negated. This is a `") actual (codes "`")
+negated_no_number actual =
+    wrong_kind (codes "Only numbers can be negated. This is a `") actual (codes "`")
 
 abbrev pub not_a_map_key : List ℕ → Refusal
-not_a_map_key actual = wrong_kind (codes "Map keys must be strings, integers, or bools, got `") actual (codes "`.")
+not_a_map_key actual =
+    wrong_kind (codes "Map keys must be strings, integers, or bools, got `") actual (codes "`.")
 
 abbrev pub not_an_index : Container → List ℕ → Refusal
 not_an_index container actual =
-    wrong_kind (container_word container ++ codes " index must be an integer, got `") actual (codes "`.")
+    wrong_kind (container_word container ++ codes " index must be an integer, got `") actual
+    (codes "`.")
 
 abbrev pub not_sliceable : List ℕ → Refusal
 not_sliceable actual =
@@ -111,11 +115,14 @@ text_of (circular_extend template chain) =
 text_of (circular_include template chain) =
     Some (include_words template) ++? debug_list debug_str chain ++? Some (codes "`")
 text_of (missing_parent current parent) =
-    Some (codes "Template '" ++ (current ++ (codes "' is inheriting from '" ++ (parent ++ codes "', which doesn't exist or isn't loaded."))))
+    Some (codes "Template '" ++ (current
+    ++ (codes "' is inheriting from '"
+    ++ (parent ++ codes "', which doesn't exist or isn't loaded."))))
 text_of (template_not_found name) = Some (codes "Template '" ++ (name ++ codes "' not found"))
 text_of (component_not_found name) = Some (codes "Component '" ++ (name ++ codes "' not found"))
 text_of (invalid_argument expected actual) =
-    Some (codes "Invalid type for the value, expected `" ++ (expected ++ (codes "` but got `" ++ (actual ++ codes "`"))))
+    Some (codes "Invalid type for the value, expected `"
+    ++ (expected ++ (codes "` but got `" ++ (actual ++ codes "`"))))
 text_of (missing_argument name) = Some (codes "Missing keyword argument `" ++ (name ++ codes "`"))
 text_of (out_of_range value target) =
     Some (codes "Value `" ++ (value ++ (codes "` is out of range for `" ++ (target ++ codes "`"))))
@@ -126,17 +133,21 @@ text_of (operand_outside_i128 operand) =
     Some (codes "Operand `" ++ (signed_decimal operand
     ++ codes "` is out of range for integer arithmetic (must fit in i128)"))
 text_of (not_exact left operator right) =
-    Some (codes "Unable to perform " ++ (signed_decimal left ++ (codes " " ++ (operator_text operator
+    Some (codes "Unable to perform "
+    ++ (signed_decimal left ++ (codes " " ++ (operator_text operator
     ++ (codes " " ++ signed_decimal right)))))
 text_of divided_by_zero = Some (codes "Cannot divide by 0")
 text_of (exponent_outside_u32 exponent) =
-    Some (codes "Exponent " ++ (signed_decimal exponent ++ codes " is out of range for integer ** (must fit in u32)"))
+    Some (codes "Exponent " ++ (signed_decimal exponent
+    ++ codes " is out of range for integer ** (must fit in u32)"))
 text_of (negation_outside_i128 operand) =
-    Some (codes "Cannot negate " ++ (signed_decimal operand ++ codes ": result would overflow i128"))
+    Some (codes "Cannot negate "
+    ++ (signed_decimal operand ++ codes ": result would overflow i128"))
 text_of not_a_key = Some (codes "Not a valid key type")
 text_of step_of_zero = Some (codes "Slicing step cannot be 0")
 text_of (number_out_of_range number target) =
-    Some (codes "Value `" ++ (signed_decimal number ++ (codes "` is out of range for `" ++ (target ++ codes "`"))))
+    Some (codes "Value `" ++ (signed_decimal number
+    ++ (codes "` is out of range for `" ++ (target ++ codes "`"))))
 text_of (number_outside_i128 number) =
     Some (codes "Number `" ++ (signed_decimal number ++ codes "` is out of range for i128"))
 text_of (wrong_kind before actual behind) = Some (before ++ (actual ++ behind))
@@ -183,8 +194,10 @@ pub record Named : Type 0 where
 
 -- where a refusal names the kind of a value
 abbrev pub named : Refusal → Option Named
-named (invalid_argument expected actual) = Some (record { actual = actual; renamed = λ name. invalid_argument expected name })
-named (wrong_kind before actual behind) = Some (record { actual = actual; renamed = λ name. wrong_kind before name behind })
+named (invalid_argument expected actual) =
+    Some (record { actual = actual; renamed = λ name. invalid_argument expected name })
+named (wrong_kind before actual behind) =
+    Some (record { actual = actual; renamed = λ name. wrong_kind before name behind })
 named refusal = None
 
 abbrev pub actual_in : Refusal → List ℕ

@@ -61,9 +61,11 @@ exact_wants operator a b z = refused_or IsNoWant (small z) (not_exact a operator
 divided_wants : (operator : Operator) (a b answer : ℤ) → IfErr (divided operator a b answer) IsNoWant
 divided_wants operator a (pos zero) answer = λ e. cc
 divided_wants operator a (pos (suc n)) answer =
-    refused_each IsNoWant (λ q. answer) (exact operator a (pos (suc n)) (int_div_euclid a (pos (suc n)))) (exact_wants operator a (pos (suc n)) (int_div_euclid a (pos (suc n))))
+    refused_each IsNoWant (λ q. answer) (exact operator a (pos (suc n)) (int_div_euclid a (pos (suc n))))
+    (exact_wants operator a (pos (suc n)) (int_div_euclid a (pos (suc n))))
 divided_wants operator a (negsuc n) answer =
-    refused_each IsNoWant (λ q. answer) (exact operator a (negsuc n) (int_div_euclid a (negsuc n))) (exact_wants operator a (negsuc n) (int_div_euclid a (negsuc n)))
+    refused_each IsNoWant (λ q. answer) (exact operator a (negsuc n) (int_div_euclid a (negsuc n)))
+    (exact_wants operator a (negsuc n) (int_div_euclid a (negsuc n)))
 
 computed_wants : (operator : Operator) (a b : ℤ) → IfErr (computed operator a b) IsNoWant
 computed_wants plus a b = exact_wants plus a b (a +ℤ b)
@@ -95,7 +97,8 @@ small_below n h = lt-ltb n (2 ^ 127) h
 -- a remainder is less than its divisor, and so is small where this is
 small_remainder : (a b : ℤ) (n : ℕ) → unsigned_abs b ≡ suc n → n < 2 ^ 127 → is_small (int_rem_euclid a b) ≡ true
 small_remainder (pos a) b n e h = small_below _ (let is : a % unsigned_abs b ≡ a % suc n = ap (λ d. a % d) e in omega arith)
-small_remainder (negsuc a) b n e h = small_below _ (let is : unsigned_abs b - 1 - a % unsigned_abs b ≡ suc n - 1 - a % suc n = ap (λ d. d - 1 - a % d) e in omega arith)
+small_remainder (negsuc a) b n e h =
+    small_below _ (let is : unsigned_abs b - 1 - a % unsigned_abs b ≡ suc n - 1 - a % suc n = ap (λ d. d - 1 - a % d) e in omega arith)
 
 each_small : (answer : ℤ) (given : Result ℤ Refusal) → IsSmall answer → IfOk (each_ok (λ quotient. answer) given) IsSmall
 each_small answer (Ok q) h = h

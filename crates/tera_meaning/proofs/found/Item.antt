@@ -61,7 +61,8 @@ indexed_plain : (container : Container) (index : Form) (part : ℤ → Option Fo
 unfolding indexed_meant
 indexed_plain container index part meant h = by (number_in index)
   where
-    by : (n : Option ℤ) → seen_by plain (ok_or (option_map (λ z. unwrap_or (part z) undefined) n) (not_an_index container (name_of index))) ≡ indexed_meant container n meant
+    by : (n : Option ℤ) → seen_by plain (ok_or (option_map (λ z. unwrap_or (part z) undefined) n) (not_an_index container (name_of index)))
+        ≡ indexed_meant container n meant
     by None = refl
     by (Some z) = ap Ok (unwrapped (part z) ∙ ap (λ o. unwrap_or o undefined) (h z))
 
@@ -74,7 +75,8 @@ at_key_plain : (ps : Members Integer MarkedText KeyForm) (i : Form)
 unfolding at_key_meant
 at_key_plain ps i = by (key_in i)
   where
-    by : (k : Option KeyForm) → seen_by plain (ok_or (option_map (λ k. unwrap_or (value_at key_form_order (members_list ps) k) undefined) k) (not_a_map_key (name_of i))) ≡ at_key_meant (plain_pairs ps) (option_map key_meaning k)
+    by : (k : Option KeyForm) → seen_by plain (ok_or (option_map (λ k. unwrap_or (value_at key_form_order (members_list ps) k) undefined) k)
+        (not_a_map_key (name_of i))) ≡ at_key_meant (plain_pairs ps) (option_map key_meaning k)
     by None = refl
     by (Some k) = ap Ok (unwrapped (value_at key_form_order (members_list ps) k) ∙ ap (λ o. unwrap_or o undefined) (found_pair ps (key_meaning k)))
 
@@ -142,12 +144,14 @@ sound_index container index part h = by (number_in index)
 sound_key : (ps : Members Integer MarkedText KeyForm) (i : Form) → AreWellMadeMembers ps → IfOk (item (object ps) i) IsWellMade
 sound_key ps i h = by (key_in i)
   where
-    by : (k : Option KeyForm) → IfOk (ok_or (option_map (λ k. unwrap_or (value_at key_form_order (members_list ps) k) undefined) k) (not_a_map_key (name_of i))) IsWellMade
+    by : (k : Option KeyForm) → IfOk (ok_or (option_map (λ k. unwrap_or (value_at key_form_order (members_list ps) k) undefined) k) (not_a_map_key (name_of i)))
+        IsWellMade
     by None = tt
     by (Some k) = sound_or (value_at key_form_order (members_list ps) k) (sound_pair ps k h)
 
 pub well_made : (v i : Form) → IsWellMade v → IfOk (item v i) IsWellMade
-well_made (text t) i h = sound_index in_text i _ (λ z. sound_text t (part_at (chars t.spelled) z) (sound_char_at (chars t.spelled) (place_of (length (chars t.spelled)) z) (scalars-chars t.spelled h)))
+well_made (text t) i h = sound_index in_text i _ (λ z. sound_text t (part_at (chars t.spelled) z)
+    (sound_char_at (chars t.spelled) (place_of (length (chars t.spelled)) z) (scalars-chars t.spelled h)))
 well_made (array xs) i h = sound_index in_array i _ (λ z. sound_part xs (place_of (length (items_list xs)) z) h)
 well_made (object ps) i h = sound_key ps i h.1
 well_made v i h = tt

@@ -28,7 +28,8 @@ reached_by_meaning : (v w : Form) (e : List ℕ) (p : Option ℕ) → plain v �
 reached_by_meaning v w e None same = Attr.by_meaning e v w same
 reached_by_meaning v w e (Some n) same = placed_plain v n ∙ ap (λ x. place_meant x n) same ∙ sym (placed_plain w n)
 
-and_then : (o p : Option Form) (k : Form → Option Form) → option_map plain o ≡ option_map plain p → ((x y : Form) → plain x ≡ plain y → option_map plain (k x) ≡ option_map plain (k y))
+and_then : (o p : Option Form) (k : Form → Option Form) → option_map plain o ≡ option_map plain p
+    → ((x y : Form) → plain x ≡ plain y → option_map plain (k x) ≡ option_map plain (k y))
     → option_map plain (option_and_then k o) ≡ option_map plain (option_and_then k p)
 and_then None None k e h = refl
 and_then None (Some y) k e h = absurd (none-some (plain y) e)
@@ -38,7 +39,8 @@ and_then (Some x) (Some y) k e h = h x y (same_Some (plain x) (plain y) e)
 followed_by_meaning : (es : List (List ℕ)) (v w : Form) → plain v ≡ plain w → option_map plain (followed v es) ≡ option_map plain (followed w es)
 followed_by_meaning [] v w same = ap Some same
 followed_by_meaning (e ∷ es) v w same =
-    and_then (reached v e (place e)) (reached w e (place e)) (λ part. followed part es) (reached_by_meaning v w e (place e) same) (λ x y h. followed_by_meaning es x y h)
+    and_then (reached v e (place e)) (reached w e (place e)) (λ part. followed part es) (reached_by_meaning v w e (place e) same)
+    (λ x y h. followed_by_meaning es x y h)
 
 -- undefined leads nowhere, none to itself, and all else to what is followed
 led : {X : Type 0} → Meaning → X → Option X → Option X

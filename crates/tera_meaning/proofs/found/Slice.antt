@@ -43,7 +43,8 @@ module _ {X Y : Type 0} (f : X → Y) where
   slice_of_mapped xs start end step nonzero =
       let moved = slice_mapped xs (slice_of xs start end step) _ _ step (slice_of_is xs start end step nonzero) in
       slices_same (map f xs) _ _ _ _ step
-      (subst (λ n. IsSliceFrom (map f xs) (start_place step n start) (end_place step n end) step (map f (slice_of xs start end step))) (sym (length-map xs f)) moved)
+      (subst (λ n. IsSliceFrom (map f xs) (start_place step n start) (end_place step n end) step (map f (slice_of xs start end step))) (sym (length-map xs f))
+      moved)
       (slice_of_is (map f xs) start end step nonzero)
 
 -- the slice of a meaning

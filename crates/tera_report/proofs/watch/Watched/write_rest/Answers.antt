@@ -15,7 +15,8 @@ pub returns-in-Ok-eq0 : goal.returns-in-Ok-eq0
 returns-in-Ok-eq0 g c =
     let (attempts, calls, split, bytes, same, kept, loud, told) = c.loop-turn.invariant in
     let e = c.in-Ok-eq0.ensures in
-    failed_here g.W.Writer.contents g.W.Writer.wrote _ c.loop-turn.self _ attempts _ c.loop-turn.rest.now (Ok c.in-Ok-eq0.field-0) calls split bytes same e.wrote e.bytes e.same e.told
+    failed_here g.W.Writer.contents g.W.Writer.wrote _ c.loop-turn.self _ attempts _ c.loop-turn.rest.now (Ok c.in-Ok-eq0.field-0) calls split bytes same
+    e.wrote e.bytes e.same e.told
     (subst (λ n. is_fault {E = Error} (Ok n) c.loop-turn.rest.now ≡ true) (sym c.in-Ok-eq0.field-0-test) (search rules))
     (subst (λ n. take n c.loop-turn.rest.now ≡ []) (sym c.in-Ok-eq0.field-0-test) refl)
 
@@ -23,7 +24,8 @@ pub returns-then-not-matches : goal.returns-then-not-matches
 returns-then-not-matches g c =
     let (attempts, calls, split, bytes, same, kept, loud, told) = c.loop-turn.invariant in
     let e = c.in-Err.ensures in
-    failed_here g.W.Writer.contents g.W.Writer.wrote _ c.loop-turn.self _ attempts _ c.loop-turn.rest.now (Err c.in-Err.e) calls split bytes same e.wrote (keeps_appends _ _ e.bytes) e.same e.told refl refl
+    failed_here g.W.Writer.contents g.W.Writer.wrote _ c.loop-turn.self _ attempts _ c.loop-turn.rest.now (Err c.in-Err.e) calls split bytes same e.wrote
+    (keeps_appends _ _ e.bytes) e.same e.told refl refl
 
 pub loop-turn-preserved : goal.loop-turn-preserved
 loop-turn-preserved g c =
