@@ -71,7 +71,8 @@ AreToldApartBy commands f g =
     → AreOutcomes g commands others
     → AreAlike f commands outcomes others → ⊥
 
--- the same of runs from these states in which no step wants memory
+-- runs of the commands from these states, in which no step wants memory, come to outcomes that are
+-- not alike
 abbrev pub RunsAreToldApart : List Command → State → State → Type 0
 RunsAreToldApart commands f g =
     (outcomes others : List Outcome) (f' g' : State) → IsAmpleRun f commands outcomes f'

@@ -30,7 +30,7 @@ key_in (bytes bs) = None
 key_in (array xs) = None
 key_in (object ps) = None
 
--- the same, or its refusal
+-- the key that a value is, or the refusal of a value that is none
 abbrev pub as_key : Form → Result KeyForm Refusal
 as_key value = ok_or (key_in value) not_a_key
 

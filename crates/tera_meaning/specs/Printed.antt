@@ -20,7 +20,7 @@ shown_key (truth_key b) = printed_truth b
 shown_key (number_key z) = signed_decimal z
 shown_key (text_key t) = t
 
--- and in a map, where a text is quoted
+-- how a key prints in a map, where a text is quoted
 abbrev pub printed_key : KeyMeaning → List ℕ
 printed_key (truth_key b) = printed_truth b
 printed_key (number_key z) = signed_decimal z
@@ -110,7 +110,7 @@ IsExactKey k = IsTrue (is_exact_key k)
 abbrev pub Prints : Meaning → List ℕ → Type 0
 Prints x written = IsExact x → written ≡ printed x
 
--- the same of a meaning that stands in an array or map, where texts are quoted
+-- what is written for a meaning that stands in an array or map, where texts are quoted
 abbrev pub PrintsInside : Meaning → List ℕ → Type 0
 PrintsInside x written = IsExactInside x → written ≡ printed_with quoted x
 

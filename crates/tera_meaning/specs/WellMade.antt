@@ -84,7 +84,7 @@ BringsWellMade (ask question name) = ⊤
 BringsWellMade (weigh weighing left right) = ⊤
 BringsWellMade (find search) = ⊤
 
--- the same of commands, and a name under which what one finds is to be kept is UTF-8 too
+-- each command brings what is well made, and a name for what it finds spells characters in UTF-8
 abbrev pub AllBringWellMade : List Command → Type 0
 AllBringWellMade commands =
     AllByRecursion (λ command. BringsWellMade command.request × IfSome command.into IsUtf8) commands
