@@ -1,4 +1,5 @@
 -- Answers depend on meanings alone.
+use Rattle.tera_meaning.proofs.PlainLaws.{is_there}
 use Rattle.std.specs.Prelude.{◌≡◌, ℕ, suc, length, Bool, true, false, cond, List, [], ◌∷◌, Option, Some, None, Result, Ok, Err, is_some, refl}
 use Rattle.std.proofs.Common.{sym, ◌∙◌, ap, subst}
 use Rattle.std.specs.Option.{option_map, unwrap_or}
@@ -12,76 +13,41 @@ use Rattle.tera_meaning.specs.Form.{Form}
 use Rattle.tera_meaning.specs.Meaning.{Meaning, plain}
 use Rattle.tera_meaning.specs.Printed.{printed, IsExact, Prints}
 use Rattle.tera_meaning.specs.Read.{marked_safe, size_in, truthy_in}
-use Rattle.tera_meaning.specs.State.{State, read, form_at, meaning_at}
+use Rattle.tera_meaning.specs.State.{State, read, form_at}
 use Rattle.tera_meaning.specs.Alike.{MeanTheSame, RequestTheSame, AskTheSame, AllAskTheSame, IsSettled, AreAlike}
 use Rattle.tera_meaning.specs.Answer
-use Rattle.tera_meaning.specs.Search.{Search, Found, found_at, one_found}
-use Rattle.tera_meaning.specs.Arithmetic.{calculated, negated}
-use Rattle.tera_meaning.specs.Conversion.{read_as}
-use Rattle.tera_meaning.proofs.ArithmeticLaws.{calculated_by_meaning, negated_by_meaning, held_by_meaning}
-use Rattle.tera_meaning.specs.Lookup
+use Rattle.tera_meaning.specs.Search.{Found, found_at}
 use Rattle.tera_meaning.specs.Lookup.{holds, seen_by}
-use Rattle.tera_meaning.specs.Slice.{reversed, shape_of}
-use Rattle.tera_meaning.specs.Walk.{sliced}
-use Rattle.tera_meaning.proofs.LookedUp.{attr_by_meaning, path_by_meaning, item_by_meaning, holds_by_meaning, fields_by_meaning}
-use Rattle.tera_meaning.proofs.SlicedLaws.{sliced_is, sliced_alike, reversed_alike}
+use Rattle.tera_meaning.proofs.ContainsLaws.{holds_by_meaning}
+use Rattle.tera_meaning.proofs.PlainLaws.{fields_by_meaning}
+use Rattle.tera_meaning.proofs.Owed.{found_shape, read_alike, meaning_alike}
+use Rattle.tera_meaning.proofs.found.{owed}
 use Rattle.tera_meaning.specs.Outcome.{Outcome, shape}
 use Rattle.tera_meaning.specs.Question.{Question, IsAnswered, IsSettledAnswer}
 use Rattle.tera_meaning.proofs.ExtendLaws.{extended_alike}
 use Rattle.tera_meaning.specs.Request.{Request, set, extend, remove, mark_safe, ask, weigh, find, Command}
 use Rattle.tera_meaning.specs.Run.{AreOutcomes, state_after_all}
 use Rattle.tera_meaning.specs.Step.{found_or_kept, keeping, marking, marking_into, ComesTo, IsOutcome, leaves, state_after}
-use Rattle.tera_meaning.specs.Tree.{undefined, none, truth, number, text, bytes, array, object}
+use Rattle.tera_meaning.specs.Tree.{undefined, text}
 use Rattle.tera_meaning.specs.Weighing.{Weighing, weighed, truth_told}
 
 -- marking changes no meaning
 pub plain_marked : (value : Form) → plain (marked_safe value) ≡ plain value
-plain_marked undefined = refl
-plain_marked none = refl
-plain_marked (truth b) = refl
-plain_marked (number n) = refl
 plain_marked (text t) = refl
-plain_marked (bytes bs) = refl
-plain_marked (array xs) = refl
-plain_marked (object ps) = refl
-
-read_plain : (o : Option Form) → plain (read o) ≡ unwrap_or (option_map plain o) undefined
-read_plain None = refl
-read_plain (Some value) = refl
-
-read_alike : (o p : Option Form) → option_map plain o ≡ option_map plain p → plain (read o) ≡ plain (read p)
-read_alike o p e = read_plain o ∙ ap (λ q. unwrap_or q undefined) e ∙ sym (read_plain p)
+plain_marked v = refl
 
 pub some_one : (v w : Form) → option_map plain (Some v) ≡ option_map plain (Some w) → plain v ≡ plain w
 some_one v w e = ap (λ o. unwrap_or o undefined) e
 
-is_held : (o : Option Form) → is_some (option_map plain o) ≡ is_some o
-is_held None = refl
-is_held (Some value) = refl
-
 held_alike : (o p : Option Form) → option_map plain o ≡ option_map plain p → is_some o ≡ is_some p
-held_alike o p e = sym (is_held o) ∙ ap is_some e ∙ is_held p
-
--- what is found, by its meaning
-found_shape : Found → Result (Option Meaning) Refusal
-found_shape (Ok value) = Ok (option_map plain value)
-found_shape (Err refusal) = Err (refusal_shape refusal)
+held_alike o p e = sym (is_there plain o) ∙ ap is_some e ∙ is_there plain p
 
 same_found : (o p : Option Form) → ◌≡◌ {A = Result (Option Meaning) Refusal} (Ok (option_map plain o)) (Ok (option_map plain p))
     → option_map plain o ≡ option_map plain p
 same_found o p e = cc
 
--- a value that is found, or a refusal
-some_alike : (a b : Result Form Refusal) → shape_of a ≡ shape_of b → found_shape (one_found a) ≡ found_shape (one_found b)
-unfolding found_shape
-some_alike (Ok v) (Ok w) e = let same : plain v ≡ plain w = cc in λ i. Ok (Some (same i))
-some_alike (Err r) (Err q) e = let same : refusal_shape r ≡ refusal_shape q = cc in λ i. Err (same i)
-some_alike (Ok v) (Err q) e = cc
-some_alike (Err r) (Ok w) e = cc
-
 kept_shape : (into : Option (List ℕ)) (found also : Found) → found_shape found ≡ found_shape also
     → shape (found_or_kept into found) ≡ shape (found_or_kept into also)
-unfolding found_shape
 kept_shape None (Ok o) (Ok p) e = λ i. Ok (Answer.found (same_found o p e i))
 kept_shape (Some into) (Ok None) (Ok None) e = refl
 kept_shape (Some into) (Ok (Some v)) (Ok (Some w)) e = refl
@@ -113,7 +79,8 @@ asked_alike Question.len held also o p h e d s = both e d (λ i. Ok (Answer.size
 asked_alike Question.print held also o p h (t, prints, e) (u, again, d) s =
     both e d (λ i. Ok (Answer.text (text_alike (plain (read held)) (plain (read also)) t u (read_alike held also h) prints again s i)))
 asked_alike Question.escape held also o p h (t, v, prints, spells, e) (u, w, again, spelled, d) s =
-    both e d (λ i. Ok (Answer.text (word_alike v w t u (text_alike (plain (read held)) (plain (read also)) t u (read_alike held also h) prints again s) spells spelled i)))
+    both e d (λ i. Ok (Answer.text (word_alike v w t u (text_alike (plain (read held)) (plain (read also)) t u (read_alike held also h) prints again s) spells
+    spelled i)))
 asked_alike Question.fields held also o p h e d s =
     both e d (λ i. Ok (Answer.texts (fields_by_meaning (read held) (read also) (read_alike held also h) i)))
 asked_alike Question.is_safe held also o p h e d s = absurd s
@@ -134,32 +101,6 @@ weighed_alike Weighing.contains v w x y e d = truth_alike (holds v w) (holds x y
 weighed_alike weighing v w x y e d = rw (e, d) refl
 
 module _ (f g : State) (h : MeanTheSame f g) where
-  pub meaning_alike : (name : List ℕ) → meaning_at f name ≡ meaning_at g name
-  meaning_alike name = read_alike (held_at f name) (held_at g name) (h name)
-
-  -- what is found in states of one meaning
-  found_alike : (search : Search) → found_shape (found_at f search) ≡ found_shape (found_at g search)
-  unfolding found_shape
-  found_alike (Search.get name) = λ i. Ok (h name i)
-  found_alike (Search.path name p) = λ i. Ok (path_by_meaning (form_at f name) (form_at g name) p (meaning_alike name) i)
-  found_alike (Search.attr name t) = λ i. Ok (attr_by_meaning (form_at f name) (form_at g name) t (meaning_alike name) i)
-  found_alike (Search.item name i) =
-      some_alike (Lookup.item (form_at f name) (form_at f i)) (Lookup.item (form_at g name) (form_at g i))
-      (item_by_meaning (form_at f name) (form_at g name) (form_at f i) (form_at g i) (meaning_alike name) (meaning_alike i))
-  found_alike (Search.slice name start end step) =
-      some_alike (sliced (form_at f name) start end step) (sliced (form_at g name) start end step)
-      (sliced_alike (form_at f name) (form_at g name) start end step _ _ (meaning_alike name) (sliced_is (form_at f name) start end step) (sliced_is (form_at g name) start end step))
-  found_alike (Search.reverse name) =
-      some_alike (reversed (form_at f name)) (reversed (form_at g name)) (reversed_alike (form_at f name) (form_at g name) (meaning_alike name))
-  found_alike (Search.calculate operator left right) =
-      some_alike (calculated operator (form_at f left) (form_at f right)) (calculated operator (form_at g left) (form_at g right))
-      (calculated_by_meaning operator (form_at f left) (form_at f right) (form_at g left) (form_at g right) (meaning_alike left) (meaning_alike right))
-  found_alike (Search.negate name) =
-      some_alike (negated (form_at f name)) (negated (form_at g name)) (negated_by_meaning (form_at f name) (form_at g name) (meaning_alike name))
-  found_alike (Search.read type name) =
-      some_alike (read_as type (form_at f name)) (read_as type (form_at g name))
-      (held_by_meaning type (form_at f name) (form_at g name) (meaning_alike name))
-
   outcomes_same : (request : Request) (into : Option (List ℕ)) (o p : Outcome) → ComesTo f request into o
       → ComesTo g request into p → IsSettled f request → shape o ≡ shape p
   outcomes_same (set name value) into o p e d s = both e d refl
@@ -169,9 +110,10 @@ module _ (f g : State) (h : MeanTheSame f g) where
   outcomes_same (ask question name) into o p e d s =
       asked_alike question (held_at f name) (held_at g name) o p (h name) e d s
   outcomes_same (weigh weighing left right) into o p e d s =
-      both e d (weighed_alike weighing (form_at f left) (form_at f right) (form_at g left) (form_at g right) (meaning_alike left) (meaning_alike right))
+      both e d (weighed_alike weighing (form_at f left) (form_at f right) (form_at g left) (form_at g right) (meaning_alike f g h left)
+      (meaning_alike f g h right))
   outcomes_same (find search) into o p e d s =
-      both e d (kept_shape into (found_at f search) (found_at g search) (found_alike search))
+      both e d (kept_shape into (found_at f search) (found_at g search) ((owed search).by_meaning f g h))
 
   outcomes_alike : (q r : Request) (into : Option (List ℕ)) (o p : Outcome) → RequestTheSame q r → ComesTo f q into o
       → ComesTo g r into p → IsSettled f q → shape o ≡ shape p
@@ -200,7 +142,6 @@ removed_alike f g name h other =
 module _ (f g : State) (h : MeanTheSame f g) where
   kept_alike : (into : Option (List ℕ)) (found also : Found) → found_shape found ≡ found_shape also
       → MeanTheSame (keeping f into found) (keeping g into also)
-  unfolding found_shape
   kept_alike None (Ok o) (Ok p) e = h
   kept_alike (Some into) (Ok None) (Ok None) e = h
   kept_alike (Some into) (Ok (Some v)) (Ok (Some w)) e = set_alike f g into v w h (some_one v w (same_found (Some v) (Some w) e))
@@ -233,7 +174,7 @@ module _ (f g : State) (h : MeanTheSame f g) where
   states_same (mark_safe name) into = marked_alike name into
   states_same (ask question name) into = h
   states_same (weigh weighing left right) into = h
-  states_same (find search) into = kept_alike into (found_at f search) (found_at g search) (found_alike f g h search)
+  states_same (find search) into = kept_alike into (found_at f search) (found_at g search) ((owed search).by_meaning f g h)
 
   states_left_alike : (q r : Request) (into : Option (List ℕ)) → RequestTheSame q r
       → MeanTheSame (leaves f q into) (leaves g r into)

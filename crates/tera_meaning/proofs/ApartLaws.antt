@@ -25,7 +25,8 @@ use Rattle.tera_meaning.proofs.AlikeLaws.{some_one, all_outcomes_alike, all_ask_
 use Rattle.tera_meaning.specs.Tree.{undefined}
 use Rattle.tera_meaning.specs.WellMade.{IsWellMadeState, AllBringWellMade}
 use Rattle.tera_meaning.proofs.RunLaws.{ample_outcomes}
-use Rattle.tera_meaning.proofs.WellMadeLaws.{form_at_well, held_name_well}
+use Rattle.tera_meaning.proofs.WellMadeLaws.{held_name_well}
+use Rattle.tera_meaning.proofs.Owed.{form_at_well}
 
 truth_of : OutcomeOf Meaning → Bool
 truth_of (Ok (Answer.truth b)) = b
@@ -61,7 +62,8 @@ module _ (f g : State) (name : List ℕ) where
       → probe_equal f name (form_at f name) ≡ probe_equal g name (form_at f name)
       → meaning_held f name ≡ meaning_held g name
   by_truths s e =
-      let is : same (meaning_at g name) (meaning_at f name) ≡ true = sym (probed g name (form_at f name)) ∙ sym e ∙ probed f name (form_at f name) ∙ same_equivalence.refl (meaning_at f name) in
+      let is : same (meaning_at g name) (meaning_at f name) ≡ true = sym (probed g name (form_at f name)) ∙ sym e ∙ probed f name (form_at f name)
+      ∙ same_equivalence.refl (meaning_at f name) in
       held_one (held_at f name) (held_at g name) s (sym ((same_is (meaning_at g name) (meaning_at f name)).0 is))
 
   -- states that answer the probe with a name's own value alike hold the same meaning at the name
@@ -93,7 +95,8 @@ module _ (f g : State) (name : List ℕ) where
   pub by_alike : AnswerAlike f g → meaning_held f name ≡ meaning_held g name
   by_alike alike =
       by_answers (probe_answers f) (probe_answers g) (probe_answered f) (probe_answered g)
-      (alike (probe name (form_at f name)) (probe name (form_at f name)) (probe_answers f) (probe_answers g) (all_ask_the_same (probe name (form_at f name))) (probe_answered f) (probe_answered g))
+      (alike (probe name (form_at f name)) (probe name (form_at f name)) (probe_answers f) (probe_answers g) (all_ask_the_same (probe name (form_at f name)))
+      (probe_answered f) (probe_answered g))
 
 -- states answer alike exactly where they mean the same
 pub alike_exactly : (f g : State) → MeanTheSame f g ↔ AnswerAlike f g

@@ -1,4 +1,5 @@
 -- The partial order of meanings answers as the order does, or not at all.
+use Rattle.std.proofs.lemmas.Option.{none-some, same_Some}
 use Rattle.std.specs.Prelude.{◌≡◌, ◌≢◌, ℕ, ℤ, Bool, true, false, List, [], ◌∷◌, Option, Some, None, ◌==◌, if◌then◌else◌, refl}
 use Rattle.std.proofs.Common.{◌∙◌, ap}
 use Rattle.std.specs.Cmp.{some_flip, unsigned_Decides}
@@ -14,34 +15,28 @@ use Rattle.tera_meaning.specs.Order.{rank, compare, compare_items}
 use Rattle.tera_meaning.specs.OrderLaws.{compare_reversed}
 use Rattle.tera_meaning.specs.Tree.{Items, undefined, none, truth, number, text, bytes, array, object, no_items, item, items}
 
-none_some : {X : Type 0} (x : X) → None ≡ Some x → ⊥
-none_some x e = cc
-
-inside : (r s : Ordering) → Some r ≡ Some s → r ≡ s
-inside r s e = cc
-
 -- the parts of two answers, one after the other
 then_agrees : (p q : Option Ordering) (r s answer : Ordering) → ((a : Ordering) → p ≡ Some a → r ≡ a) → ((a : Ordering) → q ≡ Some a → s ≡ a)
     → partial_ordering_then p q ≡ Some answer → ordering_then r s ≡ answer
-then_agrees None q r s answer f g e = absurd (none_some answer e)
-then_agrees (Some Less) q r s answer f g e = ap (λ o. ordering_then o s) (f Less refl) ∙ inside Less answer e
+then_agrees None q r s answer f g e = absurd (none-some answer e)
+then_agrees (Some Less) q r s answer f g e = ap (λ o. ordering_then o s) (f Less refl) ∙ same_Some Less answer e
 then_agrees (Some Equal) q r s answer f g e = ap (λ o. ordering_then o s) (f Equal refl) ∙ g answer e
-then_agrees (Some Greater) q r s answer f g e = ap (λ o. ordering_then o s) (f Greater refl) ∙ inside Greater answer e
+then_agrees (Some Greater) q r s answer f g e = ap (λ o. ordering_then o s) (f Greater refl) ∙ same_Some Greater answer e
 
 by_rank : (b : Bool) (r answer : Ordering) → (if b then Some r else None) ≡ Some answer → r ≡ answer
-by_rank true r answer e = inside r answer e
-by_rank false r answer e = absurd (none_some answer e)
+by_rank true r answer e = same_Some r answer e
+by_rank false r answer e = absurd (none-some answer e)
 
 mutual
   pub decided_agrees : (x y : Meaning) (answer : Ordering) → decided x y ≡ Some answer → compare x y ≡ answer
   decided_agrees (array xs) (array ys) answer e = items_agree xs ys answer e
-  decided_agrees (object ps) (object qs) answer e = absurd (none_some answer e)
+  decided_agrees (object ps) (object qs) answer e = absurd (none-some answer e)
   decided_agrees x y answer e = by_rank (rank x == rank y) (compare x y) answer e
 
   items_agree : (xs ys : Items ℤ (List ℕ) KeyMeaning) (answer : Ordering) → decided_items xs ys ≡ Some answer → compare_items xs ys ≡ answer
-  items_agree no_items no_items answer e = inside Equal answer e
-  items_agree no_items (item y ys) answer e = inside Less answer e
-  items_agree (item x xs) no_items answer e = inside Greater answer e
+  items_agree no_items no_items answer e = same_Some Equal answer e
+  items_agree no_items (item y ys) answer e = same_Some Less answer e
+  items_agree (item x xs) no_items answer e = same_Some Greater answer e
   items_agree (item x xs) (item y ys) answer e =
       then_agrees (decided x y) (decided_items xs ys) (compare x y) (compare_items xs ys) answer (decided_agrees x y) (items_agree xs ys) e
 

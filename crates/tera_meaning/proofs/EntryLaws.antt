@@ -30,7 +30,8 @@ module _ {J K U V : Type 0} (f : J → K) (g : U → V) (order : K → K → Ord
   unfolding read
   insert_read k v [] = refl
   insert_read k v (e ∷ es) =
-      elim (order (f k) (f e.0)) as (λ r. map read (match_ordering r ((k, v) ∷ e ∷ es) ((e.0, v) ∷ es) (e ∷ insert_entry (on f order) es k v)) ≡ match_ordering r ((f k, g v) ∷ map read (e ∷ es)) ((f e.0, g v) ∷ map read es) (read e ∷ insert_entry order (map read es) (f k) (g v))) [
+      elim (order (f k) (f e.0)) as (λ r. map read (match_ordering r ((k, v) ∷ e ∷ es) ((e.0, v) ∷ es) (e ∷ insert_entry (on f order) es k v))
+      ≡ match_ordering r ((f k, g v) ∷ map read (e ∷ es)) ((f e.0, g v) ∷ map read es) (read e ∷ insert_entry order (map read es) (f k) (g v))) [
         | Less ↦ refl
         | Equal ↦ refl
         | Greater ↦ ap (λ ys. (f e.0, g e.1) ∷ ys) (insert_read k v es)
@@ -41,7 +42,9 @@ module _ {J K U V : Type 0} (f : J → K) (g : U → V) (order : K → K → Ord
   rising_read [] = refl
   rising_read (e ∷ es) = insert_read e.0 e.1 (rising (on f order) es) ∙ ap (λ ys. insert_entry order ys (f e.0) (g e.1)) (rising_read es)
 
-  slice_read : (values : V → V → Ordering) (xs ys : List (J × U)) → slice_cmp (entry_order order values) (map (λ p. (f p.0, g p.1)) xs) (map (λ p. (f p.0, g p.1)) ys) ≡ slice_cmp (entry_order (on f order) (on g values)) xs ys
+  slice_read : (values : V → V → Ordering) (xs ys : List (J × U))
+      → slice_cmp (entry_order order values) (map (λ p. (f p.0, g p.1)) xs) (map (λ p. (f p.0, g p.1)) ys)
+      ≡ slice_cmp (entry_order (on f order) (on g values)) xs ys
   slice_read values [] [] = refl
   slice_read values [] (y ∷ ys) = refl
   slice_read values (x ∷ xs) [] = refl
@@ -61,7 +64,8 @@ pub maps_decide : (ps qs : List (KeyMeaning × Meaning)) (k : KeyMeaning) → Ri
     → compare (object (members ps)) (object (members qs)) ≡ order_at key_order compare ps qs k
 maps_decide ps qs k h g least = members_by_first_difference ps qs ∙ difference_decides key_order key_total compare ps qs k h g least
 
-compare_forms : (xs ys : List (KeyForm × Form)) → compare (plain (object (members xs))) (plain (object (members ys))) ≡ slice_cmp (entry_order key_form_order (on plain compare)) xs ys
+compare_forms : (xs ys : List (KeyForm × Form)) → compare (plain (object (members xs))) (plain (object (members ys)))
+    ≡ slice_cmp (entry_order key_form_order (on plain compare)) xs ys
 compare_forms xs ys =
     (λ i. compare (plain_map xs i) (plain_map ys i))
     ∙ members_by_first_difference (map pair_meaning xs) (map pair_meaning ys)
@@ -69,7 +73,8 @@ compare_forms xs ys =
 
 pub forms_decide : (es fs : List (KeyForm × Form)) (k : KeyForm) → IsLeastDifference key_form_order (on plain compare) es fs k
     → compare (map_meaning es) (map_meaning fs) ≡ order_at key_form_order (on plain compare) es fs k
-forms_decide es fs k least = compare_forms (pairs_of es) (pairs_of fs) ∙ entries_decide key_form_order (on_total key_meaning key_total) (on plain compare) es fs k least
+forms_decide es fs k least =
+    compare_forms (pairs_of es) (pairs_of fs) ∙ entries_decide key_form_order (on_total key_meaning key_total) (on plain compare) es fs k least
 
 pub forms_tie : (es fs : List (KeyForm × Form)) → AgreeEverywhere key_form_order (on plain compare) es fs ↔ (compare (map_meaning es) (map_meaning fs) ≡ Equal)
 forms_tie es fs =
@@ -90,16 +95,27 @@ the_other n (inr b) = b
 pub maps_differ : (ps qs : List (KeyMeaning × Meaning)) → Rises key_order ps → Rises key_order qs → object (members ps) ≢ object (members qs)
     → (k : KeyMeaning) × IsLeastDifference key_order compare ps qs k
 maps_differ ps qs h g n =
-    the_other (λ agree. n ((compare_tie (object (members ps)) (object (members qs))).0 (members_by_first_difference ps qs ∙ agreeing_tie key_order key_total compare ps qs h g agree)))
+    the_other (λ agree. n ((compare_tie (object (members ps)) (object (members qs))).0
+    (members_by_first_difference ps qs ∙ agreeing_tie key_order key_total compare ps qs h g agree)))
     (least_or_none key_order key_total compare ps qs h g)
 
-pub forms_differ : (es fs : List (KeyForm × Form)) → map_meaning es ≢ map_meaning fs → (k : KeyForm) × IsLeastDifference key_form_order (on plain compare) es fs k
+pub forms_differ : (es fs : List (KeyForm × Form)) → map_meaning es ≢ map_meaning fs → (k : KeyForm)
+    × IsLeastDifference key_form_order (on plain compare) es fs k
 forms_differ es fs n =
     let total : IsTotalOrder key_form_order = on_total key_meaning key_total in
     let found : (k : KeyForm) × IsLeastDifference key_form_order (on plain compare) (pairs_of es) (pairs_of fs) k =
-    the_other (λ agree. n ((compare_tie (map_meaning es) (map_meaning fs)).0 (compare_forms (pairs_of es) (pairs_of fs) ∙ agreeing_tie key_form_order total (on plain compare) (pairs_of es) (pairs_of fs) (rising_rises key_form_order total es) (rising_rises key_form_order total fs) agree)))
-    (least_or_none key_form_order total (on plain compare) (pairs_of es) (pairs_of fs) (rising_rises key_form_order total es) (rising_rises key_form_order total fs)) in
-    (found.0, (sym (agree_rising key_form_order total (on plain compare) es fs found.0) ∙ found.1.0, λ l m. sym (agree_rising key_form_order total (on plain compare) es fs l) ∙ found.1.1 l m))
+    the_other (λ agree. n ((compare_tie (map_meaning es) (map_meaning fs)).0
+    (compare_forms (pairs_of es) (pairs_of fs) ∙ agreeing_tie key_form_order total (on plain compare) (pairs_of es) (pairs_of fs)
+    (rising_rises key_form_order total es) (rising_rises key_form_order total fs) agree)))
+    (least_or_none key_form_order total (on plain compare) (pairs_of es) (pairs_of fs) (rising_rises key_form_order total es)
+    (rising_rises key_form_order total fs)) in (
+      found.0,
+      (
+        sym (agree_rising key_form_order total (on plain compare) es fs found.0)
+            ∙ found.1.0,
+        λ l m. sym (agree_rising key_form_order total (on plain compare) es fs l) ∙ found.1.1 l m,
+      ),
+    )
 
 -- ---- pair lists that find the same
 
@@ -107,8 +123,11 @@ alike : (o : Option Meaning) → option_eq (eq_by_cmp compare) o o ≡ true
 alike None = refl
 alike (Some x) = ap is_eq (compare_same x)
 
-pub one_pair_list : (ps qs : List (KeyMeaning × Meaning)) → Rises key_order ps → Rises key_order qs → ((k : KeyMeaning) → value_at key_order ps k ≡ value_at key_order qs k) → ps ≡ qs
+pub one_pair_list : (ps qs : List (KeyMeaning × Meaning)) → Rises key_order ps → Rises key_order qs
+    → ((k : KeyMeaning) → value_at key_order ps k ≡ value_at key_order qs k) → ps ≡ qs
 one_pair_list ps qs h g same =
-    let agree : AgreeEverywhere key_order compare ps qs = (λ k. ap (λ o. option_eq (eq_by_cmp compare) o (value_at key_order qs k)) (same k) ∙ alike (value_at key_order qs k)) in
-    let tie : compare (object (members ps)) (object (members qs)) ≡ Equal = members_by_first_difference ps qs ∙ agreeing_tie key_order key_total compare ps qs h g agree in
+    let agree : AgreeEverywhere key_order compare ps qs = (λ k. ap (λ o. option_eq (eq_by_cmp compare) o (value_at key_order qs k)) (same k)
+    ∙ alike (value_at key_order qs k)) in
+    let tie : compare (object (members ps)) (object (members qs)) ≡ Equal = members_by_first_difference ps qs
+    ∙ agreeing_tie key_order key_total compare ps qs h g agree in
     sym (list_of_members ps) ∙ ap members_list (members_exact (members ps) (members qs) tie) ∙ list_of_members qs

@@ -1,4 +1,5 @@
 -- States are equal where they mean the same.
+use Rattle.std.proofs.lemmas.Bool.{and_parts, and_from}
 use Rattle.std.specs.Prelude.{◌≡◌, ◌↔◌, ℕ, Bool, true, false, cond, ◌&&◌, T, IsTrue, List, [], ◌∷◌, map, Option, Some, refl}
 use Rattle.std.proofs.Common.{sym, ◌∙◌, ap, subst}
 use Rattle.std.specs.Option.{option_map}
@@ -24,35 +25,24 @@ same_pair p q = bytes_eq p.0 q.0 && same (plain p.1) (plain q.1)
 
 pub states_equal_laws : IsPartialEquivalence states_equal
 states_equal_laws =
-    on_per entries (lists_per (and_per (on_per (λ (p : Pair). p.0) (partial_equiv_from_equiv nat_list_eq_equiv)) (on_per (λ (p : Pair). plain p.1) same_partial_equivalence)))
+    on_per entries (lists_per (and_per (on_per (λ (p : Pair). p.0) (partial_equiv_from_equiv nat_list_eq_equiv))
+    (on_per (λ (p : Pair). plain p.1) same_partial_equivalence)))
 
 -- pairs by what they mean
 abbrev meant : List Pair → List (List ℕ × Meaning)
 meant pairs = map (λ p. (p.0, plain p.1)) pairs
 
-first_so : (a b : Bool) → IsTrue (a && b) → IsTrue a
-first_so true b h = refl
-first_so false b h = h
-
-second_so : (a b : Bool) → IsTrue (a && b) → IsTrue b
-second_so true b h = h
-second_so false b h = cc
-
-both_so : (a b : Bool) → IsTrue a → IsTrue b → IsTrue (a && b)
-both_so true b p q = q
-both_so false b p q = p
-
 pair_same : (p q : Pair) → IsTrue (same_pair p q) → (p.0 ≡ q.0) × (plain p.1 ≡ plain q.1)
 pair_same p q h = (
-  (bytes_decides p.0 q.0).0 (first_so (bytes_eq p.0 q.0) _ h),
-  (same_is (plain p.1) (plain q.1)).0 (second_so (bytes_eq p.0 q.0) _ h),
+  (bytes_decides p.0 q.0).0 ((and_parts (bytes_eq p.0 q.0) _ h).0),
+  (same_is (plain p.1) (plain q.1)).0 ((and_parts (bytes_eq p.0 q.0) _ h).1),
 )
 
 same_meant : (ps qs : List Pair) → IsTrue (pointwise same_pair ps qs) → meant ps ≡ meant qs
 same_meant [] [] h = refl
 same_meant (p ∷ ps) (q ∷ qs) h =
-    let first = pair_same p q (first_so (same_pair p q) _ h) in
-    let rest = same_meant ps qs (second_so (same_pair p q) _ h) in
+    let first = pair_same p q ((and_parts (same_pair p q) _ h).0) in
+    let rest = same_meant ps qs ((and_parts (same_pair p q) _ h).1) in
     λ i. (first.0 i, first.1 i) ∷ rest i
 same_meant [] (q ∷ qs) h = cc
 same_meant (p ∷ ps) [] h = cc
@@ -64,7 +54,8 @@ meant_same (p ∷ ps) (q ∷ qs) e =
     let names : p.0 ≡ q.0 = ap (λ x. x.0) first in
     let values : plain p.1 ≡ plain q.1 = ap (λ x. x.1) first in
     let rest : meant ps ≡ meant qs = cc in
-    both_so (same_pair p q) _ (both_so (bytes_eq p.0 q.0) _ ((bytes_decides p.0 q.0).1 names) ((same_is (plain p.1) (plain q.1)).1 values)) (meant_same ps qs rest)
+    and_from (same_pair p q) _ (and_from (bytes_eq p.0 q.0) _ ((bytes_decides p.0 q.0).1 names) ((same_is (plain p.1) (plain q.1)).1 values))
+    (meant_same ps qs rest)
 meant_same [] (q ∷ qs) e = cc
 meant_same (p ∷ ps) [] e = cc
 
@@ -103,7 +94,8 @@ means_the_same f g h name =
 
 are_equal : (f g : State) → MeanTheSame f g → IsTrue (states_equal f g)
 are_equal f g same =
-    meant_same (entries f) (entries g) (same_entries (slice_cmp nat_cmp) nat_list_cmp_total name_exact (meant (entries f)) (meant (entries g)) (rises_meant f) (rises_meant g) (λ name.
+    meant_same (entries f) (entries g) (same_entries (slice_cmp nat_cmp) nat_list_cmp_total name_exact (meant (entries f)) (meant (entries g)) (rises_meant f)
+    (rises_meant g) (λ name.
     sym (held_meant f name) ∙ same name ∙ held_meant g name))
 
 pub equal_is : (f g : State) → IsTrue (states_equal f g) ↔ MeanTheSame f g

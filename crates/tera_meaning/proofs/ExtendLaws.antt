@@ -1,4 +1,5 @@
 -- What a state holds after it takes over what a source holds.
+use Rattle.std.proofs.Math.Facts.{and_yes}
 use Rattle.std.specs.Prelude.{◌≡◌, ◌≢◌, ◌<◌, ℕ, zero, suc, Bool, true, false, cond, ◌&&◌, T, IsSome, List, [], ◌∷◌, ◌++◌, length, take, drop, Option, Some, None, refl}
 use Rattle.std.proofs.Common.{sym, ◌∙◌, ap, subst, arith}
 use Rattle.std.specs.Option.{option_map, option_or}
@@ -123,27 +124,19 @@ both : (a b : Bool) → T a → T b → T (a && b)
 both true b p q = q
 both false b p q = absurd p
 
-first_of : (a b : Bool) → T (a && b) → T a
-first_of true b h = tt
-first_of false b h = h
-
-second_of : (a b : Bool) → T (a && b) → T b
-second_of true b h = h
-second_of false b h = absurd h
-
 above_first : (name : List ℕ) (pairs later : List (List ℕ × Form))
     → T (below_all (slice_cmp nat_cmp) name (pairs ++ later)) → T (below_all (slice_cmp nat_cmp) name pairs)
 above_first name [] later h = tt
 above_first name (p ∷ pairs) later h =
     let step = is_lt (slice_cmp nat_cmp name p.0) in
-    both step _ (first_of step _ h) (above_first name pairs later (second_of step _ h))
+    both step _ ((and_yes step _ h).0) (above_first name pairs later ((and_yes step _ h).1))
 
 -- the first of pairs that rise rise
 pub rising_first : (pairs later : List (List ℕ × Form)) → T (is_rising (pairs ++ later)) → T (is_rising pairs)
 rising_first [] later h = tt
 rising_first (p ∷ pairs) later h =
     let above = below_all (slice_cmp nat_cmp) p.0 (pairs ++ later) in
-    both _ _ (above_first p.0 pairs later (first_of above _ h)) (rising_first pairs later (second_of above _ h))
+    both _ _ (above_first p.0 pairs later ((and_yes above _ h).0)) (rising_first pairs later ((and_yes above _ h).1))
 
 reversed_less : (r : Ordering) → T (is_lt r) → is_eq (ordering_reverse r) ≡ false
 reversed_less Less h = refl
@@ -156,9 +149,9 @@ less_is_apart name other h =
 
 above_later : (name other : List ℕ) (value : Form) (pairs later : List (List ℕ × Form))
     → T (below_all (slice_cmp nat_cmp) other (pairs ++ (name, value) ∷ later)) → T (is_lt (slice_cmp nat_cmp other name))
-above_later name other value [] later h = first_of (is_lt (slice_cmp nat_cmp other name)) _ h
+above_later name other value [] later h = (and_yes (is_lt (slice_cmp nat_cmp other name)) _ h).0
 above_later name other value (p ∷ pairs) later h =
-    above_later name other value pairs later (second_of (is_lt (slice_cmp nat_cmp other p.0)) _ h)
+    above_later name other value pairs later ((and_yes (is_lt (slice_cmp nat_cmp other p.0)) _ h).1)
 
 -- where pairs rise, a name stands in none before its own
 pub is_new : (pairs : List (List ℕ × Form)) (name : List ℕ) (value : Form) (later : List (List ℕ × Form))
@@ -166,9 +159,9 @@ pub is_new : (pairs : List (List ℕ × Form)) (name : List ℕ) (value : Form) 
 is_new [] name value later h = refl
 is_new (p ∷ pairs) name value later h =
     let above = below_all (slice_cmp nat_cmp) p.0 (pairs ++ (name, value) ∷ later) in
-    let apart = less_is_apart name p.0 (above_later name p.0 value pairs later (first_of above _ h)) in
+    let apart = less_is_apart name p.0 (above_later name p.0 value pairs later ((and_yes above _ h).0)) in
     ap (λ b. cond b (Some p.1) (find (slice_cmp nat_cmp) name pairs)) apart
-    ∙ is_new pairs name value later (second_of above _ h)
+    ∙ is_new pairs name value later ((and_yes above _ h).1)
 
 -- a beginning of the pairs that a state is made of
 pub begins : (pairs later : List (List ℕ × Form)) → T (is_rising (pairs ++ later)) → later ≢ []
@@ -213,7 +206,8 @@ module _ (whole : State) (n : ℕ) (fewer : n < len whole) where
       drop n (entries whole),
       not_none n (entries whole) some_later,
       sym (split n (entries whole))
-          ∙ ap (λ es. es ++ drop n (entries whole)) (sym (entries_of_rising (take n (entries whole)) (rising_first (take n (entries whole)) (drop n (entries whole)) rising))),
+          ∙ ap (λ es. es ++ drop n (entries whole)) (sym (entries_of_rising (take n (entries whole))
+          (rising_first (take n (entries whole)) (drop n (entries whole)) rising))),
     ),
     len-entries (from_entries (take n (entries whole)))
         ∙ ap length (entries_of_rising (take n (entries whole)) (rising_first (take n (entries whole)) (drop n (entries whole)) rising))

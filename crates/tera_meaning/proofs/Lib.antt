@@ -15,10 +15,12 @@ pub mod SlicedLaws
 pub mod StepLaws
 mod Utf8Laws
 mod WellMadeLaws
-pub mod WantLaws
-mod LookedUp
+mod PlainLaws
+mod ContainsLaws
 mod PathLaws
-mod FoundLaws
+mod SoundLaws
+mod Owed
+mod found
 mod ArithmeticLaws
 mod DivisionLaws
 pub mod PowerLaws

@@ -10,7 +10,7 @@ use Rattle.tera_meaning.specs.Integer.{Integer, u128, i128, IsOfKind, IsWide}
 use Rattle.tera_meaning.specs.KeyMeaning.{KeyForm, KeyMeaning, truth_key, number_key, text_key, owned, key_meaning, key_order}
 use Rattle.tera_meaning.specs.Meaning.{Meaning, plain}
 use Rattle.tera_meaning.specs.Pairs.{Rises, key_form_order}
-use Rattle.tera_meaning.specs.Tree.{Items, Members, undefined, none, truth, number, text, bytes, array, object, no_items, item, no_members, member, members_list, relabeled, relabeled_items, relabeled_members}
+use Rattle.tera_meaning.specs.Tree.{Items, Members, number, text, bytes, array, object, no_items, item, no_members, member, members_list, relabeled, relabeled_items, relabeled_members}
 use Rattle.tera_meaning.specs.WellMade.{IsWellMade, IsWellMadeKey, AreWellMade, AreWellMadeMembers, IsWellMadeMeaning, IsWellMadeKeyMeaning, AreWellMadeMeanings, AreWellMadePairs}
 
 -- a form for each meaning: numbers in the widest kinds, texts without the flag, and keys that own
@@ -39,14 +39,10 @@ key_means (text_key t) = refl
 
 mutual
   means : (x : Meaning) → plain (relabeled integer_of text_of key_of x) ≡ x
-  means undefined = refl
-  means none = refl
-  means (truth b) = refl
   means (number z) = ap number (value_of z)
-  means (text t) = refl
-  means (bytes bs) = refl
   means (array xs) = ap array (items_mean xs)
   means (object ps) = ap object (members_mean ps)
+  means v = refl
 
   items_mean : (xs : Items ℤ (List ℕ) KeyMeaning)
       → relabeled_items (λ n. n.value) (λ t. t.spelled) key_meaning (relabeled_items integer_of text_of key_of xs) ≡ xs
@@ -82,14 +78,12 @@ made_rising (member k x ps) h = (made_above k ps h.0, made_rising ps h.1)
 
 mutual
   made : (x : Meaning) → IsWellMadeMeaning x → IsWellMade (relabeled integer_of text_of key_of x)
-  made undefined h = tt
-  made none h = tt
-  made (truth b) h = tt
   made (number z) h = integer_made z h
   made (text t) h = h
   made (bytes bs) h = h
   made (array xs) h = items_made xs h
   made (object ps) h = (made_rising ps h.0, members_made ps h.1)
+  made v h = tt
 
   items_made : (xs : Items ℤ (List ℕ) KeyMeaning) → AreWellMadeMeanings xs
       → AreWellMade (relabeled_items integer_of text_of key_of xs)

@@ -80,14 +80,18 @@ module _ {K V : Type 0} (order : K → K → Ordering) (total : IsTotalOrder ord
   rising_rises [] = tt
   rising_rises (e ∷ es) = insert_rises e.0 e.1 (rising order es) (rising_rises es)
 
-  found_insert : (q k : K) (v : V) (es : List (K × V)) → value_at order (insert_entry order es k v) q ≡ cond (eq_by_cmp order q k) (Some v) (value_at order es q)
+  found_insert : (q k : K) (v : V) (es : List (K × V)) → value_at order (insert_entry order es k v) q
+      ≡ cond (eq_by_cmp order q k) (Some v) (value_at order es q)
   found_insert q k v [] = refl
   found_insert q k v (e ∷ es) =
-      elim (order k e.0) as (λ r. order k e.0 ≡ r → value_at order (match_ordering r ((k, v) ∷ e ∷ es) ((e.0, v) ∷ es) (e ∷ insert_entry order es k v)) q ≡ cond (eq_by_cmp order q k) (Some v) (value_at order (e ∷ es) q)) [
+      elim (order k e.0) as (λ r. order k e.0 ≡ r → value_at order (match_ordering r ((k, v) ∷ e ∷ es) ((e.0, v) ∷ es) (e ∷ insert_entry order es k v)) q
+      ≡ cond (eq_by_cmp order q k) (Some v) (value_at order (e ∷ es) q)) [
         | Less ↦ λ p. refl
-        | Equal ↦ λ p. shadowed (eq_by_cmp order q e.0) (Some v) (Some e.1) (value_at order es q) ∙ ap (λ r. cond (is_eq r) (Some v) (value_at order (e ∷ es) q)) (sym (alike_right total k e.0 q p))
+        | Equal ↦ λ p. shadowed (eq_by_cmp order q e.0) (Some v) (Some e.1) (value_at order es q)
+            ∙ ap (λ r. cond (is_eq r) (Some v) (value_at order (e ∷ es) q)) (sym (alike_right total k e.0 q p))
         | Greater ↦ λ p. ap (cond (eq_by_cmp order q e.0) (Some e.1)) (found_insert q k v es)
-            ∙ swapped (eq_by_cmp order q e.0) (eq_by_cmp order q k) (Some e.1) (Some v) (value_at order es q) (λ a b. equal_greater (sym (joined order total q k e.0 b a) ∙ p))
+            ∙ swapped (eq_by_cmp order q e.0) (eq_by_cmp order q k) (Some e.1) (Some v) (value_at order es q)
+            (λ a b. equal_greater (sym (joined order total q k e.0 b a) ∙ p))
       ] refl
 
   -- a look-up in the pair list is one in the entries
@@ -98,7 +102,8 @@ module _ {K V : Type 0} (order : K → K → Ordering) (total : IsTotalOrder ord
   more_insert : (q k : K) (v : V) (es : List (K × V)) → goes_on order (insert_entry order es k v) q ≡ (is_lt (order q k) || goes_on order es q)
   more_insert q k v [] = refl
   more_insert q k v (e ∷ es) =
-      elim (order k e.0) as (λ r. order k e.0 ≡ r → goes_on order (match_ordering r ((k, v) ∷ e ∷ es) ((e.0, v) ∷ es) (e ∷ insert_entry order es k v)) q ≡ (is_lt (order q k) || goes_on order (e ∷ es) q)) [
+      elim (order k e.0) as (λ r. order k e.0 ≡ r → goes_on order (match_ordering r ((k, v) ∷ e ∷ es) ((e.0, v) ∷ es) (e ∷ insert_entry order es k v)) q
+      ≡ (is_lt (order q k) || goes_on order (e ∷ es) q)) [
         | Less ↦ λ p. refl
         | Equal ↦ λ p. or_twice (is_lt (order q e.0)) (goes_on order es q) ∙ ap (λ r. is_lt r || goes_on order (e ∷ es) q) (sym (alike_right total k e.0 q p))
         | Greater ↦ λ p. ap (λ b. is_lt (order q e.0) || b) (more_insert q k v es) ∙ or_turned (is_lt (order q e.0)) (is_lt (order q k)) (goes_on order es q)

@@ -1,4 +1,5 @@
 -- The elements of a path are the only ones, and which of them are places.
+use Rattle.std.proofs.lemmas.Option.{none-some}
 use Rattle.std.specs.Prelude.{◌≡◌, ◌≢◌, ◌⊎◌, ◌↔◌, ℕ, ◌^◌, ◌<◌, nat_lt, ◌==◌, ◌&&◌, Bool, true, false, if◌then◌else◌, List, [], ◌∷◌, Some, None, refl}
 use Rattle.std.proofs.Common.{inl, inr, sym, ◌∙◌, ap, subst}
 use Rattle.std.proofs.lemmas.Bool.{and_parts, lt-ltb, ltb-true, eqb-true}
@@ -31,15 +32,14 @@ nonempty : (ds : List ℕ) → ds ≢ [] → is_nonempty ds ≡ true
 nonempty [] h = absurd (h refl)
 nonempty (d ∷ ds) h = refl
 
-none_some : {X : Type 0} (x : X) → None ≡ Some x → ⊥
-none_some x e = cc
-
-placed : (ds : List ℕ) (n : ℕ) → place_of_digits ds ≡ Some n → (is_nonempty ds ≡ true) × (all_ascii_digits ds ≡ true) × (digits_value 10 ds ≡ n) × (digits_value 10 ds < 2 ^ 64)
+placed : (ds : List ℕ) (n : ℕ) → place_of_digits ds ≡ Some n → (is_nonempty ds ≡ true) × (all_ascii_digits ds ≡ true) × (digits_value 10 ds ≡ n)
+    × (digits_value 10 ds < 2 ^ 64)
 placed ds n = by (is_nonempty ds && (all_ascii_digits ds && nat_lt (digits_value 10 ds) (2 ^ 64))) refl
   where
-    by : (b : Bool) → (is_nonempty ds && (all_ascii_digits ds && nat_lt (digits_value 10 ds) (2 ^ 64))) ≡ b → (if b then Some (digits_value 10 ds) else None) ≡ Some n
+    by : (b : Bool) → (is_nonempty ds && (all_ascii_digits ds && nat_lt (digits_value 10 ds) (2 ^ 64))) ≡ b → (if b then Some (digits_value 10 ds) else None)
+        ≡ Some n
         → (is_nonempty ds ≡ true) × (all_ascii_digits ds ≡ true) × (digits_value 10 ds ≡ n) × (digits_value 10 ds < 2 ^ 64)
-    by false e h = absurd (none_some n h)
+    by false e h = absurd (none-some n h)
     by true e h =
         let one = and_parts _ _ e in
         let two = and_parts _ _ one.1 in

@@ -1,5 +1,6 @@
 -- Equal meanings print alike, and what is exact is so by its parts.
-use Rattle.std.specs.Prelude.{◌≡◌, ◌↔◌, ℕ, suc, Bool, true, false, ◌&&◌, IsTrue, List, [], ◌∷◌, refl}
+use Rattle.std.proofs.lemmas.Bool.{and_parts, and_from}
+use Rattle.std.specs.Prelude.{◌≡◌, ◌↔◌, ℕ, suc, ◌&&◌, IsTrue, List, [], ◌∷◌, refl}
 use Rattle.std.proofs.Common.{sym, ◌∙◌, ap, subst, ltb-true}
 use Rattle.std.specs.Char.{is_ascii}
 use Rattle.std.specs.List.{All, AllByRecursion, list_all}
@@ -36,18 +37,10 @@ module _ (v w : Form) (equal : IsTrue (same (plain v) (plain w))) where
 
 -- ---- what is exact by its parts
 
-and_both : (a b : Bool) → IsTrue (a && b) → IsTrue a × IsTrue b
-and_both true b h = (refl, h)
-and_both false b h = cc
-
-and_from : (a b : Bool) → IsTrue a → IsTrue b → IsTrue (a && b)
-and_from true b h k = k
-and_from false b h k = cc
-
 ascii_told : (t : List ℕ) → IsTrue (list_all is_ascii t) → IsAscii t
 ascii_told [] h = IsAscii-nil
 ascii_told (b ∷ t) h =
-    let both : IsTrue (is_ascii b) × IsTrue (list_all is_ascii t) = and_both (is_ascii b) (list_all is_ascii t) h in
+    let both : IsTrue (is_ascii b) × IsTrue (list_all is_ascii t) = and_parts (is_ascii b) (list_all is_ascii t) h in
     IsAscii-cons b t (ltb-true b 128 both.0) (ascii_told t both.1)
 
 ascii_tells : (t : List ℕ) → IsAscii t → IsTrue (list_all is_ascii t)
@@ -61,7 +54,7 @@ ascii_is t = (ascii_told t, ascii_tells t)
 items_told : (xs : List Meaning) → IsTrue (are_exact_items (items xs)) → AllByRecursion IsExactInside xs
 items_told [] h = tt
 items_told (x ∷ xs) h =
-    let both : IsExactInside x × IsTrue (are_exact_items (items xs)) = and_both (is_exact_inside x) (are_exact_items (items xs)) h in
+    let both : IsExactInside x × IsTrue (are_exact_items (items xs)) = and_parts (is_exact_inside x) (are_exact_items (items xs)) h in
     (both.0, items_told xs both.1)
 
 items_tell : (xs : List Meaning) → AllByRecursion IsExactInside xs → IsTrue (are_exact_items (items xs))
@@ -75,8 +68,9 @@ exact_items xs =
 members_told : (ps : List (KeyMeaning × Meaning)) → IsTrue (are_exact_members (members ps)) → AllByRecursion (λ p. IsExactKey p.0 × IsExactInside p.1) ps
 members_told [] h = tt
 members_told (p ∷ ps) h =
-    let key : IsExactKey p.0 × IsTrue (is_exact_inside p.1 && are_exact_members (members ps)) = and_both (is_exact_key p.0) (is_exact_inside p.1 && are_exact_members (members ps)) h in
-    let both : IsExactInside p.1 × IsTrue (are_exact_members (members ps)) = and_both (is_exact_inside p.1) (are_exact_members (members ps)) key.1 in
+    let key : IsExactKey p.0 × IsTrue (is_exact_inside p.1 && are_exact_members (members ps)) =
+    and_parts (is_exact_key p.0) (is_exact_inside p.1 && are_exact_members (members ps)) h in
+    let both : IsExactInside p.1 × IsTrue (are_exact_members (members ps)) = and_parts (is_exact_inside p.1) (are_exact_members (members ps)) key.1 in
     ((key.0, both.0), members_told ps both.1)
 
 members_tell : (ps : List (KeyMeaning × Meaning)) → AllByRecursion (λ p. IsExactKey p.0 × IsExactInside p.1) ps → IsTrue (are_exact_members (members ps))
@@ -86,5 +80,8 @@ members_tell (p ∷ ps) h =
     (and_from (is_exact_inside p.1) (are_exact_members (members ps)) h.0.1 (members_tell ps h.1))
 
 pub exact_members : (ps : List (KeyMeaning × Meaning)) → IsTrue (are_exact_members (members ps)) ↔ All (λ p. IsExactKey p.0 × IsExactInside p.1) ps
-exact_members ps =
-    (λ h. All-from_recursion (λ p. IsExactKey p.0 × IsExactInside p.1) ps (members_told ps h), λ h. members_tell ps (recursion_from_All (λ p. IsExactKey p.0 × IsExactInside p.1) ps h))
+exact_members ps = (
+  λ h. All-from_recursion (λ p. IsExactKey p.0 × IsExactInside p.1) ps (members_told ps h),
+  λ h. members_tell ps
+      (recursion_from_All (λ p. IsExactKey p.0 × IsExactInside p.1) ps h),
+)

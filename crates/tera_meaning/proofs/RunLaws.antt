@@ -1,15 +1,11 @@
 -- The outcomes of runs, in which some steps may want memory.
-use Rattle.std.specs.Prelude.{◌≡◌, ◌≢◌, ℕ, pos, Bool, true, false, List, [], ◌∷◌, ◌++◌, length, Option, Some, None, Result, Ok, Err, IfErr, refl}
+use Rattle.std.specs.Prelude.{◌≡◌, ◌≢◌, ℕ, Bool, true, false, List, [], ◌∷◌, ◌++◌, length, Option, Some, None, Ok, Err, refl}
 use Rattle.std.proofs.Common.{sym, ◌∙◌, ap, subst, inl, inr, arith}
 use Rattle.tera_report.specs.Escaping.{escaped}
 use Rattle.tera_report.specs.Refusal.{Refusal, memory_refused}
 use Rattle.tera_report.proofs.EscapeLemmas.{Spells-escaped}
 use Rattle.tera_meaning.specs.Answer
-use Rattle.std.specs.Option.{unwrap_or}
-use Rattle.tera_meaning.specs.Search.{Search, Found, found_at, one_found}
-use Rattle.tera_meaning.specs.Arithmetic.{calculated, negated}
-use Rattle.tera_meaning.specs.Conversion.{read_as}
-use Rattle.tera_meaning.proofs.ArithmeticLaws.{no_calculation_wants, no_negation_wants, no_conversion_wants}
+use Rattle.tera_meaning.specs.Search.{Found, found_at}
 use Rattle.tera_meaning.specs.Form.{Form}
 use Rattle.tera_meaning.specs.Meaning.{plain}
 use Rattle.tera_meaning.specs.Outcome.{Outcome, out_of_memory, is_want}
@@ -22,7 +18,8 @@ use Rattle.tera_meaning.specs.Run.{IsRun, AreOutcomes, AreFixed, state_after_all
 use Rattle.tera_meaning.specs.Alike.{MeanTheSame, AllAskTheSame, AreAlike, meaning_held}
 use Rattle.tera_meaning.specs.Weighing.{Weighing, weighed}
 use Rattle.tera_meaning.proofs.StepLaws.{refused_answer}
-use Rattle.tera_meaning.proofs.WantLaws.{no_item_wants, no_slice_wants, no_reversal_wants, no_container_wants}
+use Rattle.tera_meaning.proofs.ContainsLaws.{no_container_wants}
+use Rattle.tera_meaning.proofs.found.{owed}
 use Rattle.tera_meaning.proofs.AlikeLaws.{word_alike, all_outcomes_alike, states_alike}
 
 -- no request comes to want of memory
@@ -36,26 +33,6 @@ never_weighed Weighing.equal v w e = cc
 never_weighed Weighing.contains v w e = no_container_wants v w e
 never_weighed weighing v w e = cc
 
--- a value that is found is no want of memory, and no other refusal is
-no_want_found : (found : Result Form Refusal) → IfErr found (λ refusal. refusal ≡ memory_refused → ⊥)
-    → one_found found ≡ Err memory_refused → ⊥
-no_want_found (Ok value) h e = cc
-no_want_found (Err refusal) h e = h cc
-
-never_searched : (state : State) (search : Search) → found_at state search ≡ Err memory_refused → ⊥
-never_searched state (Search.get name) e = cc
-never_searched state (Search.path name p) e = cc
-never_searched state (Search.attr name t) e = cc
-never_searched state (Search.item name i) e = no_item_wants (form_at state name) (form_at state i) e
-never_searched state (Search.slice name start end step) e = no_slice_wants (form_at state name) start end (unwrap_or step (pos 1)) e
-never_searched state (Search.reverse name) e = no_reversal_wants (form_at state name) e
-never_searched state (Search.calculate operator left right) e =
-    no_want_found (calculated operator (form_at state left) (form_at state right)) (no_calculation_wants operator (form_at state left) (form_at state right)) e
-never_searched state (Search.negate name) e =
-    no_want_found (negated (form_at state name)) (no_negation_wants (form_at state name)) e
-never_searched state (Search.read type name) e =
-    no_want_found (read_as type (form_at state name)) (no_conversion_wants type (form_at state name)) e
-
 want_is : (refusal : Refusal) → ◌≡◌ {A = Outcome} (Err memory_refused) (Err refusal) → refusal ≡ memory_refused
 want_is refusal e = cc
 
@@ -68,13 +45,10 @@ never_found (Some into) (Ok (Some value)) n e = cc
 
 pub never_wanted : (state : State) (request : Request) (into : Option (List ℕ))
     → ComesTo state request into out_of_memory → ⊥
-never_wanted state (set name value) into e = cc
-never_wanted state (extend source) into e = cc
-never_wanted state (remove name) into e = cc
-never_wanted state (mark_safe name) into e = cc
 never_wanted state (ask question name) into e = never_asked question _ e
 never_wanted state (weigh weighing left right) into e = never_weighed weighing (form_at state left) (form_at state right) e
-never_wanted state (find search) into e = never_found into (found_at state search) (never_searched state search) e
+never_wanted state (find search) into e = never_found into (found_at state search) ((owed search).no_want state) e
+never_wanted state v into e = cc
 
 -- each request comes to some outcome
 some_answer : (question : Question) (held : Option Form) → (outcome : Outcome) × IsAnswered question held outcome
@@ -88,12 +62,7 @@ some_answer question held = (_, refl)
 pub some_outcome : (state : State) (request : Request) (into : Option (List ℕ))
     → (outcome : Outcome) × ComesTo state request into outcome
 some_outcome state (ask question name) into = some_answer question _
-some_outcome state (set name value) into = (_, refl)
-some_outcome state (extend source) into = (_, refl)
-some_outcome state (remove name) into = (_, refl)
-some_outcome state (mark_safe name) into = (_, refl)
-some_outcome state (weigh weighing left right) into = (_, refl)
-some_outcome state (find search) into = (_, refl)
+some_outcome state v into = (_, refl)
 
 -- and to one alone, where what is printed is exact
 one_answer : (question : Question) (held : Option Form) (o p : Outcome) → IsFixedAnswer question (plain (read held))
@@ -107,12 +76,7 @@ one_answer question held o p f e d = e ∙ sym d
 pub one_outcome : (state : State) (request : Request) (into : Option (List ℕ)) (o p : Outcome) → IsFixed state request
     → ComesTo state request into o → ComesTo state request into p → o ≡ p
 one_outcome state (ask question name) into o p f e d = one_answer question _ o p f e d
-one_outcome state (set name value) into o p f e d = e ∙ sym d
-one_outcome state (extend source) into o p f e d = e ∙ sym d
-one_outcome state (remove name) into o p f e d = e ∙ sym d
-one_outcome state (mark_safe name) into o p f e d = e ∙ sym d
-one_outcome state (weigh weighing left right) into o p f e d = e ∙ sym d
-one_outcome state (find search) into o p f e d = e ∙ sym d
+one_outcome state v into o p f e d = e ∙ sym d
 
 pub some_outcomes : (state : State) (commands : List Command)
     → (outcomes : List Outcome) × AreOutcomes state commands outcomes
@@ -164,10 +128,6 @@ DoneFirst old request next others new =
     (done : List Command) × (answers : List Outcome) × WasDoneInWant request done answers next others
     × IsAmpleRun old done answers new
 
-none_next : (outcome : Outcome) (others : List Outcome) → outcome ≢ out_of_memory → NoneWantsMemory others
-    → NoneWantsMemory (outcome ∷ others)
-none_next outcome others n none = (n, none)
-
 done_in_want : (old mid : State) (request : Request) (next : List Command) (others : List Outcome) (new : State)
     → LeavesInWant old request mid → IsAmpleRun mid next others new → DoneFirst old request next others new
 done_in_want old mid (extend source) next others new (part, is, left) run = (
@@ -180,7 +140,8 @@ done_in_want old mid (set name value) next others new left run = (next, others, 
 done_in_want old mid (remove name) next others new left run = (next, others, (refl, refl), subst (λ state. IsAmpleRun state next others new) left run)
 done_in_want old mid (mark_safe name) next others new left run = (next, others, (refl, refl), subst (λ state. IsAmpleRun state next others new) left run)
 done_in_want old mid (ask question name) next others new left run = (next, others, (refl, refl), subst (λ state. IsAmpleRun state next others new) left run)
-done_in_want old mid (weigh weighing left right) next others new same run = (next, others, (refl, refl), subst (λ state. IsAmpleRun state next others new) same run)
+done_in_want old mid (weigh weighing left right) next others new same run =
+    (next, others, (refl, refl), subst (λ state. IsAmpleRun state next others new) same run)
 done_in_want old mid (find search) next others new left run = (next, others, (refl, refl), subst (λ state. IsAmpleRun state next others new) left run)
 
 done_first : (old : State) (command : Command) (commands : List Command) (outcome : Outcome) (outcomes : List Outcome)
@@ -233,8 +194,11 @@ outcomes_run old (command ∷ commands) [] are = absurd are
 outcomes_given : (old : State) (commands : List Command) (outcomes : List Outcome) → AreOutcomes old commands outcomes
     → NoneWantsMemory outcomes
 outcomes_given old [] [] are = tt
-outcomes_given old (command ∷ commands) (outcome ∷ outcomes) are =
-    ((λ e. never_wanted old command.request command.into (subst (IsOutcome old command) e are.0)), outcomes_given (state_after old command) commands outcomes are.1)
+outcomes_given old (command ∷ commands) (outcome ∷ outcomes) are = (
+  (λ e. never_wanted old command.request command.into (subst (IsOutcome old command) e are.0)),
+  outcomes_given (state_after old command) commands outcomes
+      are.1,
+)
 outcomes_given old [] (outcome ∷ outcomes) are = absurd are
 outcomes_given old (command ∷ commands) [] are = absurd are
 
@@ -270,7 +234,8 @@ pub run_through : (old : State) (first : List Command) (command : Command) (late
 run_through old [] command later [] o ps new e (next, step, run) = (old, next, refl, step, run)
 run_through old (c ∷ first) command later (p ∷ os) o ps new e (mid, step, run) =
     let same : length first ≡ length os = omega (arith, e) in
-    let rest : (from next : State) × IsRun mid first os from × IsStep from command o next × IsRun next later ps new = run_through mid first command later os o ps new same run in
+    let rest : (from next : State) × IsRun mid first os from × IsStep from command o next × IsRun next later ps new =
+    run_through mid first command later os o ps new same run in
     (rest.0, rest.1, (mid, step, rest.2), rest.3, rest.4)
 run_through old [] command later (p ∷ os) o ps new e run = absurd (omega (arith, e))
 run_through old (c ∷ first) command later [] o ps new e run = absurd (omega (arith, e))

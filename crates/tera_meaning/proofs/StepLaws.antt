@@ -58,11 +58,13 @@ module _ (state : State) (name : List ℕ) where
 
 -- after a value is set, the other side of a comparison means what it meant
 module _ (state : State) (name : List ℕ) (value : Form) (other : List ℕ) (n : other ≢ name) where
-  pub equal_after_set : ComesOnlyTo (insert state name value) (weigh Weighing.equal name other) (Ok (Answer.truth (same (plain value) (meaning_at state other))))
+  pub equal_after_set : ComesOnlyTo (insert state name value) (weigh Weighing.equal name other)
+      (Ok (Answer.truth (same (plain value) (meaning_at state other))))
   equal_after_set given d =
       d ∙ (λ i. Ok (Answer.truth (same (meaning_set state name value i) (meaning_other state name value other n i))))
 
-  pub compared_after_set : ComesOnlyTo (insert state name value) (weigh Weighing.compare name other) (Ok (Answer.order (Some (compare (plain value) (meaning_at state other)))))
+  pub compared_after_set : ComesOnlyTo (insert state name value) (weigh Weighing.compare name other)
+      (Ok (Answer.order (Some (compare (plain value) (meaning_at state other)))))
   compared_after_set given d =
       d ∙ (λ i. Ok (Answer.order (Some (compare (meaning_set state name value i) (meaning_other state name value other n i)))))
 

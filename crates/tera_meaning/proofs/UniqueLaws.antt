@@ -1,4 +1,5 @@
 -- A pair list has just the entries, and is the only rising list that has.
+use Rattle.std.proofs.lemmas.Option.{none-some}
 use Rattle.std.specs.Prelude.{◌≡◌, ◌↔◌, ◌⊎◌, false, cond, List, [], ◌∷◌, Some, None, refl}
 use Rattle.std.proofs.Common.{sym, ◌∙◌, ap, inl, inr}
 use Rattle.std.specs.BTreeMap.{insert_entry}
@@ -17,9 +18,6 @@ use Rattle.tera_meaning.proofs.PairLaws.{Below, rising_rises, found_rising}
 
 less_equal : Less ≡ Equal → ⊥
 less_equal e = cc
-
-some_none : {X : Type 0} (x : X) → Some x ≡ None → ⊥
-some_none x e = cc
 
 module _ {K V : Type 0} (order : K → K → Ordering) (total : IsTotalOrder order) where
   not_less : (e d : K × V) → e ≡ d → order d.0 e.0 ≡ Less → ⊥
@@ -42,7 +40,8 @@ module _ {K V : Type 0} (order : K → K → Ordering) (total : IsTotalOrder ord
   later p q e qs m is (inl b) = absurd (not_less e p (b ∙ sym is) m)
   later p q e qs m is (inr a) = a
 
-  one_list : (ps qs : List (K × V)) → Rises order ps → Rises order qs → ((e : K × V) → Among ps e → Among qs e) → ((e : K × V) → Among qs e → Among ps e) → ps ≡ qs
+  one_list : (ps qs : List (K × V)) → Rises order ps → Rises order qs → ((e : K × V) → Among ps e → Among qs e) → ((e : K × V) → Among qs e → Among ps e) → ps
+      ≡ qs
   unfolding IsStrictlySortedBy
   one_list [] [] h g there back = refl
   one_list [] (q ∷ qs) h g there back = absurd (back q (inl refl))
@@ -59,9 +58,10 @@ module _ {K V : Type 0} (order : K → K → Ordering) (total : IsTotalOrder ord
   insert_permutes : (k : K) (v : V) (es : List (K × V)) → value_at order es k ≡ None → IsPermutation ((k, v) ∷ es) (insert_entry order es k v)
   insert_permutes k v [] none = IsPermutation-refl ((k, v) ∷ [])
   insert_permutes k v (e ∷ es) none =
-      elim (order k e.0) as (λ r. cond (is_eq r) (Some e.1) (value_at order es k) ≡ None → IsPermutation ((k, v) ∷ e ∷ es) (match_ordering r ((k, v) ∷ e ∷ es) ((e.0, v) ∷ es) (e ∷ insert_entry order es k v))) [
+      elim (order k e.0) as (λ r. cond (is_eq r) (Some e.1) (value_at order es k) ≡ None
+      → IsPermutation ((k, v) ∷ e ∷ es) (match_ordering r ((k, v) ∷ e ∷ es) ((e.0, v) ∷ es) (e ∷ insert_entry order es k v))) [
         | Less ↦ λ n. IsPermutation-refl ((k, v) ∷ e ∷ es)
-        | Equal ↦ λ n. absurd (some_none e.1 n)
+        | Equal ↦ λ n. absurd (none-some e.1 (sym n))
         | Greater ↦ λ n. IsPermutation-trans ((k, v) ∷ e ∷ es) (e ∷ (k, v) ∷ es) (e ∷ insert_entry order es k v)
             (IsPermutation-insert (e ∷ es) 1 (k, v))
             (IsPermutation-cons e ((k, v) ∷ es) (insert_entry order es k v) (insert_permutes k v es n))
@@ -80,8 +80,11 @@ module _ {K V : Type 0} (order : K → K → Ordering) (total : IsTotalOrder ord
       (insert_permutes e.0 e.1 (rising order es) (found_rising order total es e.0 ∙ none_tied e.0 es h.0))
 
   pub rising_has : (es : List (K × V)) (e : K × V) → HasDistinctKeys order es → Contains (rising order es) e ↔ Contains es e
-  rising_has es e h =
-      (Contains-permutation (rising order es) es e (IsPermutation-sym es (rising order es) (rising_permutes es h)), Contains-permutation es (rising order es) e (rising_permutes es h))
+  rising_has es e h = (
+    Contains-permutation (rising order es) es e (IsPermutation-sym es (rising order es) (rising_permutes es h)),
+    Contains-permutation es (rising order es) e
+        (rising_permutes es h),
+  )
 
   pub only_rising : (es ps : List (K × V)) → HasDistinctKeys order es → Rises order ps → ((e : K × V) → Contains ps e ↔ Contains es e) → ps ≡ rising order es
   only_rising es ps h rises has =
@@ -91,5 +94,8 @@ module _ {K V : Type 0} (order : K → K → Ordering) (total : IsTotalOrder ord
 
   pub rising_permuted : (es fs : List (K × V)) → HasDistinctKeys order es → HasDistinctKeys order fs → IsPermutation es fs → rising order es ≡ rising order fs
   rising_permuted es fs h g same =
-      only_rising fs (rising order es) g (rising_rises order total es) (λ e.
-      (λ a. Contains-permutation es fs e same ((rising_has es e h).0 a), λ a. (rising_has es e h).1 (Contains-permutation fs es e (IsPermutation-sym es fs same) a)))
+      only_rising fs (rising order es) g (rising_rises order total es) (λ e. (
+        λ a. Contains-permutation es fs e same ((rising_has es e h).0 a),
+        λ a. (rising_has es e h).1
+            (Contains-permutation fs es e (IsPermutation-sym es fs same) a),
+      ))

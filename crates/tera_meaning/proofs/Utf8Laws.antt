@@ -198,7 +198,8 @@ mutual
   with_utf8 show keeps (array xs) h =
       ascii_then 91 (printed_items xs ++ codes "]") (omega arith) (IsUtf8-append (printed_items xs) (codes "]") (items_utf8 xs h) (ascii_utf8 (codes "]") refl))
   with_utf8 show keeps (object ps) h =
-      ascii_then 123 (printed_members ps ++ codes "}") (omega arith) (IsUtf8-append (printed_members ps) (codes "}") (members_utf8 ps h.1) (ascii_utf8 (codes "}") refl))
+      ascii_then 123 (printed_members ps ++ codes "}") (omega arith) (IsUtf8-append (printed_members ps) (codes "}") (members_utf8 ps h.1)
+      (ascii_utf8 (codes "}") refl))
 
   items_utf8 : (xs : Items ℤ (List ℕ) KeyMeaning) → AreWellMadeMeanings xs → IsUtf8 (printed_items xs)
   items_utf8 no_items h = IsUtf8-nil

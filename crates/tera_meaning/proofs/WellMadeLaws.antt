@@ -1,7 +1,7 @@
 -- What is held stays well made.
-use Rattle.std.specs.Prelude.{◌≡◌, ℕ, ℤ, pos, negsuc, Bool, true, false, cond, IfSome, IsSome, List, [], ◌∷◌, Option, Some, None, Result, Ok, Err, IfOk, refl}
+use Rattle.std.specs.Prelude.{◌≡◌, ℕ, ℤ, pos, negsuc, Bool, true, false, cond, IfSome, IsSome, List, [], ◌∷◌, Option, Some, None, Ok, Err, IfOk, refl}
 use Rattle.std.proofs.Common.{sym, subst, inl, inr, arith}
-use Rattle.std.specs.Option.{unwrap_or, option_or}
+use Rattle.std.specs.Option.{option_or}
 use Rattle.std.specs.Ordering.{nat_cmp, eq_by_cmp}
 use Rattle.std.specs.Cmp.{Equal-is}
 use Rattle.std.specs.Cmp.Lexicographic.{slice_cmp, nat_list_cmp_total}
@@ -21,39 +21,18 @@ use Rattle.tera_meaning.specs.Read.{marked_safe}
 use Rattle.tera_meaning.specs.Run.{IsRun, state_after_all}
 use Rattle.tera_meaning.specs.State.{State, form_at, meaning_at, extended, IsProperBeginning}
 use Rattle.tera_meaning.specs.StateLaws.{held_empty, name_exact}
-use Rattle.tera_meaning.specs.Lookup
-use Rattle.tera_meaning.specs.Search.{Search, Found, found_at, one_found}
-use Rattle.tera_meaning.specs.Arithmetic.{calculated, negated}
-use Rattle.tera_meaning.specs.Conversion.{read_as}
-use Rattle.tera_meaning.proofs.ArithmeticLaws.{calculated_well, negated_well, converted_well}
-use Rattle.tera_meaning.specs.Slice.{reversed}
-use Rattle.tera_meaning.specs.Walk.{sliced}
-use Rattle.tera_report.specs.Refusal.{Refusal}
-use Rattle.tera_meaning.proofs.FoundLaws.{sound_attr, sound_path, sound_item}
-use Rattle.tera_meaning.proofs.SlicedLaws.{sliced_is, sliced_well, reversed_well}
+use Rattle.tera_meaning.specs.Search.{Found, found_at}
+use Rattle.tera_meaning.proofs.Owed.{IsHeldWell, form_at_well}
+use Rattle.tera_meaning.proofs.found.{owed}
 use Rattle.tera_meaning.proofs.ExtendLaws.{get_extended, beginning_held}
 use Rattle.tera_meaning.specs.Request.{Command, Request, set, extend, remove, mark_safe, ask, weigh, find}
 use Rattle.tera_meaning.specs.Step.{keeping, marking, marking_into, leaves, LeavesInWant, IsStep, state_after}
-use Rattle.tera_meaning.specs.Tree.{Items, Members, undefined, none, truth, number, text, bytes, array, object, no_items, item, no_members, member, members_list, relabeled_items, relabeled_members}
+use Rattle.tera_meaning.specs.Tree.{Items, Members, number, text, bytes, array, object, no_items, item, no_members, member, members_list, relabeled_items, relabeled_members}
 use Rattle.tera_meaning.specs.WellMade.{IsWellMade, IsWellMadeKey, AreWellMade, AreWellMadeMembers, IsWellMadeMeaning, IsWellMadeKeyMeaning, AreWellMadeMeanings, AreWellMadePairs, IsWellMadeState, BringsWellMade, AllBringWellMade}
 
 pub marked_well : (value : Form) → IsWellMade value → IsWellMade (marked_safe value)
-marked_well undefined h = h
-marked_well none h = h
-marked_well (truth b) h = h
-marked_well (number n) h = h
 marked_well (text t) h = h
-marked_well (bytes bs) h = h
-marked_well (array xs) h = h
-marked_well (object ps) h = h
-
--- a form that is held under a name that is UTF-8 is well made
-abbrev IsHeldWell : List ℕ → Option Form → Type 0
-IsHeldWell name o = IfSome o (λ value. IsUtf8 name × IsWellMade value)
-
-form_well : (name : List ℕ) (o : Option Form) → IsHeldWell name o → IsWellMade (unwrap_or o undefined)
-form_well name None h = tt
-form_well name (Some value) h = h.1
+marked_well v h = h
 
 name_well : (name : List ℕ) (o : Option Form) → IsHeldWell name o → IsSome o → IsUtf8 name
 name_well name None h is = cc
@@ -62,14 +41,7 @@ name_well name (Some value) h is = h.0
 pub empty_well : IsWellMadeState empty
 empty_well name = subst (IsHeldWell name) (sym (held_empty name)) tt
 
-some_well : (found : Result Form Refusal) → IfOk found IsWellMade → IfOk (one_found found) (λ o. IfSome o IsWellMade)
-some_well (Ok value) h = h
-some_well (Err refusal) h = tt
-
 module _ (state : State) (h : IsWellMadeState state) where
-  pub form_at_well : (name : List ℕ) → IsWellMade (form_at state name)
-  form_at_well name = form_well name (held_at state name) (h name)
-
   pub held_name_well : (name : List ℕ) → IsSome (held_at state name) → IsUtf8 name
   held_name_well name = name_well name (held_at state name) (h name)
 
@@ -104,25 +76,6 @@ module _ (state : State) (h : IsWellMadeState state) where
   kept_well (Some into) (Ok (Some value)) utf8 well = set_well into value utf8 well
   kept_well (Some into) (Err refusal) utf8 well = h
 
-  value_well : (name : List ℕ) (o : Option Form) → IsHeldWell name o → IfSome o IsWellMade
-  value_well name None well = tt
-  value_well name (Some value) well = well.1
-
-  found_well : (search : Search) → IfOk (found_at state search) (λ o. IfSome o IsWellMade)
-  found_well (Search.get name) = value_well name (held_at state name) (h name)
-  found_well (Search.path name p) = sound_path (form_at state name) p (form_at_well name)
-  found_well (Search.attr name t) = sound_attr (form_at state name) t (form_at_well name)
-  found_well (Search.item name i) = some_well (Lookup.item (form_at state name) (form_at state i)) (sound_item (form_at state name) (form_at state i) (form_at_well name))
-  found_well (Search.slice name start end step) =
-      some_well (sliced (form_at state name) start end step)
-      (sliced_well (form_at state name) start end step _ (form_at_well name) (sliced_is (form_at state name) start end step))
-  found_well (Search.reverse name) = some_well (reversed (form_at state name)) (reversed_well (form_at state name) (form_at_well name))
-  found_well (Search.calculate operator left right) =
-      some_well (calculated operator (form_at state left) (form_at state right)) (calculated_well operator (form_at state left) (form_at state right))
-  found_well (Search.negate name) = some_well (negated (form_at state name)) (negated_well (form_at state name))
-  found_well (Search.read type name) =
-      some_well (read_as type (form_at state name)) (converted_well type (form_at state name))
-
   marked_place_well : (name : List ℕ) (o : Option Form) → IsHeldWell name o → IsWellMadeState (marking state name o)
   marked_place_well name None well = h
   marked_place_well name (Some value) well = set_well name (marked_safe value) well.0 (marked_well value well.1)
@@ -131,7 +84,7 @@ module _ (state : State) (h : IsWellMadeState state) where
       → IsWellMadeState (marking_into state name into)
   marked_into_well name None utf8 = marked_place_well name (held_at state name) (h name)
   marked_into_well name (Some into) utf8 =
-      set_well into (marked_safe (form_at state name)) utf8 (marked_well (form_at state name) (form_at_well name))
+      set_well into (marked_safe (form_at state name)) utf8 (marked_well (form_at state name) (form_at_well state h name))
 
   left_well : (request : Request) (into : Option (List ℕ)) → BringsWellMade request → IfSome into IsUtf8
       → IsWellMadeState (leaves state request into)
@@ -141,7 +94,7 @@ module _ (state : State) (h : IsWellMadeState state) where
   left_well (mark_safe name) into well utf8 = marked_into_well name into utf8
   left_well (ask question name) into well utf8 = h
   left_well (weigh weighing left right) into well utf8 = h
-  left_well (find search) into well utf8 = kept_well into (found_at state search) utf8 (found_well search)
+  left_well (find search) into well utf8 = kept_well into (found_at state search) utf8 ((owed search).well_made state h)
 
 pub all_left_well : (state : State) (commands : List Command) → IsWellMadeState state → AllBringWellMade commands
     → IsWellMadeState (state_after_all state commands)
@@ -216,14 +169,12 @@ means_rising (member k x ps) h = (means_above k ps h.0, means_rising ps h.1)
 
 mutual
   pub meaning_well : (value : Form) → IsWellMade value → IsWellMadeMeaning (plain value)
-  meaning_well undefined h = tt
-  meaning_well none h = tt
-  meaning_well (truth b) h = tt
   meaning_well (number n) h = wide n.kind n.value h
   meaning_well (text t) h = h
   meaning_well (bytes bs) h = h
   meaning_well (array xs) h = meanings_well xs h
   meaning_well (object ps) h = (means_rising ps h.0, pairs_well ps h.1)
+  meaning_well v h = tt
 
   meanings_well : (xs : Items Integer MarkedText KeyForm) → AreWellMade xs
       → AreWellMadeMeanings (relabeled_items (λ n. n.value) (λ t. t.spelled) key_meaning xs)

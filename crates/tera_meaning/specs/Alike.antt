@@ -46,7 +46,8 @@ IsSettled state (ask question name) = IsSettledAnswer question (meaning_at state
 IsSettled state (weigh weighing left right) = ⊤
 IsSettled state (find search) = ⊤
 
--- two lists of outcomes of the commands have the same shapes, one for one, wherever meanings settle them
+-- two lists of outcomes of the commands have the same shapes, one for one, wherever meanings settle
+-- them
 abbrev pub AreAlike : State → List Command → List Outcome → List Outcome → Type 0
 AreAlike state [] [] [] = ⊤
 AreAlike state (command ∷ commands) (outcome ∷ outcomes) (other ∷ others) =
@@ -54,26 +55,32 @@ AreAlike state (command ∷ commands) (outcome ∷ outcomes) (other ∷ others) 
     × AreAlike (state_after state command) commands outcomes others
 AreAlike _ _ _ _ = ⊥
 
--- from these states the same commands come to outcomes of the same shapes, wherever meanings settle them
+-- from these states the same commands come to outcomes of the same shapes, wherever meanings settle
+-- them
 abbrev pub AnswerAlike : State → State → Type 0
 AnswerAlike f g =
     (commands also : List Command) (outcomes others : List Outcome) → AllAskTheSame commands also
-    → AreOutcomes f commands outcomes → AreOutcomes g also others → AreAlike f commands outcomes others
+    → AreOutcomes f commands outcomes → AreOutcomes g also others
+    → AreAlike f commands outcomes others
 
--- whatever the commands come to from these states, the shapes of some outcome that meanings settle differ
+-- whatever the commands come to from these states, the shapes of some outcome that meanings settle
+-- differ
 abbrev pub AreToldApartBy : List Command → State → State → Type 0
 AreToldApartBy commands f g =
-    (outcomes others : List Outcome) → AreOutcomes f commands outcomes → AreOutcomes g commands others
+    (outcomes others : List Outcome) → AreOutcomes f commands outcomes
+    → AreOutcomes g commands others
     → AreAlike f commands outcomes others → ⊥
 
--- the same of runs from these states in which no step wants memory
+-- runs of the commands from these states, in which no step wants memory, come to outcomes that are
+-- not alike
 abbrev pub RunsAreToldApart : List Command → State → State → Type 0
 RunsAreToldApart commands f g =
     (outcomes others : List Outcome) (f' g' : State) → IsAmpleRun f commands outcomes f'
     → IsAmpleRun g commands others g' → AreAlike f commands outcomes others → ⊥
 
--- commands that compare what a name holds with a value: whether it holds one; and the value is set under another name
--- and compared with it
+-- commands that compare what a name holds with a value: whether it holds one; and the value is set
+-- under another name and compared with it
 abbrev pub probe : List ℕ → Form → List Command
 probe name value =
-    asking (ask Question.has name) ∷ asking (set (0 ∷ name) value) ∷ asking (weigh Weighing.equal name (0 ∷ name)) ∷ []
+    asking (ask Question.has name) ∷ asking (set (0 ∷ name) value)
+    ∷ asking (weigh Weighing.equal name (0 ∷ name)) ∷ []

@@ -36,7 +36,8 @@ small z = if is_small z then Some z else None
 -- the number that an operand is: no number is refused first, then one that no i128 holds
 abbrev pub operand : Form → Result ℤ Refusal
 operand value =
-    and_then (ok_or (number_in value) (not_a_number (name_of value))) (λ z. ok_or (small z) (operand_outside_i128 z))
+    and_then (ok_or (number_in value) (not_a_number (name_of value)))
+    (λ z. ok_or (small z) (operand_outside_i128 z))
 
 -- the result of an operator, which an i128 must hold
 abbrev pub exact : Operator → ℤ → ℤ → ℤ → Result ℤ Refusal
@@ -60,7 +61,8 @@ computed times a b = exact times a b (a *ℤ b)
 computed remainder a b = divided remainder a b (int_rem_euclid a b)
 computed floor_division a b = divided floor_division a b (int_div_euclid a b)
 computed power a b =
-    and_then (ok_or (exponent b) (exponent_outside_u32 b)) (λ count. exact power a b (power_of a count))
+    and_then (ok_or (exponent b) (exponent_outside_u32 b))
+    (λ count. exact power a b (power_of a count))
 
 -- a number as arithmetic gives it
 abbrev pub as_i128 : ℤ → Form
@@ -75,4 +77,5 @@ calculated operator left right =
 abbrev pub negated : Form → Result Form Refusal
 negated value =
     and_then (ok_or (number_in value) (negated_no_number (name_of value)))
-    (λ z. ok_or (option_map as_i128 (option_and_then (λ a. small (neg_ℤ a)) (small z))) (negation_outside_i128 z))
+    (λ z. ok_or (option_map as_i128 (option_and_then (λ a. small (neg_ℤ a)) (small z)))
+    (negation_outside_i128 z))

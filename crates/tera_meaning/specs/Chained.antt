@@ -27,7 +27,8 @@ then_nested Equal s t = refl
 then_nested Greater s t = refl
 
 -- r, s and t are how x and y, y and z, x and z compare first; and r', s' and t' how they compare then
-pub chain_then : (r s t r' s' t' : Ordering) → (r ≡ Less → s ≡ Less → t ≡ Less) → (r ≡ Equal → t ≡ s) → (s ≡ Equal → t ≡ r) → (r' ≡ Less → s' ≡ Less → t' ≡ Less) → ordering_then r r' ≡ Less → ordering_then s s' ≡ Less → ordering_then t t' ≡ Less
+pub chain_then : (r s t r' s' t' : Ordering) → (r ≡ Less → s ≡ Less → t ≡ Less) → (r ≡ Equal → t ≡ s) → (s ≡ Equal → t ≡ r)
+    → (r' ≡ Less → s' ≡ Less → t' ≡ Less) → ordering_then r r' ≡ Less → ordering_then s s' ≡ Less → ordering_then t t' ≡ Less
 chain_then Less Less t r' s' t' chain left right rest p q = ap (λ o. ordering_then o t') (chain refl refl)
 chain_then Less Equal t r' s' t' chain left right rest p q = ap (λ o. ordering_then o t') (right refl)
 chain_then Equal Less t r' s' t' chain left right rest p q = ap (λ o. ordering_then o t') (left refl)

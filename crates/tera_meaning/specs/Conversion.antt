@@ -10,7 +10,8 @@ use Rattle.tera_meaning.specs.Lookup.{name_of}
 use Rattle.tera_meaning.specs.Read.{number_in, truth_in}
 use Rattle.tera_meaning.specs.Tree.{number}
 
--- The integer types of Rust, of so many bits, without a sign and with one. `usize` and `isize` have 64
+-- The integer types of Rust, of so many bits, without a sign and with one. `usize` and `isize` have
+-- 64
 pub data IntegerType : Type 0 where
   u8 : IntegerType
   u16 : IntegerType
@@ -39,7 +40,8 @@ type_name i64 = codes "i64"
 type_name i128 = codes "i128"
 type_name isize = codes "isize"
 
--- whether a number is one of so many bits without a sign, and of one bit for the sign and so many others
+-- whether a number is one of so many bits without a sign, and of one bit for the sign and so many
+-- others
 abbrev pub is_unsigned : ℕ → ℤ → Bool
 is_unsigned bits (pos n) = nat_lt n (2 ^ bits)
 is_unsigned bits (negsuc n) = false
@@ -92,7 +94,8 @@ in_type type z = ok_or (where_in type z) (number_out_of_range z (type_name type)
 -- the number of a value as one of a type: no number is refused first, then one outside the type
 abbrev pub converted : IntegerType → Form → Result ℤ Refusal
 converted type value =
-    and_then (ok_or (number_in value) (invalid_argument (type_name type) (name_of value))) (in_type type)
+    and_then (ok_or (number_in value) (invalid_argument (type_name type) (name_of value)))
+    (in_type type)
 
 -- the truth value of a value
 abbrev pub as_truth : Form → Result Bool Refusal

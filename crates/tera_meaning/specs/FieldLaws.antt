@@ -47,11 +47,12 @@ below_put s t (u ∷ us) p h = elim (order t u) as (λ r. Below s (match_orderin
 put_rises : (t : List ℕ) (us : List (List ℕ)) → IsStrictlySortedBy order us → IsStrictlySortedBy order (insert_key order us t)
 unfolding IsStrictlySortedBy
 put_rises t [] h = (tt, tt)
-put_rises t (u ∷ us) h = elim (order t u) as (λ r. order t u ≡ r → IsStrictlySortedBy order (match_ordering r (t ∷ u ∷ us) (u ∷ us) (u ∷ insert_key order us t))) [
-  | Less ↦ λ p. ((p, below_less t u us p h.0), h)
-  | Equal ↦ λ p. h
-  | Greater ↦ λ p. (below_put u t us (total.antisymm u t ∙ ap ordering_reverse p) h.0, put_rises t us h.1)
-] refl
+put_rises t (u ∷ us) h = elim (order t u) as (λ r. order t u ≡ r
+    → IsStrictlySortedBy order (match_ordering r (t ∷ u ∷ us) (u ∷ us) (u ∷ insert_key order us t))) [
+      | Less ↦ λ p. ((p, below_less t u us p h.0), h)
+      | Equal ↦ λ p. h
+      | Greater ↦ λ p. (below_put u t us (total.antisymm u t ∙ ap ordering_reverse p) h.0, put_rises t us h.1)
+    ] refl
 
 rising_rises : (ts : List (List ℕ)) → IsStrictlySortedBy order (rising_texts ts)
 unfolding IsStrictlySortedBy
@@ -107,7 +108,8 @@ later : (s t x : List ℕ) (ts : List (List ℕ)) → order s x ≡ Less → s �
 later s t x ts m is (inl b) = absurd (less_equal (sym m ∙ ap (order s) (b ∙ sym is) ∙ tied_itself total s))
 later s t x ts m is (inr a) = a
 
-one_list : (ss ts : List (List ℕ)) → IsStrictlySortedBy order ss → IsStrictlySortedBy order ts → ((x : List ℕ) → Among ss x → Among ts x) → ((x : List ℕ) → Among ts x → Among ss x) → ss ≡ ts
+one_list : (ss ts : List (List ℕ)) → IsStrictlySortedBy order ss → IsStrictlySortedBy order ts → ((x : List ℕ) → Among ss x → Among ts x)
+    → ((x : List ℕ) → Among ts x → Among ss x) → ss ≡ ts
 unfolding IsStrictlySortedBy
 one_list [] [] h g there back = refl
 one_list [] (t ∷ ts) h g there back = absurd (back t (inl refl))
@@ -122,7 +124,11 @@ one_list (s ∷ ss) (t ∷ ts) h g there back =
 pub rising_are_rising : (texts : List (List ℕ)) → AreRisingOf texts (rising_texts texts)
 rising_are_rising texts = (
   rising_rises texts,
-  λ t. (λ c. contained texts t (rising_had texts t (among (rising_texts texts) t c)), λ c. contained (rising_texts texts) t (rising_has texts t (among texts t c))),
+  λ t. (
+    λ c. contained texts t (rising_had texts t (among (rising_texts texts) t c)),
+    λ c. contained (rising_texts texts) t
+        (rising_has texts t (among texts t c)),
+  ),
 )
 
 pub only_rising_texts : (texts names : List (List ℕ)) → AreRisingOf texts names → names ≡ rising_texts texts

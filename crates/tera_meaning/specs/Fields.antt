@@ -28,7 +28,8 @@ shown_in (object ps) = shown_keys (members_list ps)
 -- texts in the order of their bytes, each less than every later one, and just those of a list
 abbrev pub AreRisingOf : List (List ℕ) → List (List ℕ) → Type 0
 AreRisingOf texts names =
-    IsStrictlySortedBy (slice_cmp nat_cmp) names × ((t : List ℕ) → Contains names t ↔ Contains texts t)
+    IsStrictlySortedBy (slice_cmp nat_cmp) names
+    × ((t : List ℕ) → Contains names t ↔ Contains texts t)
 
 -- the texts of a list in their places
 abbrev pub rising_texts : List (List ℕ) → List (List ℕ)

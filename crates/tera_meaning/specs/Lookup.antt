@@ -1,4 +1,5 @@
--- What is looked up in a value: the part that an attribute or an item names, and whether it holds a value.
+-- What is looked up in a value: the part that an attribute or an item names, and whether it holds a
+-- value.
 use Rattle.std.specs.Prelude.{ℕ, suc, ◌-◌, nat_lt, ◌==◌, ℤ, pos, negsuc, Bool, true, false, ◌&&◌, ◌||◌, if◌then◌else◌, List, [], ◌∷◌, length, slice_get, Option, Some, None, is_some, unwrap_or, Result, Ok, Err}
 use Rattle.std.specs.Char.{encode_utf8}
 use Rattle.std.specs.List.{list_any}
@@ -29,7 +30,7 @@ key_in (bytes bs) = None
 key_in (array xs) = None
 key_in (object ps) = None
 
--- the same, or its refusal
+-- the key that a value is, or the refusal of a value that is none
 abbrev pub as_key : Form → Result KeyForm Refusal
 as_key value = ok_or (key_in value) not_a_key
 
@@ -62,13 +63,15 @@ part_at xs index = option_and_then (slice_get xs) (place_of (length xs) index)
 abbrev pub character_of : MarkedText → ℕ → Form
 character_of t c = text (record { spelled = encode_utf8 c; safe = t.safe })
 
--- the part of such a container at an index, undefined where there is none; or the refusal of no integer
+-- the part of such a container at an index, undefined where there is none; or the refusal of no
+-- integer
 abbrev pub indexed : Container → Form → (ℤ → Option Form) → Result Form Refusal
 indexed container index part =
-    ok_or (option_map (λ z. unwrap_or (part z) undefined) (number_in index)) (not_an_index container (name_of index))
+    ok_or (option_map (λ z. unwrap_or (part z) undefined) (number_in index))
+    (not_an_index container (name_of index))
 
--- what a value has at an item: a map at the key that it is, an array and a text at an index, and undefined where there is
--- nothing
+-- what a value has at an item: a map at the key that it is, an array and a text at an index, and
+-- undefined where there is nothing
 abbrev pub item : Form → Form → Result Form Refusal
 item undefined i = Ok undefined
 item none i = Ok undefined
@@ -78,7 +81,8 @@ item (text t) i = indexed in_text i (λ z. option_map (character_of t) (part_at 
 item (bytes bs) i = Ok undefined
 item (array xs) i = indexed in_array i (part_at (items_list xs))
 item (object ps) i =
-    ok_or (option_map (λ k. unwrap_or (value_at key_form_order (members_list ps) k) undefined) (key_in i))
+    ok_or (option_map (λ k. unwrap_or (value_at key_form_order (members_list ps) k) undefined)
+    (key_in i))
     (not_a_map_key (name_of i))
 
 -- whether a text begins with another, and whether the other stands somewhere in it
@@ -96,7 +100,8 @@ abbrev pub text_holds : List ℕ → Option (List ℕ) → Bool
 text_holds t None = false
 text_holds t (Some part) = occurs part t
 
--- whether a container holds a value: an array an item of its meaning, a text that text as a part, a map that key
+-- whether a container holds a value: an array an item of its meaning, a text that text as a part, a
+-- map that key
 abbrev pub holds : Form → Form → Result Bool Refusal
 holds undefined x = Err (not_a_container (name_of undefined))
 holds none x = Err (not_a_container (name_of none))

@@ -21,7 +21,8 @@ module _ {X : Type 0} where
     | inl found ↦
         let same : length xs - 1 - n ≡ length xs - suc n = omega arith in
         let long : n < length (reverse xs) = omega (arith, length-reverse xs) in
-        found.2 ∙ ap Some (sym (found.3)) ∙ ap (λ k. Some (get_or xs k found.0)) (sym same) ∙ ap Some (sym (get_or-reverse xs n found.0 within)) ∙ sym (slice_get-get_or (reverse xs) n found.0 long)
+        found.2 ∙ ap Some (sym (found.3)) ∙ ap (λ k. Some (get_or xs k found.0)) (sym same) ∙ ap Some (sym (get_or-reverse xs n found.0 within))
+        ∙ sym (slice_get-get_or (reverse xs) n found.0 long)
     | inr past ↦ absurd (let low : length xs ≤ length xs - suc n = past.0 in omega arith)
   ]
 

@@ -21,8 +21,8 @@ rank (bytes bs) = 5
 rank none = 6
 rank undefined = 7
 
--- by rank, and inside a rank by value: lists by the first place where they differ, a proper beginning being less,
--- and a pair of a map by its key and then by its value
+-- by rank, and inside a rank by value: lists by the first place where they differ, a proper
+-- beginning being less, and a pair of a map by its key and then by its value
 abbrev mutual
   pub compare : Meaning → Meaning → Ordering
   compare (truth a) (truth b) = bool_cmp a b
@@ -43,7 +43,8 @@ abbrev mutual
   compare_members no_members no_members = Equal
   compare_members no_members (member l y qs) = Less
   compare_members (member k x ps) no_members = Greater
-  compare_members (member k x ps) (member l y qs) = ordering_then (key_order k l) (ordering_then (compare x y) (compare_members ps qs))
+  compare_members (member k x ps) (member l y qs) =
+      ordering_then (key_order k l) (ordering_then (compare x y) (compare_members ps qs))
 
 -- whether two meanings are equal
 abbrev pub same : Meaning → Meaning → Bool

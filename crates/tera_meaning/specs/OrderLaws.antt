@@ -29,14 +29,18 @@ mutual
   pub items_exact : (xs ys : Items ℤ (List ℕ) KeyMeaning) → compare_items xs ys ≡ Equal → xs ≡ ys
   items_exact no_items no_items e = refl
   items_exact (item x xs) (item y ys) e =
-      λ i. item (compare_exact x y (first_equal (compare x y) (compare_items xs ys) e) i) (items_exact xs ys (second_equal (compare x y) (compare_items xs ys) e) i)
+      λ i. item (compare_exact x y (first_equal (compare x y) (compare_items xs ys) e) i)
+      (items_exact xs ys (second_equal (compare x y) (compare_items xs ys) e) i)
   items_exact xs ys e = cc
 
   pub members_exact : (ps qs : Members ℤ (List ℕ) KeyMeaning) → compare_members ps qs ≡ Equal → ps ≡ qs
   members_exact no_members no_members e = refl
   members_exact (member k x ps) (member l y qs) e =
-      let rest : ordering_then (compare x y) (compare_members ps qs) ≡ Equal = second_equal (key_order k l) (ordering_then (compare x y) (compare_members ps qs)) e in
-      λ i. member (key_exact k l (first_equal (key_order k l) (ordering_then (compare x y) (compare_members ps qs)) e) i) (compare_exact x y (first_equal (compare x y) (compare_members ps qs) rest) i) (members_exact ps qs (second_equal (compare x y) (compare_members ps qs) rest) i)
+      let rest : ordering_then (compare x y) (compare_members ps qs) ≡ Equal =
+      second_equal (key_order k l) (ordering_then (compare x y) (compare_members ps qs)) e in
+      λ i. member (key_exact k l (first_equal (key_order k l) (ordering_then (compare x y) (compare_members ps qs)) e) i)
+      (compare_exact x y (first_equal (compare x y) (compare_members ps qs) rest) i)
+      (members_exact ps qs (second_equal (compare x y) (compare_members ps qs) rest) i)
   members_exact ps qs e = cc
 
 mutual
@@ -63,7 +67,8 @@ mutual
   members_reversed no_members (member l y qs) = refl
   members_reversed (member k x ps) no_members = refl
   members_reversed (member k x ps) (member l y qs) =
-      let both : ordering_then (compare x y) (compare_members ps qs) ≡ ordering_reverse (ordering_then (compare y x) (compare_members qs ps)) = (λ i. ordering_then (compare_reversed x y i) (members_reversed ps qs i)) ∙ reverse_then (compare y x) (compare_members qs ps) in
+      let both : ordering_then (compare x y) (compare_members ps qs) ≡ ordering_reverse (ordering_then (compare y x) (compare_members qs ps)) =
+      (λ i. ordering_then (compare_reversed x y i) (members_reversed ps qs i)) ∙ reverse_then (compare y x) (compare_members qs ps) in
       (λ i. ordering_then (key_total.antisymm k l i) (both i)) ∙ reverse_then (key_order l k) (ordering_then (compare y x) (compare_members qs ps))
 
 -- a lesser rank decides, and what is less has no greater rank
@@ -122,7 +127,8 @@ mutual
   members_chain (member k x ps) no_members rs p q = absurd (greater_less p)
   members_chain (member k x ps) (member l y qs) no_members p q = absurd (greater_less q)
   members_chain (member k x ps) (member l y qs) (member m z rs) p q =
-      chain_then (key_order k l) (key_order l m) (key_order k m) (ordering_then (compare x y) (compare_members ps qs)) (ordering_then (compare y z) (compare_members qs rs)) (ordering_then (compare x z) (compare_members ps rs))
+      chain_then (key_order k l) (key_order l m) (key_order k m) (ordering_then (compare x y) (compare_members ps qs))
+      (ordering_then (compare y z) (compare_members qs rs)) (ordering_then (compare x z) (compare_members ps rs))
       (key_total.trans k l m)
       (λ e. ap (λ w. key_order w m) (key_exact k l e))
       (λ e. sym (ap (λ w. key_order k w) (key_exact l m e)))

@@ -1,4 +1,5 @@
--- The pairs of maps: lists of entries with strictly rising keys, and the least key at which two of them differ.
+-- The pairs of maps: lists of entries with strictly rising keys, and the least key at which two of
+-- them differ.
 use Rattle.std.specs.Prelude.{◌≡◌, Bool, true, false, if◌then◌else◌, List, [], ◌∷◌, Option, Some, None}
 use Rattle.std.specs.BTreeMap.{insert_entry}
 use Rattle.std.specs.List.{IsDistinct, list_any}
@@ -51,9 +52,11 @@ module _ {K V : Type 0} (order : K → K → Ordering) (values : V → V → Ord
 
   -- the two differ at the key, and at no lesser one
   abbrev pub IsLeastDifference : List (K × V) → List (K × V) → K → Type 0
-  IsLeastDifference ps qs k = (agree_at ps qs k ≡ false) × ((l : K) → order l k ≡ Less → agree_at ps qs l ≡ true)
+  IsLeastDifference ps qs k =
+      (agree_at ps qs k ≡ false) × ((l : K) → order l k ≡ Less → agree_at ps qs l ≡ true)
 
-  -- where both have a value these decide; the one that alone has one is less if the other goes on, else greater
+  -- where both have a value these decide; the one that alone has one is less if the other goes on,
+  -- else greater
   abbrev pub by_values : Option V → Option V → Bool → Bool → Ordering
   by_values (Some x) (Some y) goes_on other_goes_on = values x y
   by_values (Some x) None goes_on other_goes_on = if other_goes_on then Less else Greater
@@ -62,7 +65,8 @@ module _ {K V : Type 0} (order : K → K → Ordering) (values : V → V → Ord
 
   -- the order of two lists as it stands at a key
   abbrev pub order_at : List (K × V) → List (K × V) → K → Ordering
-  order_at ps qs k = by_values (value_at order ps k) (value_at order qs k) (goes_on order ps k) (goes_on order qs k)
+  order_at ps qs k = by_values (value_at order ps k) (value_at order qs k) (goes_on order ps k)
+      (goes_on order qs k)
 
 -- the order of keys, whatever their form
 abbrev pub key_form_order : KeyForm → KeyForm → Ordering

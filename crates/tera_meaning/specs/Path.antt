@@ -16,7 +16,8 @@ dot = 46
 abbrev pub plus : ℕ
 plus = 43
 
--- these are the elements of a path: at least one, none with a `.`, and joined by `.` they are the path
+-- these are the elements of a path: at least one, none with a `.`, and joined by `.` they are the
+-- path
 abbrev pub AreElements : List ℕ → List (List ℕ) → Type 0
 AreElements path elements = AreParts dot path elements
 
@@ -56,7 +57,8 @@ followed value [] = Some value
 followed value (element ∷ more) =
     option_and_then (λ part. followed part more) (reached value element (place element))
 
--- what a path leads to: from undefined to nothing, from none to itself, and from all else by its elements
+-- what a path leads to: from undefined to nothing, from none to itself, and from all else by its
+-- elements
 abbrev pub path : Form → List ℕ → Option Form
 path undefined p = None
 path none p = Some none

@@ -20,7 +20,7 @@ shown_key (truth_key b) = printed_truth b
 shown_key (number_key z) = signed_decimal z
 shown_key (text_key t) = t
 
--- and in a map, where a text is quoted
+-- how a key prints in a map, where a text is quoted
 abbrev pub printed_key : KeyMeaning → List ℕ
 printed_key (truth_key b) = printed_truth b
 printed_key (number_key z) = signed_decimal z
@@ -48,11 +48,13 @@ abbrev mutual
 
   pub printed_members : Members ℤ (List ℕ) KeyMeaning → List ℕ
   printed_members no_members = []
-  printed_members (member k x ps) = printed_key k ++ codes ": " ++ printed_with quoted x ++ more_members ps
+  printed_members (member k x ps) =
+      printed_key k ++ codes ": " ++ printed_with quoted x ++ more_members ps
 
   pub more_members : Members ℤ (List ℕ) KeyMeaning → List ℕ
   more_members no_members = []
-  more_members (member k x ps) = codes ", " ++ printed_key k ++ codes ": " ++ printed_with quoted x ++ more_members ps
+  more_members (member k x ps) =
+      codes ", " ++ printed_key k ++ codes ": " ++ printed_with quoted x ++ more_members ps
 
 -- a text by itself prints as itself; inside arrays and maps texts print in debug form
 abbrev pub printed : Meaning → List ℕ
@@ -83,7 +85,8 @@ abbrev mutual
   are_exact_members no_members = true
   are_exact_members (member k x ps) = is_exact_key k && (is_exact_inside x && are_exact_members ps)
 
--- whether the meaning has one printed text: a text by itself has, and all else where each text that is quoted is ASCII
+-- whether the meaning has one printed text: a text by itself has, and all else where each text that
+-- is quoted is ASCII
 abbrev pub is_exact : Meaning → Bool
 is_exact undefined = true
 is_exact none = true
@@ -107,10 +110,11 @@ IsExactKey k = IsTrue (is_exact_key k)
 abbrev pub Prints : Meaning → List ℕ → Type 0
 Prints x written = IsExact x → written ≡ printed x
 
--- the same of a meaning that stands in an array or map, where texts are quoted
+-- what is written for a meaning that stands in an array or map, where texts are quoted
 abbrev pub PrintsInside : Meaning → List ℕ → Type 0
 PrintsInside x written = IsExactInside x → written ≡ printed_with quoted x
 
 -- what a page shows of a value: what it prints, as it is where the value is safe, and else escaped
 abbrev pub shown_in_page : Form → List ℕ
-shown_in_page value = if safe_in value then printed (plain value) else escaped (printed (plain value))
+shown_in_page value =
+    if safe_in value then printed (plain value) else escaped (printed (plain value))

@@ -21,8 +21,8 @@ pub data Question : Type 0 where
   escape : Question
   fields : Question
 
--- what is answered of what a name holds, which reads as undefined where it holds nothing. What is printed is some text,
--- and one text alone where the meaning is exact
+-- what is answered of what a name holds, which reads as undefined where it holds nothing. What is
+-- printed is some text, and one text alone where the meaning is exact
 abbrev pub IsAnswered : Question → Option Form → Outcome → Type 0
 IsAnswered has held outcome = outcome ≡ Ok (Answer.truth (is_some held))
 IsAnswered truthy held outcome = outcome ≡ Ok (Answer.truth (truthy_in (plain (read held))))
@@ -32,7 +32,8 @@ IsAnswered kind held outcome = outcome ≡ Ok (Answer.kind (kind_in (read held))
 IsAnswered print held outcome =
     (text : List ℕ) × Prints (plain (read held)) text × (outcome ≡ Ok (Answer.text text))
 IsAnswered escape held outcome =
-    (text word : List ℕ) × Prints (plain (read held)) text × Spells word text × (outcome ≡ Ok (Answer.text word))
+    (text word : List ℕ) × Prints (plain (read held)) text × Spells word text
+    × (outcome ≡ Ok (Answer.text word))
 IsAnswered fields held outcome = outcome ≡ Ok (Answer.texts (Fields.fields (read held)))
 
 -- the answer is one: what is printed for it, if anything, is exact

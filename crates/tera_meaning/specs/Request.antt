@@ -6,8 +6,8 @@ use Rattle.tera_meaning.specs.Question.{Question}
 use Rattle.tera_meaning.specs.State.{State}
 use Rattle.tera_meaning.specs.Weighing.{Weighing}
 
--- It keeps a value, takes over all that a source holds, takes a name away, marks a value in its place, asks one value,
--- weighs two, or finds something. Names stand as bytes and values as forms
+-- It keeps a value, takes over all that a source holds, takes a name away, marks a value in its
+-- place, asks one value, weighs two, or finds something. Names stand as bytes and values as forms
 pub data Request : Type 0 where
   set : (name : List ℕ) (value : Form) → Request
   extend : (source : State) → Request

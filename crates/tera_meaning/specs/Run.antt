@@ -26,22 +26,25 @@ AreOutcomes state (command ∷ commands) [] = ⊥
 -- each of these outcomes is one
 abbrev pub AreFixed : State → List Command → Type 0
 AreFixed state [] = ⊤
-AreFixed state (command ∷ commands) = IsFixed state command.request × AreFixed (state_after state command) commands
+AreFixed state (command ∷ commands) =
+    IsFixed state command.request × AreFixed (state_after state command) commands
 
 -- what the commands leave, where none wants memory
 abbrev pub state_after_all : State → List Command → State
 state_after_all state commands = fold state_after state commands
 
--- what was done where a request wanted memory, before what was done next: nothing; but of `extend` one of some first
--- names of its source, fewer than all, which was done
-abbrev pub WasDoneInWant : Request → List Command → List Outcome → List Command → List Outcome → Type 0
+-- what was done where a request wanted memory, before what was done next: nothing; but of `extend`
+-- one of some first names of its source, fewer than all, which was done
+abbrev pub WasDoneInWant : Request → List Command → List Outcome → List Command → List Outcome
+    → Type 0
 WasDoneInWant (extend source) done answers next others =
     (part : State) × IsProperBeginning part source
     × (done ≡ asking (extend part) ∷ next) × (answers ≡ Ok Answer.done ∷ others)
 WasDoneInWant _ done answers next others = (done ≡ next) × (answers ≡ others)
 
 -- what was done of a command, before what was done next: all of it, but where it wanted memory
-abbrev pub WasDone : Command → Outcome → List Command → List Outcome → List Command → List Outcome → Type 0
+abbrev pub WasDone : Command → Outcome → List Command → List Outcome → List Command → List Outcome
+    → Type 0
 WasDone command outcome done answers next others =
     ((outcome ≢ out_of_memory) × (done ≡ command ∷ next) × (answers ≡ outcome ∷ others))
     ⊎ ((outcome ≡ out_of_memory) × WasDoneInWant command.request done answers next others)

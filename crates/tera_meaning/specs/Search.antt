@@ -46,12 +46,7 @@ found_at state (read type name) = one_found (read_as type (form_at state name))
 
 -- what is found is a copy, which takes memory, but for numbers
 abbrev pub IsCopy : Search → Type 0
-IsCopy (get name) = ⊤
-IsCopy (path name p) = ⊤
-IsCopy (attr name t) = ⊤
-IsCopy (item name i) = ⊤
-IsCopy (slice name start end step) = ⊤
-IsCopy (reverse name) = ⊤
 IsCopy (calculate operator left right) = ⊥
 IsCopy (negate name) = ⊥
 IsCopy (read type name) = ⊥
+IsCopy search = ⊤

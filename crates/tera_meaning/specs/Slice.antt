@@ -10,8 +10,8 @@ use Rattle.tera_meaning.specs.Lookup.{seen_by}
 use Rattle.tera_meaning.specs.Meaning.{Meaning, plain}
 use Rattle.tera_meaning.specs.Tree.{text, bytes, array, items, items_list}
 
--- the least and the greatest place of a bound in n items. A step below 0 may end before the first of them, and does not
--- start behind the last
+-- the least and the greatest place of a bound in n items. A step below 0 may end before the first
+-- of them, and does not start behind the last
 abbrev pub least_place : ℤ → ℤ
 least_place (pos s) = pos 0
 least_place (negsuc s) = negsuc 0
@@ -27,7 +27,8 @@ counted n (negsuc bound) = pos n +ℤ negsuc bound
 
 -- the place of a bound: the nearest one between the least and the greatest
 abbrev pub place_of_bound : ℤ → ℕ → ℤ → ℤ
-place_of_bound step n bound = int_max (least_place step) (int_min (counted n bound) (greatest_place step n))
+place_of_bound step n bound =
+    int_max (least_place step) (int_min (counted n bound) (greatest_place step n))
 
 -- where the items begin and end in the direction of the step
 abbrev pub first_place : ℤ → ℕ → ℤ
@@ -65,8 +66,8 @@ abbrev pub item_at : {X : Type 0} → List X → ℤ → Option X
 item_at xs (pos i) = slice_get xs i
 item_at xs (negsuc i) = None
 
--- a slice from a place to a place has the least count of items that reaches the end, and its item k is the one at
--- start + k * step
+-- a slice from a place to a place has the least count of items that reaches the end, and its item k
+-- is the one at start + k * step
 pub record IsSliceFrom {X : Type 0} (xs : List X) (start end step : ℤ) (ys : List X) : Type 0 where
   pub reached : HasReached step (place_at start step (length ys)) end
   pub before : (k : ℕ) → k < length ys → IsBefore step (place_at start step k) end
@@ -77,10 +78,12 @@ abbrev pub IsSliceOf : {X : Type 0} → List X → Option ℤ → Option ℤ →
 IsSliceOf xs start end step ys =
     IsSliceFrom xs (start_place step (length xs) start) (end_place step (length xs) end) step ys
 
--- the slice of a value: of an array its items, which keep their forms, of a text its characters, and it keeps its flag
+-- the slice of a value: of an array its items, which keep their forms, of a text its characters,
+-- and it keeps its flag
 abbrev pub IsCut : Form → Option ℤ → Option ℤ → ℤ → Result Form Refusal → Type 0
 IsCut (array xs) start end step outcome =
-    (ys : List Form) × IsSliceOf (items_list xs) start end step ys × (outcome ≡ Ok (array (items ys)))
+    (ys : List Form) × IsSliceOf (items_list xs) start end step ys
+    × (outcome ≡ Ok (array (items ys)))
 IsCut (text t) start end step outcome =
     (cs : List ℕ) × IsSliceOf (chars t.spelled) start end step cs
     × (outcome ≡ Ok (text (record { spelled = encode_utf8_all cs; safe = t.safe })))
@@ -96,11 +99,12 @@ IsCutBy (negsuc s) v start end outcome = IsCut v start end (negsuc s) outcome
 abbrev pub IsSliced : Form → Option ℤ → Option ℤ → Option ℤ → Result Form Refusal → Type 0
 IsSliced v start end step outcome = IsCutBy (unwrap_or step (pos 1)) v start end outcome
 
--- what reversal comes to: items, which keep their forms, characters or bytes in the opposite order. A reversed text is
--- not safe
+-- what reversal comes to: items, which keep their forms, characters or bytes in the opposite order.
+-- A reversed text is not safe
 abbrev pub reversed : Form → Result Form Refusal
 reversed (array xs) = Ok (array (items (reverse (items_list xs))))
-reversed (text t) = Ok (text (record { spelled = encode_utf8_all (reverse (chars t.spelled)); safe = false }))
+reversed (text t) =
+    Ok (text (record { spelled = encode_utf8_all (reverse (chars t.spelled)); safe = false }))
 reversed (bytes bs) = Ok (bytes (reverse bs))
 reversed v = Err (not_reversible (kind_name (kind_in v)))
 

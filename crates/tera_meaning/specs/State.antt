@@ -26,13 +26,15 @@ meaning_at state name = plain (form_at state name)
 
 -- whether two states hold the same names, and under each the same meaning
 abbrev pub states_equal : State → State → Bool
-states_equal f g = pointwise (λ p q. bytes_eq p.0 q.0 && same (plain p.1) (plain q.1)) (entries f) (entries g)
+states_equal f g =
+    pointwise (λ p q. bytes_eq p.0 q.0 && same (plain p.1) (plain q.1)) (entries f) (entries g)
 
 -- the state with what the source holds: a name that both hold has the source's value
 abbrev pub extended : State → State → State
 extended state source = from_entries (entries source ++ entries state)
 
--- the part holds the first names of the whole, in the order of their bytes, but not all of them, and each with its value
+-- the part holds the first names of the whole, in the order of their bytes, but not all of them,
+-- and each with its value
 abbrev pub IsProperBeginning : State → State → Type 0
 IsProperBeginning part whole =
     (later : List (List ℕ × Form)) × (later ≢ []) × (entries whole ≡ entries part ++ later)

@@ -1,4 +1,5 @@
 -- What a state holds after a value is set or a name is removed.
+use Rattle.std.proofs.lemmas.Bool.{false_from_ne_true}
 use Rattle.std.specs.Prelude.{◌≡◌, ◌≢◌, ℕ, Bool, true, false, cond, List, Some, None, refl}
 use Rattle.std.proofs.Common.{sym, ◌∙◌, ap}
 use Rattle.std.specs.Ordering.{nat_cmp, is_eq, eq_by_cmp}
@@ -14,13 +15,9 @@ use Rattle.tera_meaning.specs.Tree.{undefined}
 pub name_exact : IsAntisymmetric (slice_cmp nat_cmp)
 name_exact = slice_cmp-IsAntisymmetric nat_cmp-IsAntisymmetric
 
-refuted : (b : Bool) → (b ≢ true) → b ≡ false
-refuted true f = absurd (f refl)
-refuted false f = refl
-
 pub apart : (q k : List ℕ) → q ≢ k → eq_by_cmp (slice_cmp nat_cmp) q k ≡ false
 apart q k n =
-    refuted (eq_by_cmp (slice_cmp nat_cmp) q k) (λ e. n (name_exact q k ((Equal-is (slice_cmp nat_cmp q k)).0 e)))
+    false_from_ne_true (eq_by_cmp (slice_cmp nat_cmp) q k) (λ e. n (name_exact q k ((Equal-is (slice_cmp nat_cmp q k)).0 e)))
 
 -- the name that is set has the value, and each other name has what it had
 pub get_set : (state : State) (name : List ℕ) (value : Form) → get (insert state name value) name ≡ Some value
@@ -69,4 +66,5 @@ removed_absent state name other false e h = refl
 
 pub remove_absent : (state : State) (name : List ℕ) → get state name ≡ None → remove state name ≡ state
 remove_absent state name h =
-    same_state (remove state name) state (λ other. get-remove nat_list_cmp_total state name other ∙ removed_absent state name other (eq_by_cmp (slice_cmp nat_cmp) other name) refl h)
+    same_state (remove state name) state (λ other. get-remove nat_list_cmp_total state name other
+    ∙ removed_absent state name other (eq_by_cmp (slice_cmp nat_cmp) other name) refl h)

@@ -11,7 +11,8 @@ use Rattle.tera_meaning.specs.Request.{Request, set, extend, remove, mark_safe, 
 use Rattle.tera_meaning.specs.State.{State, form_at, meaning_at, extended, IsProperBeginning}
 use Rattle.tera_meaning.specs.Weighing.{weighed}
 
--- what is found is kept where a name for it is given, and is else the answer itself. A refusal is passed on
+-- what is found is kept where a name for it is given, and is else the answer itself. A refusal is
+-- passed on
 abbrev pub found_or_kept : Option (List ℕ) → Found → Outcome
 found_or_kept None (Ok value) = Ok (Answer.found value)
 found_or_kept (Some into) (Ok None) = Ok (Answer.found None)
@@ -58,7 +59,8 @@ IsFixed state (find search) = ⊤
 
 -- the request alone has this outcome, and no other
 abbrev pub ComesOnlyTo : State → Request → Outcome → Type 0
-ComesOnlyTo state request outcome = (given : Outcome) → IsOutcome state (asking request) given → given ≡ outcome
+ComesOnlyTo state request outcome =
+    (given : Outcome) → IsOutcome state (asking request) given → given ≡ outcome
 
 -- what the request leaves
 abbrev pub leaves : State → Request → Option (List ℕ) → State
@@ -73,27 +75,30 @@ leaves state (find search) into = keeping state into (found_at state search)
 abbrev pub state_after : State → Command → State
 state_after state command = leaves state command.request command.into
 
--- the requests that may want memory: to keep values or a copy, for an answer that takes memory, and for the text of a
--- refusal
+-- the requests that may want memory: to keep values or a copy, for an answer that takes memory, and
+-- for the text of a refusal
 abbrev pub MayWant : State → Request → Option (List ℕ) → Type 0
 MayWant state (set name value) into = ⊤
 MayWant state (extend source) into = ⊤
 MayWant state (remove name) into = ⊥
 MayWant state (mark_safe name) into = IsSome into
 MayWant state (ask question name) into = TakesMemory question
-MayWant state (weigh weighing left right) into = IsErr (weighed weighing (form_at state left) (form_at state right))
+MayWant state (weigh weighing left right) into =
+    IsErr (weighed weighing (form_at state left) (form_at state right))
 MayWant state (find search) into = IsSome into ⊎ (IsCopy search ⊎ IsErr (found_at state search))
 
 abbrev pub MayWantMemory : State → Command → Type 0
 MayWantMemory state command = MayWant state command.request command.into
 
--- what want of memory leaves: the state as it was; but of `extend` some first names of its source are taken over, fewer
--- than all
+-- what want of memory leaves: the state as it was; but of `extend` some first names of its source
+-- are taken over, fewer than all
 abbrev pub LeavesInWant : State → Request → State → Type 0
-LeavesInWant old (extend source) new = (part : State) × IsProperBeginning part source × (new ≡ extended old part)
+LeavesInWant old (extend source) new =
+    (part : State) × IsProperBeginning part source × (new ≡ extended old part)
 LeavesInWant old _ new = new ≡ old
 
--- the command's outcome and the state after it; or, of one that may want memory, want of it, and what this leaves
+-- the command's outcome and the state after it; or, of one that may want memory, want of it, and
+-- what this leaves
 abbrev pub IsStep : State → Command → Outcome → State → Type 0
 IsStep old command outcome new =
     (IsOutcome old command outcome × (new ≡ state_after old command))

@@ -19,13 +19,15 @@ HeldAnswers request answer =
 -- the same where the value's meaning is exact
 abbrev pub ExactAnswers : (List ℕ → Request) → (Form → AnswerOf Form) → Type 0
 ExactAnswers request answer =
-    (state : State) (name : List ℕ) (value : Form) → held_at state name ≡ Some value → IsExact (plain value)
+    (state : State) (name : List ℕ) (value : Form) → held_at state name ≡ Some value
+    → IsExact (plain value)
     → ComesOnlyTo state (request name) (Ok (answer value))
 
 -- of a name that is not held the request has this answer, and no other
 abbrev pub AbsentAnswers : (List ℕ → Request) → AnswerOf Form → Type 0
 AbsentAnswers request answer =
-    (state : State) (name : List ℕ) → held_at state name ≡ None → ComesOnlyTo state (request name) (Ok answer)
+    (state : State) (name : List ℕ) → held_at state name ≡ None
+    → ComesOnlyTo state (request name) (Ok answer)
 
 -- the same of two names that are not held
 abbrev pub BothAbsentAnswer : (List ℕ → List ℕ → Request) → AnswerOf Form → Type 0
@@ -33,8 +35,10 @@ BothAbsentAnswer request answer =
     (state : State) (left right : List ℕ) → held_at state left ≡ None → held_at state right ≡ None
     → ComesOnlyTo state (request left right) (Ok answer)
 
--- each step of the request, whatever name is given for what it finds, has this answer and leaves this state
-abbrev pub HasOneStep : (List ℕ → Request) → (State → List ℕ → AnswerOf Form) → (State → List ℕ → State) → Type 0
+-- each step of the request, whatever name is given for what it finds, has this answer and leaves
+-- this state
+abbrev pub HasOneStep : (List ℕ → Request) → (State → List ℕ → AnswerOf Form)
+    → (State → List ℕ → State) → Type 0
 HasOneStep request answer after =
     (old new : State) (name : List ℕ) (into : Option (List ℕ)) (outcome : Outcome)
     → IsStep old (record { request = request name; into = into }) outcome new

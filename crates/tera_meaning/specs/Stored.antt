@@ -1,5 +1,5 @@
--- A code for forms, by which a proof tells them apart. A case is coded as its place among the cases, beside the code
--- of what it holds.
+-- A code for forms, by which a proof tells them apart. A case is coded as its place among the
+-- cases, beside the code of what it holds.
 use Rattle.std.specs.Prelude.{◌≡◌, ℕ, Bool, ℤ, List, refl}
 use Rattle.std.proofs.Common.{ap}
 use Rattle.std.specs.Coded.{Coded, code_by, coded_ℕ, coded_ℤ, coded_bool, coded_list, coded×}
@@ -70,10 +70,12 @@ abbrev pub coded_kind : Coded IntegerKind
 coded_kind = record { code = kind_code; inj = kind_one }
 
 abbrev pub coded_integer : Coded Integer
-coded_integer = code_by (IntegerKind × ℤ) (coded× coded_kind coded_ℤ) (λ n. (n.kind, n.value)) (λ p. record { kind = p.0; value = p.1 }) (λ _. refl)
+coded_integer = code_by (IntegerKind × ℤ) (coded× coded_kind coded_ℤ) (λ n. (n.kind, n.value))
+    (λ p. record { kind = p.0; value = p.1 }) (λ _. refl)
 
 abbrev pub coded_marked_text : Coded MarkedText
-coded_marked_text = code_by (List ℕ × Bool) (coded× (coded_list coded_ℕ) coded_bool) (λ t. (t.spelled, t.safe)) (λ p. record { spelled = p.0; safe = p.1 }) (λ _. refl)
+coded_marked_text = code_by (List ℕ × Bool) (coded× (coded_list coded_ℕ) coded_bool)
+    (λ t. (t.spelled, t.safe)) (λ p. record { spelled = p.0; safe = p.1 }) (λ _. refl)
 
 abbrev key_text_code : KeyText → Gv
 key_text_code (owned t) = gcons first ((coded_list coded_ℕ).code t)
@@ -146,13 +148,16 @@ module _ {N T K : Type 0} (n : Coded N) (t : Coded T) (k : Coded K) where
 
     pub items_one : (xs ys : Items N T K) → items_code xs ≡ items_code ys → xs ≡ ys
     items_one no_items no_items e = refl
-    items_one (item x xs) (item y ys) e = λ i. item (tree_one x y (ap place e) i) (items_one xs ys (ap held e) i)
+    items_one (item x xs) (item y ys) e =
+        λ i. item (tree_one x y (ap place e) i) (items_one xs ys (ap held e) i)
     items_one no_items (item y ys) e = cc
     items_one (item x xs) no_items e = cc
 
     pub members_one : (ps qs : Members N T K) → members_code ps ≡ members_code qs → ps ≡ qs
     members_one no_members no_members e = refl
-    members_one (member l x ps) (member m y qs) e = λ i. member (k.inj l m (ap (λ g. place (place g)) e) i) (tree_one x y (ap (λ g. held (place g)) e) i) (members_one ps qs (ap held e) i)
+    members_one (member l x ps) (member m y qs) e =
+        λ i. member (k.inj l m (ap (λ g. place (place g)) e) i)
+        (tree_one x y (ap (λ g. held (place g)) e) i) (members_one ps qs (ap held e) i)
     members_one no_members (member m y qs) e = cc
     members_one (member l x ps) no_members e = cc
 

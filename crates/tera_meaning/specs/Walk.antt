@@ -13,7 +13,8 @@ abbrev pub directed : {X : Type 0} → ℤ → List X → List X
 directed (pos s) xs = xs
 directed (negsuc s) xs = reverse xs
 
--- the place that is so many items behind the first one in the direction of the step, and how many a place is behind it
+-- the place that is so many items behind the first one in the direction of the step, and how many a
+-- place is behind it
 abbrev pub place_behind : ℤ → ℕ → ℕ → ℤ
 place_behind (pos s) n d = pos d
 place_behind (negsuc s) n d = pos n -ℤ pos (suc d)
@@ -49,7 +50,11 @@ slice_of xs start end step =
 abbrev pub cut : Form → Option ℤ → Option ℤ → ℤ → Result Form Refusal
 cut (array xs) start end step = Ok (array (items (slice_of (items_list xs) start end step)))
 cut (text t) start end step =
-    Ok (text (record { spelled = encode_utf8_all (slice_of (chars t.spelled) start end step); safe = t.safe }))
+    Ok (text (record {
+      spelled = encode_utf8_all (slice_of (chars t.spelled) start end step);
+      safe =
+          t.safe;
+    }))
 cut v start end step = Err (not_sliceable (kind_name (kind_in v)))
 
 abbrev pub cut_by : ℤ → Form → Option ℤ → Option ℤ → Result Form Refusal

@@ -20,8 +20,8 @@ IsWellMadeKey (truth_key b) = ⊤
 IsWellMadeKey (number_key n) = IsOfKind n.kind n.value
 IsWellMadeKey (text_key t) = IsUtf8 (key_text t)
 
--- each number is one of its kind, each text spells characters in UTF-8, each byte is below 256, and the keys of each map
--- rise strictly
+-- each number is one of its kind, each text spells characters in UTF-8, each byte is below 256, and
+-- the keys of each map rise strictly
 abbrev mutual
   pub IsWellMade : Form → Type 0
   IsWellMade undefined = ⊤
@@ -65,11 +65,13 @@ abbrev mutual
 
   pub AreWellMadePairs : Members ℤ (List ℕ) KeyMeaning → Type 0
   AreWellMadePairs no_members = ⊤
-  AreWellMadePairs (member k x ps) = IsWellMadeKeyMeaning k × IsWellMadeMeaning x × AreWellMadePairs ps
+  AreWellMadePairs (member k x ps) =
+      IsWellMadeKeyMeaning k × IsWellMadeMeaning x × AreWellMadePairs ps
 
 -- each name under which a form is held spells characters in UTF-8, and the form is well made
 abbrev pub IsWellMadeState : State → Type 0
-IsWellMadeState state = (name : List ℕ) → IfSome (held_at state name) (λ value. IsUtf8 name × IsWellMade value)
+IsWellMadeState state =
+    (name : List ℕ) → IfSome (held_at state name) (λ value. IsUtf8 name × IsWellMade value)
 
 -- the values that the request brings are well made, and the names that they are set under spell
 -- characters in UTF-8
@@ -82,7 +84,7 @@ BringsWellMade (ask question name) = ⊤
 BringsWellMade (weigh weighing left right) = ⊤
 BringsWellMade (find search) = ⊤
 
--- the same of commands, and a name under which what one finds is to be kept is UTF-8 too
+-- each command brings what is well made, and a name for what it finds spells characters in UTF-8
 abbrev pub AllBringWellMade : List Command → Type 0
 AllBringWellMade commands =
     AllByRecursion (λ command. BringsWellMade command.request × IfSome command.into IsUtf8) commands

@@ -28,7 +28,8 @@ pub fn answers_depend_on_meaning()
         → AskTheSame command also → MeanTheSame (state_after f command) (state_after g also) }
 {}
 
-/// The same of whole lists of commands, however long.
+/// From states of equal meaning, lists of commands of equal meaning, however long, come to outcomes
+/// that are alike, and leave states of equal meaning.
 pub fn all_answers_depend_on_meaning()
     ensures answers { (f g : State) (commands also : List Command) (outcomes others : List Outcome)
         → MeanTheSame f g → AllAskTheSame commands also → AreOutcomes f commands outcomes

@@ -1,4 +1,5 @@
 -- Spans, notes and reports are equal exactly where all that they hold is.
+use Rattle.std.proofs.lemmas.Bool.{and_parts, and_from}
 use lib.Pointwise.{pointwise}
 use Rattle.std.specs.String.{string_eq}
 use Rattle.std.proofs.Common.{Bool, true, ◌&&◌, ◌==◌, ◌≡◌, List, [], ◌∷◌, map, ap, refl}
@@ -7,7 +8,7 @@ use Rattle.tera_report.specs.Errors.{note_of, report_of}
 use Rattle.tera_report.specs.declared.report.Note.{Note}
 use Rattle.tera_report.specs.declared.report.ReportError.{ReportError}
 use Rattle.tera_report.specs.declared.span.Span.{Span}
-use Rattle.tera_report.proofs.ErrorLemmas.{same_text, text_same, first_true, second_true, both_true}
+use Rattle.tera_report.proofs.ErrorLemmas.{same_text, text_same}
 
 abbrev span_eq : Span → Span → Bool
 span_eq a b =
@@ -16,56 +17,56 @@ span_eq a b =
 
 same_span : (a b : Span) → span_eq a b ≡ true → a ≡ b
 same_span a b h =
-    let one = eqb-true _ _ (first_true _ _ h) in
-    let h2 = second_true _ _ h in
-    let two = eqb-true _ _ (first_true _ _ h2) in
-    let h3 = second_true _ _ h2 in
-    let three = eqb-true _ _ (first_true _ _ h3) in
-    let h4 = second_true _ _ h3 in
-    let four = eqb-true _ _ (first_true _ _ h4) in
-    let h5 = second_true _ _ h4 in
-    let five = eqb-true _ _ (first_true _ _ h5) in
-    let six = eqb-true _ _ (second_true _ _ h5) in
+    let one = eqb-true _ _ ((and_parts _ _ h).0) in
+    let h2 = (and_parts _ _ h).1 in
+    let two = eqb-true _ _ ((and_parts _ _ h2).0) in
+    let h3 = (and_parts _ _ h2).1 in
+    let three = eqb-true _ _ ((and_parts _ _ h3).0) in
+    let h4 = (and_parts _ _ h3).1 in
+    let four = eqb-true _ _ ((and_parts _ _ h4).0) in
+    let h5 = (and_parts _ _ h4).1 in
+    let five = eqb-true _ _ ((and_parts _ _ h5).0) in
+    let six = eqb-true _ _ ((and_parts _ _ h5).1) in
     (λ i. record { start_line = one i; start_col = two i; end_line = three i; end_col = four i; range = record { start = five i; end = six i } })
 
 span_same : (a b : Span) → a ≡ b → span_eq a b ≡ true
 span_same a b e =
-    both_true _ _ (eq-eqb _ _ (ap (λ s. s.start_line) e)) (both_true _ _ (eq-eqb _ _ (ap (λ s. s.start_col) e))
-    (both_true _ _ (eq-eqb _ _ (ap (λ s. s.end_line) e)) (both_true _ _ (eq-eqb _ _ (ap (λ s. s.end_col) e))
-    (both_true _ _ (eq-eqb _ _ (ap (λ s. s.range.start) e)) (eq-eqb _ _ (ap (λ s. s.range.end) e))))))
+    and_from _ _ (eq-eqb _ _ (ap (λ s. s.start_line) e)) (and_from _ _ (eq-eqb _ _ (ap (λ s. s.start_col) e))
+    (and_from _ _ (eq-eqb _ _ (ap (λ s. s.end_line) e)) (and_from _ _ (eq-eqb _ _ (ap (λ s. s.end_col) e))
+    (and_from _ _ (eq-eqb _ _ (ap (λ s. s.range.start) e)) (eq-eqb _ _ (ap (λ s. s.range.end) e))))))
 
 abbrev note_eq : Note → Note → Bool
 note_eq a b = string_eq a.label b.label && (string_eq a.filename b.filename && (string_eq a.source b.source && span_eq a.span b.span))
 
 same_note : (a b : Note) → note_eq a b ≡ true → note_of a ≡ note_of b
 same_note a b h =
-    let one = same_text a.label b.label (first_true _ _ h) in
-    let h2 = second_true _ _ h in
-    let two = same_text a.filename b.filename (first_true _ _ h2) in
-    let h3 = second_true _ _ h2 in
-    let three = same_text a.source b.source (first_true _ _ h3) in
-    let four = same_span _ _ (second_true _ _ h3) in
+    let one = same_text a.label b.label ((and_parts _ _ h).0) in
+    let h2 = (and_parts _ _ h).1 in
+    let two = same_text a.filename b.filename ((and_parts _ _ h2).0) in
+    let h3 = (and_parts _ _ h2).1 in
+    let three = same_text a.source b.source ((and_parts _ _ h3).0) in
+    let four = same_span _ _ ((and_parts _ _ h3).1) in
     (λ i. record { label = one i; file = two i; source = three i; span = four i })
 
 note_same : (a b : Note) → note_of a ≡ note_of b → note_eq a b ≡ true
 note_same a b e =
-    both_true _ _ (text_same a.label b.label (ap (λ n. n.label) e)) (both_true _ _ (text_same a.filename b.filename (ap (λ n. n.file) e))
-    (both_true _ _ (text_same a.source b.source (ap (λ n. n.source) e)) (span_same _ _ (ap (λ n. n.span) e))))
+    and_from _ _ (text_same a.label b.label (ap (λ n. n.label) e)) (and_from _ _ (text_same a.filename b.filename (ap (λ n. n.file) e))
+    (and_from _ _ (text_same a.source b.source (ap (λ n. n.source) e)) (span_same _ _ (ap (λ n. n.span) e))))
 
 same_notes : (xs ys : List Note) → pointwise note_eq xs ys ≡ true → map note_of xs ≡ map note_of ys
 same_notes [] [] h = refl
 same_notes [] (y ∷ ys) h = absurd (cc)
 same_notes (x ∷ xs) [] h = absurd (cc)
 same_notes (x ∷ xs) (y ∷ ys) h =
-    let first = same_note x y (first_true _ _ h) in
-    let others = same_notes xs ys (second_true _ _ h) in
+    let first = same_note x y ((and_parts _ _ h).0) in
+    let others = same_notes xs ys ((and_parts _ _ h).1) in
     (λ i. first i ∷ others i)
 
 notes_same : (xs ys : List Note) → map note_of xs ≡ map note_of ys → pointwise note_eq xs ys ≡ true
 notes_same [] [] e = refl
 notes_same [] (y ∷ ys) e = absurd (cc)
 notes_same (x ∷ xs) [] e = absurd (cc)
-notes_same (x ∷ xs) (y ∷ ys) e = both_true _ _ (note_same x y (cc)) (notes_same xs ys (cc))
+notes_same (x ∷ xs) (y ∷ ys) e = and_from _ _ (note_same x y (cc)) (notes_same xs ys (cc))
 
 abbrev report_eq : ReportError → ReportError → Bool
 report_eq a b =
@@ -74,18 +75,18 @@ report_eq a b =
 
 pub same_report : (a b : ReportError) → report_eq a b ≡ true → report_of a ≡ report_of b
 same_report a b h =
-    let one = same_text a.message b.message (first_true _ _ h) in
-    let h2 = second_true _ _ h in
-    let two = same_text a.filename b.filename (first_true _ _ h2) in
-    let h3 = second_true _ _ h2 in
-    let three = same_text a.source b.source (first_true _ _ h3) in
-    let h4 = second_true _ _ h3 in
-    let four = same_span _ _ (first_true _ _ h4) in
-    let five = same_notes _ _ (second_true _ _ h4) in
+    let one = same_text a.message b.message ((and_parts _ _ h).0) in
+    let h2 = (and_parts _ _ h).1 in
+    let two = same_text a.filename b.filename ((and_parts _ _ h2).0) in
+    let h3 = (and_parts _ _ h2).1 in
+    let three = same_text a.source b.source ((and_parts _ _ h3).0) in
+    let h4 = (and_parts _ _ h3).1 in
+    let four = same_span _ _ ((and_parts _ _ h4).0) in
+    let five = same_notes _ _ ((and_parts _ _ h4).1) in
     (λ i. record { message = one i; file = two i; source = three i; span = four i; notes = five i })
 
 pub report_same : (a b : ReportError) → report_of a ≡ report_of b → report_eq a b ≡ true
 report_same a b e =
-    both_true _ _ (text_same a.message b.message (ap (λ r. r.message) e)) (both_true _ _ (text_same a.filename b.filename (ap (λ r. r.file) e))
-    (both_true _ _ (text_same a.source b.source (ap (λ r. r.source) e)) (both_true _ _ (span_same _ _ (ap (λ r. r.span) e))
+    and_from _ _ (text_same a.message b.message (ap (λ r. r.message) e)) (and_from _ _ (text_same a.filename b.filename (ap (λ r. r.file) e))
+    (and_from _ _ (text_same a.source b.source (ap (λ r. r.source) e)) (and_from _ _ (span_same _ _ (ap (λ r. r.span) e))
     (notes_same _ _ (ap (λ r. r.notes) e)))))

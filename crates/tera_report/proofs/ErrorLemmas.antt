@@ -1,7 +1,8 @@
 -- Kinds are equal exactly where they state one refusal: equality of texts, and refusals of different kinds.
+use Rattle.std.proofs.lemmas.Bool.{and_parts, and_from}
 use lib.Pointwise.{pointwise, bytes_decides}
 use Rattle.std.specs.String.{string_eq}
-use Rattle.std.proofs.Common.{String, Global, string_bytes, Bool, true, false, ◌&&◌, ◌==◌, ◌≡◌, ℕ, List, [], ◌∷◌, ◌++◌, flat_map, map, append-nil, ap, Bor, refl}
+use Rattle.std.proofs.Common.{String, Global, string_bytes, true, false, ◌==◌, ◌≡◌, ℕ, List, [], ◌∷◌, ◌++◌, flat_map, map, append-nil, ap, Bor, refl}
 use Rattle.std.proofs.lemmas.Bool.{eq-eqb}
 use Rattle.tera_report.specs.Errors.{joined}
 use Rattle.tera_report.specs.Refusal.{Refusal, message, syntax_error, rendering_error, circular_extend, circular_include, missing_parent, template_not_found, component_not_found, invalid_argument, missing_argument, out_of_range, writing_failed, not_utf8}
@@ -13,32 +14,20 @@ same_text s t h = (bytes_decides (string_bytes s) (string_bytes t)).0 h
 pub text_same : (s t : String Global) → string_bytes s ≡ string_bytes t → string_eq s t ≡ true
 text_same s t e = (bytes_decides (string_bytes s) (string_bytes t)).1 e
 
-pub first_true : (p q : Bool) → (p && q) ≡ true → p ≡ true
-first_true true q h = refl
-first_true false q h = h
-
-pub second_true : (p q : Bool) → (p && q) ≡ true → q ≡ true
-second_true true q h = h
-second_true false q h = absurd (cc)
-
-pub both_true : (p q : Bool) → p ≡ true → q ≡ true → (p && q) ≡ true
-both_true true q e h = h
-both_true false q e h = e
-
 pub same_texts : (xs ys : List (String Global)) → pointwise string_eq xs ys ≡ true → map string_bytes xs ≡ map string_bytes ys
 same_texts [] [] h = refl
 same_texts [] (y ∷ ys) h = absurd (cc)
 same_texts (x ∷ xs) [] h = absurd (cc)
 same_texts (x ∷ xs) (y ∷ ys) h =
-    let first = same_text x y (first_true _ _ h) in
-    let others = same_texts xs ys (second_true _ _ h) in
+    let first = same_text x y ((and_parts _ _ h).0) in
+    let others = same_texts xs ys ((and_parts _ _ h).1) in
     cc
 
 pub texts_same : (xs ys : List (String Global)) → map string_bytes xs ≡ map string_bytes ys → pointwise string_eq xs ys ≡ true
 texts_same [] [] e = refl
 texts_same [] (y ∷ ys) e = absurd (cc)
 texts_same (x ∷ xs) [] e = absurd (cc)
-texts_same (x ∷ xs) (y ∷ ys) e = both_true _ _ (text_same x y (cc)) (texts_same xs ys (cc))
+texts_same (x ∷ xs) (y ∷ ys) e = and_from _ _ (text_same x y (cc)) (texts_same xs ys (cc))
 
 -- tells the refusals of different kinds apart
 abbrev pub number_of : Refusal → ℕ
@@ -59,9 +48,6 @@ number_of refusal = 13
 
 pub other_number : {P : Type 0} (m n : ℕ) → (m == n) ≡ false → m ≡ n → P
 other_number m n h e = let same : (m == n) ≡ true = eq-eqb m n e in absurd (cc)
-
-pub no_truth : {P : Type 0} → false ≡ true → P
-no_truth h = absurd (cc)
 
 -- texts that are lent, one behind another
 pub lent_joined : (texts : List (Bor (List ℕ))) → flat_map (λ x. x.now) texts ≡ joined (map (λ text. text.now) texts)

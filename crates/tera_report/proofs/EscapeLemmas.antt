@@ -9,7 +9,8 @@ use Rattle.tera_report.specs.Escaping.{Token, itself, ampersand, less_than, grea
 
 -- an ordinary byte's token is the byte itself
 plain_choice : (p q r s t : Bool) (byte : ℕ) → (p || (q || (r || (s || t)))) ≡ false
-    → (if p then ampersand else (if q then less_than else (if r then greater_than else (if s then double_quote else (if t then single_quote else itself byte))))) ≡ itself byte
+    → (if p then ampersand else (if q then less_than else (if r then greater_than else
+    (if s then double_quote else (if t then single_quote else itself byte))))) ≡ itself byte
 plain_choice true q r s t byte h = cc
 plain_choice false true r s t byte h = cc
 plain_choice false false true s t byte h = cc
@@ -35,7 +36,8 @@ record IsTokenOf (byte : ℕ) (token : Token) : Type 0 where
   decoded : decoding token ≡ byte
 
 token_choice : (byte : ℕ) (p q r s t : Bool) → (byte == 38) ≡ p → (byte == 60) ≡ q → (byte == 62) ≡ r → (byte == 34) ≡ s → (byte == 39) ≡ t
-    → IsTokenOf byte (if p then ampersand else (if q then less_than else (if r then greater_than else (if s then double_quote else (if t then single_quote else itself byte)))))
+    → IsTokenOf byte (if p then ampersand else (if q then less_than else
+    (if r then greater_than else (if s then double_quote else (if t then single_quote else itself byte)))))
 token_choice byte true q r s t e f g h k = record { proper = tt; decoded = sym (eqb-true byte 38 e) }
 token_choice byte false true r s t e f g h k = record { proper = tt; decoded = sym (eqb-true byte 60 f) }
 token_choice byte false false true s t e f g h k = record { proper = tt; decoded = sym (eqb-true byte 62 g) }
@@ -160,7 +162,8 @@ escaped_run text bytes run rest i same within plain run_is rest_is =
     let front = escaped_plain (take i bytes) (λ k h.
     let before : k < i = omega (arith, length-take i bytes) in
     subst (λ b. is_special b ≡ false) (sym (get_or-take i bytes k 0 before)) (plain k (omega arith) before)) in
-    let parts = ap escaped (sym (take-append-drop i bytes)) ∙ flat_map-append (λ byte. spelling (token_of byte)) (take i bytes) (drop i bytes) ∙ ap (λ l. l ++ escaped (drop i bytes)) front in
+    let parts = ap escaped (sym (take-append-drop i bytes)) ∙ flat_map-append (λ byte. spelling (token_of byte)) (take i bytes) (drop i bytes)
+    ∙ ap (λ l. l ++ escaped (drop i bytes)) front in
     let moved = subst (λ t. escaped t ≡ take i t ++ escaped (drop i t)) same parts in
     rw (run_is, rest_is) moved
 

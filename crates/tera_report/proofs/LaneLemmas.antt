@@ -47,7 +47,8 @@ any_special x = any_of_five (eqb x 38) (eqb x 60) (eqb x 62) (eqb x 34) (eqb x 3
 -- the five comparisons of a block, joined
 abbrev pub compared : List ℕ → List ℕ
 compared v =
-    zip2 bit_or (zip2 bit_or (zip2 bit_or (zip2 bit_or (zip2 hit v (replicate 32 38)) (zip2 hit v (replicate 32 60))) (zip2 hit v (replicate 32 62))) (zip2 hit v (replicate 32 34))) (zip2 hit v (replicate 32 39))
+    zip2 bit_or (zip2 bit_or (zip2 bit_or (zip2 bit_or (zip2 hit v (replicate 32 38)) (zip2 hit v (replicate 32 60))) (zip2 hit v (replicate 32 62)))
+    (zip2 hit v (replicate 32 34))) (zip2 hit v (replicate 32 39))
 
 pub specials_mask : (v : List ℕ) → length v ≡ 32 → mask_l (map (top 7) (compared v)) % 2 ^ 64 ≡ mask_l (map is_special v)
 specials_mask v long =
@@ -67,6 +68,7 @@ ordinary_up_to v m long mask some =
     ap (count_trailing_zeros 64) mask ∙ trailing_mask_l is_special 64 v (omega arith) (omega (arith, mask))
 
 -- bytes that are ordinary up to a block and in the block's first run
-pub plain_more : (bytes : List ℕ) (at run : ℕ) → at + 32 ≤ length bytes → run ≡ position_or_len is_special (chunk at 32 bytes) → IsPlain bytes 0 at → IsPlain bytes 0 (at + run)
+pub plain_more : (bytes : List ℕ) (at run : ℕ) → at + 32 ≤ length bytes → run ≡ position_or_len is_special (chunk at 32 bytes) → IsPlain bytes 0 at
+    → IsPlain bytes 0 (at + run)
 plain_more bytes at run room counted before k low high =
     ⊎_elim (λ earlier. before k low earlier) (λ later. run_in_chunk_fails is_special bytes at 32 run 0 room counted k later high) (cases_lt k at)

@@ -26,7 +26,8 @@ module _ (separator : ℕ) where
   all_free (b ∷ bs) = by (b == separator) refl (all_free bs)
     where
       by : (t : Bool) → (b == separator) ≡ t → All Free (parts_of separator bs) → All Free (parts_of separator (b ∷ bs))
-      by true e h = subst (All Free) (sym (slice_split-cons_yes (λ c. c == separator) b bs e)) (All-cons Free [] (parts_of separator bs) (All-nil (λ c. c ≢ separator)) h)
+      by true e h =
+          subst (All Free) (sym (slice_split-cons_yes (λ c. c == separator) b bs e)) (All-cons Free [] (parts_of separator bs) (All-nil (λ c. c ≢ separator)) h)
       by false e h = subst (All Free) (sym (slice_split-cons_no (λ c. c == separator) b bs e)) (onto_free b (parts_of separator bs) (eqb-false b separator e) h)
 
   pub these_are_parts : (text : List ℕ) → AreParts separator text (parts_of separator text)

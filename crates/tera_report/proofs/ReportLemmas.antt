@@ -1,4 +1,5 @@
 -- Runs of one character, lengths with a cap, and equality of reports by their parts.
+use Rattle.std.proofs.lemmas.List.{nil_from_length}
 use Rattle.std.proofs.Common.{◌≡◌, ◌⊎◌, inl, inr, ℕ, zero, suc, ◌+◌, ◌-◌, ◌^◌, ◌<◌, ◌≤◌, List, [], ◌∷◌, ◌++◌, min, length, replicate, map, codes, take, drop, get_or, slice_range, refl, sym, ap, ◌∙◌, arith, append_assoc, append-nil}
 use Rattle.std.proofs.lemmas.List.{drop_more, length-append, length-map, length-replicate, length-take, map-append, take-append-drop, take-replicate, take_more}
 use Rattle.std.proofs.lemmas.List.Concat.{flat_map-append}
@@ -23,10 +24,7 @@ run_cut n k c low within = (
 pub run_front : (n k c : ℕ) → k ≤ n → slice_range (replicate n c) 0 k ≡ replicate k c
 run_front n k c within = let all : k - 0 ≡ k = omega arith in ap (λ m. take m (replicate n c)) all ∙ take-replicate k n c within
 
--- a length with a cap may be added to before or after it is capped
-pub capped_more : (a b : ℕ) → min (capped a + b) (2 ^ 64 - 1) ≡ capped (a + b)
-capped_more a b = omega arith
-
+-- lengths with a cap may be added before or after they are capped
 pub capped_both : (a b : ℕ) → min (capped a + capped b) (2 ^ 64 - 1) ≡ capped (a + b)
 capped_both a b = omega arith
 
@@ -55,12 +53,8 @@ columns_all all so_far later n split within (inr ended) =
     take-nil zero = refl
     take-nil (suc k) = refl
 
-no_bytes : (xs : List ℕ) → length xs ≡ 0 → xs ≡ []
-no_bytes [] e = refl
-no_bytes (x ∷ xs) e = absurd (omega arith)
-
 pub no_characters : (xs : List ℕ) → length xs ≡ 0 → chars xs ≡ []
-no_characters xs e = ap chars (no_bytes xs e) ∙ chars-nil
+no_characters xs e = ap chars (nil_from_length xs e) ∙ chars-nil
 
 -- ---- the pieces of a report, one behind another
 
@@ -111,7 +105,8 @@ notes_split text held all i x within is =
 -- ---- lengths
 
 frame_length : (file number column line : List ℕ) → length (frame_text file number column line)
-    ≡ length file + (1 + (length number + (1 + (length column + (1 + (length number + (3 + (length number + (3 + (length line + (1 + (length number + 3))))))))))))
+    ≡ length file + (1 + (length number + (1 + (length column + (1 + (length number +
+    (3 + (length number + (3 + (length line + (1 + (length number + 3))))))))))))
 frame_length file number column line = simp (length-append, length-replicate) (omega arith)
 
 underline_length : (line : List ℕ) (span : Span) → length (underline line span) ≡ min span.start_col (length (chars line)) + width span

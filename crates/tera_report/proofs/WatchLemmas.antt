@@ -1,4 +1,5 @@
 -- Lemmas on the flag of a watched writer, on what is left of the bytes to write, and on a write that failed.
+use mathlib.Core.Bool.{false≢true}
 use Rattle.std.proofs.Common.{◌≡◌, ◌≢◌, ℕ, ◌+◌, ◌-◌, ◌≤◌, Bool, true, false, ◌||◌, IsTrue, List, [], ◌++◌, length, take, drop, refl, sym, ap, subst, ◌∙◌, append_assoc, append-nil, take-append-drop, arith, length-drop, Option, Result}
 use Rattle.std.proofs.lemmas.List.{take_rest}
 use Rattle.std.proofs.KnownBytes.{Appends-trans}
@@ -24,9 +25,11 @@ not_quiet x false e h = absurd (cc)
 -- what a slice from n on holds
 pub split_later : (all done rest : List ℕ) (n : ℕ) → all ≡ done ++ rest → all ≡ (done ++ take n rest) ++ take (length rest - n) (drop n rest)
 split_later all done rest n e =
-    e ∙ ap (λ l. done ++ l) (sym (take-append-drop n rest)) ∙ sym (append_assoc done (take n rest) (drop n rest)) ∙ ap (λ l. (done ++ take n rest) ++ l) (sym (take_rest rest n))
+    e ∙ ap (λ l. done ++ l) (sym (take-append-drop n rest)) ∙ sym (append_assoc done (take n rest) (drop n rest))
+    ∙ ap (λ l. (done ++ take n rest) ++ l) (sym (take_rest rest n))
 
-pub turn_took_one : (rest : List ℕ) (turn n most : ℕ) → n ≢ 0 → n ≤ length rest → turn + length rest ≤ most → turn + 1 + length (take (length rest - n) (drop n rest)) ≤ most
+pub turn_took_one : (rest : List ℕ) (turn n most : ℕ) → n ≢ 0 → n ≤ length rest → turn + length rest ≤ most
+    → turn + 1 + length (take (length rest - n) (drop n rest)) ≤ most
 turn_took_one rest turn n most some fits before =
     rw (take_rest rest n) (rw (length-drop n rest) (omega arith))
 
@@ -34,19 +37,12 @@ or_true : (a : Bool) → IsTrue (a || true)
 or_true true = refl
 or_true false = refl
 
-no_truth : {P : Type 0} → false ≡ true → P
-no_truth h = absurd (cc)
-
-pub not_false : (b : Bool) → (b ≡ false → ⊥) → IsTrue b
-not_false true h = refl
-not_false false h = absurd (h refl)
-
 -- a failure is remembered
 pub loud_more : (x a f h k : Bool) → x ≡ (a || f) → h ≡ (k || f) → (IsTrue k → IsTrue a) → IsTrue h → IsTrue x
 loud_more x a true h k e d loud told = subst IsTrue (sym e) (or_true a)
 loud_more x true false h k e d loud told = e
-loud_more x false false h true e d loud told = absurd (no_truth (loud refl))
-loud_more x false false h false e d loud told = absurd (no_truth (sym d ∙ told))
+loud_more x false false h true e d loud told = absurd (false≢true (loud refl))
+loud_more x false false h false e d loud told = absurd (false≢true (sym d ∙ told))
 
 module _ {W : Type 0} (contents : W → Option (List ℕ)) (wrote : W → List ℕ → Result ℕ Error → W → Type 0) where
   -- one write took a beginning of the bytes, or none where it was interrupted
@@ -83,5 +79,6 @@ module _ {W : Type 0} (contents : W → Option (List ℕ)) (wrote : W → List �
           rest = rest;
           part = ap (λ l. l ++ rest) nothing ∙ sym split;
         };
-        grows = subst (Appends (held contents old) (held contents new)) (sym (taken_more attempts rest answer)) (Appends-trans _ _ _ (all_taken attempts) (bytes_taken answer rest) grows more);
+        grows = subst (Appends (held contents old) (held contents new)) (sym (taken_more attempts rest answer))
+            (Appends-trans _ _ _ (all_taken attempts) (bytes_taken answer rest) grows more);
       }

@@ -61,14 +61,19 @@ abbrev pub refusal_of : ErrorKind → Refusal.Refusal
 refusal_of (Msg text) = Refusal.message (string_bytes text)
 refusal_of (SyntaxError report) = Refusal.syntax_error (report_of report.value)
 refusal_of (RenderingError report) = Refusal.rendering_error (report_of report.value)
-refusal_of (CircularExtend tpl chain) = Refusal.circular_extend (string_bytes tpl) (map string_bytes chain.items)
-refusal_of (CircularInclude tpl chain) = Refusal.circular_include (string_bytes tpl) (map string_bytes chain.items)
-refusal_of (MissingParent current parent) = Refusal.missing_parent (string_bytes current) (string_bytes parent)
+refusal_of (CircularExtend tpl chain) =
+    Refusal.circular_extend (string_bytes tpl) (map string_bytes chain.items)
+refusal_of (CircularInclude tpl chain) =
+    Refusal.circular_include (string_bytes tpl) (map string_bytes chain.items)
+refusal_of (MissingParent current parent) =
+    Refusal.missing_parent (string_bytes current) (string_bytes parent)
 refusal_of (TemplateNotFound name) = Refusal.template_not_found (string_bytes name)
 refusal_of (ComponentNotFound name) = Refusal.component_not_found (string_bytes name)
-refusal_of (InvalidArgument expected actual) = Refusal.invalid_argument (string_bytes expected) (string_bytes actual)
+refusal_of (InvalidArgument expected actual) =
+    Refusal.invalid_argument (string_bytes expected) (string_bytes actual)
 refusal_of (MissingArgument name) = Refusal.missing_argument (string_bytes name)
-refusal_of (OutOfRangeArgument value target) = Refusal.out_of_range (string_bytes value) (string_bytes target)
+refusal_of (OutOfRangeArgument value target) =
+    Refusal.out_of_range (string_bytes value) (string_bytes target)
 refusal_of (Io kind) = Refusal.writing_failed kind
 refusal_of Utf8Conversion = Refusal.not_utf8
 refusal_of OutOfMemory = Refusal.memory_refused
@@ -88,12 +93,13 @@ pub record States (refusal : Refusal.Refusal) (cause : Option Cause) (e : Error)
 abbrev pub Raises : Refusal.Refusal → Error → Type 0
 Raises refusal e = States refusal None e ⊎ IsOutOfMemory e
 
--- the error states just this refusal, without a cause. Want of memory is shown by its own kind alone
+-- the error states just this refusal, without a cause. Want of memory is shown by its own kind
+-- alone
 abbrev pub Shows : Refusal.Refusal → Error → Type 0
 Shows refusal e = States (Refusal.stated refusal) None e
 
--- the error of a call that is to give this: of its refusal, or want of memory in its place; and where nothing is refused
--- want of memory alone
+-- the error of a call that is to give this: of its refusal, or want of memory in its place; and
+-- where nothing is refused want of memory alone
 abbrev pub Refuses : {X : Type 0} → Result X Refusal.Refusal → Error → Type 0
 Refuses (Ok x) e = IsOutOfMemory e
 Refuses (Err refusal) e = Raises (Refusal.stated refusal) e

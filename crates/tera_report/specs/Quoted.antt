@@ -24,7 +24,7 @@ quoted text = 34 ∷ (escapes text ++ 34 ∷ [])
 abbrev pub Quotes : List ℕ → List ℕ → Type 0
 Quotes text bytes = IsTrue (is_ascii_text text) → bytes ≡ quoted text
 
--- the same without the quotes
+-- the bytes stand between the quotes for the text: exactly known for an ASCII text
 abbrev pub Escapes : List ℕ → List ℕ → Type 0
 Escapes text bytes = IsTrue (is_ascii_text text) → bytes ≡ escapes text
 
@@ -32,7 +32,7 @@ Escapes text bytes = IsTrue (is_ascii_text text) → bytes ≡ escapes text
 abbrev pub QuotesItems : List ℕ → List (List ℕ) → List ℕ → Type 0
 QuotesItems lead texts bytes = IsText (debug_items debug_str lead texts) bytes
 
--- the same between brackets
+-- the bytes stand for the list of the texts, in brackets: exactly known for ASCII texts
 abbrev pub QuotesList : List (List ℕ) → List ℕ → Type 0
 QuotesList texts bytes = IsText (debug_list debug_str texts) bytes
 

@@ -1,5 +1,6 @@
 -- Refusals as data, their texts, and what of them depends on no type's name.
 use Rattle.std.specs.Prelude.{◌≡◌, ℕ, ℤ, List, [], ◌++◌, codes, Option, Some, None, unwrap_or}
+use Rattle.std.specs.Option.{option_map}
 use Rattle.std.specs.Fmt.{◌++?◌, debug_str, debug_list, signed_decimal}
 use Rattle.std.specs.declared.io.ErrorKind.{ErrorKind}
 use Rattle.tera_report.specs.Quoted.{IsText, QuotesList}
@@ -50,25 +51,49 @@ pub data Refusal : Type 0 where
   not_utf8 : Refusal
   memory_refused : Refusal
   -- arithmetic
-  not_a_number : (actual : List ℕ) → Refusal
   operand_outside_i128 : (operand : ℤ) → Refusal
   not_exact : (left : ℤ) (operator : Operator) (right : ℤ) → Refusal
   divided_by_zero : Refusal
   exponent_outside_u32 : (exponent : ℤ) → Refusal
   negation_outside_i128 : (operand : ℤ) → Refusal
-  negated_no_number : (actual : List ℕ) → Refusal
-  -- look-ups
+  -- a value that is no key, and a slice by no step
   not_a_key : Refusal
-  not_a_map_key : (actual : List ℕ) → Refusal
-  not_an_index : (container : Container) (actual : List ℕ) → Refusal
-  -- slices, reversal, `in`
   step_of_zero : Refusal
-  not_sliceable : (actual : List ℕ) → Refusal
-  not_reversible : (actual : List ℕ) → Refusal
-  not_a_container : (actual : List ℕ) → Refusal
   -- conversions: a number outside the type that is wanted, and one that no i128 holds
   number_out_of_range : (number : ℤ) (target : List ℕ) → Refusal
   number_outside_i128 : (number : ℤ) → Refusal
+  -- a value of a kind that a call does not take: the name of its kind, and the words around it
+  wrong_kind : (before actual behind : List ℕ) → Refusal
+
+-- The refusals of a kind, one row each
+abbrev pub not_a_number : List ℕ → Refusal
+not_a_number actual =
+    wrong_kind (codes "Only numbers can be used in arithmetic. This is a `") actual (codes "`")
+
+abbrev pub negated_no_number : List ℕ → Refusal
+negated_no_number actual =
+    wrong_kind (codes "Only numbers can be negated. This is a `") actual (codes "`")
+
+abbrev pub not_a_map_key : List ℕ → Refusal
+not_a_map_key actual =
+    wrong_kind (codes "Map keys must be strings, integers, or bools, got `") actual (codes "`.")
+
+abbrev pub not_an_index : Container → List ℕ → Refusal
+not_an_index container actual =
+    wrong_kind (container_word container ++ codes " index must be an integer, got `") actual
+    (codes "`.")
+
+abbrev pub not_sliceable : List ℕ → Refusal
+not_sliceable actual =
+    wrong_kind (codes "Slicing can only be used on arrays or strings, not on `") actual (codes "`.")
+
+abbrev pub not_reversible : List ℕ → Refusal
+not_reversible actual = wrong_kind (codes "Value of type ") actual (codes " cannot be reversed")
+
+abbrev pub not_a_container : List ℕ → Refusal
+not_a_container actual =
+    wrong_kind (codes "`in` cannot be used on a container of type `") actual
+    (codes "`. It can only be used on arrays, strings and map/structs")
 
 -- the words before the names of a chain
 abbrev pub extend_words : List ℕ → List ℕ
@@ -90,47 +115,42 @@ text_of (circular_extend template chain) =
 text_of (circular_include template chain) =
     Some (include_words template) ++? debug_list debug_str chain ++? Some (codes "`")
 text_of (missing_parent current parent) =
-    Some (codes "Template '" ++ (current ++ (codes "' is inheriting from '" ++ (parent ++ codes "', which doesn't exist or isn't loaded."))))
+    Some (codes "Template '" ++ (current
+    ++ (codes "' is inheriting from '"
+    ++ (parent ++ codes "', which doesn't exist or isn't loaded."))))
 text_of (template_not_found name) = Some (codes "Template '" ++ (name ++ codes "' not found"))
 text_of (component_not_found name) = Some (codes "Component '" ++ (name ++ codes "' not found"))
 text_of (invalid_argument expected actual) =
-    Some (codes "Invalid type for the value, expected `" ++ (expected ++ (codes "` but got `" ++ (actual ++ codes "`"))))
+    Some (codes "Invalid type for the value, expected `"
+    ++ (expected ++ (codes "` but got `" ++ (actual ++ codes "`"))))
 text_of (missing_argument name) = Some (codes "Missing keyword argument `" ++ (name ++ codes "`"))
 text_of (out_of_range value target) =
     Some (codes "Value `" ++ (value ++ (codes "` is out of range for `" ++ (target ++ codes "`"))))
 text_of (writing_failed kind) = None
 text_of not_utf8 = Some (codes "Invalid UTF-8 characters found while rendering.")
 text_of memory_refused = Some (codes "Out of memory")
-text_of (not_a_number actual) =
-    Some (codes "Only numbers can be used in arithmetic. This is a `" ++ (actual ++ codes "`"))
 text_of (operand_outside_i128 operand) =
     Some (codes "Operand `" ++ (signed_decimal operand
     ++ codes "` is out of range for integer arithmetic (must fit in i128)"))
 text_of (not_exact left operator right) =
-    Some (codes "Unable to perform " ++ (signed_decimal left ++ (codes " " ++ (operator_text operator
+    Some (codes "Unable to perform "
+    ++ (signed_decimal left ++ (codes " " ++ (operator_text operator
     ++ (codes " " ++ signed_decimal right)))))
 text_of divided_by_zero = Some (codes "Cannot divide by 0")
 text_of (exponent_outside_u32 exponent) =
-    Some (codes "Exponent " ++ (signed_decimal exponent ++ codes " is out of range for integer ** (must fit in u32)"))
+    Some (codes "Exponent " ++ (signed_decimal exponent
+    ++ codes " is out of range for integer ** (must fit in u32)"))
 text_of (negation_outside_i128 operand) =
-    Some (codes "Cannot negate " ++ (signed_decimal operand ++ codes ": result would overflow i128"))
-text_of (negated_no_number actual) = Some (codes "Only numbers can be negated. This is a `" ++ (actual ++ codes "`"))
+    Some (codes "Cannot negate "
+    ++ (signed_decimal operand ++ codes ": result would overflow i128"))
 text_of not_a_key = Some (codes "Not a valid key type")
-text_of (not_a_map_key actual) =
-    Some (codes "Map keys must be strings, integers, or bools, got `" ++ (actual ++ codes "`."))
-text_of (not_an_index container actual) =
-    Some (container_word container ++ (codes " index must be an integer, got `" ++ (actual ++ codes "`.")))
 text_of step_of_zero = Some (codes "Slicing step cannot be 0")
-text_of (not_sliceable actual) =
-    Some (codes "Slicing can only be used on arrays or strings, not on `" ++ (actual ++ codes "`."))
-text_of (not_reversible actual) = Some (codes "Value of type " ++ (actual ++ codes " cannot be reversed"))
-text_of (not_a_container actual) =
-    Some (codes "`in` cannot be used on a container of type `" ++ (actual
-    ++ codes "`. It can only be used on arrays, strings and map/structs"))
 text_of (number_out_of_range number target) =
-    Some (codes "Value `" ++ (signed_decimal number ++ (codes "` is out of range for `" ++ (target ++ codes "`"))))
+    Some (codes "Value `" ++ (signed_decimal number
+    ++ (codes "` is out of range for `" ++ (target ++ codes "`"))))
 text_of (number_outside_i128 number) =
     Some (codes "Number `" ++ (signed_decimal number ++ codes "` is out of range for i128"))
+text_of (wrong_kind before actual behind) = Some (before ++ (actual ++ behind))
 
 -- the bytes are these words, then some that stand for the list of names, and a backquote
 abbrev pub TellsChain : List ℕ → List (List ℕ) → List ℕ → Type 0
@@ -167,29 +187,24 @@ stated memory_refused = memory_refused
 stated (number_out_of_range number target) = out_of_range (signed_decimal number) target
 stated refusal = message (unwrap_or (text_of refusal) [])
 
--- the name of the kind that a value really has, of a refusal that tells it
-abbrev pub actual_in : Refusal → List ℕ
-actual_in (invalid_argument expected actual) = actual
-actual_in (not_a_number actual) = actual
-actual_in (negated_no_number actual) = actual
-actual_in (not_a_map_key actual) = actual
-actual_in (not_an_index container actual) = actual
-actual_in (not_sliceable actual) = actual
-actual_in (not_reversible actual) = actual
-actual_in (not_a_container actual) = actual
-actual_in refusal = []
+-- The name of the kind that a value really has, and the refusal with another name in its place
+pub record Named : Type 0 where
+  pub actual : List ℕ
+  pub renamed : List ℕ → Refusal
 
--- the refusal with that name in its place
+-- where a refusal names the kind of a value
+abbrev pub named : Refusal → Option Named
+named (invalid_argument expected actual) =
+    Some (record { actual = actual; renamed = λ name. invalid_argument expected name })
+named (wrong_kind before actual behind) =
+    Some (record { actual = actual; renamed = λ name. wrong_kind before name behind })
+named refusal = None
+
+abbrev pub actual_in : Refusal → List ℕ
+actual_in refusal = unwrap_or (option_map (λ n. n.actual) (named refusal)) []
+
 abbrev pub with_actual : Refusal → List ℕ → Refusal
-with_actual (invalid_argument expected actual) name = invalid_argument expected name
-with_actual (not_a_number actual) name = not_a_number name
-with_actual (negated_no_number actual) name = negated_no_number name
-with_actual (not_a_map_key actual) name = not_a_map_key name
-with_actual (not_an_index container actual) name = not_an_index container name
-with_actual (not_sliceable actual) name = not_sliceable name
-with_actual (not_reversible actual) name = not_reversible name
-with_actual (not_a_container actual) name = not_a_container name
-with_actual refusal name = refusal
+with_actual refusal name = unwrap_or (option_map (λ n. n.renamed name) (named refusal)) refusal
 
 -- the refusal without the name of the kind that a value really has
 abbrev pub shape : Refusal → Refusal

@@ -70,13 +70,15 @@ shown_lines line span =
 
 -- a place, and below it its line
 abbrev pub shown_place : (file line : List ℕ) → Span → List ℕ
-shown_place file line span = place_text file span ++ line_feed ∷ join_with_byte line_feed (shown_lines line span)
+shown_place file line span =
+    place_text file span ++ line_feed ∷ join_with_byte line_feed (shown_lines line span)
 
 -- what a place and its lines begin with, from the name of the file up to what stands under the line
 abbrev pub frame_text : (file number column line : List ℕ) → List ℕ
 frame_text file number column line =
     let margin = replicate (length number) space in
-    file ++ (codes ":" ++ (number ++ (codes ":" ++ (column ++ (codes "\n" ++ (margin ++ (codes " |\n"
+    file ++ (codes ":" ++ (number
+    ++ (codes ":" ++ (column ++ (codes "\n" ++ (margin ++ (codes " |\n"
     ++ (number ++ (codes " | " ++ (line ++ (codes "\n" ++ (margin ++ codes " | "))))))))))))
 
 -- the line of its source that a note shows
@@ -106,7 +108,8 @@ note_text note = line_feed ∷ line_feed ∷ join_with_byte line_feed (note_line
 
 -- the whole report, with no line feed at its end
 abbrev pub report_text : Report → List ℕ
-report_text report = join_with_byte line_feed (error_lines report) ++ flat_map note_text report.notes
+report_text report =
+    join_with_byte line_feed (error_lines report) ++ flat_map note_text report.notes
 
 -- a length, or usize's greatest where it is more
 abbrev pub capped : ℕ → ℕ

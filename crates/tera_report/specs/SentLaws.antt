@@ -50,7 +50,8 @@ module _ {S : Type 0} (takes : S → List ℕ → S → Type 0) (flushes : S →
     turns_append s (put a ∷ uses) t (mid, p, later) =
         appends_joined (known s) (known mid) (known t) a (flat_map bytes_put uses) (grows s a mid p) (turns_append mid uses t later)
     turns_append s (flush ∷ uses) t (mid, p, later) =
-        appends_joined (known s) (known mid) (known t) [] (flat_map bytes_put uses) (keeps_appends (known s) (known mid) (keeps s mid p)) (turns_append mid uses t later)
+        appends_joined (known s) (known mid) (known t) [] (flat_map bytes_put uses) (keeps_appends (known s) (known mid) (keeps s mid p))
+        (turns_append mid uses t later)
 
     pub sends_append : (s : S) (a : List ℕ) (t : S) → Sends takes flushes s a t → Appends (known s) (known t) a
     sends_append s a t p = subst (Appends (known s) (known t)) p.whole (turns_append s p.uses t p.turns)
@@ -78,7 +79,8 @@ module _ {W : Type 0} (contents : W → Option (List ℕ)) (wrote : W → List �
   pub watched_sends : (s : Watched W) (a : List ℕ) (t : Watched W)
       → Sends (WatchedTakes contents wrote) (WatchedFlushes contents flushed) s a t
       → Sends (Passes wrote) (Flushes flushed) (watched_writer s) a (watched_writer t)
-  watched_sends = sends_seen (WatchedTakes contents wrote) (WatchedFlushes contents flushed) watched_writer (Passes wrote) (Flushes flushed) (λ s a t p. p.passed) (λ s t p. p.passed)
+  watched_sends = sends_seen (WatchedTakes contents wrote) (WatchedFlushes contents flushed) watched_writer (Passes wrote) (Flushes flushed)
+      (λ s a t p. p.passed) (λ s t p. p.passed)
 
   pub watched_delivers : (s : Watched W) (a : List ℕ) (t : Watched W)
       → Delivers (WatchedTakes contents wrote) (WatchedFlushes contents flushed) s a t

@@ -1,4 +1,5 @@
--- What is taken in turn is taken together; and what fails on a beginning, or on what comes after it, fails on the whole.
+-- What is taken in turn is taken together; and what fails on a beginning, or on what comes after
+-- it, fails on the whole.
 use Rattle.std.specs.Prelude.{◌≡◌, ℕ, List, [], ◌++◌, Option, None, Some, Result, Ok, Err, refl}
 use Rattle.std.proofs.Common.{◌∙◌, ap, sym, subst, append_assoc, append-nil, arith, length-append}
 use Rattle.std.proofs.lemmas.List.Folds.{concat-append}
@@ -20,7 +21,8 @@ pub appends_nothing : (a : Option (List ℕ)) → Appends a a []
 appends_nothing None = tt
 appends_nothing (Some xs) = sym (append-nil xs)
 
-pub appends_joined : (a b c : Option (List ℕ)) (xs ys : List ℕ) → Appends a b xs → Appends b c ys → Appends a c (xs ++ ys)
+pub appends_joined : (a b c : Option (List ℕ)) (xs ys : List ℕ) → Appends a b xs → Appends b c ys
+    → Appends a c (xs ++ ys)
 appends_joined None b c xs ys p q = tt
 appends_joined (Some a) None c xs ys p q = absurd p
 appends_joined (Some a) (Some b) None xs ys p q = absurd q
@@ -34,10 +36,17 @@ keeps_appends (Some xs) (Some ys) h = h ∙ sym (append-nil xs)
 
 module _ {W : Type 0} (contents : W → Option (List ℕ)) (wrote : W → List ℕ → Result ℕ Error → W → Type 0) where
   pub watched_nothing : (s : Watched W) → WatchedTakes contents wrote s [] s
-  watched_nothing s = record { same = refl; grows = appends_nothing _; kept = λ h. h; passed = passes_nothing wrote _ }
+  watched_nothing s = record {
+    same = refl;
+    grows = appends_nothing _;
+    kept = λ h. h;
+    passed =
+        passes_nothing wrote _;
+  }
 
   pub watched_joined : (s : Watched W) (a : List ℕ) (t : Watched W) (b : List ℕ) (u : Watched W)
-      → WatchedTakes contents wrote s a t → WatchedTakes contents wrote t b u → WatchedTakes contents wrote s (a ++ b) u
+      → WatchedTakes contents wrote s a t → WatchedTakes contents wrote t b u
+      → WatchedTakes contents wrote s (a ++ b) u
   watched_joined s a t b u p q = record {
     same = q.same ∙ p.same;
     grows = appends_joined _ _ _ a b p.grows q.grows;
@@ -55,13 +64,15 @@ module _ {W : Type 0} (contents : W → Option (List ℕ)) (wrote : W → List �
   }
 
   pub watched_later : (s : Watched W) (a : List ℕ) (t : Watched W) (b : List ℕ) (u : Watched W)
-      → WatchedTakes contents wrote s a t → WatchedFails contents wrote t b u → WatchedFails contents wrote s (a ++ b) u
+      → WatchedTakes contents wrote s a t → WatchedFails contents wrote t b u
+      → WatchedFails contents wrote s (a ++ b) u
   watched_later s a t b u p q = record {
     same = q.same ∙ p.same;
     told = q.told;
     broke = breaks_later wrote _ a _ b _ p.passed q.broke;
     grows = subst (Appends _ _)
-        (ap (λ l. l ++ all_taken q.broke.attempts) (sym p.passed.whole) ∙ sym (taken_joined p.passed.attempts q.broke.attempts))
+        (ap (λ l. l ++ all_taken q.broke.attempts) (sym p.passed.whole)
+        ∙ sym (taken_joined p.passed.attempts q.broke.attempts))
         (appends_joined _ _ _ a (all_taken q.broke.attempts) p.grows q.grows);
   }
 
@@ -75,17 +86,23 @@ module _ {W : Type 0} (took : W → List ℕ → W → Type 0) where
   }
 
   pub formatter_nothing : (s : Formatter W) → FormatterTakes took s [] s
-  formatter_nothing s flush = record { wrote = record { parts = []; calls = refl; whole = refl }; spec = refl; flush = flush }
+  formatter_nothing s flush = record {
+    wrote =
+        record { parts = []; calls = refl; whole = refl };
+    spec = refl;
+    flush = flush;
+  }
 
-  pub formatter_joined : (s : Formatter W) (a : List ℕ) (t : Formatter W) (b : List ℕ) (u : Formatter W)
+  pub formatter_joined : (s : Formatter W) (a : List ℕ) (t : Formatter W) (b : List ℕ)
+      (u : Formatter W)
       → FormatterTakes took s a t → FormatterTakes took t b u → FormatterTakes took s (a ++ b) u
   formatter_joined s a t b u p q flush =
       let first = p flush in
       let later = q first.flush in
       record {
         wrote = writes_joined _ a _ b _ first.wrote later.wrote;
-        spec = later.spec
-            ∙ first.spec;
+        spec =
+            later.spec ∙ first.spec;
         flush = later.flush;
       }
 
@@ -100,7 +117,13 @@ grown_later : (s t u a b : List ℕ) → t ≡ s ++ a → u ≡ t ++ b → u ≡
 grown_later s t u a b p q = q ∙ ap (λ l. l ++ b) p ∙ append_assoc s a b
 
 pub room_nothing : (s : Room) → RoomTakes s [] s
-room_nothing s = record { size = refl; fits = omega (arith, s.within); counted = omega arith; grows = sym (append-nil _) }
+room_nothing s = record {
+  size = refl;
+  fits = omega (arith, s.within);
+  counted =
+      omega arith;
+  grows = sym (append-nil _);
+}
 
 pub room_joined : (s : Room) (a : List ℕ) (t : Room) (b : List ℕ) (u : Room)
     → RoomTakes s a t → RoomTakes t b u → RoomTakes s (a ++ b) u
@@ -113,7 +136,8 @@ room_joined s a t b u p q =
       grows = grown_later _ _ _ a b p.grows q.grows;
     }
 
-pub room_early : (s : Room) (a : List ℕ) (t : Room) (b : List ℕ) → RoomFails s a t → RoomFails s (a ++ b) t
+pub room_early : (s : Room) (a : List ℕ) (t : Room) (b : List ℕ) → RoomFails s a t
+    → RoomFails s (a ++ b) t
 room_early s a t b p =
     let both = length-append a b in
     record {
@@ -139,7 +163,12 @@ room_later s a t b u p q =
     }
 
 pub growing_nothing : (s : Growing) → GrowingTakes s [] s
-growing_nothing s = record { grows = sym (append-nil _); counted = omega arith; capacity = omega arith }
+growing_nothing s = record {
+  grows = sym (append-nil _);
+  counted = omega arith;
+  capacity =
+      omega arith;
+}
 
 pub growing_joined : (s : Growing) (a : List ℕ) (t : Growing) (b : List ℕ) (u : Growing)
     → GrowingTakes s a t → GrowingTakes t b u → GrowingTakes s (a ++ b) u
@@ -151,7 +180,8 @@ growing_joined s a t b u p q =
       capacity = omega (arith, p.capacity, q.capacity);
     }
 
-pub growing_early : (s : Growing) (a : List ℕ) (t : Growing) (b : List ℕ) → GrowingFails s a t → GrowingFails s (a ++ b) t
+pub growing_early : (s : Growing) (a : List ℕ) (t : Growing) (b : List ℕ) → GrowingFails s a t
+    → GrowingFails s (a ++ b) t
 growing_early s a t b p =
     let both = length-append a b in
     record {
@@ -174,9 +204,10 @@ growing_later s a t b u p q =
       grows = grown_later _ _ _ a q.taken p.grows q.grows;
     }
 
--- where just these bytes have the property, a call that puts bytes with it into a room puts them in exactly where they
--- fit
-pub decided_by : {E : Type 0} (P : List ℕ → Type 0) (bytes : List ℕ) → ((other : List ℕ) → P other → other ≡ bytes)
+-- where just these bytes have the property, a call that puts bytes with it into a room puts them in
+-- exactly where they fit
+pub decided_by : {E : Type 0} (P : List ℕ → Type 0) (bytes : List ℕ)
+    → ((other : List ℕ) → P other → other ≡ bytes)
     → (result : Result (Unit {0}) E) (old new : Room) → Puts RoomTakes RoomFails result P old new
     → IsDecided result old bytes new
 decided_by P bytes only (Ok done) old new (other, has, takes) =
@@ -184,4 +215,8 @@ decided_by P bytes only (Ok done) old new (other, has, takes) =
     record { decided = ((λ _. these.fits), λ _. refl); takes = these; fails = tt }
 decided_by P bytes only (Err fault) old new (other, has, fails) =
     let these = subst (λ l. RoomFails old l new) (only other has) fails in
-    record { decided = ((λ ok. absurd (cc)), λ fits. absurd (omega (arith, fits, these.full))); takes = tt; fails = these }
+    record {
+      decided = ((λ ok. absurd (cc)), λ fits. absurd (omega (arith, fits, these.full)));
+      takes = tt;
+      fails = these;
+    }

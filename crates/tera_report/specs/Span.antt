@@ -12,7 +12,8 @@ span_text span =
 -- what `{:?}` writes: the same, and the range of bytes, as ` @ 1:0-1:5 (3..8)`
 abbrev pub span_debug_text : Span → List ℕ
 span_debug_text span =
-    span_text span ++ (codes " (" ++ (decimal span.range.start ++ (codes ".." ++ (decimal span.range.end ++ codes ")"))))
+    span_text span ++ (codes " ("
+    ++ (decimal span.range.start ++ (codes ".." ++ (decimal span.range.end ++ codes ")"))))
 
 -- the span, ended where the other ends
 abbrev pub expanded : Span → Span → Span
@@ -24,4 +25,11 @@ expanded span other = record span {
 
 -- the span of no node
 abbrev pub zeros : Span
-zeros = record { start_line = 0; start_col = 0; end_line = 0; end_col = 0; range = record { start = 0; end = 0 } }
+zeros = record {
+  start_line = 0;
+  start_col = 0;
+  end_line = 0;
+  end_col = 0;
+  range =
+      record { start = 0; end = 0 };
+}

@@ -7,7 +7,8 @@ use Rattle.std.specs.List.{FoldsTo}
 use Rattle.tera_report.specs.Writer.{Attempt, once, is_fault, bytes_taken, all_taken, has_fault, Tries, Passes, Breaks}
 
 -- some turns, and then some more
-pub folds_joined : {P A : Type 0} (R : P → A → P → Type 0) (p : P) (xs : List A) (q : P) (ys : List A) (u : P)
+pub folds_joined : {P A : Type 0} (R : P → A → P → Type 0) (p : P) (xs : List A) (q : P)
+    (ys : List A) (u : P)
     → FoldsTo R p xs q → FoldsTo R q ys u → FoldsTo R p (xs ++ ys) u
 folds_joined {P} R p [] q ys u f g = subst (λ (x : P). FoldsTo R x ys u) (sym f) g
 folds_joined R p (x ∷ xs) q ys u (j, first, f) g = (j, first, folds_joined R j xs q ys u f g)
@@ -19,7 +20,8 @@ taken_joined xs ys = flat_map-append (λ a. bytes_taken a.answer a.given) xs ys
 pub taken_more : (xs : List Attempt) (bytes : List ℕ) (answer : Result ℕ Error)
     → all_taken (xs ++ once bytes answer) ≡ all_taken xs ++ bytes_taken answer bytes
 taken_more xs bytes answer =
-    taken_joined xs (once bytes answer) ∙ ap (λ l. all_taken xs ++ l) (append-nil (bytes_taken answer bytes))
+    taken_joined xs (once bytes answer)
+    ∙ ap (λ l. all_taken xs ++ l) (append-nil (bytes_taken answer bytes))
 
 or_assoc : (a b c : Bool) → (a || (b || c)) ≡ ((a || b) || c)
 or_assoc true b c = refl
@@ -42,14 +44,16 @@ faults_joined (x ∷ xs) ys =
 pub faults_more : (xs : List Attempt) (bytes : List ℕ) (answer : Result ℕ Error)
     → has_fault (xs ++ once bytes answer) ≡ (has_fault xs || is_fault answer bytes)
 faults_more xs bytes answer =
-    faults_joined xs (once bytes answer) ∙ ap (λ b. has_fault xs || b) (or_false (is_fault answer bytes))
+    faults_joined xs (once bytes answer)
+    ∙ ap (λ b. has_fault xs || b) (or_false (is_fault answer bytes))
 
 module _ {W : Type 0} (wrote : W → List ℕ → Result ℕ Error → W → Type 0) where
   pub tries_joined : (w : W) (xs : List Attempt) (v : W) (ys : List Attempt) (u : W)
       → Tries wrote w xs v → Tries wrote v ys u → Tries wrote w (xs ++ ys) u
   tries_joined w xs v ys u p q = folds_joined _ w xs v ys u p q
 
-  pub tries_more : (w : W) (xs : List Attempt) (v : W) (bytes : List ℕ) (answer : Result ℕ Error) (u : W)
+  pub tries_more : (w : W) (xs : List Attempt) (v : W) (bytes : List ℕ) (answer : Result ℕ Error)
+      (u : W)
       → Tries wrote w xs v → wrote v bytes answer u → Tries wrote w (xs ++ once bytes answer) u
   tries_more w xs v bytes answer u p q = tries_joined w xs v (once bytes answer) u p (u, q, refl)
 
@@ -64,7 +68,8 @@ module _ {W : Type 0} (wrote : W → List ℕ → Result ℕ Error → W → Typ
     whole = taken_joined p.attempts q.attempts ∙ (λ i. p.whole i ++ q.whole i);
   }
 
-  abbrev pub breaks_early : (w : W) (a : List ℕ) (v : W) (b : List ℕ) → Breaks wrote w a v → Breaks wrote w (a ++ b) v
+  abbrev pub breaks_early : (w : W) (a : List ℕ) (v : W) (b : List ℕ) → Breaks wrote w a v
+      → Breaks wrote w (a ++ b) v
   breaks_early w a v b p = record {
     attempts = p.attempts;
     calls = p.calls;
@@ -78,7 +83,8 @@ module _ {W : Type 0} (wrote : W → List ℕ → Result ℕ Error → W → Typ
   breaks_later w a v b u p q = record {
     attempts = p.attempts ++ q.attempts;
     calls = tries_joined w p.attempts v q.attempts u p.calls q.calls;
-    fault = subst IsTrue (sym (faults_joined p.attempts q.attempts)) (or_later (has_fault p.attempts) (has_fault q.attempts) q.fault);
+    fault = subst IsTrue (sym (faults_joined p.attempts q.attempts))
+        (or_later (has_fault p.attempts) (has_fault q.attempts) q.fault);
     rest = q.rest;
     part =
         ap (λ l. l ++ q.rest) (taken_joined p.attempts q.attempts)

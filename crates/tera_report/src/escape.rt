@@ -29,7 +29,7 @@ pub fn escape_html<W: Writer>(text: &str, writer: &mut W) -> io::Result<()>
     escape_watched(text, &mut watched)
 }
 
-/// The same to a writer that is watched.
+/// Writes the text escaped, as `escape_html` does, to a writer that is watched.
 pub fn escape_watched<W: Writer>(text: &str, writer: &mut Watched<'_, W>) -> io::Result<()>
     ensures { Puts (WatchedTakes W.contents W.wrote) (WatchedFails W.contents W.wrote) result
         (λ bytes. Spells bytes text.now) writer.old writer.new }

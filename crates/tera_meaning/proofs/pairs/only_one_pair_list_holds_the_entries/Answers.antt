@@ -15,5 +15,6 @@ returns-clause-only c = only_rising key_form_order (on_total key_meaning key_tot
 pub returns-clause-order : goal.returns-clause-order
 returns-clause-order c es fs h same =
     rising_permuted key_form_order (on_total key_meaning key_total) es fs h
-    (IsDistinct-IsPermutation (eq_by_cmp key_form_order) (eq_by_cmp_equiv (on_total key_meaning key_total)).symm (keys_of es) (keys_of fs) (IsPermutation-map (λ e. e.0) es fs same) h)
+    (IsDistinct-IsPermutation (eq_by_cmp key_form_order) (eq_by_cmp_equiv (on_total key_meaning key_total)).symm (keys_of es) (keys_of fs)
+    (IsPermutation-map (λ e. e.0) es fs same) h)
     same

@@ -11,8 +11,15 @@ runs-preserved g c =
     let (utf8, (done, split, took)) = c.runs.invariant in
     let run = c.in-Some.run'.now in
     let (bytes, stands, marked) = c.in_ok-put_marked.ensures in
-    let first = g.met.S.Sink.joined _ done _ run _ took c.in_ok-put.ensures in
-    (search rules, (_, runs_more _ c.runs.rest.now done run c.in-Some.after.now bytes c.in-Some.marked split c.in-Some.ensures.cut stands, g.met.S.Sink.joined _ _ _ bytes _ first marked))
+    let first = g.met.S.Sink.joined _ done _ run _ took c.in_ok-put.ensures in (
+      search rules,
+      (
+        _,
+        runs_more _ c.runs.rest.now done run c.in-Some.after.now bytes c.in-Some.marked split c.in-Some.ensures.cut stands,
+        g.met.S.Sink.joined _
+            _ _ bytes _ first marked,
+      ),
+    )
 
 pub returns-in_err-put : goal.returns-in_err-put
 returns-in_err-put g c =
@@ -21,7 +28,8 @@ returns-in_err-put g c =
     let after = c.in-Some.after.now in
     let bytes = debug_escape 34 c.in-Some.marked in
     let whole = runs_more _ c.runs.rest.now done run after bytes c.in-Some.marked split c.in-Some.ensures.cut (λ _ _. refl) in
-    let failed = g.met.S.Sink.failed_early _ _ _ (escapes after) (g.met.S.Sink.failed_early _ _ _ bytes (g.met.S.Sink.failed_later _ done _ run _ took c.in_err-put.ensures)) in
+    let failed = g.met.S.Sink.failed_early _ _ _ (escapes after) (g.met.S.Sink.failed_early _ _ _ bytes
+    (g.met.S.Sink.failed_later _ done _ run _ took c.in_err-put.ensures)) in
     let bad = failed_of g.S.Sink.fails (Escapes c.args.text.now) _ _ _ (λ ascii. sym (whole ascii).1) failed in
     search rules
 

@@ -32,7 +32,8 @@ returns-in_err-put g c =
     let later = some_text (debug_items debug_str comma_space (map string_bytes (drop (i + 1) all))) in
     let refused = g.met.S.Sink.failed_later _ done _ c.loop-text.lead.now _ took c.in_err-put.ensures in
     let failed = g.met.S.Sink.failed_early _ _ _ later.0 (g.met.S.Sink.failed_early _ _ _ (quoted (string_bytes c.text-item.result)) refused) in
-    let bad = failed_of g.S.Sink.fails (QuotesItems [] (map string_bytes all)) _ _ _ (list_more string_bytes all _ c.text-item.result _ _ done _ left whole (λ _. refl) later.0 later.1) failed in
+    let bad = failed_of g.S.Sink.fails (QuotesItems [] (map string_bytes all)) _ _ _
+    (list_more string_bytes all _ c.text-item.result _ _ done _ left whole (λ _. refl) later.0 later.1) failed in
     search rules
 
 pub returns-in_err-put_quoted : goal.returns-in_err-put_quoted
@@ -46,7 +47,8 @@ returns-in_err-put_quoted g c =
     let quotes = subst (λ t. Quotes t bytes) c.as_str.ensures.value stands in
     let first = g.met.S.Sink.joined _ done _ c.loop-text.lead.now _ took c.in_ok-put.ensures in
     let failed = g.met.S.Sink.failed_early _ _ _ later.0 (g.met.S.Sink.failed_later _ _ _ bytes _ first refused) in
-    let bad = failed_of g.S.Sink.fails (QuotesItems [] (map string_bytes all)) _ _ _ (list_more string_bytes all _ c.text-item.result _ _ done bytes left whole quotes later.0 later.1) failed in
+    let bad = failed_of g.S.Sink.fails (QuotesItems [] (map string_bytes all)) _ _ _
+    (list_more string_bytes all _ c.text-item.result _ _ done bytes left whole quotes later.0 later.1) failed in
     search rules
 
 pub returns : goal.returns

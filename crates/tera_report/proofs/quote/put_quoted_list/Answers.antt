@@ -10,7 +10,8 @@ returns-in_err-put g c =
     let texts = map string_bytes c.args.texts.now in
     let rest = some_text (debug_items debug_str [] texts ++? Some (93 ∷ [])) in
     let failed = g.met.S.Sink.failed_early _ _ _ rest.0 c.in_err-put.ensures in
-    let bad = failed_of g.S.Sink.fails (QuotesList texts) _ _ _ (texts_joined (Some (91 ∷ [])) (debug_items debug_str [] texts ++? Some (93 ∷ [])) (91 ∷ []) rest.0 refl rest.1) failed in
+    let bad = failed_of g.S.Sink.fails (QuotesList texts) _ _ _ (texts_joined (Some (91 ∷ [])) (debug_items debug_str [] texts ++? Some (93 ∷ [])) (91 ∷ [])
+    rest.0 refl rest.1) failed in
     search rules
 
 pub returns-in_err-put_quoted_items : goal.returns-in_err-put_quoted_items
@@ -20,7 +21,8 @@ returns-in_err-put_quoted_items g c =
     let (bytes, stands, refused) = c.in_err-put_quoted_items.ensures in
     let later = texts_joined items (Some (93 ∷ [])) bytes (93 ∷ []) stands refl in
     let failed = g.met.S.Sink.failed_later _ (91 ∷ []) _ (bytes ++ (93 ∷ [])) _ c.in_ok-put.ensures (g.met.S.Sink.failed_early _ _ _ (93 ∷ []) refused) in
-    let bad = failed_of g.S.Sink.fails (QuotesList texts) _ _ _ (texts_joined (Some (91 ∷ [])) (items ++? Some (93 ∷ [])) (91 ∷ []) (bytes ++ (93 ∷ [])) refl later) failed in
+    let bad = failed_of g.S.Sink.fails (QuotesList texts) _ _ _ (texts_joined (Some (91 ∷ [])) (items ++? Some (93 ∷ [])) (91 ∷ []) (bytes ++ (93 ∷ [])) refl
+    later) failed in
     search rules
 
 pub returns : goal.returns

@@ -38,5 +38,6 @@ bare-preserved c =
     let left = ends_later _ (front ++ skips.run) after _ tail (ends_later _ front _ skips.run after parts skips.parts) cut in (
       c.as_str-rest.utf8,
       (_, left),
-      (λ ascii. none_past_ascii c.bare.rest.now after tail c.in_ok-c.c skips cut (omega arith) (subst (λ l. IsTrue (is_ascii_text l)) (sym (same ascii)) ascii)),
+      (λ ascii. none_past_ascii c.bare.rest.now after tail c.in_ok-c.c skips cut (omega arith)
+          (subst (λ l. IsTrue (is_ascii_text l)) (sym (same ascii)) ascii)),
     )

@@ -1,4 +1,4 @@
-use Rattle.std.proofs.Common.{rules, refl, subst, ap, ◌∙◌, ◌++◌, ◌∷◌, map, length, replicate}
+use Rattle.std.proofs.Common.{rules, refl, subst, ap, ◌∙◌, ◌++◌, map, length, replicate}
 use Rattle.std.specs.List.{flat_map, join_with_byte}
 use Rattle.tera_report.specs.Errors.{note_of, report_of}
 use Rattle.tera_report.specs.Parts.{line_feed}

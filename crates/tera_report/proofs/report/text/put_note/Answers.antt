@@ -1,7 +1,5 @@
-use Rattle.std.proofs.Common.{rules, refl, subst, ap, ◌∙◌, ◌++◌, ◌∷◌}
-use Rattle.std.specs.List.{join_with_byte}
+use Rattle.std.proofs.Common.{rules, refl, subst, ap, ◌∙◌}
 use Rattle.tera_report.specs.Errors.{note_of}
-use Rattle.tera_report.specs.Parts.{line_feed}
 use Rattle.tera_report.specs.Report.{line_of_note, numbered_line, shown_place}
 use Rattle.tera_report.proofs.PutLemmas.{puts_after}
 use Rattle.tera_report.proofs.ReportLemmas.{note_whole}

@@ -1,3 +1,4 @@
+use Rattle.std.proofs.lemmas.Bool.{true_from_ne_false}
 use Rattle.std.proofs.Common.{◌≡◌, ◌-◌, ◌++◌, true, Ok, Err, length, take, drop, ap, sym, ◌∙◌, refl, subst, append-nil, rules, IsTrue, []}
 use Rattle.std.specs.Io.KnownBytes.{Appends}
 use Rattle.std.specs.declared.io.Error.{Error}
@@ -6,7 +7,7 @@ use Rattle.tera_report.specs.SinkLaws.{keeps_appends}
 use Rattle.tera_report.specs.Watch.{watched_writer}
 use Rattle.tera_report.specs.Writer.{is_fault, once, all_taken, has_fault}
 use Rattle.tera_report.specs.WriterLaws.{tries_more, taken_more, faults_more}
-use Rattle.tera_report.proofs.WatchLemmas.{kept_by_or, quiet_before, not_quiet, loud_more, split_later, turn_took_one, failed_here, not_false}
+use Rattle.tera_report.proofs.WatchLemmas.{kept_by_or, quiet_before, not_quiet, loud_more, split_later, turn_took_one, failed_here}
 use Rattle.tera_report.proofs.watch.Watched.write_rest.Goals as goal
 use Rattle.tera_report.proofs.watch.Watched.write_rest.Goals.{in-Ok, in-Err+else-not-matches}
 
@@ -14,7 +15,8 @@ pub returns-in-Ok-eq0 : goal.returns-in-Ok-eq0
 returns-in-Ok-eq0 g c =
     let (attempts, calls, split, bytes, same, kept, loud, told) = c.loop-turn.invariant in
     let e = c.in-Ok-eq0.ensures in
-    failed_here g.W.Writer.contents g.W.Writer.wrote _ c.loop-turn.self _ attempts _ c.loop-turn.rest.now (Ok c.in-Ok-eq0.field-0) calls split bytes same e.wrote e.bytes e.same e.told
+    failed_here g.W.Writer.contents g.W.Writer.wrote _ c.loop-turn.self _ attempts _ c.loop-turn.rest.now (Ok c.in-Ok-eq0.field-0) calls split bytes same
+    e.wrote e.bytes e.same e.told
     (subst (λ n. is_fault {E = Error} (Ok n) c.loop-turn.rest.now ≡ true) (sym c.in-Ok-eq0.field-0-test) (search rules))
     (subst (λ n. take n c.loop-turn.rest.now ≡ []) (sym c.in-Ok-eq0.field-0-test) refl)
 
@@ -22,7 +24,8 @@ pub returns-then-not-matches : goal.returns-then-not-matches
 returns-then-not-matches g c =
     let (attempts, calls, split, bytes, same, kept, loud, told) = c.loop-turn.invariant in
     let e = c.in-Err.ensures in
-    failed_here g.W.Writer.contents g.W.Writer.wrote _ c.loop-turn.self _ attempts _ c.loop-turn.rest.now (Err c.in-Err.e) calls split bytes same e.wrote (keeps_appends _ _ e.bytes) e.same e.told refl refl
+    failed_here g.W.Writer.contents g.W.Writer.wrote _ c.loop-turn.self _ attempts _ c.loop-turn.rest.now (Err c.in-Err.e) calls split bytes same e.wrote
+    (keeps_appends _ _ e.bytes) e.same e.told refl refl
 
 pub loop-turn-preserved : goal.loop-turn-preserved
 loop-turn-preserved g c =
@@ -67,7 +70,7 @@ loop-turn-preserved g c =
 pub returns : goal.returns
 returns g c =
     let (attempts, calls, split, bytes, same, kept, loud, told) = c.loop-turn.invariant in
-    let fault : IsTrue (has_fault attempts) = not_false _ (λ h. let late = told h in search rules) in
+    let fault : IsTrue (has_fault attempts) = true_from_ne_false _ (λ h. let late = told h in search rules) in
     record {
       same = same;
       told = loud fault;

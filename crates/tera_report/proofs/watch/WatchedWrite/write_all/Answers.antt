@@ -36,14 +36,17 @@ returns-in-Ok-2-clause-told g c =
     let whole : take n buf ++ rest ≡ buf = ap (λ l. take n buf ++ l) (take_rest buf n) ∙ take-append-drop n buf in
     let first = took_once g.W.Writer.contents g.W.Writer.wrote c.args.self.now c.write.new.self buf (Ok n) e.wrote e.bytes e.same e.told in
     MatchResult-weaker c.write_rest.result c.write_rest.ensures
-    (λ _ more. subst (λ l. WatchedTakes g.W.Writer.contents g.W.Writer.wrote c.args.self.now l c.write_rest.new.self) whole (watched_joined _ _ _ (take n buf) _ rest _ first more))
-    (λ _ bad. subst (λ l. WatchedFails g.W.Writer.contents g.W.Writer.wrote c.args.self.now l c.write_rest.new.self) whole (watched_later _ _ _ (take n buf) _ rest _ first bad))
+    (λ _ more. subst (λ l. WatchedTakes g.W.Writer.contents g.W.Writer.wrote c.args.self.now l c.write_rest.new.self) whole
+    (watched_joined _ _ _ (take n buf) _ rest _ first more))
+    (λ _ bad. subst (λ l. WatchedFails g.W.Writer.contents g.W.Writer.wrote c.args.self.now l c.write_rest.new.self) whole
+    (watched_later _ _ _ (take n buf) _ rest _ first bad))
 
 pub returns-in-Err-clause-told : goal.returns-in-Err-clause-told
 returns-in-Err-clause-told g c =
     let e = c.in-Err.ensures in
     let buf = c.args.buf.now in
-    let first = took_once g.W.Writer.contents g.W.Writer.wrote c.args.self.now c.write.new.self buf (Err c.in-Err.e) e.wrote (keeps_appends _ _ e.bytes) e.same e.told in
+    let first = took_once g.W.Writer.contents g.W.Writer.wrote c.args.self.now c.write.new.self buf (Err c.in-Err.e) e.wrote (keeps_appends _ _ e.bytes) e.same
+    e.told in
     MatchResult-weaker c.write_rest-in-Err.result c.write_rest-in-Err.ensures
     (λ _ more. watched_joined _ _ _ [] _ buf _ first more)
     (λ _ bad. watched_later _ _ _ [] _ buf _ first bad)

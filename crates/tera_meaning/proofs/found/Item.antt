@@ -1,0 +1,157 @@
+-- An item is found by meaning, is no want of memory, and is well made.
+use Rattle.std.proofs.Common.{refl, sym, ap, ◌∙◌}
+use Rattle.std.proofs.lemmas.Bool.{and_parts}
+use Rattle.std.proofs.lemmas.Option.{slice_get-map}
+use Rattle.std.proofs.lemmas.Str.{scalars-chars, IsUtf8-encode}
+use Rattle.std.specs.Char.{encode_utf8}
+use Rattle.std.specs.Option.{option_map, option_and_then, ok_or, unwrap_or}
+use Rattle.std.specs.Prelude.{◌≡◌, ℕ, zero, suc, ℤ, true, List, [], Option, Some, None, Result, Ok, Err, IfOk, IfErr, refl, ◌∷◌, map, slice_get, length, unwrap_or, IfSome}
+use Rattle.std.specs.Str.{chars, IsUtf8}
+use Rattle.tera_meaning.specs.Form.{Form, MarkedText}
+use Rattle.tera_meaning.specs.Integer.{Integer}
+use Rattle.tera_meaning.specs.KeyMeaning.{KeyForm, KeyMeaning, key_meaning, key_order}
+use Rattle.tera_meaning.specs.Lookup.{key_in, item, indexed, part_at, place_of, character_of, seen_by, name_of}
+use Rattle.tera_meaning.specs.Meaning.{plain, Meaning}
+use Rattle.tera_meaning.specs.Order.{same}
+use Rattle.tera_meaning.specs.Pairs.{key_form_order, value_at}
+use Rattle.tera_meaning.specs.Read.{number_in}
+use Rattle.tera_meaning.specs.Tree.{Items, undefined, none, truth, number, text, bytes, array, object, items_list, members_list, Members}
+use Rattle.tera_meaning.specs.WellMade.{IsWellMade, AreWellMade, AreWellMadeMembers}
+use Rattle.tera_report.specs.Refusal.{Container, in_array, in_text, not_a_map_key, not_an_index, Refusal}
+use lib.Utf8.{scalars}
+use Rattle.tera_meaning.proofs.PlainLaws.{plain_items, plain_pairs, items_meant, found_pair, key_meant, key_plain, number_meant, number_plain}
+use Rattle.tera_meaning.proofs.SoundLaws.{Sound, sound_pair, sound_place}
+use Rattle.tera_meaning.proofs.ArithmeticLaws.{refused_or, IsNoWant}
+use Rattle.std.proofs.lemmas.Option.{slice_get-map}
+use Rattle.std.proofs.lemmas.List.{length-map}
+use Rattle.std.specs.Prelude.{IfErr}
+
+got_at : {X Y : Type 0} (f : X → Y) (xs : List X) (o : Option ℕ) → option_map f (option_and_then (slice_get xs) o) ≡ option_and_then (slice_get (map f xs)) o
+got_at f xs None = refl
+got_at f xs (Some n) = sym (slice_get-map f xs n)
+
+part_plain : (xs : Items Integer MarkedText KeyForm) (z : ℤ) → option_map plain (part_at (items_list xs) z) ≡ part_at (items_list (plain_items xs)) z
+part_plain xs z =
+    got_at plain (items_list xs) (place_of (length (items_list xs)) z)
+    ∙ ap (λ n. option_and_then (slice_get (map plain (items_list xs))) (place_of n z)) (sym (length-map (items_list xs) plain))
+    ∙ ap (λ l. part_at l z) (sym (items_meant xs))
+
+-- the character of a text at an index
+char_at : List ℕ → ℤ → Option Meaning
+char_at s z = option_map (λ c. text (encode_utf8 c)) (part_at (chars s) z)
+
+mapped_twice : {X Y Z : Type 0} (f : Y → Z) (g : X → Y) (o : Option X) → option_map f (option_map g o) ≡ option_map (λ x. f (g x)) o
+mapped_twice f g None = refl
+mapped_twice f g (Some x) = refl
+
+char_plain : (t : MarkedText) (z : ℤ) → option_map plain (option_map (character_of t) (part_at (chars t.spelled) z)) ≡ char_at t.spelled z
+unfolding char_at
+char_plain t z = mapped_twice plain (character_of t) (part_at (chars t.spelled) z)
+
+indexed_meant : Container → Option ℤ → (ℤ → Option Meaning) → Result Meaning Refusal
+indexed_meant container None part = Err (not_an_index container [])
+indexed_meant container (Some z) part = Ok (unwrap_or (part z) undefined)
+
+unwrapped : (o : Option Form) → plain (unwrap_or o undefined) ≡ unwrap_or (option_map plain o) undefined
+unwrapped None = refl
+unwrapped (Some x) = refl
+
+indexed_plain : (container : Container) (index : Form) (part : ℤ → Option Form) (meant : ℤ → Option Meaning) → ((z : ℤ) → option_map plain (part z) ≡ meant z)
+    → seen_by plain (indexed container index part) ≡ indexed_meant container (number_in index) meant
+unfolding indexed_meant
+indexed_plain container index part meant h = by (number_in index)
+  where
+    by : (n : Option ℤ) → seen_by plain (ok_or (option_map (λ z. unwrap_or (part z) undefined) n) (not_an_index container (name_of index)))
+        ≡ indexed_meant container n meant
+    by None = refl
+    by (Some z) = ap Ok (unwrapped (part z) ∙ ap (λ o. unwrap_or o undefined) (h z))
+
+at_key_meant : Members ℤ (List ℕ) KeyMeaning → Option KeyMeaning → Result Meaning Refusal
+at_key_meant ps None = Err (not_a_map_key [])
+at_key_meant ps (Some k) = Ok (unwrap_or (value_at key_order (members_list ps) k) undefined)
+
+at_key_plain : (ps : Members Integer MarkedText KeyForm) (i : Form)
+    → seen_by plain (item (object ps) i) ≡ at_key_meant (plain_pairs ps) (option_map key_meaning (key_in i))
+unfolding at_key_meant
+at_key_plain ps i = by (key_in i)
+  where
+    by : (k : Option KeyForm) → seen_by plain (ok_or (option_map (λ k. unwrap_or (value_at key_form_order (members_list ps) k) undefined) k)
+        (not_a_map_key (name_of i))) ≡ at_key_meant (plain_pairs ps) (option_map key_meaning k)
+    by None = refl
+    by (Some k) = ap Ok (unwrapped (value_at key_form_order (members_list ps) k) ∙ ap (λ o. unwrap_or o undefined) (found_pair ps (key_meaning k)))
+
+item_meant : Meaning → Option ℤ → Option KeyMeaning → Result Meaning Refusal
+item_meant undefined n k = Ok undefined
+item_meant none n k = Ok undefined
+item_meant (truth b) n k = Ok undefined
+item_meant (number z) n k = Ok undefined
+item_meant (text s) n k = indexed_meant in_text n (char_at s)
+item_meant (bytes bs) n k = Ok undefined
+item_meant (array xs) n k = indexed_meant in_array n (part_at (items_list xs))
+item_meant (object ps) n k = at_key_meant ps k
+
+item_plain : (v i : Form) → seen_by plain (item v i) ≡ item_meant (plain v) (number_in i) (option_map key_meaning (key_in i))
+unfolding item_meant
+item_plain (text t) i = indexed_plain in_text i _ (char_at t.spelled) (char_plain t)
+item_plain (array xs) i = indexed_plain in_array i _ (part_at (items_list (plain_items xs))) (part_plain xs)
+item_plain (object ps) i = at_key_plain ps i
+item_plain v i = refl
+
+pub by_meaning : (v i w j : Form) → plain v ≡ plain w → plain i ≡ plain j → seen_by plain (item v i) ≡ seen_by plain (item w j)
+by_meaning v i w j same index =
+    item_plain v i
+    ∙ (λ d. item_meant (same d) ((number_plain i ∙ ap number_meant index ∙ sym (number_plain j)) d) ((key_plain i ∙ ap key_meant index ∙ sym (key_plain j)) d))
+    ∙ sym (item_plain w j)
+
+-- ---- no want of memory
+
+pub no_want : (v i : Form) → IfErr (item v i) IsNoWant
+no_want (text t) i = refused_or IsNoWant (option_map _ (number_in i)) (not_an_index in_text (name_of i)) (λ e. cc)
+no_want (array xs) i = refused_or IsNoWant (option_map _ (number_in i)) (not_an_index in_array (name_of i)) (λ e. cc)
+no_want (object ps) i = refused_or IsNoWant (option_map _ (key_in i)) (not_a_map_key (name_of i)) (λ e. cc)
+no_want v i = tt
+
+-- ---- well made
+
+sound_part : (xs : Items Integer MarkedText KeyForm) (o : Option ℕ) → AreWellMade xs → Sound (option_and_then (slice_get (items_list xs)) o)
+sound_part xs None h = tt
+sound_part xs (Some n) h = sound_place xs n h
+
+sound_char : (cs : List ℕ) (n : ℕ) → scalars cs ≡ true → IfSome (slice_get cs n) (λ c. IsUtf8 (encode_utf8 c))
+sound_char [] n h = tt
+sound_char (c ∷ cs) zero h = IsUtf8-encode c (and_parts _ _ h).0
+sound_char (c ∷ cs) (suc n) h = sound_char cs n (and_parts _ _ h).1
+
+sound_char_at : (cs : List ℕ) (o : Option ℕ) → scalars cs ≡ true → IfSome (option_and_then (slice_get cs) o) (λ c. IsUtf8 (encode_utf8 c))
+sound_char_at cs None h = tt
+sound_char_at cs (Some n) h = sound_char cs n h
+
+sound_text : (t : MarkedText) (o : Option ℕ) → IfSome o (λ c. IsUtf8 (encode_utf8 c)) → Sound (option_map (character_of t) o)
+sound_text t None h = tt
+sound_text t (Some c) h = h
+
+sound_or : (o : Option Form) → Sound o → IsWellMade (unwrap_or o undefined)
+sound_or None h = tt
+sound_or (Some x) h = h
+
+sound_index : (container : Container) (index : Form) (part : ℤ → Option Form) → ((z : ℤ) → Sound (part z)) → IfOk (indexed container index part) IsWellMade
+sound_index container index part h = by (number_in index)
+  where
+    by : (n : Option ℤ) → IfOk (ok_or (option_map (λ z. unwrap_or (part z) undefined) n) (not_an_index container (name_of index))) IsWellMade
+    by None = tt
+    by (Some z) = sound_or (part z) (h z)
+
+sound_key : (ps : Members Integer MarkedText KeyForm) (i : Form) → AreWellMadeMembers ps → IfOk (item (object ps) i) IsWellMade
+sound_key ps i h = by (key_in i)
+  where
+    by : (k : Option KeyForm) → IfOk (ok_or (option_map (λ k. unwrap_or (value_at key_form_order (members_list ps) k) undefined) k) (not_a_map_key (name_of i)))
+        IsWellMade
+    by None = tt
+    by (Some k) = sound_or (value_at key_form_order (members_list ps) k) (sound_pair ps k h)
+
+pub well_made : (v i : Form) → IsWellMade v → IfOk (item v i) IsWellMade
+well_made (text t) i h = sound_index in_text i _ (λ z. sound_text t (part_at (chars t.spelled) z)
+    (sound_char_at (chars t.spelled) (place_of (length (chars t.spelled)) z) (scalars-chars t.spelled h)))
+well_made (array xs) i h = sound_index in_array i _ (λ z. sound_part xs (place_of (length (items_list xs)) z) h)
+well_made (object ps) i h = sound_key ps i h.1
+well_made v i h = tt

@@ -1,0 +1,54 @@
+-- A reversed value is found by meaning, is no want of memory, and is well made.
+use Rattle.std.proofs.Common.{refl, sym, ap, ◌∙◌}
+use Rattle.std.proofs.lemmas.Str.{scalars-chars}
+use Rattle.std.specs.Prelude.{◌≡◌, true, List, [], Result, Ok, Err, IfOk, IfErr, refl, ◌∷◌, map, reverse}
+use Rattle.std.specs.Str.{chars, encode_utf8_all}
+use Rattle.tera_meaning.specs.Form.{Form}
+use Rattle.tera_meaning.specs.Meaning.{plain, Meaning}
+use Rattle.tera_meaning.specs.Slice.{reversed, shape_of}
+use Rattle.tera_meaning.specs.Tree.{text, bytes, array, items, items_list}
+use Rattle.tera_meaning.specs.WellMade.{IsWellMade, IsByte}
+use Rattle.tera_report.specs.Refusal.{Refusal, not_reversible}
+use lib.Utf8.{scalar}
+use mathlib.Core.List.{reverse_aux}
+use Rattle.tera_meaning.proofs.PlainLaws.{plain_items, items_meant, array_means}
+use Rattle.tera_meaning.proofs.SoundLaws.{all_reversed, listed_well, items_well, each_scalar, spelled_well}
+use Rattle.tera_meaning.proofs.ArithmeticLaws.{IsNoWant}
+use Rattle.std.specs.Prelude.{IfErr}
+
+module _ {X Y : Type 0} (f : X → Y) where
+  map_onto : (xs ys : List X) → map f (reverse_aux xs ys) ≡ reverse_aux (map f xs) (map f ys)
+  map_onto [] ys = refl
+  map_onto (x ∷ xs) ys = map_onto xs (x ∷ ys)
+
+  reverse_mapped : (xs : List X) → map f (reverse xs) ≡ reverse (map f xs)
+  reverse_mapped xs = map_onto xs []
+
+abbrev reversed_meaning : Meaning → Result Meaning Refusal
+reversed_meaning (array xs) = Ok (array (items (reverse (items_list xs))))
+reversed_meaning (text t) = Ok (text (encode_utf8_all (reverse (chars t))))
+reversed_meaning (bytes bs) = Ok (bytes (reverse bs))
+reversed_meaning x = Err (not_reversible [])
+
+reversed_means : (v : Form) → shape_of (reversed v) ≡ reversed_meaning (plain v)
+reversed_means (array xs) =
+    array_means (reverse (items_list xs)) (reverse (items_list (plain_items xs)))
+    (reverse_mapped plain (items_list xs) ∙ ap (λ (ws : List Meaning). reverse ws) (sym (items_meant xs)))
+reversed_means v = refl
+
+pub by_meaning : (v w : Form) → plain v ≡ plain w → shape_of (reversed v) ≡ shape_of (reversed w)
+by_meaning v w e = reversed_means v ∙ ap reversed_meaning e ∙ sym (reversed_means w)
+
+pub no_want : (v : Form) → IfErr (reversed v) IsNoWant
+no_want (text t) = tt
+no_want (bytes bs) = tt
+no_want (array xs) = tt
+no_want v = λ e. cc
+
+pub well_made : (v : Form) → IsWellMade v → IfOk (reversed v) IsWellMade
+well_made (text t) h =
+    spelled_well (reverse (chars t.spelled))
+    (all_reversed (λ c. scalar c ≡ true) (chars t.spelled) (each_scalar (chars t.spelled) (scalars-chars t.spelled h)))
+well_made (bytes bs) h = all_reversed IsByte bs h
+well_made (array xs) h = items_well (reverse (items_list xs)) (all_reversed IsWellMade (items_list xs) (listed_well xs h))
+well_made v h = tt
