@@ -12,6 +12,7 @@ pub mod UniqueLaws
 mod RunLaws
 pub mod SliceLaws
 pub mod SlicedLaws
+mod StretchLaws
 pub mod StepLaws
 mod Utf8Laws
 mod WellMadeLaws
@@ -21,4 +22,5 @@ mod PathLaws
 mod FoundLaws
 mod ArithmeticLaws
 mod DivisionLaws
+mod CalculatedLaws
 pub mod PowerLaws
