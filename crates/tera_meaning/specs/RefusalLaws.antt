@@ -19,11 +19,12 @@ module _ {X Y : Type 0} where
   refuses_on (Err refusal) next e is = is
 
   -- where the two of them give something, so did the first, and the next one gave it
-  pub ok_before : (r : Result X Refusal) (next : X → Result Y Refusal) → IsOk (and_then r next) → IsOk r
+  pub ok_before : (r : Result X Refusal) (next : X → Result Y Refusal) → IsOk (and_then r next)
+      → IsOk r
   ok_before (Ok x) next is = refl
   ok_before (Err refusal) next is = is
 
-  pub given_by_both : (r : Result X Refusal) (next : X → Result Y Refusal) (y : Y) → and_then r next ≡ Ok y
-      → (x : X) × (r ≡ Ok x) × (next x ≡ Ok y)
+  pub given_by_both : (r : Result X Refusal) (next : X → Result Y Refusal) (y : Y)
+      → and_then r next ≡ Ok y → (x : X) × (r ≡ Ok x) × (next x ≡ Ok y)
   given_by_both (Ok x) next y is = (x, refl, is)
   given_by_both (Err refusal) next y is = cc

@@ -29,8 +29,8 @@ pub fn found_or<'a>(
     }
 }
 
-/// What the keys of a map print: each text once, in the order of their bytes. `Out of memory` is the
-/// only refusal.
+/// What the keys of a map print: each text once, in the order of their bytes. `Out of memory` is
+/// the only refusal.
 pub fn field_names(alloc: Global, value: &Value) -> TeraResult<Vec<String>>
     ensures ok { IfOk result (λ names.
         AreRisingOf (shown_in value.now) (map string_bytes names.items)) }
