@@ -12,6 +12,7 @@ pub mod UniqueLaws
 mod RunLaws
 pub mod SliceLaws
 pub mod SlicedLaws
+mod StretchLaws
 pub mod StepLaws
 mod Utf8Laws
 mod WellMadeLaws
@@ -23,4 +24,5 @@ mod Owed
 mod found
 mod ArithmeticLaws
 mod DivisionLaws
+mod CalculatedLaws
 pub mod PowerLaws

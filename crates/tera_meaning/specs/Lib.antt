@@ -38,3 +38,5 @@ pub mod TreeLaws
 pub mod LookupLaws
 pub mod Among
 pub mod FieldLaws
+pub mod RefusalLaws
+pub mod Stretch

@@ -1,6 +1,7 @@
 //! The laws of arithmetic and of conversions, and the definitions at work on numbers. Each function
 //! here does nothing: its clauses are the law, or the rows.
 ghost use Rattle.std.specs.Prelude.{◌≡◌, ◌≢◌, ◌^◌, ◌↔◌, ℕ, ℤ, pos, negsuc, ◌+ℤ◌, ◌*ℤ◌, ◌≤ℤ◌, ◌<ℤ◌};
+ghost use Rattle.std.specs.Prelude.{◌-ℤ◌, ◌<◌, suc};
 ghost use Rattle.std.specs.Prelude.{neg_ℤ, IsTrue, IfOk, IsOk, Ok, Err, Some, ◌-◌, codes, true};
 ghost use Rattle.std.specs.Prelude.{is_some};
 ghost use Rattle.std.specs.Int.{int_div_euclid, int_rem_euclid};
@@ -11,7 +12,7 @@ ghost use Rattle.tera_report.specs.Refusal.{exponent_outside_u32, negation_outsi
 ghost use Rattle.tera_report.specs.Refusal.{negated_no_number, number_out_of_range};
 ghost use Rattle.tera_report.specs.Refusal.{invalid_argument};
 ghost use Rattle.tera_meaning.specs.Arithmetic.{IsDivided, computed, calculated, negated};
-ghost use Rattle.tera_meaning.specs.Arithmetic.{as_i128, operand};
+ghost use Rattle.tera_meaning.specs.Arithmetic.{as_i128, operand, power_of};
 ghost use Rattle.tera_meaning.specs.Conversion.{IntegerType, has_number, number_of, converted};
 ghost use Rattle.tera_meaning.specs.Conversion.{held_as, read_as, as_truth};
 ghost use Rattle.tera_meaning.specs.Form.{Form};
@@ -32,10 +33,45 @@ pub fn divisions_have_one_answer()
 {}
 
 /// Where a division and a remainder both answer, the left operand is the right one times the
-/// quotient, and the remainder.
+/// quotient, and the remainder; and so it is with the numbers of two values.
 pub fn quotients_and_remainders_make_the_left_operand()
-    ensures { (a b q r : ℤ) → computed floor_division a b ≡ Ok q → computed remainder a b ≡ Ok r
-        → IsDivided a b q r }
+    ensures computed { (a b q r : ℤ) → computed floor_division a b ≡ Ok q
+        → computed remainder a b ≡ Ok r → IsDivided a b q r }
+    ensures calculated { (v w x y : Form) → calculated floor_division v w ≡ Ok x
+        → calculated remainder v w ≡ Ok y → (a b q r : ℤ) × (number_in v ≡ Some a)
+        × (number_in w ≡ Some b) × (x ≡ as_i128 q) × (y ≡ as_i128 r) × IsDivided a b q r }
+{}
+
+/// What is calculated of two values is computed of their numbers, and held in the kind i128.
+pub fn calculations_are_of_numbers()
+    ensures given { (operator : Operator) (v w x : Form) → calculated operator v w ≡ Ok x
+        → (a b z : ℤ) × (number_in v ≡ Some a) × (number_in w ≡ Some b)
+        × (computed operator a b ≡ Ok z) × (x ≡ as_i128 z) }
+    ensures small { (operator : Operator) (v w x : Form) → calculated operator v w ≡ Ok x
+        → IsOk (operand v) × IsOk (operand w) }
+    ensures all { (operator : Operator) (v w : Form) (a b z : ℤ) → number_in v ≡ Some a
+        → number_in w ≡ Some b → IsTrue (is_small a) → IsTrue (is_small b)
+        → computed operator a b ≡ Ok z → calculated operator v w ≡ Ok (as_i128 z) }
+{}
+
+/// Each operator computes what it stands for: a sum, a difference, a product, a quotient, a
+/// remainder, a product of so many factors. It answers where an i128 holds that; a remainder where
+/// an i128 holds the quotient.
+pub fn operators_compute_what_they_stand_for()
+    ensures sum { (a b z : ℤ) → (computed plus a b ≡ Ok z)
+        ↔ ((z ≡ a +ℤ b) × IsTrue (is_small z)) }
+    ensures difference { (a b z : ℤ) → (computed minus a b ≡ Ok z)
+        ↔ ((z ≡ a -ℤ b) × IsTrue (is_small z)) }
+    ensures product { (a b z : ℤ) → (computed times a b ≡ Ok z)
+        ↔ ((z ≡ a *ℤ b) × IsTrue (is_small z)) }
+    ensures quotient { (a b z : ℤ) → (computed floor_division a b ≡ Ok z)
+        ↔ ((b ≢ pos 0) × (z ≡ int_div_euclid a b) × IsTrue (is_small z)) }
+    ensures remainder { (a b z : ℤ) → (computed remainder a b ≡ Ok z)
+        ↔ ((b ≢ pos 0) × (z ≡ int_rem_euclid a b) × IsTrue (is_small (int_div_euclid a b))) }
+    ensures power { (a b z : ℤ) → (computed power a b ≡ Ok z)
+        ↔ ((n : ℕ) × (b ≡ pos n) × (n < 2 ^ 32) × (z ≡ power_of a n) × IsTrue (is_small z)) }
+    ensures no_factor { (a : ℤ) → power_of a 0 ≡ pos 1 }
+    ensures factor { (a : ℤ) (n : ℕ) → power_of a (suc n) ≡ a *ℤ power_of a n }
 {}
 
 /// The numbers that arithmetic computes with are those from -2^127 up to 2^127 - 1.

@@ -1,6 +1,6 @@
 //! The laws of slices and of reversal. Each function here does nothing: its clauses are the law.
 ghost use Rattle.std.specs.Prelude.{◌≡◌, ◌^◌, ◌-◌, ℕ, ℤ, codes, pos, negsuc, List, [], ◌∷◌};
-ghost use Rattle.std.specs.Prelude.{reverse};
+ghost use Rattle.std.specs.Prelude.{reverse, drop, take, length, suc, neg_ℤ};
 ghost use Rattle.std.specs.Prelude.{Option, None, Some, Result, Ok, Err, IfOk, true, false};
 ghost use Rattle.std.specs.Str.{IsUtf8, chars, encode_utf8_all};
 ghost use Rattle.tera_report.specs.Refusal.{Refusal, step_of_zero, not_sliceable, not_reversible};
@@ -9,11 +9,13 @@ ghost use Rattle.tera_meaning.specs.Integer.{Integer, u64, i64, i128};
 ghost use Rattle.tera_meaning.specs.KeyMeaning.{KeyForm};
 ghost use Rattle.tera_meaning.specs.Meaning.{plain};
 ghost use Rattle.tera_meaning.specs.Rows.{held, marked, normal, SlicesTo};
+ghost use Rattle.tera_meaning.specs.Read.{items_in};
 ghost use Rattle.tera_meaning.specs.Slice.{IsSliced, reversed, shape_of};
+ghost use Rattle.tera_meaning.specs.Stretch.{stretch};
 ghost use Rattle.tera_meaning.specs.Tree.{undefined, none, truth, number, text, bytes, array};
 ghost use Rattle.tera_meaning.specs.Tree.{object};
 ghost use Rattle.tera_meaning.specs.Tree.{items, members};
-ghost use Rattle.tera_meaning.specs.Walk.{sliced};
+ghost use Rattle.tera_meaning.specs.Walk.{sliced, slice_of};
 ghost use Rattle.tera_meaning.specs.WellMade.{IsWellMade};
 
 /// A slice of a value comes to one answer, and a walk over its items or characters gives it.
@@ -67,6 +69,33 @@ pub fn slices_stay_well_made()
     ensures sliced { (v : Form) (start end step : Option ℤ) (outcome : Result Form Refusal)
         → IsWellMade v → IsSliced v start end step outcome → IfOk outcome IsWellMade }
     ensures reversed { (v : Form) → IsWellMade v → IfOk (reversed v) IsWellMade }
+{}
+
+/// A slice by a step of 1 is the items or characters from one bound to the other: behind so many,
+/// up to so many, or the last ones. A start of -0 is one of 0, so that all are taken.
+pub fn slices_by_one_are_stretches()
+    ensures items { (xs : List Form) (start end : Option ℤ)
+        → slice_of xs start end (pos 1) ≡ stretch xs start end }
+    ensures array { (v : Form) (xs : List Form) (start end : Option ℤ)
+        (outcome : Result Form Refusal) → items_in v ≡ Some xs → IsSliced v start end None outcome
+        → outcome ≡ Ok (array (items (stretch xs start end))) }
+    ensures text { (t : MarkedText) (start end : Option ℤ) (outcome : Result Form Refusal)
+        → IsSliced (text t) start end None outcome
+        → outcome ≡ Ok (text (record {
+          spelled = encode_utf8_all
+              (stretch (chars t.spelled) start end);
+          safe = t.safe;
+        })) }
+    ensures last { (xs : List Form) (n : ℕ)
+        → slice_of xs (Some (negsuc n)) None (pos 1) ≡ drop (length xs - suc n) xs }
+    ensures behind { (xs : List Form) (n : ℕ)
+        → slice_of xs (Some (pos n)) None (pos 1) ≡ drop n xs }
+    ensures first { (xs : List Form) (n : ℕ)
+        → slice_of xs None (Some (pos n)) (pos 1) ≡ take n xs }
+    ensures between { (xs : List Form) (m n : ℕ)
+        → slice_of xs (Some (pos m)) (Some (pos n)) (pos 1) ≡ drop m (take n xs) }
+    ensures minus_zero { (xs : List Form)
+        → slice_of xs (Some (neg_ℤ (pos 0))) None (pos 1) ≡ xs }
 {}
 
 /// Slices by steps of either sign, between bounds that are absent, below 0, past the ends, and at

@@ -1,5 +1,5 @@
 -- What the filters of these programs give.
-use Rattle.std.specs.Prelude.{◌≡◌, ◌⊎◌, ◌++◌, ℕ, pos, Bool, List, [], ◌∷◌, map, codes, if◌then◌else◌}
+use Rattle.std.specs.Prelude.{◌≡◌, ◌≢◌, ◌⊎◌, ◌++◌, ℕ, pos, Bool, List, [], ◌∷◌, map, codes, if◌then◌else◌}
 use Rattle.std.specs.Prelude.{Option, None, Some, Ok, MatchOption}
 use Rattle.std.specs.List.{AllZip}
 use Rattle.std.specs.Option.{IsSomeAnd}
@@ -7,6 +7,7 @@ use Rattle.tera_arguments.specs.Rendered.{is_shown_plain}
 use Rattle.tera_arguments.specs.Taken.{Denies, DeniesItems, IsNoArray, as_marked_text}
 use Rattle.tera_meaning.specs.Conversion.{IntegerType, converted}
 use Rattle.tera_meaning.specs.Form.{Form, MarkedText}
+use Rattle.tera_meaning.specs.Kind.{kind_in, undefined_kind}
 use Rattle.tera_meaning.specs.Read.{items_in}
 use Rattle.tera_meaning.specs.Slice.{IsSliced}
 use Rattle.tera_meaning.specs.Tree.{text}
@@ -24,6 +25,16 @@ IsTruncated t given v = IsSomeAnd given (λ length. (n : ℕ) × (converted Inte
 abbrev pub RefusesLength : Option Form → Error → Type 0
 RefusesLength given e = MatchOption given (Raises (missing_argument (codes "length")) e)
     (λ length. Denies (converted IntegerType.u64 length) e)
+
+-- a value, or the one that is given where it is undefined
+abbrev pub IsOrDefault : Form → Option Form → Form → Type 0
+IsOrDefault value given v =
+    (kind_in value ≡ undefined_kind → given ≡ Some v) × (kind_in value ≢ undefined_kind → v ≡ value)
+
+-- the value is undefined, and none is given
+abbrev pub LacksDefault : Form → Option Form → Error → Type 0
+LacksDefault value given e =
+    (kind_in value ≡ undefined_kind) × (given ≡ None) × Raises (missing_argument (codes "value")) e
 
 -- texts one after another, with one between them
 abbrev pub joined : List ℕ → List (List ℕ) → List ℕ

@@ -2,3 +2,4 @@ pub mod Maps
 pub mod Filters
 pub mod Render
 pub mod Nested
+pub mod Sums

@@ -9,6 +9,7 @@ ghost use Rattle.tera_report.specs.Errors.{IsOutOfMemory, Raises};
 ghost use Rattle.tera_report.specs.Refusal.{missing_argument};
 ghost use Rattle.uses.specs.Filters.{IsTruncated, IsJoined, RefusesLength, joined, shown};
 ghost use Rattle.uses.specs.Filters.{RefusesTexts, RefusesSeparator, EscapeRefuses};
+ghost use Rattle.uses.specs.Filters.{IsOrDefault, LacksDefault};
 
 use std::alloc::Global;
 use tera_context::{ArgFromValue, Autoescape, Kwargs, StringInput};
@@ -28,6 +29,22 @@ pub fn truncate(alloc: Global, text: StringInput<'_>, kwargs: &Kwargs) -> TeraRe
     let length = kwargs.must_get::<u64>(alloc, "length")?;
     text.into_value(alloc)?
         .slice(alloc, None, Some(i128::from(length)), None)
+}
+
+/// A filter: a value, or the argument `value` where it is undefined.
+///
+/// Refuses an argument that is missing where it is asked for. Takes memory for the copy; want of
+/// it, `Out of memory`, may be answered in its place.
+pub fn or_default(alloc: Global, value: &Value, kwargs: &Kwargs) -> TeraResult<Value>
+    ensures ok { IfOk result (IsOrDefault value.now (attr kwargs.now (codes "value"))) }
+    ensures err { IfErr result (λ e. IsOutOfMemory e
+        ⊎ LacksDefault value.now (attr kwargs.now (codes "value")) e) }
+{
+    if value.is_undefined() {
+        kwargs.must_get::<Value>(alloc, "value")
+    } else {
+        value.clone(alloc)
+    }
 }
 
 /// A function: the texts of an array one after another, with the argument `sep` between them. Where

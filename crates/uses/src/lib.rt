@@ -3,16 +3,22 @@
 
 mod contexts;
 mod filters;
+mod lists;
+mod look_ups;
 mod maps;
 mod nested;
 mod render;
+mod reports;
 mod runs;
 mod sums;
 
 pub use contexts::{escaped_print, is_one, mean_the_same};
-pub use filters::{join, truncate};
+pub use filters::{join, or_default, truncate};
+pub use lists::last_items;
+pub use look_ups::{field_names, found_or};
 pub use maps::{flags, is_on, settings, values_in_order};
 pub use nested::{nested_text, nested_value};
 pub use render::{Piece, render_pieces};
+pub use reports::show_error;
 pub use runs::{run_with, step_and_run};
-pub use sums::sum_of_names;
+pub use sums::{average, sum_of_array, sum_of_names};
