@@ -14,6 +14,7 @@ ghost use Rattle.tera_report.specs.Errors.{IsOutOfMemory, Refuses};
 ghost use Rattle.tera_report.specs.declared.errors.Error.{Error};
 ghost use Rattle.tera_values.specs.Map.{pairs_in};
 ghost use Rattle.tera_meaning.specs.Printed.{Prints};
+ghost use Rattle.tera_values.specs.Print.{PrintsNothing};
 
 use crate::parts::Parts;
 use crate::private::Sealed;
@@ -27,7 +28,7 @@ use tera_values::{Map, Number, Value, maps};
 ///
 /// Each implementation says what it takes of a value, by the form in which the value is held, and
 /// with which errors it refuses.
-pub trait ArgFromValue<'k, V>: Sealed {
+pub trait ArgFromValue<'k, V>: Sealed<V> {
     /// What a value is taken as.
     type Output;
 
@@ -77,27 +78,29 @@ impl<'k> ArgFromValue<'k, Value> for &'k str {
     }
 }
 
-/// The printed text of any value. Takes memory; the only refusal is want of it, `Out of memory`.
+/// The printed text of any value. Takes memory where something is printed; the only refusal is want
+/// of it, `Out of memory`.
 impl<'k> ArgFromValue<'k, Value> for String {
     type Output = String;
 
     ghost takes = { λ value t. Prints (plain value) (string_bytes t) };
 
-    ghost denies = { λ _ e. IsOutOfMemory e };
+    ghost denies = { λ value e. ¬ PrintsNothing (plain value) × IsOutOfMemory e };
 
     fn from_value(alloc: Global, value: &'k Value) -> TeraResult<String> {
         value.to_text(alloc)
     }
 }
 
-/// A text lent, whatever its flag, and any other value printed. Takes memory to print; the only
-/// refusal is want of it, `Out of memory`.
+/// A text lent, whatever its flag, and any other value printed. Takes memory where something is
+/// printed; the only refusal is want of it, `Out of memory`.
 impl<'k> ArgFromValue<'k, Value> for CowStr<'k> {
     type Output = CowStr<'k>;
 
     ghost takes = { TakesText };
 
-    ghost denies = { λ value e. (text_in value ≡ None) × IsOutOfMemory e };
+    ghost denies = { λ value e. (text_in value ≡ None)
+        × (¬ PrintsNothing (plain value)) × IsOutOfMemory e };
 
     fn from_value(alloc: Global, value: &'k Value) -> TeraResult<CowStr<'k>> {
         match value.as_str() {
@@ -203,8 +206,8 @@ impl<'k> ArgFromValue<'k, Value> for &'k [Value] {
     }
 }
 
-/// Each item of the array that it is, taken as one of `T`. Takes memory; the first refusal of an
-/// item is passed on. Refuses every other value with ``Invalid type for the value, expected
+/// Each item of the array that it is, taken as one of `T`. Takes memory, but for no item; the first
+/// refusal of an item is passed on. Refuses every other value with ``Invalid type for the value, expected
 /// `Vec<Value>` but got `N` ``, N being the name of its kind, without the last blank.
 impl<'k, V: Parts, T: ArgFromValue<'k, V, Output = T> + Drop> ArgFromValue<'k, V> for Vec<T> {
     type Output = Vec<T>;

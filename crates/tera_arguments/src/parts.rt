@@ -8,14 +8,16 @@ ghost use Rattle.tera_meaning.specs.Lookup.{attr};
 ghost use Rattle.tera_meaning.specs.Read.{items_in};
 ghost use Rattle.tera_report.specs.declared.errors.Error.{Error};
 
+use crate::private::SealedParts;
 use std::alloc::Global;
 use tera_conversions::ToKey;
 use tera_report::{Error, TeraResult};
 use tera_values::{Value, maps};
 
-/// What holds arguments by their names, and items. `Value` alone implements it: what is generic in
-/// it takes arguments for a lifetime, which no call does whose signature names `Value`.
-pub trait Parts: Sized + Drop {
+/// What holds arguments by their names, and items. It is sealed, and `Value` alone implements it:
+/// what is generic in it takes arguments for a lifetime, which no call does whose signature names
+/// `Value`.
+pub trait Parts: SealedParts + Sized + Drop {
     // the argument of a name
     ghost argument: { Self → List ℕ → Option Self };
 
@@ -34,7 +36,7 @@ pub trait Parts: Sized + Drop {
 
     /// The map of these pairs. Of two with equal keys the first key and the later value stand.
     ///
-    /// Takes memory; the first error of a key is passed on.
+    /// Takes memory, but for no pair; the first error of a key is passed on.
     fn of_pairs<K: ToKey + Drop>(alloc: Global, pairs: Vec<(K, Self)>) -> TeraResult<Self>
         ensures ok { IfOk result (is_map K K.gives_key pairs.items) }
         ensures err { IfErr result (no_map K K.gives_key K.refuses_key pairs.items) };

@@ -1,54 +1,59 @@
-// What seals `ArgFromValue`: no other crate can name this trait.
+// What seals `ArgFromValue` and `Parts`: no other crate can name these traits.
 use crate::StringInput;
 use std::borrow::CowStr;
 use tera_values::{Map, Number, Value};
 
-pub trait Sealed {}
+pub trait SealedParts {}
 
-impl Sealed for bool {}
+impl SealedParts for Value {}
 
-impl Sealed for u8 {}
+// What may be taken of a `V`.
+pub trait Sealed<V> {}
 
-impl Sealed for u16 {}
+impl Sealed<Value> for bool {}
 
-impl Sealed for u32 {}
+impl Sealed<Value> for u8 {}
 
-impl Sealed for u64 {}
+impl Sealed<Value> for u16 {}
 
-impl Sealed for u128 {}
+impl Sealed<Value> for u32 {}
 
-impl Sealed for usize {}
+impl Sealed<Value> for u64 {}
 
-impl Sealed for i8 {}
+impl Sealed<Value> for u128 {}
 
-impl Sealed for i16 {}
+impl Sealed<Value> for usize {}
 
-impl Sealed for i32 {}
+impl Sealed<Value> for i8 {}
 
-impl Sealed for i64 {}
+impl Sealed<Value> for i16 {}
 
-impl Sealed for i128 {}
+impl Sealed<Value> for i32 {}
 
-impl Sealed for isize {}
+impl Sealed<Value> for i64 {}
 
-impl Sealed for &str {}
+impl Sealed<Value> for i128 {}
 
-impl Sealed for String {}
+impl Sealed<Value> for isize {}
 
-impl Sealed for CowStr<'_> {}
+impl Sealed<Value> for &str {}
 
-impl Sealed for Value {}
+impl Sealed<Value> for String {}
 
-impl Sealed for &Value {}
+impl Sealed<Value> for CowStr<'_> {}
 
-impl Sealed for Number {}
+impl Sealed<Value> for Value {}
 
-impl Sealed for Map {}
+impl Sealed<Value> for &Value {}
 
-impl Sealed for &Map {}
+impl Sealed<Value> for Number {}
 
-impl Sealed for &[Value] {}
+impl Sealed<Value> for Map {}
 
-impl<T: Sealed> Sealed for Vec<T> {}
+impl Sealed<Value> for &Map {}
 
-impl Sealed for StringInput<'_> {}
+impl Sealed<Value> for &[Value] {}
+
+impl<V, T: Sealed<V>> Sealed<V> for Vec<T> {}
+
+impl Sealed<Value> for StringInput<'_> {}

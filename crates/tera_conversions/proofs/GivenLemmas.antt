@@ -1,10 +1,10 @@
 -- What parts give and refuse, one after another.
-use Rattle.std.specs.Prelude.{◌≡◌, ◌⊎◌, List, [], ◌∷◌, ◌++◌}
+use Rattle.std.specs.Prelude.{◌≡◌, ◌⊎◌, ◌<◌, List, [], ◌∷◌, ◌++◌, length}
 use Rattle.std.specs.List.{AllZip}
-use Rattle.std.proofs.Common.{inl, inr, subst, ap, sym, refl, ◌∙◌}
-use Rattle.std.proofs.lemmas.List.{reverse-append}
+use Rattle.std.proofs.Common.{inl, inr, subst, ap, sym, refl, ◌∙◌, arith}
+use Rattle.std.proofs.lemmas.List.{reverse-append, length-append}
 use Rattle.std.specs.BTreeMap.{insert_entry}
-use Rattle.std.specs.Prelude.{Result, Ok, Err, IfErr, OnOk}
+use Rattle.std.specs.Prelude.{true, false, Result, Ok, Err, IfErr, IsOk, OnOk}
 use Rattle.std.specs.Result.{IsErrAnd}
 use Rattle.tera_conversions.specs.Given.{FirstRefuses, PartsRefuse, GivesPair, PutsPairs}
 use Rattle.tera_meaning.specs.Form.{Form}
@@ -33,7 +33,8 @@ module _ {X Y : Type 0} (gives : X → Y → Type 0) (refuses : X → Error → 
   pub parts_refused : (all before : List X) (given : List Y) (x : X) (rest : List X) (e : Error)
       → before ++ (x ∷ rest) ≡ all → AllZip gives before given → IsOutOfMemory e ⊎ refuses x e
       → PartsRefuse gives refuses all e
-  parts_refused all before given x rest e whole told (inl memory) = inl memory
+  parts_refused all before given x rest e whole told (inl memory) =
+      inl (omega (arith, ap length whole, length-append before (x ∷ rest)), memory)
   parts_refused all before given x rest e whole told (inr refused) =
       inr (first_refused all before given x rest e whole told refused)
 
@@ -72,6 +73,12 @@ module _ {K X : Type 0} (key : K → KeyForm → Type 0) (gives : X → Form →
       × (put ≡ insert_entry key_form_order before pair.0 pair.1))
   pair_put entry k v (Ok x) before put is_key is_value is_put = ((k, v), (is_key, is_value), is_put)
   pair_put entry k v (Err e) before put is_key is_value nothing = tt
+
+-- what is refused only where something is not, is refused where it is not
+pub refused_where : {X : Type 0} (P : Type 0) (Q : Error → Type 0) (r : Result X Error) → (P → IsOk r) → IfErr r Q
+    → IfErr r (λ e. ¬ P × Q e)
+refused_where P Q (Ok x) only refused = tt
+refused_where P Q (Err e) only refused = ((λ holds. let none : false ≡ true = only holds in cc), refused)
 
 -- an error is answered as it was
 pub passed_on : {X : Type 0} (P : Error → Type 0) (r : Result X Error) (e : Error) → IsErrAnd r (λ f. f ≡ e) → P e

@@ -1,5 +1,5 @@
 -- What collections give, by what their parts give.
-use Rattle.std.specs.Prelude.{◌≡◌, ◌⊎◌, List, [], ◌∷◌, Option, Some, None, Result, Ok, Err, reverse}
+use Rattle.std.specs.Prelude.{◌≡◌, ◌⊎◌, ◌<◌, List, [], ◌∷◌, length, Option, Some, None, Result, Ok, Err, reverse}
 use Rattle.std.specs.List.{AllZip}
 use Rattle.tera_meaning.specs.Form.{Form}
 use Rattle.tera_meaning.specs.KeyMeaning.{KeyForm}
@@ -14,9 +14,9 @@ module _ {X Y : Type 0} (gives : X → Y → Type 0) (refuses : X → Error → 
   FirstRefuses [] e = ⊥
   FirstRefuses (x ∷ xs) e = refuses x e ⊎ ((y : Y) × gives x y × FirstRefuses xs e)
 
-  -- the same, or there was no memory for what is made of them
+  -- the same, or there was no memory for what is made of some
   abbrev pub PartsRefuse : List X → Error → Type 0
-  PartsRefuse xs e = IsOutOfMemory e ⊎ FirstRefuses xs e
+  PartsRefuse xs e = ((0 < length xs) × IsOutOfMemory e) ⊎ FirstRefuses xs e
 
 module _ {X : Type 0} (gives : X → Form → Type 0) where
   -- an array of what the parts give, in their order

@@ -1,5 +1,5 @@
 //! Collections, each given by what its parts give.
-ghost use Rattle.std.specs.Prelude.{◌≡◌, IfOk, IfErr};
+ghost use Rattle.std.specs.Prelude.{◌≡◌, ◌<◌, length, IfOk, IfErr};
 ghost use Rattle.std.specs.List.{AllZip};
 ghost use Rattle.tera_conversions.specs.Given.{GivesArray, GivesPart, PartRefuses, PartsRefuse};
 ghost use Rattle.tera_meaning.specs.Form.{Form};
@@ -26,8 +26,8 @@ impl<T: ToValue> ToValue for Option<T> {
     }
 }
 
-/// An array of what its parts give; bytes are an array of numbers too. Takes memory; the first
-/// error of a part is passed on.
+/// An array of what its parts give; bytes are an array of numbers too. Takes memory, but for no
+/// part; the first error of a part is passed on.
 impl<T: ToValue + Drop> ToValue for Vec<T> {
     ghost gives = { λ parts v. GivesArray T.gives parts.items v };
 
@@ -43,8 +43,8 @@ impl<T: ToValue + Drop> ToValue for Vec<T> {
     }
 }
 
-/// An array of what its parts give, in rising order. Takes memory; the first error of a part is
-/// passed on.
+/// An array of what its parts give, in rising order. Takes memory, but for no part; the first error
+/// of a part is passed on.
 impl<T: ToValue + Ord + Drop> ToValue for BTreeSet<T> {
     ghost gives = { λ parts v. GivesArray T.gives parts.keys v };
 
@@ -60,33 +60,36 @@ impl<T: ToValue + Ord + Drop> ToValue for BTreeSet<T> {
     }
 }
 
-/// An array of copies of the values. Takes memory; the only refusal is want of it,
-/// `Out of memory`.
+/// An array of copies of the values. Takes memory, but for no value; the only refusal is want of
+/// it, `Out of memory`.
 impl ToValue for &[Value] {
     ghost gives = { λ parts v. v ≡ array (items parts.now) };
 
-    ghost refuses = { λ _ e. IsOutOfMemory e };
+    ghost refuses = { λ parts e. (0 < length parts.now) × IsOutOfMemory e };
 
     fn to_value(self, alloc: Global) -> TeraResult<Value> {
         Ok(Value::of_array(copies(alloc, self)?))
     }
 }
 
-/// A copy of the bytes, as bytes. Takes memory; the only refusal is want of it, `Out of memory`.
+/// A copy of the bytes, as bytes. Takes memory, but for no byte; the only refusal is want of it,
+/// `Out of memory`.
 impl ToValue for &[u8] {
     ghost gives = { λ held v. v ≡ bytes held.now };
 
-    ghost refuses = { λ _ e. IsOutOfMemory e };
+    ghost refuses = { λ held e. (0 < length held.now) × IsOutOfMemory e };
 
     fn to_value(self, alloc: Global) -> TeraResult<Value> {
-        Ok(Value::bytes(self.to_vec(alloc)?))
+        let mut copy = Vec::new(alloc);
+        copy.extend_from_slice(self)?;
+        Ok(Value::bytes(copy))
     }
 }
 
 // A copy of each value, in their order.
 fn copies(alloc: Global, all: &[Value]) -> TeraResult<Vec<Value>>
     ensures ok { IfOk result (λ v. v.items ≡ all.now) }
-    ensures err { IfErr result IsOutOfMemory }
+    ensures err { IfErr result (λ e. (0 < length all.now) × IsOutOfMemory e) }
 {
     let mut made = Vec::with_capacity(alloc, all.len())?;
     for value in all {

@@ -18,8 +18,8 @@ use std::hash::Hash;
 use tera_report::TeraResult;
 use tera_values::{Map, Value, maps};
 
-/// A map of what its keys and its values give. Takes memory; the first error of a key or a value,
-/// in the order in which the table is walked, is passed on.
+/// A map of what its keys and its values give. Takes memory, but for no entry; the first error
+/// of a key or a value, in the order in which the table is walked, is passed on.
 impl<K: ToKey + Hash + Drop, T: ToValue + Drop> ToValue for HashMap<K, T> {
     ghost gives = { λ map v. GivesMap K.gives_key T.gives map.entries v };
 
@@ -35,8 +35,8 @@ impl<K: ToKey + Hash + Drop, T: ToValue + Drop> ToValue for HashMap<K, T> {
     }
 }
 
-/// A map of what its keys and its values give. Takes memory; the first error of a key or a value,
-/// in the order of the keys, is passed on.
+/// A map of what its keys and its values give. Takes memory, but for no entry; the first error
+/// of a key or a value, in the order of the keys, is passed on.
 impl<K: ToKey + Ord + Drop, T: ToValue + Drop> ToValue for BTreeMap<K, T> {
     ghost gives = { λ map v. GivesMap K.gives_key T.gives map.entries v };
 

@@ -1,5 +1,5 @@
 //! What can be made a value of.
-ghost use Rattle.std.specs.Prelude.{◌≡◌, pos, false, IfOk, IfErr};
+ghost use Rattle.std.specs.Prelude.{◌≡◌, pos, false, None, IfOk, IfErr};
 ghost use Rattle.std.specs.Char.{encode_utf8};
 ghost use Rattle.std.specs.Cow.{cow_str_bytes, IsOwnedStr};
 ghost use Rattle.std.specs.String.{string_bytes};
@@ -10,7 +10,7 @@ ghost use Rattle.tera_meaning.specs.Tree.{none, truth};
 ghost use Rattle.tera_scalars.specs.Number.{number_value};
 ghost use Rattle.tera_report.specs.Errors.{IsOutOfMemory};
 ghost use Rattle.tera_report.specs.declared.errors.Error.{Error};
-ghost use Rattle.tera_values.specs.Key.{key_form, key_value};
+ghost use Rattle.tera_values.specs.Key.{key_form, key_value, text_in_key};
 ghost use Rattle.tera_values.specs.View.{integer, marked};
 
 use std::alloc::Global;
@@ -243,7 +243,7 @@ impl ToValue for CowStr<'_> {
 impl ToValue for Key<'static> {
     ghost gives = { λ k v. v ≡ key_value (key_form k) };
 
-    ghost refuses = { λ _ e. IsOutOfMemory e };
+    ghost refuses = { λ k e. ¬ (text_in_key (key_form k) ≡ None) × IsOutOfMemory e };
 
     fn to_value(self, alloc: Global) -> TeraResult<Value> {
         self.as_value(alloc)

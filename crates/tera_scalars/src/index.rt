@@ -1,7 +1,8 @@
 //! Which part of several an index names.
-ghost use Rattle.std.specs.Prelude.{◌≡◌, reverse, slice_get};
+ghost use Rattle.std.specs.Prelude.{◌≡◌, slice_get};
 ghost use Rattle.std.specs.Str.{chars};
 ghost use Rattle.tera_meaning.specs.Lookup.{place_of, part_at};
+ghost use Rattle.tera_scalars.specs.Ends.{chars_from};
 ghost use Rattle.tera_scalars.specs.Index.{index_value};
 ghost use Rattle.tera_scalars.specs.Whole.{whole_value};
 
@@ -48,29 +49,20 @@ pub fn character(text: &str, number: Whole) -> Option<char>
     ensures { result ≡ part_at (chars text.now) (whole_value number) }
 {
     match as_index(number) {
-        Index::FromFront(n) => character_from_front(text, n),
-        Index::FromBack(n) => character_from_back(text, n),
+        Index::FromFront(n) => character_from(text, false, n),
+        Index::FromBack(n) => character_from(text, true, n),
     }
 }
 
-// The character behind the first n.
-fn character_from_front(text: &str, n: u128) -> Option<char>
-    ensures { result ≡ slice_get (chars text.now) n }
+// The character behind so many from an end.
+fn character_from(text: &str, backwards: bool, n: u128) -> Option<char>
+    ensures { result ≡ slice_get (chars_from backwards text.now) n }
 {
-    if n < text.len() as u128 {
-        text.chars().nth(n as usize)
-    } else {
+    if n >= text.len() as u128 {
         None
-    }
-}
-
-// The character before the last n.
-fn character_from_back(text: &str, n: u128) -> Option<char>
-    ensures { result ≡ slice_get (reverse (chars text.now)) n }
-{
-    if n < text.len() as u128 {
+    } else if backwards {
         text.chars().nth_back(n as usize)
     } else {
-        None
+        text.chars().nth(n as usize)
     }
 }

@@ -1,14 +1,15 @@
 //! The characters of a text: slices of them, and their reversal.
 ghost use Rattle.std.specs.Prelude.{◌≡◌, ◌≢◌, ◌⊎◌, ◌≤◌, ◌-◌, ◌||◌, false, List, ℕ, IfOk, Some};
-ghost use Rattle.std.specs.Prelude.{length, take, drop, ◌++◌, ◌+◌, OnErr, MatchOption};
+ghost use Rattle.std.specs.Prelude.{length, take, drop, [], ◌∷◌, ◌++◌, ◌+◌, OnErr, MatchOption};
 ghost use Rattle.std.specs.Prelude.{is_ok, if◌then◌else◌, vec_len, vec_capacity};
 ghost use Rattle.std.specs.Prelude.{◌<◌, reverse, pos, slice_get};
 ghost use Rattle.std.specs.Char.{encode_utf8};
-ghost use Rattle.std.specs.Str.{chars, encode_utf8_all, IsAscii};
+ghost use Rattle.std.specs.Str.{chars, encode_utf8_all, IsAscii, IsUtf8};
 ghost use Rattle.std.specs.Str.Iter.{chars_rest};
 ghost use Rattle.std.specs.String.{string_bytes};
 ghost use Rattle.tera_meaning.specs.Slice.{IsSliceOf};
 ghost use Rattle.tera_meaning.specs.Walk.{walked};
+ghost use Rattle.tera_scalars.specs.Ends.{chars_from, far, near};
 ghost use Rattle.tera_scalars.specs.Positions.{counts_from_afar, turned};
 
 use crate::{Stride, needs_count};
@@ -23,54 +24,52 @@ use tera_report::words::characters;
 pub fn reversed_text(alloc: Global, text: &str) -> Result<String, AllocError>
     ensures { IfOk result (λ t. string_bytes t ≡ encode_utf8_all (reverse (chars text.now))) }
 {
-    if text.is_ascii() {
-        reversed_ascii(alloc, text)
-    } else {
-        reversed_characters(alloc, text)
-    }
-}
-
-// The same of an ASCII text, whose bytes are its characters.
-fn reversed_ascii(alloc: Global, text: &str) -> Result<String, AllocError>
-    requires { IsAscii text.now }
-    ensures { IfOk result (λ t. string_bytes t ≡ encode_utf8_all (reverse (chars text.now))) }
-{
-    let mut bytes = text.as_bytes().to_vec(alloc)?;
-    bytes.reverse();
-    Ok(unsafe { String::from_utf8_unchecked(bytes) })
-}
-
-// The same of any text, whose characters are taken off the back and copied byte by byte.
-fn reversed_characters(alloc: Global, text: &str) -> Result<String, AllocError>
-    ensures { IfOk result (λ t. string_bytes t ≡ encode_utf8_all (reverse (chars text.now))) }
-{
-    let mut made = Vec::with_capacity(alloc, text.len())?;
-    let mut rest = text.chars();
-    while let Some(spelled) = take_back(&mut rest) {
-        put_bytes(&mut made, spelled)?;
-    }
-    Ok(unsafe { String::from_utf8_unchecked(made) })
+    last_turned(alloc, text, text.len())
 }
 
 // A text's last characters, so many or all, in the opposite order.
-fn reversed_last(alloc: Global, text: &str, count: usize) -> Result<String, AllocError>
+fn last_turned(alloc: Global, text: &str, count: usize) -> Result<String, AllocError>
     ensures { IfOk result (λ t. string_bytes t
         ≡ encode_utf8_all (take count (reverse (chars text.now)))) }
 {
-    let mut made = Vec::with_capacity(alloc, count.min(text.len()))?;
-    let mut rest = text.chars();
-    for turn in 0..count {
-        let Some(bytes) = take_back(&mut rest) else {
-            break;
-        };
-        put_bytes(&mut made, bytes)?;
+    let bytes = bytes_near(text, true, count.min(text.len()));
+    if bytes.is_ascii() {
+        reversed_ascii(alloc, bytes)
+    } else {
+        strided(alloc, text, true, count, 1)
     }
-    Ok(unsafe { String::from_utf8_unchecked(made) })
+}
+
+// The text of ASCII bytes in the opposite order.
+fn reversed_ascii(alloc: Global, bytes: &[u8]) -> Result<String, AllocError>
+    requires { IsAscii bytes.now }
+    ensures { IfOk result (λ t. string_bytes t ≡ encode_utf8_all (reverse bytes.now)) }
+{
+    let mut turned = bytes.to_vec(alloc)?;
+    turned.reverse();
+    Ok(unsafe { String::from_utf8_unchecked(turned) })
+}
+
+// The bytes of the next character from an end, which is taken off.
+fn take_next<'a>(rest: &mut Chars<'a>, backwards: bool) -> Option<&'a [u8]>
+    ensures { MatchOption result
+        ((chars_from backwards (chars_rest rest.old) ≡ []) × (rest.new ≡ rest.old))
+        (λ spelled. IsUtf8 spelled.now × (c : ℕ) × (spelled.now ≡ encode_utf8 c)
+        × (chars_from backwards (chars_rest rest.old)
+        ≡ c ∷ chars_from backwards (chars_rest rest.new))) }
+{
+    if backwards {
+        take_back(rest)
+    } else {
+        take_front(rest)
+    }
 }
 
 // The bytes of the first character that is left, which is taken off.
 fn take_front<'a>(rest: &mut Chars<'a>) -> Option<&'a [u8]>
-    ensures { MatchOption result ((length (chars_rest rest.old) ≡ 0) × (rest.new ≡ rest.old))
+    ensures text { IsUtf8 (chars_rest rest.old) }
+    ensures taken { MatchOption result
+        ((length (chars_rest rest.old) ≡ 0) × (rest.new ≡ rest.old))
         (λ spelled. (c : ℕ) × (spelled.now ≡ encode_utf8 c)
         × (chars_rest rest.old ≡ encode_utf8 c ++ chars_rest rest.new)) }
 {
@@ -81,7 +80,9 @@ fn take_front<'a>(rest: &mut Chars<'a>) -> Option<&'a [u8]>
 
 // The bytes of the last character that is left, which is taken off.
 fn take_back<'a>(rest: &mut Chars<'a>) -> Option<&'a [u8]>
-    ensures { MatchOption result ((length (chars_rest rest.old) ≡ 0) × (rest.new ≡ rest.old))
+    ensures text { IsUtf8 (chars_rest rest.old) }
+    ensures taken { MatchOption result
+        ((length (chars_rest rest.old) ≡ 0) × (rest.new ≡ rest.old))
         (λ spelled. (c : ℕ) × (spelled.now ≡ encode_utf8 c)
         × (chars_rest rest.old ≡ chars_rest rest.new ++ encode_utf8 c)) }
 {
@@ -104,77 +105,74 @@ fn put_bytes(made: &mut Vec<u8>, bytes: &[u8]) -> Result<(), AllocError>
     Ok(())
 }
 
-// A text behind its first characters, so many or all, and these before it.
-fn split_front(text: &str, count: usize) -> (&str, &str)
-    ensures first { result.0.now ≡ encode_utf8_all (take count (chars text.now)) }
-    ensures second { result.1.now ≡ encode_utf8_all (drop count (chars text.now)) }
+// The bytes at an end of a text, so many of them.
+fn bytes_near(text: &str, backwards: bool, count: usize) -> &[u8]
+    requires { count ≤ length text.now }
+    ensures { result.now ≡ near backwards count text.now }
 {
-    if text.len() <= count {
-        return text.split_at(text.len());
+    if backwards {
+        &text.as_bytes()[text.len() - count..]
+    } else {
+        &text.as_bytes()[..count]
     }
-    if text.as_bytes()[..count].is_ascii() {
-        return text.split_at(count);
-    }
-    let mut rest = text.chars();
-    for turn in 0..count {
-        rest.next();
-    }
-    text.split_at(text.len() - rest.as_str().len())
 }
 
-// A text before its last characters, so many or all, and these behind it.
-fn split_back(text: &str, count: usize) -> (&str, &str)
-    ensures first { result.0.now
-        ≡ encode_utf8_all (reverse (drop count (reverse (chars text.now)))) }
-    ensures second { result.1.now
-        ≡ encode_utf8_all (reverse (take count (reverse (chars text.now)))) }
+// What is left of a text once so many bytes are off an end: ASCII ones.
+fn behind_ascii(text: &str, backwards: bool, count: usize) -> &str
+    requires within { count ≤ length text.now }
+    requires ascii { IsAscii (near backwards count text.now) }
+    ensures { result.now ≡ far backwards count text.now }
 {
-    if text.len() <= count {
-        return text.split_at(0);
+    if backwards {
+        text.split_at(text.len() - count).0
+    } else {
+        text.split_at(count).1
     }
-    let before = text.len() - count;
-    if text.as_bytes()[before..].is_ascii() {
-        return text.split_at(before);
-    }
-    let mut rest = text.chars();
-    for turn in 0..count {
-        rest.next_back();
-    }
-    text.split_at(rest.as_str().len())
 }
 
-// Each by-th of a text's first characters, so many or all, from the first on.
-fn strided(alloc: Global, text: &str, count: usize, by: usize) -> Result<String, AllocError>
-    ensures { IfOk result (λ t. string_bytes t
-        ≡ encode_utf8_all (walked (by - 1) 0 (take count (chars text.now)))) }
+// What is left of a text once so many characters, or all, are off an end.
+fn behind(text: &str, backwards: bool, count: usize) -> &str
+    ensures { chars_from backwards result.now ≡ drop count (chars_from backwards text.now) }
 {
-    let mut made = Vec::new(alloc);
+    if text.len() <= count {
+        return "";
+    }
+    if bytes_near(text, backwards, count).is_ascii() {
+        return behind_ascii(text, backwards, count);
+    }
     let mut rest = text.chars();
-    let mut waits = 0;
     for turn in 0..count {
-        let Some(spelled) = take_front(&mut rest) else {
+        let Some(_) = take_next(&mut rest, backwards) else {
             break;
         };
-        if waits > 0 {
-            waits -= 1;
-        } else {
-            put_bytes(&mut made, spelled)?;
-            waits = by.saturating_sub(1);
-        }
     }
-    Ok(unsafe { String::from_utf8_unchecked(made) })
+    rest.as_str()
 }
 
-// Each by-th of a text's last characters, so many or all, from the last back.
-fn strided_back(alloc: Global, text: &str, count: usize, by: usize) -> Result<String, AllocError>
-    ensures { IfOk result (λ t. string_bytes t
-        ≡ encode_utf8_all (walked (by - 1) 0 (take count (reverse (chars text.now))))) }
+// A copy of a text's first characters, so many or all.
+fn first_copied(alloc: Global, text: &str, count: usize) -> Result<String, AllocError>
+    ensures { IfOk result (λ t. string_bytes t ≡ encode_utf8_all (take count (chars text.now))) }
 {
-    let mut made = Vec::new(alloc);
+    let rest = behind(text, false, count);
+    String::from_str(alloc, text.split_at(text.len() - rest.len()).0)
+}
+
+// Each by-th of a text's characters, so many or all, from an end on.
+fn strided(
+    alloc: Global,
+    text: &str,
+    backwards: bool,
+    count: usize,
+    by: usize,
+) -> Result<String, AllocError>
+    ensures { IfOk result (λ t. string_bytes t
+        ≡ encode_utf8_all (walked (by - 1) 0 (take count (chars_from backwards text.now)))) }
+{
+    let mut made = Vec::with_capacity(alloc, count.min(text.len()).div_ceil(by.max(1)))?;
     let mut rest = text.chars();
     let mut waits = 0;
     for turn in 0..count {
-        let Some(spelled) = take_back(&mut rest) else {
+        let Some(spelled) = take_next(&mut rest, backwards) else {
             break;
         };
         if waits > 0 {
@@ -220,44 +218,24 @@ fn byte_from(bytes: &[u8], backwards: bool, at: usize) -> u8
     }
 }
 
-// The slice of a text's characters by a walk from its front.
-fn sliced_front(alloc: Global, text: &str, stride: Stride) -> Result<String, AllocError>
-    ensures { IfOk result (λ t. string_bytes t ≡ encode_utf8_all
-        (walked (stride.by - 1) stride.from (take stride.until (chars text.now)))) }
+// The slice of a text's characters by a walk from an end.
+fn sliced(alloc: Global, text: &str, backwards: bool, stride: Stride) -> Result<String, AllocError>
+    ensures { IfOk result (λ t. string_bytes t ≡ encode_utf8_all (walked (stride.by - 1)
+        stride.from (take stride.until (chars_from backwards text.now)))) }
 {
-    let (_, rest) = split_front(text, stride.from);
+    let rest = behind(text, backwards, stride.from);
     let count = stride.until.saturating_sub(stride.from);
     if stride.by == 1 {
-        let (part, _) = split_front(rest, count);
-        return String::from_str(alloc, part);
+        if backwards {
+            return last_turned(alloc, rest, count);
+        }
+        return first_copied(alloc, rest, count);
     }
-    let bytes = &rest.as_bytes()[..count.min(rest.len())];
+    let bytes = bytes_near(rest, backwards, count.min(rest.len()));
     if bytes.is_ascii() {
-        strided_ascii(alloc, bytes, false, stride.by)
+        strided_ascii(alloc, bytes, backwards, stride.by)
     } else {
-        strided(alloc, rest, count, stride.by)
-    }
-}
-
-// The slice of a text's characters by a walk from its end.
-fn sliced_back(alloc: Global, text: &str, stride: Stride) -> Result<String, AllocError>
-    ensures { IfOk result (λ t. string_bytes t ≡ encode_utf8_all
-        (walked (stride.by - 1) stride.from (take stride.until (reverse (chars text.now))))) }
-{
-    let (rest, _) = split_back(text, stride.from);
-    let count = stride.until.saturating_sub(stride.from);
-    let bytes = &rest.as_bytes()[rest.len().saturating_sub(count)..];
-    let is_ascii = bytes.is_ascii();
-    if stride.by == 1 && (is_ascii || rest.len() <= count) {
-        let (_, part) = split_back(rest, count);
-        return reversed_text(alloc, part);
-    }
-    if is_ascii {
-        strided_ascii(alloc, bytes, true, stride.by)
-    } else if stride.by == 1 {
-        reversed_last(alloc, rest, count)
-    } else {
-        strided_back(alloc, rest, count, stride.by)
+        strided(alloc, rest, backwards, count, stride.by)
     }
 }
 
@@ -291,9 +269,5 @@ pub fn sliced_text(
         × IsSliceOf (chars text.now) start end step cs × (string_bytes t ≡ encode_utf8_all cs)) }
 {
     let stride = Stride::new(places(text, start, end, step), start, end, step);
-    if step < 0 {
-        sliced_back(alloc, text, stride)
-    } else {
-        sliced_front(alloc, text, stride)
-    }
+    sliced(alloc, text, step < 0, stride)
 }

@@ -10,7 +10,7 @@ ghost use Rattle.tera_scalars.specs.Operation.{operator_of};
 ghost use Rattle.tera_report.specs.Errors.{Raises, Refuses};
 ghost use Rattle.tera_report.specs.Refusal.{plus, minus, times, remainder, floor_division, power};
 ghost use Rattle.tera_report.specs.Refusal.{stated};
-ghost use Rattle.tera_values.specs.Computed.{refusal_told};
+ghost use Rattle.tera_values.specs.Computed.{TellsCall, refusal_told};
 
 use crate::Value;
 use std::alloc::Global;
@@ -220,8 +220,9 @@ impl NotComputed {
 /// What an operator computes of two numbers, as a number; or why it computes nothing, where
 /// [`calculate`] refuses. Takes no memory.
 pub fn compute(op: BinaryOp, left: &Value, right: &Value) -> Result<i128, NotComputed>
-    ensures { result_map_both as_i128 refusal_told result
+    ensures result { result_map_both as_i128 refusal_told result
         ≡ calculated (operator_of op) left.now right.now }
+    ensures call { IfErr result (TellsCall op left.now right.now) }
 {
     let Some(first) = left.as_i128() else {
         return Err(no_operand(left));

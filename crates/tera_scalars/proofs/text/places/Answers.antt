@@ -1,5 +1,6 @@
-use Rattle.tera_scalars.proofs.TextLemmas.{fewer_characters}
+use Rattle.tera_scalars.proofs.CharLemmas.{chars_le_bytes}
+use Rattle.std.proofs.Common.{false}
 use Rattle.tera_scalars.proofs.text.places.Goals as goal
 
 pub returns-else-needs_count-clause-enough : goal.returns-else-needs_count-clause-enough
-returns-else-needs_count-clause-enough c = fewer_characters _ c.utf8.text
+returns-else-needs_count-clause-enough c = chars_le_bytes false _ c.utf8.text

@@ -1,13 +1,15 @@
--- The text is the characters so far, one a turn, and then what is left; what the walk takes of these was put.
-use Rattle.std.proofs.Common.{◌≡◌, ◌++◌, ◌-◌, ℕ, List, length}
-use Rattle.std.specs.Str.{encode_utf8_all}
+-- What was put is a text, and with what the walk takes of the rest it is all that it takes.
+use Rattle.std.proofs.Common.{◌-◌, take}
+use Rattle.std.specs.Str.{IsUtf8, encode_utf8_all}
 use Rattle.std.specs.Str.Iter.{chars_rest}
 use Rattle.tera_meaning.specs.Walk.{walked}
-use Rattle.tera_scalars.proofs.TextLemmas.{waits_after}
+use Rattle.tera_scalars.specs.Ends.{chars_from}
+use Rattle.tera_scalars.proofs.TextLemmas.{Remains}
 use Rattle.tera_scalars.proofs.text.strided.Given as goal
 
 abbrev pub invariant-loop-turn : goal.invariant-loop-turn
-invariant-loop-turn l =
-    (so_far : List ℕ) × (l.fn.text ≡ encode_utf8_all so_far ++ chars_rest l.rest)
-    × (l.made.items ≡ encode_utf8_all (walked (l.fn.by - 1) 0 so_far))
-    × (l.waits ≡ waits_after (l.fn.by - 1) 0 so_far) × (length so_far ≡ l.turn)
+invariant-loop-turn l = record {
+  text : IsUtf8 l.made.items;
+  so_far : Remains (l.fn.by - 1) l.waits (l.fn.count - l.turn) (chars_from l.fn.backwards (chars_rest l.rest)) l.made.items
+      (encode_utf8_all (walked (l.fn.by - 1) 0 (take l.fn.count (chars_from l.fn.backwards l.fn.text))));
+}
