@@ -1,6 +1,7 @@
 //! Conversions of values to the integer types of Rust. Each gives the number that a value is,
 //! whatever its kind, and takes no memory.
-ghost use Rattle.std.specs.Prelude.{◌≡◌, pos, None, Ok, IfOk, IfErr, IsOk, MatchOption, MatchResult};
+ghost use Rattle.std.specs.Prelude.{◌≡◌, pos, None, Ok, IfOk, IfErr, IsOk};
+ghost use Rattle.std.specs.Prelude.{MatchOption, MatchResult};
 ghost use Rattle.std.specs.Option.{option_map};
 ghost use Rattle.std.specs.Result.{result_map_both};
 ghost use Rattle.tera_meaning.specs.Conversion.{IntegerType, type_name, number_of, converted};
