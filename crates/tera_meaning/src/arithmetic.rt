@@ -100,6 +100,8 @@ pub fn arithmetic_depends_on_meaning()
         → seen_by plain (negated v) ≡ seen_by plain (negated w) }
     ensures converted { (type : IntegerType) (v w : Form) → plain v ≡ plain w
         → seen_by (λ z. z) (converted type v) ≡ seen_by (λ z. z) (converted type w) }
+    ensures truth { (v w : Form) → plain v ≡ plain w
+        → seen_by (λ b. b) (as_truth v) ≡ seen_by (λ b. b) (as_truth w) }
 {}
 
 /// What arithmetic and conversions give is well made, whatever they are given.

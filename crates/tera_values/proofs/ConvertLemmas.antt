@@ -1,13 +1,12 @@
 -- What conversions give, and what their refusals are told by.
-use Rattle.std.specs.Prelude.{◌≡◌, ◌++◌, ℕ, ℤ, Bool, true, false, codes, List, Option, Some, None, IfSome, IfNone, Result, Ok, Err, if◌then◌else◌, refl}
-use Rattle.std.proofs.Common.{sym, ◌∙◌, ap}
-use Rattle.std.specs.Fmt.{◌++?◌}
+use Rattle.std.specs.Prelude.{◌≡◌, ℕ, ℤ, Bool, true, false, codes, List, Option, Some, None, IfSome, IfNone, Err, if◌then◌else◌, refl}
+use Rattle.std.proofs.Common.{ap}
 use Rattle.std.specs.Option.{option_and_then, ok_or}
 use Rattle.tera_meaning.specs.Arithmetic.{and_then}
 use Rattle.tera_meaning.specs.Conversion.{IntegerType, type_name, where_in, number_of, in_type, converted, as_truth}
 use Rattle.tera_meaning.specs.Form.{Form}
 use Rattle.tera_meaning.specs.Lookup.{name_of}
-use Rattle.tera_meaning.specs.Meaning.{Meaning, plain}
+use Rattle.tera_meaning.specs.Meaning.{Meaning}
 use Rattle.tera_meaning.specs.Printed.{printed, is_exact, Prints}
 use Rattle.tera_meaning.specs.Read.{number_in, truth_in}
 use Rattle.tera_report.specs.Quoted.{IsText}

@@ -1,5 +1,5 @@
 -- What conversions of the code give, and what their refusals tell.
-use Rattle.std.specs.Prelude.{◌≡◌, ◌⊎◌, ◌++◌, ℕ, ℤ, codes, List, Option, Some, IfSome, IfNone, Result, Ok, Err}
+use Rattle.std.specs.Prelude.{◌≡◌, ◌⊎◌, ◌++◌, ℕ, codes, List, Option, Some, IfSome, IfNone, Result, Ok, Err}
 use Rattle.std.specs.Fmt.{◌++?◌}
 use Rattle.tera_meaning.specs.Conversion.{IntegerType}
 use Rattle.tera_meaning.specs.Form.{Form}
@@ -7,7 +7,6 @@ use Rattle.tera_meaning.specs.Lookup.{name_of}
 use Rattle.tera_meaning.specs.Meaning.{plain}
 use Rattle.tera_meaning.specs.Printed.{Prints}
 use Rattle.tera_meaning.specs.Read.{number_in}
-use Rattle.tera_report.specs.Quoted.{IsText}
 use Rattle.tera_report.specs.Errors.{Raises, IsOutOfMemory}
 use Rattle.tera_report.specs.Refusal.{Refusal, text_of, invalid_argument, out_of_range, number_out_of_range}
 use Rattle.tera_report.specs.declared.errors.Error.{Error}

@@ -31,14 +31,7 @@ impl Value {
             ValueInner::Map(all) => Ok(has_key(all, needle)),
             ValueInner::Array(all) => Ok(has_item(all.as_slice(), needle)),
             ValueInner::String(text, _) => Ok(has_part(text.as_str(), needle)),
-            ValueInner::Undefined => Err(not_a_container(alloc, self)),
-            ValueInner::None => Err(not_a_container(alloc, self)),
-            ValueInner::Bool(_) => Err(not_a_container(alloc, self)),
-            ValueInner::U64(_) => Err(not_a_container(alloc, self)),
-            ValueInner::I64(_) => Err(not_a_container(alloc, self)),
-            ValueInner::U128(_) => Err(not_a_container(alloc, self)),
-            ValueInner::I128(_) => Err(not_a_container(alloc, self)),
-            ValueInner::Bytes(_) => Err(not_a_container(alloc, self)),
+            _ => Err(not_a_container(alloc, self)),
         }
     }
 }

@@ -1,4 +1,5 @@
 //! Why values are not converted, and their conversion to truth values.
+ghost use Rattle.std.specs.Prelude.{◌≡◌};
 ghost use Rattle.tera_meaning.specs.Conversion.{as_truth};
 ghost use Rattle.tera_meaning.specs.Form.{Form};
 ghost use Rattle.tera_report.specs.Errors.{Raises};
@@ -98,6 +99,13 @@ impl fmt::Display for ConversionRefused {
         put_refusal(self, f)
     }
 }
+
+/// What a conversion's refusal tells is the text of the refusal that it is, so Display and the error
+/// that `into_error` makes can't part. Takes no memory.
+pub fn what_is_told_is_the_refusal()
+    ensures { (value : Form) (refusal : Refusal) (refused : ConversionRefused)
+        → IsRefusal value refusal refused → told_text refused ≡ text_of refusal }
+{}
 
 // Puts the text of a refusal.
 fn put_refusal<S: Sink>(refused: &ConversionRefused, out: &mut S) -> Result<(), S::Fault>

@@ -31,15 +31,7 @@ fn partial_order(left: &Value, right: &Value) -> Option<Ordering>
     match &left.inner {
         ValueInner::Array(all) => partial_array_order(all.as_slice(), right),
         ValueInner::Map(_) => None,
-        ValueInner::Undefined => order_of_one_rank(left, right),
-        ValueInner::None => order_of_one_rank(left, right),
-        ValueInner::Bool(_) => order_of_one_rank(left, right),
-        ValueInner::U64(_) => order_of_one_rank(left, right),
-        ValueInner::I64(_) => order_of_one_rank(left, right),
-        ValueInner::U128(_) => order_of_one_rank(left, right),
-        ValueInner::I128(_) => order_of_one_rank(left, right),
-        ValueInner::String(_, _) => order_of_one_rank(left, right),
-        ValueInner::Bytes(_) => order_of_one_rank(left, right),
+        _ => order_of_one_rank(left, right),
     }
 }
 

@@ -28,16 +28,7 @@ impl Value {
     {
         match &self.inner {
             ValueInner::Map(all) => field_names(alloc, all),
-            ValueInner::Undefined => Ok(Vec::new(alloc)),
-            ValueInner::None => Ok(Vec::new(alloc)),
-            ValueInner::Bool(_) => Ok(Vec::new(alloc)),
-            ValueInner::U64(_) => Ok(Vec::new(alloc)),
-            ValueInner::I64(_) => Ok(Vec::new(alloc)),
-            ValueInner::U128(_) => Ok(Vec::new(alloc)),
-            ValueInner::I128(_) => Ok(Vec::new(alloc)),
-            ValueInner::String(_, _) => Ok(Vec::new(alloc)),
-            ValueInner::Array(_) => Ok(Vec::new(alloc)),
-            ValueInner::Bytes(_) => Ok(Vec::new(alloc)),
+            _ => Ok(Vec::new(alloc)),
         }
     }
 }

@@ -24,9 +24,7 @@ impl From<u8> for Value {
     ghost from_gives = { λ n v. v ≡ integer u64 (pos n) };
 
     fn from(n: u8) -> Value {
-        Value {
-            inner: ValueInner::U64(u64::from(n)),
-        }
+        Value::from(u64::from(n))
     }
 }
 
@@ -35,9 +33,7 @@ impl From<u16> for Value {
     ghost from_gives = { λ n v. v ≡ integer u64 (pos n) };
 
     fn from(n: u16) -> Value {
-        Value {
-            inner: ValueInner::U64(u64::from(n)),
-        }
+        Value::from(u64::from(n))
     }
 }
 
@@ -46,9 +42,7 @@ impl From<u32> for Value {
     ghost from_gives = { λ n v. v ≡ integer u64 (pos n) };
 
     fn from(n: u32) -> Value {
-        Value {
-            inner: ValueInner::U64(u64::from(n)),
-        }
+        Value::from(u64::from(n))
     }
 }
 
@@ -68,9 +62,7 @@ impl From<usize> for Value {
     ghost from_gives = { λ n v. v ≡ integer u64 (pos n) };
 
     fn from(n: usize) -> Value {
-        Value {
-            inner: ValueInner::U64(n as u64),
-        }
+        Value::from(n as u64)
     }
 }
 
@@ -79,9 +71,7 @@ impl From<i8> for Value {
     ghost from_gives = { λ z v. v ≡ integer i64 z };
 
     fn from(z: i8) -> Value {
-        Value {
-            inner: ValueInner::I64(i64::from(z)),
-        }
+        Value::from(i64::from(z))
     }
 }
 
@@ -90,9 +80,7 @@ impl From<i16> for Value {
     ghost from_gives = { λ z v. v ≡ integer i64 z };
 
     fn from(z: i16) -> Value {
-        Value {
-            inner: ValueInner::I64(i64::from(z)),
-        }
+        Value::from(i64::from(z))
     }
 }
 
@@ -101,9 +89,7 @@ impl From<i32> for Value {
     ghost from_gives = { λ z v. v ≡ integer i64 z };
 
     fn from(z: i32) -> Value {
-        Value {
-            inner: ValueInner::I64(i64::from(z)),
-        }
+        Value::from(i64::from(z))
     }
 }
 
@@ -123,9 +109,7 @@ impl From<isize> for Value {
     ghost from_gives = { λ z v. v ≡ integer i64 z };
 
     fn from(z: isize) -> Value {
-        Value {
-            inner: ValueInner::I64(z as i64),
-        }
+        Value::from(z as i64)
     }
 }
 

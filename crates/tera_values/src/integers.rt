@@ -1,12 +1,13 @@
 //! Conversions of values to the integer types of Rust. Each gives the number that a value is,
 //! whatever its kind, and takes no memory.
 ghost use Rattle.std.specs.Prelude.{◌≡◌, pos, None, Ok, IfOk, IfErr, IsOk};
+ghost use Rattle.std.specs.Prelude.{MatchOption, MatchResult};
 ghost use Rattle.std.specs.Option.{option_map};
 ghost use Rattle.std.specs.Result.{result_map_both};
 ghost use Rattle.tera_meaning.specs.Conversion.{IntegerType, type_name, number_of, converted};
 ghost use Rattle.tera_meaning.specs.Conversion.{held_as, read_as};
 ghost use Rattle.tera_report.specs.Errors.{Refuses};
-ghost use Rattle.tera_values.specs.Converted.{Gives, integer_type};
+ghost use Rattle.tera_values.specs.Converted.{Gives, IsDueTo, integer_type};
 
 use crate::Value;
 use crate::convert::{ConversionRefused, refused};
@@ -107,6 +108,17 @@ fn refusal(alloc: Global, value: &Value, to: IntType) -> Error
     }
 }
 
+// The number of a value that a type has, or why it has none.
+fn given<T>(number: Option<T>, value: Value, target: &'static str) -> Result<T, ConversionRefused>
+    ensures { MatchOption number (MatchResult result (λ _. ⊥) (IsDueTo value target.now))
+        (λ x. result ≡ Ok x) }
+{
+    match number {
+        Some(number) => Ok(number),
+        None => Err(refused(value, target)),
+    }
+}
+
 /// Refuses what is no number and what is outside the type. Mirrors `TryFrom<Value>` of `u8`.
 impl TryFrom<Value> for u8 {
     type Error = ConversionRefused;
@@ -116,10 +128,7 @@ impl TryFrom<Value> for u8 {
 
     #[tactic(auto, using(crate::proofs::ConvertLemmas::outside_is_refused))]
     fn try_from(value: Value) -> Result<u8, ConversionRefused> {
-        match u8_in(&value) {
-            Some(number) => Ok(number),
-            None => Err(refused(value, "u8")),
-        }
+        given(u8_in(&value), value, "u8")
     }
 }
 
@@ -132,10 +141,7 @@ impl TryFrom<Value> for u16 {
 
     #[tactic(auto, using(crate::proofs::ConvertLemmas::outside_is_refused))]
     fn try_from(value: Value) -> Result<u16, ConversionRefused> {
-        match u16_in(&value) {
-            Some(number) => Ok(number),
-            None => Err(refused(value, "u16")),
-        }
+        given(u16_in(&value), value, "u16")
     }
 }
 
@@ -148,10 +154,7 @@ impl TryFrom<Value> for u32 {
 
     #[tactic(auto, using(crate::proofs::ConvertLemmas::outside_is_refused))]
     fn try_from(value: Value) -> Result<u32, ConversionRefused> {
-        match u32_in(&value) {
-            Some(number) => Ok(number),
-            None => Err(refused(value, "u32")),
-        }
+        given(u32_in(&value), value, "u32")
     }
 }
 
@@ -164,10 +167,7 @@ impl TryFrom<Value> for u64 {
 
     #[tactic(auto, using(crate::proofs::ConvertLemmas::outside_is_refused))]
     fn try_from(value: Value) -> Result<u64, ConversionRefused> {
-        match value.as_u64() {
-            Some(number) => Ok(number),
-            None => Err(refused(value, "u64")),
-        }
+        given(value.as_u64(), value, "u64")
     }
 }
 
@@ -180,10 +180,7 @@ impl TryFrom<Value> for u128 {
 
     #[tactic(auto, using(crate::proofs::ConvertLemmas::outside_is_refused))]
     fn try_from(value: Value) -> Result<u128, ConversionRefused> {
-        match value.as_u128() {
-            Some(number) => Ok(number),
-            None => Err(refused(value, "u128")),
-        }
+        given(value.as_u128(), value, "u128")
     }
 }
 
@@ -196,10 +193,7 @@ impl TryFrom<Value> for usize {
 
     #[tactic(auto, using(crate::proofs::ConvertLemmas::outside_is_refused))]
     fn try_from(value: Value) -> Result<usize, ConversionRefused> {
-        match usize_in(&value) {
-            Some(number) => Ok(number),
-            None => Err(refused(value, "usize")),
-        }
+        given(usize_in(&value), value, "usize")
     }
 }
 
@@ -212,10 +206,7 @@ impl TryFrom<Value> for i8 {
 
     #[tactic(auto, using(crate::proofs::ConvertLemmas::outside_is_refused))]
     fn try_from(value: Value) -> Result<i8, ConversionRefused> {
-        match i8_in(&value) {
-            Some(number) => Ok(number),
-            None => Err(refused(value, "i8")),
-        }
+        given(i8_in(&value), value, "i8")
     }
 }
 
@@ -228,10 +219,7 @@ impl TryFrom<Value> for i16 {
 
     #[tactic(auto, using(crate::proofs::ConvertLemmas::outside_is_refused))]
     fn try_from(value: Value) -> Result<i16, ConversionRefused> {
-        match i16_in(&value) {
-            Some(number) => Ok(number),
-            None => Err(refused(value, "i16")),
-        }
+        given(i16_in(&value), value, "i16")
     }
 }
 
@@ -244,10 +232,7 @@ impl TryFrom<Value> for i32 {
 
     #[tactic(auto, using(crate::proofs::ConvertLemmas::outside_is_refused))]
     fn try_from(value: Value) -> Result<i32, ConversionRefused> {
-        match i32_in(&value) {
-            Some(number) => Ok(number),
-            None => Err(refused(value, "i32")),
-        }
+        given(i32_in(&value), value, "i32")
     }
 }
 
@@ -260,10 +245,7 @@ impl TryFrom<Value> for i64 {
 
     #[tactic(auto, using(crate::proofs::ConvertLemmas::outside_is_refused))]
     fn try_from(value: Value) -> Result<i64, ConversionRefused> {
-        match value.as_i64() {
-            Some(number) => Ok(number),
-            None => Err(refused(value, "i64")),
-        }
+        given(value.as_i64(), value, "i64")
     }
 }
 
@@ -276,10 +258,7 @@ impl TryFrom<Value> for i128 {
 
     #[tactic(auto, using(crate::proofs::ConvertLemmas::outside_is_refused))]
     fn try_from(value: Value) -> Result<i128, ConversionRefused> {
-        match value.as_i128() {
-            Some(number) => Ok(number),
-            None => Err(refused(value, "i128")),
-        }
+        given(value.as_i128(), value, "i128")
     }
 }
 
@@ -292,10 +271,7 @@ impl TryFrom<Value> for isize {
 
     #[tactic(auto, using(crate::proofs::ConvertLemmas::outside_is_refused))]
     fn try_from(value: Value) -> Result<isize, ConversionRefused> {
-        match isize_in(&value) {
-            Some(number) => Ok(number),
-            None => Err(refused(value, "isize")),
-        }
+        given(isize_in(&value), value, "isize")
     }
 }
 

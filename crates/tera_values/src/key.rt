@@ -62,11 +62,7 @@ impl<'a> Key<'a> {
         match self {
             Key::String(text) => Some(text.as_str()),
             Key::Str(text) => Some(*text),
-            Key::Bool(_) => None,
-            Key::U64(_) => None,
-            Key::I64(_) => None,
-            Key::U128(_) => None,
-            Key::I128(_) => None,
+            _ => None,
         }
     }
 
@@ -169,9 +165,7 @@ impl<'a> Key<'a> {
             Key::I64(z) => Some(Whole::Signed(i128::from(*z))),
             Key::U128(n) => Some(Whole::Unsigned(*n)),
             Key::I128(z) => Some(Whole::Signed(*z)),
-            Key::Bool(_) => None,
-            Key::String(_) => None,
-            Key::Str(_) => None,
+            _ => None,
         }
     }
 

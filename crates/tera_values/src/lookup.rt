@@ -29,16 +29,7 @@ impl Value {
     {
         match &self.inner {
             ValueInner::Map(all) => find_text(all, name),
-            ValueInner::Undefined => None,
-            ValueInner::None => None,
-            ValueInner::Bool(_) => None,
-            ValueInner::U64(_) => None,
-            ValueInner::I64(_) => None,
-            ValueInner::U128(_) => None,
-            ValueInner::I128(_) => None,
-            ValueInner::String(_, _) => None,
-            ValueInner::Array(_) => None,
-            ValueInner::Bytes(_) => None,
+            _ => None,
         }
     }
 
@@ -61,11 +52,7 @@ impl Value {
             ValueInner::String(text, _) => {
                 Ok(Key::String(RcStr::from_str(alloc, text.as_str())?))
             }
-            ValueInner::Undefined => Err(not_a_key(alloc)),
-            ValueInner::None => Err(not_a_key(alloc)),
-            ValueInner::Array(_) => Err(not_a_key(alloc)),
-            ValueInner::Bytes(_) => Err(not_a_key(alloc)),
-            ValueInner::Map(_) => Err(not_a_key(alloc)),
+            _ => Err(not_a_key(alloc)),
         }
     }
 
@@ -89,14 +76,7 @@ impl Value {
             ValueInner::Map(all) => item_of_map(alloc, all, at),
             ValueInner::Array(all) => item_of_array(alloc, all.as_slice(), at),
             ValueInner::String(text, safe) => item_of_text(alloc, text.as_str(), *safe, at),
-            ValueInner::Undefined => Ok(Value::undefined()),
-            ValueInner::None => Ok(Value::undefined()),
-            ValueInner::Bool(_) => Ok(Value::undefined()),
-            ValueInner::U64(_) => Ok(Value::undefined()),
-            ValueInner::I64(_) => Ok(Value::undefined()),
-            ValueInner::U128(_) => Ok(Value::undefined()),
-            ValueInner::I128(_) => Ok(Value::undefined()),
-            ValueInner::Bytes(_) => Ok(Value::undefined()),
+            _ => Ok(Value::undefined()),
         }
     }
 
@@ -111,11 +91,7 @@ impl Value {
             ValueInner::U128(_) => true,
             ValueInner::I128(_) => true,
             ValueInner::String(_, _) => true,
-            ValueInner::Undefined => false,
-            ValueInner::None => false,
-            ValueInner::Array(_) => false,
-            ValueInner::Bytes(_) => false,
-            ValueInner::Map(_) => false,
+            _ => false,
         }
     }
 }
@@ -132,11 +108,7 @@ pub(crate) fn find_value<'a>(all: &'a Map, key: &'a Value) -> Option<&'a Value>
         ValueInner::U128(n) => find_key(all, &Key::U128(*n)),
         ValueInner::I128(z) => find_key(all, &Key::I128(*z)),
         ValueInner::String(text, _) => find_text(all, text.as_str()),
-        ValueInner::Undefined => None,
-        ValueInner::None => None,
-        ValueInner::Array(_) => None,
-        ValueInner::Bytes(_) => None,
-        ValueInner::Map(_) => None,
+        _ => None,
     }
 }
 

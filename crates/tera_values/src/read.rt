@@ -21,16 +21,7 @@ impl Value {
     {
         match &self.inner {
             ValueInner::Bool(b) => Some(*b),
-            ValueInner::Undefined => None,
-            ValueInner::None => None,
-            ValueInner::U64(_) => None,
-            ValueInner::I64(_) => None,
-            ValueInner::U128(_) => None,
-            ValueInner::I128(_) => None,
-            ValueInner::String(_, _) => None,
-            ValueInner::Array(_) => None,
-            ValueInner::Bytes(_) => None,
-            ValueInner::Map(_) => None,
+            _ => None,
         }
     }
 
@@ -41,16 +32,7 @@ impl Value {
     {
         match &self.inner {
             ValueInner::String(text, _) => Some(text.as_str()),
-            ValueInner::Undefined => None,
-            ValueInner::None => None,
-            ValueInner::Bool(_) => None,
-            ValueInner::U64(_) => None,
-            ValueInner::I64(_) => None,
-            ValueInner::U128(_) => None,
-            ValueInner::I128(_) => None,
-            ValueInner::Array(_) => None,
-            ValueInner::Bytes(_) => None,
-            ValueInner::Map(_) => None,
+            _ => None,
         }
     }
 
@@ -62,16 +44,7 @@ impl Value {
     {
         match &self.inner {
             ValueInner::Array(all) => Some(all.as_slice()),
-            ValueInner::Undefined => None,
-            ValueInner::None => None,
-            ValueInner::Bool(_) => None,
-            ValueInner::U64(_) => None,
-            ValueInner::I64(_) => None,
-            ValueInner::U128(_) => None,
-            ValueInner::I128(_) => None,
-            ValueInner::String(_, _) => None,
-            ValueInner::Bytes(_) => None,
-            ValueInner::Map(_) => None,
+            _ => None,
         }
     }
 
@@ -83,16 +56,7 @@ impl Value {
     {
         match &self.inner {
             ValueInner::Bytes(held) => Some(held.as_slice()),
-            ValueInner::Undefined => None,
-            ValueInner::None => None,
-            ValueInner::Bool(_) => None,
-            ValueInner::U64(_) => None,
-            ValueInner::I64(_) => None,
-            ValueInner::U128(_) => None,
-            ValueInner::I128(_) => None,
-            ValueInner::String(_, _) => None,
-            ValueInner::Array(_) => None,
-            ValueInner::Map(_) => None,
+            _ => None,
         }
     }
 
@@ -104,16 +68,7 @@ impl Value {
     {
         match self.inner {
             ValueInner::Array(all) => Some(all),
-            ValueInner::Undefined => None,
-            ValueInner::None => None,
-            ValueInner::Bool(_) => None,
-            ValueInner::U64(_) => None,
-            ValueInner::I64(_) => None,
-            ValueInner::U128(_) => None,
-            ValueInner::I128(_) => None,
-            ValueInner::String(_, _) => None,
-            ValueInner::Bytes(_) => None,
-            ValueInner::Map(_) => None,
+            _ => None,
         }
     }
 
@@ -125,16 +80,7 @@ impl Value {
     {
         match &self.inner {
             ValueInner::Map(map) => Some(map),
-            ValueInner::Undefined => None,
-            ValueInner::None => None,
-            ValueInner::Bool(_) => None,
-            ValueInner::U64(_) => None,
-            ValueInner::I64(_) => None,
-            ValueInner::U128(_) => None,
-            ValueInner::I128(_) => None,
-            ValueInner::String(_, _) => None,
-            ValueInner::Array(_) => None,
-            ValueInner::Bytes(_) => None,
+            _ => None,
         }
     }
 
@@ -146,16 +92,7 @@ impl Value {
     {
         match self.inner {
             ValueInner::Map(pairs) => Some(pairs),
-            ValueInner::Undefined => None,
-            ValueInner::None => None,
-            ValueInner::Bool(_) => None,
-            ValueInner::U64(_) => None,
-            ValueInner::I64(_) => None,
-            ValueInner::U128(_) => None,
-            ValueInner::I128(_) => None,
-            ValueInner::String(_, _) => None,
-            ValueInner::Array(_) => None,
-            ValueInner::Bytes(_) => None,
+            _ => None,
         }
     }
 
@@ -166,16 +103,8 @@ impl Value {
     {
         match &self.inner {
             ValueInner::String(_, safe) => *safe,
-            ValueInner::Array(_) => false,
-            ValueInner::Bytes(_) => false,
-            ValueInner::Undefined => true,
-            ValueInner::None => true,
-            ValueInner::Bool(_) => true,
-            ValueInner::U64(_) => true,
-            ValueInner::I64(_) => true,
-            ValueInner::U128(_) => true,
-            ValueInner::I128(_) => true,
-            ValueInner::Map(_) => false,
+            ValueInner::Array(_) | ValueInner::Bytes(_) | ValueInner::Map(_) => false,
+            _ => true,
         }
     }
 
@@ -229,14 +158,8 @@ impl Value {
             ValueInner::String(text, _) => Some(characters(text.as_str())),
             ValueInner::Array(all) => Some(all.len()),
             ValueInner::Bytes(held) => Some(held.len()),
-            ValueInner::Undefined => None,
-            ValueInner::None => None,
-            ValueInner::Bool(_) => None,
-            ValueInner::U64(_) => None,
-            ValueInner::I64(_) => None,
-            ValueInner::U128(_) => None,
-            ValueInner::I128(_) => None,
             ValueInner::Map(all) => Some(pair_count(all)),
+            _ => None,
         }
     }
 
@@ -247,16 +170,8 @@ impl Value {
     {
         match &self.inner {
             ValueInner::String(_, _) => true,
-            ValueInner::Array(_) => true,
-            ValueInner::Bytes(_) => true,
-            ValueInner::Undefined => false,
-            ValueInner::None => false,
-            ValueInner::Bool(_) => false,
-            ValueInner::U64(_) => false,
-            ValueInner::I64(_) => false,
-            ValueInner::U128(_) => false,
-            ValueInner::I128(_) => false,
-            ValueInner::Map(_) => true,
+            ValueInner::Array(_) | ValueInner::Bytes(_) | ValueInner::Map(_) => true,
+            _ => false,
         }
     }
 
@@ -269,13 +184,7 @@ impl Value {
             ValueInner::I64(z) => Some(Whole::Signed(i128::from(*z))),
             ValueInner::U128(n) => Some(Whole::Unsigned(*n)),
             ValueInner::I128(z) => Some(Whole::Signed(*z)),
-            ValueInner::Undefined => None,
-            ValueInner::None => None,
-            ValueInner::Bool(_) => None,
-            ValueInner::String(_, _) => None,
-            ValueInner::Array(_) => None,
-            ValueInner::Bytes(_) => None,
-            ValueInner::Map(_) => None,
+            _ => None,
         }
     }
 }

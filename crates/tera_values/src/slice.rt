@@ -67,14 +67,7 @@ impl Value {
                 inner: ValueInner::String(reversed_text(alloc, text.as_str())?, false),
             }),
             ValueInner::Bytes(held) => Ok(Value::bytes(reversed_bytes(alloc, held.as_slice())?)),
-            ValueInner::Undefined => Err(not_reversible(alloc, self)),
-            ValueInner::None => Err(not_reversible(alloc, self)),
-            ValueInner::Bool(_) => Err(not_reversible(alloc, self)),
-            ValueInner::U64(_) => Err(not_reversible(alloc, self)),
-            ValueInner::I64(_) => Err(not_reversible(alloc, self)),
-            ValueInner::U128(_) => Err(not_reversible(alloc, self)),
-            ValueInner::I128(_) => Err(not_reversible(alloc, self)),
-            ValueInner::Map(_) => Err(not_reversible(alloc, self)),
+            _ => Err(not_reversible(alloc, self)),
         }
     }
 
@@ -102,15 +95,7 @@ impl Value {
                     inner: ValueInner::String(part, *safe),
                 })
             }
-            ValueInner::Undefined => Err(not_sliceable(alloc, self)),
-            ValueInner::None => Err(not_sliceable(alloc, self)),
-            ValueInner::Bool(_) => Err(not_sliceable(alloc, self)),
-            ValueInner::U64(_) => Err(not_sliceable(alloc, self)),
-            ValueInner::I64(_) => Err(not_sliceable(alloc, self)),
-            ValueInner::U128(_) => Err(not_sliceable(alloc, self)),
-            ValueInner::I128(_) => Err(not_sliceable(alloc, self)),
-            ValueInner::Bytes(_) => Err(not_sliceable(alloc, self)),
-            ValueInner::Map(_) => Err(not_sliceable(alloc, self)),
+            _ => Err(not_sliceable(alloc, self)),
         }
     }
 }
