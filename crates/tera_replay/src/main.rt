@@ -14,30 +14,36 @@ use tera_report::watch::{Watched, Writer};
 
 fn main(rt: HostRuntime) -> ExitCode {
     let mut err = rt.stderr();
-    ExitCode::from(replay_buffered(rt.alloc(), rt.stdin(), rt.stdout(), &mut err))
+    let (status, _buffer) = replay_buffered(rt.alloc(), rt.stdin(), rt.stdout(), &mut err);
+    ExitCode::from(status)
 }
 
-/// Replays a script, as `replay` does, with a buffer before `out`. Where no memory is found for the
-/// buffer, no line is read, `err` gets `error: Out of memory`, and the status is 1.
+/// Replays a script, as `replay` does, with a buffer before `out`, and gives the status and the
+/// buffer as the replay left it. Where no memory is found for the buffer, no line is read, `err`
+/// gets `error: Out of memory`, and the status is 1.
 fn replay_buffered<R: Read + Drop, W: Write + Drop, E: Writer>(
     alloc: Global,
     input: R,
     out: W,
     err: &mut E,
-) -> u8
+) -> (u8, Option<BufWriter<W>>)
     ensures known { IfSome (R.remaining input) (λ bytes. Replays bytes None
         (BufferGets ⟦<BufWriter<W> as Writer>⟧.contents ⟦<BufWriter<W> as Writer>⟧.wrote
-        ⟦<BufWriter<W> as Writer>⟧.flushed out)
-        (BufferBroke ⟦<BufWriter<W> as Writer>⟧.wrote ⟦<BufWriter<W> as Writer>⟧.flushed out)
-        (λ text. WriterTakesOrFails E.contents E.wrote err.old text err.new) result) }
-    ensures status { result ≤ 2 }
-    ensures silent { result ≡ 0 → err.new ≡ err.old }
+        ⟦<BufWriter<W> as Writer>⟧.flushed out result.1)
+        (BufferBroke ⟦<BufWriter<W> as Writer>⟧.wrote ⟦<BufWriter<W> as Writer>⟧.flushed
+        out result.1)
+        (λ text. WriterTakesOrFails E.contents E.wrote err.old text err.new) result.0) }
+    ensures status { result.0 ≤ 2 }
+    ensures silent { result.0 ≡ 0 → err.new ≡ err.old }
 {
     match BufWriter::new(alloc, out) {
-        Ok(mut buffered) => replay(alloc, input, &mut buffered, err),
+        Ok(mut buffered) => {
+            let status = replay(alloc, input, &mut buffered, err);
+            (status, Some(buffered))
+        }
         Err(_) => {
             let _ = Watched::new(err).write_all(b"error: Out of memory\n");
-            1
+            (1, None)
         }
     }
 }
