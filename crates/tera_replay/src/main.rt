@@ -1,15 +1,15 @@
 //! The program: reads a script from standard input, and writes what each of its calls answers.
 #![tactic(auto)]
 
-ghost use Rattle.std.specs.Prelude.{◌≡◌, ◌≤◌, IfSome, None};
+ghost use Rattle.std.specs.Prelude.{◌≡◌, ◌≤◌, IfSome};
 ghost use Rattle.tera_replay.specs.Buffered.{BufferBroke, BufferGets};
-ghost use Rattle.tera_replies.specs.Output.{WriterTakesOrFails};
+ghost use Rattle.tera_replies.specs.Output.{Failed, Gave, WriterTakesOrFails};
 ghost use Rattle.tera_replies.specs.Replay.{Replays};
 
 use std::alloc::Global;
-use std::io::{BufWriter, Read, Write};
+use std::io::{BufWriter, Write};
 use std::process::ExitCode;
-use tera_replies::replay;
+use tera_replies::{Source, replay};
 use tera_report::watch::{Watched, Writer};
 
 fn main(rt: HostRuntime) -> ExitCode {
@@ -21,13 +21,14 @@ fn main(rt: HostRuntime) -> ExitCode {
 /// Replays a script, as `replay` does, with a buffer before `out`, and gives the status and the
 /// buffer as the replay left it. Where no memory is found for the buffer, no line is read, `err`
 /// gets `error: Out of memory`, and the status is 1.
-fn replay_buffered<R: Read + Drop, W: Write + Drop, E: Writer>(
+fn replay_buffered<S: Source + Drop, W: Write + Drop, E: Writer>(
     alloc: Global,
-    input: R,
+    input: S,
     out: W,
     err: &mut E,
 ) -> (u8, Option<BufWriter<W>>)
-    ensures known { IfSome (R.remaining input) (λ bytes. Replays bytes None
+    ensures known { IfSome (S.left input) (λ bytes. Replays bytes (S.fails input)
+        (Gave S.gave input) (Failed S.gave input)
         (BufferGets ⟦<BufWriter<W> as Writer>⟧.contents ⟦<BufWriter<W> as Writer>⟧.wrote
         ⟦<BufWriter<W> as Writer>⟧.flushed out result.1)
         (BufferBroke ⟦<BufWriter<W> as Writer>⟧.wrote ⟦<BufWriter<W> as Writer>⟧.flushed
