@@ -1,3 +1,4 @@
 mod Joined
 mod Pages
 mod Steps
+pub mod Replayed

@@ -6,6 +6,7 @@ mod filters;
 mod maps;
 mod nested;
 mod render;
+mod replays;
 mod runs;
 mod sums;
 
@@ -14,5 +15,6 @@ pub use filters::{join, truncate};
 pub use maps::{flags, is_on, settings, values_in_order};
 pub use nested::{nested_text, nested_value};
 pub use render::{Piece, render_pieces};
+pub use replays::replay_calls;
 pub use runs::{run_with, step_and_run};
 pub use sums::sum_of_names;
