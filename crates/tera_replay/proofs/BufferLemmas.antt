@@ -1,38 +1,41 @@
 -- A replay that finds no memory before it reads.
-use Rattle.std.proofs.Common.{ℕ, inl, inr, List, [], Option, None, Some, Result, Ok, Err, IfSome, MatchResult, codes, refl}
+use Rattle.std.proofs.Common.{◌≢◌, ℕ, Bool, inl, inr, List, [], Option, None, Some, Result, Ok, Err, IfSome, MatchResult, codes, refl}
 use Rattle.std.specs.FinMap.{empty}
+use Rattle.std.proofs.lemmas.List.Elements.{All-nil}
 use Rattle.std.specs.declared.io.Error.{Error}
 use Rattle.tera_report.specs.declared.watch.Watched.{Watched}
 use Rattle.tera_report.specs.Watch.{WatchedTakes, WatchedFails}
 use Rattle.tera_replies.specs.Output.{TakesOrFails}
-use Rattle.tera_replies.specs.Replay.{Replays, lines_given}
-use Rattle.tera_replies.proofs.SplitLemmas.{splits}
+use Rattle.tera_replies.specs.Replay.{Replays}
+use Rattle.tera_replies.specs.Script.{HasNoLineFeed, line_feed}
 
 -- the first of no lines are answered, and this is told
-pub nothing_read : (first : Option (List ℕ)) (OutGets : List ℕ → Type 0) (OutBroke : Type 0) (ErrGets : List ℕ → Type 0)
-    → OutGets [] → ErrGets (codes "error: Out of memory\n") → IfSome first (λ bytes. Replays bytes None OutGets OutBroke ErrGets 1)
-nothing_read None OutGets OutBroke ErrGets none told = tt
-nothing_read (Some bytes) OutGets OutBroke ErrGets none told =
-    let all = splits bytes in
-    inl (
-      [],
-      codes "error: Out of memory\n",
-      inr (inr (record {
-        lines = all.0;
-        part = all.1;
-        first = [];
-        later = lines_given None all.0 all.1;
-        outcomes = [];
-        split = all.2;
-        front = refl;
-        answers = record { commands = []; state = empty; script = (refl, refl); run = refl };
-        replied = ([], tt, refl);
-        err_is = refl;
-        status_is = refl;
-      })),
-      none,
-      told,
-    )
+pub nothing_read : (first : Option (List ℕ)) (fails : Option Bool) (InGave InFailed OutGets : List ℕ → Type 0) (OutBroke : Type 0) (ErrGets : List ℕ → Type 0)
+    → InGave [] → OutGets [] → ErrGets (codes "error: Out of memory\n") → IfSome first (λ bytes. Replays bytes fails InGave InFailed OutGets OutBroke ErrGets 1)
+nothing_read None fails InGave InFailed OutGets OutBroke ErrGets gave none told = tt
+nothing_read (Some bytes) fails InGave InFailed OutGets OutBroke ErrGets gave none told = inl (
+  [],
+  codes "error: Out of memory\n",
+  inr (inr (record {
+    given = [];
+    rest = bytes;
+    lines = [];
+    part = [];
+    first = [];
+    later = [];
+    outcomes = [];
+    front = refl;
+    gave = gave;
+    split = record { whole = refl; each = All-nil HasNoLineFeed; rest = All-nil (λ byte. byte ≢ line_feed) };
+    lines_are = refl;
+    answers = record { commands = []; state = empty; script = (refl, refl); run = refl };
+    replied = ([], tt, refl);
+    err_is = refl;
+    status_is = refl;
+  })),
+  none,
+  told,
+)
 
 -- a watched writer took the text, or failed on it
 pub took_or_failed : {W : Type 0} (contents : W → Option (List ℕ)) (wrote : W → List ℕ → Result ℕ Error → W → Type 0) (put : Result (Unit {0}) Error) (old : Watched W) (text : List ℕ) (new : Watched W)

@@ -1,43 +1,50 @@
 //! The program: reads a script from standard input, and writes what each of its calls answers.
 #![tactic(auto)]
 
-ghost use Rattle.std.specs.Prelude.{◌≡◌, ◌≤◌, IfSome, None};
+ghost use Rattle.std.specs.Prelude.{◌≡◌, ◌≤◌, IfSome};
 ghost use Rattle.tera_replay.specs.Buffered.{BufferBroke, BufferGets};
-ghost use Rattle.tera_replies.specs.Output.{WriterTakesOrFails};
+ghost use Rattle.tera_replies.specs.Output.{Failed, Gave, WriterTakesOrFails};
 ghost use Rattle.tera_replies.specs.Replay.{Replays};
 
 use std::alloc::Global;
-use std::io::{BufWriter, Read, Write};
+use std::io::{BufWriter, Write};
 use std::process::ExitCode;
-use tera_replies::replay;
+use tera_replies::{Source, replay};
 use tera_report::watch::{Watched, Writer};
 
 fn main(rt: HostRuntime) -> ExitCode {
     let mut err = rt.stderr();
-    ExitCode::from(replay_buffered(rt.alloc(), rt.stdin(), rt.stdout(), &mut err))
+    let (status, _buffer) = replay_buffered(rt.alloc(), rt.stdin(), rt.stdout(), &mut err);
+    ExitCode::from(status)
 }
 
-/// Replays a script, as `replay` does, with a buffer before `out`. Where no memory is found for the
-/// buffer, no line is read, `err` gets `error: Out of memory`, and the status is 1.
-fn replay_buffered<R: Read + Drop, W: Write + Drop, E: Writer>(
+/// Replays a script, as `replay` does, with a buffer before `out`, and gives the status and the
+/// buffer as the replay left it. Where no memory is found for the buffer, no line is read, `err`
+/// gets `error: Out of memory`, and the status is 1.
+fn replay_buffered<S: Source + Drop, W: Write + Drop, E: Writer>(
     alloc: Global,
-    input: R,
+    input: S,
     out: W,
     err: &mut E,
-) -> u8
-    ensures known { IfSome (R.remaining input) (λ bytes. Replays bytes None
+) -> (u8, Option<BufWriter<W>>)
+    ensures known { IfSome (S.left input) (λ bytes. Replays bytes (S.fails input)
+        (Gave S.gave input) (Failed S.gave input)
         (BufferGets ⟦<BufWriter<W> as Writer>⟧.contents ⟦<BufWriter<W> as Writer>⟧.wrote
-        ⟦<BufWriter<W> as Writer>⟧.flushed out)
-        (BufferBroke ⟦<BufWriter<W> as Writer>⟧.wrote ⟦<BufWriter<W> as Writer>⟧.flushed out)
-        (λ text. WriterTakesOrFails E.contents E.wrote err.old text err.new) result) }
-    ensures status { result ≤ 2 }
-    ensures silent { result ≡ 0 → err.new ≡ err.old }
+        ⟦<BufWriter<W> as Writer>⟧.flushed out result.1)
+        (BufferBroke ⟦<BufWriter<W> as Writer>⟧.wrote ⟦<BufWriter<W> as Writer>⟧.flushed
+        out result.1)
+        (λ text. WriterTakesOrFails E.contents E.wrote err.old text err.new) result.0) }
+    ensures status { result.0 ≤ 2 }
+    ensures silent { result.0 ≡ 0 → err.new ≡ err.old }
 {
     match BufWriter::new(alloc, out) {
-        Ok(mut buffered) => replay(alloc, input, &mut buffered, err),
+        Ok(mut buffered) => {
+            let status = replay(alloc, input, &mut buffered, err);
+            (status, Some(buffered))
+        }
         Err(_) => {
             let _ = Watched::new(err).write_all(b"error: Out of memory\n");
-            1
+            (1, None)
         }
     }
 }

@@ -117,19 +117,22 @@ runs_answer : (bytes text : List ℕ) (p : Place) (g : Goes start bytes text p) 
 runs_answer bytes text p g = record { commands = g.runs.commands; state = p.state; script = g.runs.script; run = g.runs.run }
 
 -- no memory was found
-pub at_memory : (bytes text : List ℕ) (fails : Option Bool) → Begins start bytes text → MemoryFailed bytes fails text (codes "error: Out of memory\n") 1
-at_memory bytes text fails s =
+pub at_memory : (bytes given rest text : List ℕ) (InGave : List ℕ → Type 0) → bytes ≡ given ++ rest → InGave given → Begins start given text → MemoryFailed bytes InGave text (codes "error: Out of memory\n") 1
+at_memory bytes given rest text InGave e gave s =
     let g = s.goes in
     let t = splits (s.place.part ++ s.unread) in
-    let given = first_given fails g.lines t.0 t.1 in
     record {
+      given = given;
+      rest = rest;
+      front = e;
+      gave = gave;
       lines = g.lines ++ t.0;
       part = t.1;
       first = map without_return g.lines;
-      later = map without_return t.0 ++ given.0;
+      later = map without_return t.0;
       outcomes = g.runs.outcomes;
-      split = Splits-more (s.place.part ++ s.unread) bytes t.0 g.lines t.1 g.each t.2 (regrouped bytes s.read s.unread text s.place g s.bytes_are);
-      front = given.1;
+      split = Splits-more (s.place.part ++ s.unread) given t.0 g.lines t.1 g.each t.2 (regrouped given s.read s.unread text s.place g s.bytes_are);
+      lines_are = map-append without_return g.lines t.0;
       answers = runs_answer s.read text s.place g;
       replied = g.runs.replied;
       err_is = refl;
@@ -137,8 +140,9 @@ at_memory bytes text fails s =
     }
 
 -- reading failed
-pub at_failure : (bytes given rest text : List ℕ) (fails : Option Bool) (p : Place) → bytes ≡ given ++ rest → MayErr fails (Some rest) ⊎ (2 ^ 64 - 1 ≤ length given) → Goes start given text p → ReadingFailed bytes fails text (codes "error: reading failed\n") 1
-at_failure bytes given rest text fails p e cause g = record {
+pub at_failure : (bytes given rest text : List ℕ) (fails : Option Bool) (InGave InFailed : List ℕ → Type 0) (p : Place) → bytes ≡ given ++ rest
+    → (MayErr fails (Some rest) × InFailed given) ⊎ ((2 ^ 64 - 1 ≤ length given) × InGave given) → Goes start given text p → ReadingFailed bytes fails InGave InFailed text (codes "error: reading failed\n") 1
+at_failure bytes given rest text fails InGave InFailed p e cause g = record {
   given = given;
   rest = rest;
   lines = g.lines;

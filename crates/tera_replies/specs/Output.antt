@@ -1,9 +1,21 @@
--- What is written to gets from a replay.
+-- What is read from gave to a replay, and what is written to got from it.
 use Rattle.std.specs.Prelude.{ℕ, ◌⊎◌, List, Option, Result}
 use Rattle.std.specs.declared.io.Error.{Error}
 use Rattle.std.specs.Io.KnownBytes.{Appends}
 use Rattle.tera_report.specs.Sink.{Delivers, Broke}
 use Rattle.tera_report.specs.Writer.{Passes, Breaks, Flushes, FlushFails}
+use Rattle.tera_replies.specs.declared.source.ReadError.{ReadError}
+use Rattle.tera_replies.specs.Source.{Reads, ReadFails}
+
+-- reads of a source from this state on, which is then dropped, gave just these bytes
+abbrev pub Gave : {S : Type 0} → (S → List ℕ → Result ℕ ReadError → S → Type 0)
+    → S → List ℕ → Type 0
+Gave {S} gave old bytes = (new : S) × Reads gave old bytes new
+
+-- and then a read of it answered an error
+abbrev pub Failed : {S : Type 0} → (S → List ℕ → Result ℕ ReadError → S → Type 0)
+    → S → List ℕ → Type 0
+Failed {S} gave old bytes = (new : S) × ReadFails gave old bytes new
 
 -- the text was put, or putting it failed
 abbrev pub TakesOrFails : {S : Type 0} → (S → List ℕ → S → Type 0) → (S → List ℕ → S → Type 0)

@@ -83,50 +83,59 @@ pub record AllAnswered (bytes : List ℕ) (fails : Option Bool) (out err : List 
   pub err_is : err ≡ report bad
   pub status_is : status ≡ status_of bad outcomes
 
--- Reading failed after the bytes given, or went on past its bound: each line that was given whole
--- is answered.
-pub record ReadingFailed (bytes : List ℕ) (fails : Option Bool) (out err : List ℕ) (status : ℕ)
-    : Type 0 where
+-- Reads gave some of the bytes, and then one failed, or they went on past their bound: each line
+-- that was given whole is answered.
+pub record ReadingFailed (bytes : List ℕ) (fails : Option Bool) (InGave InFailed : List ℕ → Type 0)
+    (out err : List ℕ) (status : ℕ) : Type 0 where
   pub given : List ℕ
   pub rest : List ℕ
   pub lines : List (List ℕ)
   pub part : List ℕ
   pub outcomes : List Outcome
   pub front : bytes ≡ given ++ rest
-  pub cause : MayErr fails (Some rest) ⊎ (2 ^ 64 - 1 ≤ length given)
+  pub cause : (MayErr fails (Some rest) × InFailed given)
+      ⊎ ((2 ^ 64 - 1 ≤ length given) × InGave given)
   pub split : Splits given lines part
   pub answers : AreAnswered (map without_return lines) None outcomes
   pub replied : AreReplies outcomes out
   pub err_is : err ≡ codes "error: reading failed\n"
   pub status_is : status ≡ 1
 
--- The program itself found no memory: the first of the lines are answered.
-pub record MemoryFailed (bytes : List ℕ) (fails : Option Bool) (out err : List ℕ) (status : ℕ)
+-- Reads gave some of the bytes, and the program itself found no memory: the first of the lines that
+-- were given whole are answered.
+pub record MemoryFailed (bytes : List ℕ) (InGave : List ℕ → Type 0) (out err : List ℕ) (status : ℕ)
     : Type 0 where
+  pub given : List ℕ
+  pub rest : List ℕ
   pub lines : List (List ℕ)
   pub part : List ℕ
   pub first : List (List ℕ)
   pub later : List (List ℕ)
   pub outcomes : List Outcome
-  pub split : Splits bytes lines part
-  pub front : lines_given fails lines part ≡ first ++ later
+  pub front : bytes ≡ given ++ rest
+  pub gave : InGave given
+  pub split : Splits given lines part
+  pub lines_are : map without_return lines ≡ first ++ later
   pub answers : AreAnswered first None outcomes
   pub replied : AreReplies outcomes out
   pub err_is : err ≡ codes "error: Out of memory\n"
   pub status_is : status ≡ 1
 
 -- From a source with these bytes, which then fails or ends (or that isn't known), the program
--- writes out and err.
-abbrev pub Writes : List ℕ → Option Bool → List ℕ → List ℕ → ℕ → Type 0
-Writes bytes fails out err status =
+-- writes out and err. What its reads gave is named where it did not come to the end, and that a
+-- read failed where it says so.
+abbrev pub Writes : List ℕ → Option Bool → (List ℕ → Type 0) → (List ℕ → Type 0)
+    → List ℕ → List ℕ → ℕ → Type 0
+Writes bytes fails InGave InFailed out err status =
     AllAnswered bytes fails out err status
-    ⊎ (ReadingFailed bytes fails out err status ⊎ MemoryFailed bytes fails out err status)
+    ⊎ (ReadingFailed bytes fails InGave InFailed out err status
+    ⊎ MemoryFailed bytes InGave out err status)
 
 -- The same of what is written to: `out` got its bytes and `err` its own; or `out` broke, and `err`
 -- got the text for that.
-abbrev pub Replays : List ℕ → Option Bool → (List ℕ → Type 0) → Type 0 → (List ℕ → Type 0)
-    → ℕ → Type 0
-Replays bytes fails OutGets OutBroke ErrGets status =
-    ((out : List ℕ) × (err : List ℕ) × Writes bytes fails out err status × OutGets out
-    × ErrGets err)
+abbrev pub Replays : List ℕ → Option Bool → (List ℕ → Type 0) → (List ℕ → Type 0)
+    → (List ℕ → Type 0) → Type 0 → (List ℕ → Type 0) → ℕ → Type 0
+Replays bytes fails InGave InFailed OutGets OutBroke ErrGets status =
+    ((out : List ℕ) × (err : List ℕ) × Writes bytes fails InGave InFailed out err status
+    × OutGets out × ErrGets err)
     ⊎ (OutBroke × (status ≡ 1) × ErrGets (codes "error: writing failed\n"))

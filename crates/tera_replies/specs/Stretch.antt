@@ -1,23 +1,24 @@
 -- How a replay goes on over a stretch of the script.
 use Rattle.std.specs.Prelude.{◌≡◌, ◌≢◌, ℕ, ◌+◌, ◌⊎◌, Bool, false, ◌||◌, List, [], ◌∷◌, ◌++◌, map}
 use Rattle.std.specs.Prelude.{length, All}
-use Rattle.std.specs.Prelude.{codes, Option, None, Some, Result, Ok, Err, if◌then◌else◌}
+use Rattle.std.specs.Prelude.{codes, Option, None, Result, Ok, Err, if◌then◌else◌}
 use Rattle.std.specs.FinMap.{empty}
 use Rattle.std.specs.List.{flat_map}
 use Rattle.tera_meaning.specs.State.{State}
 use Rattle.tera_meaning.specs.Outcome.{Outcome}
 use Rattle.tera_meaning.specs.Request.{Command}
 use Rattle.tera_meaning.specs.Run.{IsRun}
-use Rattle.tera_report.specs.declared.report.ReportError.{ReportError}
 use Rattle.tera_report.specs.Errors.{report_of}
 use Rattle.tera_report.specs.Report.{Report, report_text}
 use Rattle.tera_replies.specs.declared.fault.Fault.{Fault}
 use Rattle.tera_replies.specs.declared.fault.Fault.TheVariants.{BadLine, ReadFailed, WriteFailed}
 use Rattle.tera_replies.specs.declared.fault.Fault.TheVariants.{OutOfMemory}
 use Rattle.tera_script.specs.Line.{IsBad}
-use Rattle.tera_replies.specs.Script.{BadLine as Bad, Script, HasNoLineFeed, without_return, ended, line_feed}
+use Rattle.tera_replies.specs.Script.{BadLine as Bad, Script, HasNoLineFeed, without_return, ended}
+use Rattle.tera_replies.specs.Script.{line_feed}
 use Rattle.tera_replies.specs.Reply.{AreReplies}
-use Rattle.tera_replies.specs.Replay.{wants_memory, line_report, AllAnswered, ReadingFailed, MemoryFailed}
+use Rattle.tera_replies.specs.Replay.{wants_memory, line_report, AllAnswered, ReadingFailed}
+use Rattle.tera_replies.specs.Replay.{MemoryFailed}
 
 -- the bad line of that number
 abbrev pub bad_at : ℕ → List ℕ → Bad
@@ -99,17 +100,21 @@ ReplyStops OutBroke WriteFailed = OutBroke
 ReplyStops OutBroke OutOfMemory = ⊥
 
 -- how answering all of the input went: whether memory was wanted by an answer, or a fault
-abbrev pub Ends : List ℕ → Option Bool → (List ℕ → Type 0) → Type 0 → Result Bool Fault → Type 0
-Ends bytes fails OutGets OutBroke (Ok wanted) =
+abbrev pub Ends : List ℕ → Option Bool → (List ℕ → Type 0) → (List ℕ → Type 0)
+    → (List ℕ → Type 0) → Type 0 → Result Bool Fault → Type 0
+Ends bytes fails InGave InFailed OutGets OutBroke (Ok wanted) =
     (out : List ℕ) × AllAnswered bytes fails out [] (if wanted then 1 else 0) × OutGets out
-Ends bytes fails OutGets OutBroke (Err (BadLine report)) =
+Ends bytes fails InGave InFailed OutGets OutBroke (Err (BadLine report)) =
     (out : List ℕ) × AllAnswered bytes fails out (ended (report_text (report_of report.value))) 2
     × OutGets out
-Ends bytes fails OutGets OutBroke (Err ReadFailed) =
-    (out : List ℕ) × ReadingFailed bytes fails out (codes "error: reading failed\n") 1 × OutGets out
-Ends bytes fails OutGets OutBroke (Err WriteFailed) = OutBroke
-Ends bytes fails OutGets OutBroke (Err OutOfMemory) =
-    (out : List ℕ) × MemoryFailed bytes fails out (codes "error: Out of memory\n") 1 × OutGets out
+Ends bytes fails InGave InFailed OutGets OutBroke (Err ReadFailed) =
+    (out : List ℕ)
+    × ReadingFailed bytes fails InGave InFailed out (codes "error: reading failed\n") 1
+    × OutGets out
+Ends bytes fails InGave InFailed OutGets OutBroke (Err WriteFailed) = OutBroke
+Ends bytes fails InGave InFailed OutGets OutBroke (Err OutOfMemory) =
+    (out : List ℕ) × MemoryFailed bytes InGave out (codes "error: Out of memory\n") 1
+    × OutGets out
 
 -- a last flush went well and left the ending as it was, or it failed; there is none where writing
 -- has failed

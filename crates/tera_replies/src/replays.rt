@@ -1,13 +1,14 @@
 // From a script's bytes to the bytes of its answers.
-ghost use Rattle.std.specs.Prelude.{◌≡◌, ◌≤◌, IfSome, IfErr, IsOk, OnOk, None, Some};
+ghost use Rattle.std.specs.Prelude.{◌≡◌, ◌≤◌, IfSome, IfErr, IsOk, OnOk, Some};
 ghost use Rattle.tera_report.specs.Sink.{Broke, Delivers, PutsThese, Sends};
 ghost use Rattle.tera_replies.specs.declared.fault.Fault.TheVariants.{WriteFailed};
-ghost use Rattle.tera_replies.specs.Output.{TakesOrFails, WriterBroke, WriterGets};
+ghost use Rattle.tera_replies.specs.Output.{Failed, Gave, TakesOrFails, WriterBroke, WriterGets};
 ghost use Rattle.tera_replies.specs.Output.{WriterTakesOrFails};
 ghost use Rattle.tera_report.specs.Errors.{report_of};
 ghost use Rattle.tera_report.specs.Report.{report_text};
 ghost use Rattle.tera_replies.specs.Replay.{Replays};
 ghost use Rattle.tera_replies.specs.Script.{ended};
+ghost use Rattle.tera_replies.specs.Source.{ReadFails, Reads};
 ghost use Rattle.tera_replies.specs.Stretch.{Ends, EndsFlushed, status_at, told};
 
 use crate::fault::{Fault, WriteError, put, written};
@@ -15,7 +16,6 @@ use crate::feed::Feed;
 use crate::source::Source;
 use crate::terse::Terse;
 use std::alloc::Global;
-use std::io::Read;
 use tera_report::ReportError;
 use tera_report::sink::Sink;
 use tera_report::watch::{Watched, Writer};
@@ -31,13 +31,14 @@ const PIECE: usize = 8192;
 /// report that cannot be written changes nothing.
 ///
 /// Takes memory for one line, for what its lines set, and for the reply to a refusal.
-pub fn replay<R: Read + Drop, W: Writer, E: Writer>(
+pub fn replay<S: Source + Drop, W: Writer, E: Writer>(
     alloc: Global,
-    mut input: R,
+    mut input: S,
     out: &mut W,
     err: &mut E,
 ) -> u8
-    ensures known { IfSome (R.remaining input) (λ bytes. Replays bytes None
+    ensures known { IfSome (S.left input) (λ bytes. Replays bytes (S.fails input)
+        (Gave S.gave input) (Failed S.gave input)
         (λ text. WriterGets W.contents W.wrote W.flushed out.old text out.new)
         (WriterBroke W.wrote W.flushed out.old out.new)
         (λ text. WriterTakesOrFails E.contents E.wrote err.old text err.new) result) }
@@ -57,6 +58,8 @@ pub fn replay_from<S: Source, W: Sink, E: Sink>(
     err: &mut E,
 ) -> u8
     ensures known { IfSome (S.left input.old) (λ bytes. Replays bytes (S.fails input.old)
+        (λ given. Reads S.gave input.old given input.new)
+        (λ given. ReadFails S.gave input.old given input.new)
         (λ text. Delivers W.takes W.flushes out.old text out.new)
         (Broke W.takes W.fails W.flushes W.flush_fails out.old out.new)
         (λ text. TakesOrFails E.takes E.fails err.old text err.new) result) }
@@ -72,6 +75,8 @@ pub fn replay_from<S: Source, W: Sink, E: Sink>(
 // Answers line after line, and says whether an answer was want of memory.
 fn answer_all<S: Source, W: Sink>(alloc: Global, input: &mut S, out: &mut W) -> Result<bool, Fault>
     ensures { IfSome (S.left input.old) (λ bytes. Ends bytes (S.fails input.old)
+        (λ given. Reads S.gave input.old given input.new)
+        (λ given. ReadFails S.gave input.old given input.new)
         (λ text. Sends W.takes W.flushes out.old text out.new)
         (Broke W.takes W.fails W.flushes W.flush_fails out.old out.new) result) }
 {

@@ -1,7 +1,9 @@
 // Where the script is read from.
-ghost use Rattle.std.specs.Prelude.{◌≡◌, ◌<◌, ◌≤◌, ℕ, Bool, List, Option, None, Some};
+ghost use Rattle.std.specs.Prelude.{◌≡◌, ◌<◌, ◌≤◌, ℕ, Bool, List, Option, Result, None, Some};
 ghost use Rattle.std.specs.Prelude.{length, IfOk, OnErr};
+ghost use Rattle.std.specs.Io.{ReadsAtMost};
 ghost use Rattle.std.specs.Io.KnownBytes.{ReadConsumes};
+ghost use Rattle.tera_replies.specs.declared.source.ReadError.{ReadError};
 ghost use Rattle.tera_replies.specs.Source.{EndIsTold, MayErr, bytes_left, fails_at_end, joined};
 
 use std::io::Read;
@@ -10,7 +12,12 @@ use std::io::Read;
 #[derive(Debug, Drop)]
 pub struct ReadError;
 
-/// What bytes are read from, and whether it fails once it has given them.
+/// What bytes are read from, whether it fails once it has given them, and each read of it: each
+/// `Read` is one.
+///
+/// What is proved over this trait holds whatever `gave` is. So a clause that says that a source
+/// went from one state to another by some reads says that just these reads were made, each with
+/// this answer.
 pub trait Source {
     // the bytes that reads will give from here on, where they are known
     ghost left: { Self → Option (List ℕ) };
@@ -18,19 +25,26 @@ pub trait Source {
     // whether it fails after these bytes or ends, where that is known
     ghost fails: { Self → Option Bool };
 
+    // a read with this answer, which left this piece, leads from one state to another
+    ghost gave: { Self → List ℕ → Result ℕ ReadError → Self → Type 0 };
+
     /// Reads some bytes, and answers how many: none only at the end, if there is room for one.
     fn read_piece(&mut self, piece: &mut [u8]) -> Result<usize, ReadError>
         ensures bound { IfOk result (λ n. n ≤ length piece.new) }
         ensures bytes { ReadConsumes (left self.old) (left self.new) result piece.new }
         ensures stays { fails self.new ≡ fails self.old }
         ensures end { IfOk result (λ n. n ≡ 0 → 0 < length piece.new → EndIsTold (fails self.old)) }
-        ensures err { OnErr result (MayErr (fails self.old) (left self.old)) };
+        ensures err { OnErr result (MayErr (fails self.old) (left self.old)) }
+        ensures told { gave self.old piece.new result self.new };
 }
 
 impl<R: Read> Source for R {
     ghost left = { λ reader. R.remaining reader };
 
     ghost fails = { λ _. None };
+
+    ghost gave = { λ old piece answer new. ReadsAtMost answer piece
+        × ReadConsumes (R.remaining old) (R.remaining new) answer piece };
 
     fn read_piece(&mut self, piece: &mut [u8]) -> Result<usize, ReadError> {
         match self.read(piece) {
@@ -70,6 +84,9 @@ impl Source for InputPieces<'_> {
     ghost left = { λ pieces. Some (bytes_left pieces) };
 
     ghost fails = { λ pieces. Some (fails_at_end pieces) };
+
+    ghost gave = { λ old piece answer new. ReadConsumes (Some (bytes_left old))
+        (Some (bytes_left new)) answer piece };
 
     fn read_piece(&mut self, piece: &mut [u8]) -> Result<usize, ReadError> {
         while self.at < self.pieces.len() {

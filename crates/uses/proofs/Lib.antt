@@ -2,3 +2,4 @@ mod Joined
 mod Pages
 mod Steps
 mod Added
+mod Replayed

@@ -1,17 +1,20 @@
 -- A replay through a buffer, and the text for want of one.
-use Rattle.std.proofs.Common.{inl, inr, refl, rules}
+use Rattle.std.proofs.Common.{refl, rules}
 use Rattle.tera_replay.proofs.BufferLemmas.{nothing_read, took_or_failed}
+use Rattle.tera_replies.proofs.InputLemmas.{reads_nothing}
 use Rattle.tera_replies.proofs.ReplayLemmas.{replays_weaker}
 use Rattle.tera_replies.proofs.WatchedLemmas.{told_same, told_writer}
 use Rattle.tera_replay.proofs.replay_buffered.Goals as goal
 
 pub returns-in-Ok-clause-known : goal.returns-in-Ok-clause-known
 returns-in-Ok-clause-known g c =
-    replays_weaker _ _ _ _ _ _ _ _ _
-    (λ text gets. inr (c.in-Ok.buffered, c.replay.new.out, (c.in-Ok.ensures.inner, c.in-Ok.ensures.empty), gets))
-    (λ broke. (c.in-Ok.buffered, c.replay.new.out, (c.in-Ok.ensures.inner, c.in-Ok.ensures.empty), broke))
+    replays_weaker _ _ _ _ _ _ _ _ _ _ _ _ _
+    (λ given reads. reads)
+    (λ given failed. failed)
+    (λ text gets. (c.in-Ok.buffered, (c.in-Ok.ensures.inner, c.in-Ok.ensures.empty), gets))
+    (λ broke. (c.in-Ok.buffered, (c.in-Ok.ensures.inner, c.in-Ok.ensures.empty), broke))
     (λ text told. told)
-    c.replay.ensures.known
+    c.replay-status.ensures.known
 
 pub returns-in-Err-clause-known : goal.returns-in-Err-clause-known
 returns-in-Err-clause-known g c =
@@ -21,4 +24,4 @@ returns-in-Err-clause-known g c =
     let put = took_or_failed err.contents err.wrote c.write_all.result old _ new c.write_all.ensures.told in
     let same = told_same err.contents err.wrote err.flushed old _ new put in
     let told = told_writer err.contents err.wrote err.flushed old _ new put in
-    nothing_read _ _ _ _ (inl refl) (search rules)
+    nothing_read _ _ _ _ _ _ _ (c.args.input, reads_nothing g.S.Source.gave c.args.input) refl (search rules)

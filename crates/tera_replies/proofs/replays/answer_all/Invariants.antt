@@ -9,7 +9,7 @@ invariant-pieces g l =
     let source = g.S.Source in
     let sink = g.W.Sink in
     record {
-      fed : Fed sink.takes sink.flushes (source.left l.fn.input) (source.left l.input) l._turn (place_of l.feed) l.fn.out l.out;
+      fed : Fed source.gave l.fn.input l.input sink.takes sink.flushes (source.left l.fn.input) (source.left l.input) l._turn (place_of l.feed) l.fn.out l.out;
       fails : source.fails l.input ≡ source.fails l.fn.input;
       room : l.feed.number ≤ 1 + 8192 * l._turn;
     }

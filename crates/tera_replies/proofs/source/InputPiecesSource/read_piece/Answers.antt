@@ -22,3 +22,6 @@ returns-then-self-first-clause-bytes c =
           within refl less (take_rest first self.given) cut.front cut.back (omega (arith, fits)) (ap length same ∙ cut.front_len) same,
       (λ none some. absurd (omega (arith, none, some, fits, less, sizes, ap length same, cut.front_len, length-drop count room, length-take-le (length first - self.given) (drop self.given first) (omega (arith, length-drop self.given first)), length-drop self.given first))),
     )
+
+pub returns-then-self-first-clause-told : goal.returns-then-self-first-clause-told
+returns-then-self-first-clause-told c = returns-then-self-first-clause-bytes c
