@@ -71,13 +71,14 @@ impl Context {
     /// Keeps what the source gives under the name, in the place of what was there. Mirrors
     /// `Context::insert`.
     ///
-    /// The error is that of the source, or `Out of memory` once the source gave a value; then
-    /// nothing has changed. Takes memory.
+    /// The error is that of the source, or `Out of memory` once the source gave a value for a name
+    /// that isn't there; then nothing has changed. Takes memory.
     pub fn insert<T: ToValue>(&mut self, name: &str, source: T) -> TeraResult<()>
         ensures ok { OnOk result ((value : Form) × T.gives source value
             × (self.new ≡ insert self.old name.now value)) }
         ensures err { IfErr result (λ e. T.refuses source e
-            ⊎ (IsOutOfMemory e × (value : Form) × T.gives source value)) }
+            ⊎ (IsOutOfMemory e × (get self.old name.now ≡ None)
+            × (value : Form) × T.gives source value)) }
         ensures unchanged { OnErr result (self.new ≡ self.old) }
     {
         let value = source.to_value(self.alloc)?;
@@ -87,12 +88,17 @@ impl Context {
     /// Keeps the value under the name, in the place of what was there. Mirrors
     /// `Context::insert_value`.
     ///
-    /// The only error is `Out of memory`, and then nothing has changed. Takes memory.
+    /// The only error is `Out of memory`, and then nothing has changed. Takes memory, but for a name
+    /// that is there.
     pub fn insert_value(&mut self, name: &str, value: Value) -> TeraResult<()>
         ensures ok { OnOk result (self.new ≡ insert self.old name.now value) }
         ensures err { IfErr result IsOutOfMemory }
         ensures unchanged { OnErr result (self.new ≡ self.old) }
+        ensures absent { OnErr result (get self.old name.now ≡ None) }
     {
+        let Some(value) = self.replace(name, value) else {
+            return Ok(());
+        };
         let name = String::from_str(self.alloc, name)?;
         self.keep(name, value)?;
         Ok(())
@@ -175,6 +181,18 @@ impl Context {
         if let Some(value) = self.values.get_mut(name) {
             mark(value);
         }
+    }
+
+    // Puts the value in the place of what the name has. It comes back where the name isn't there.
+    fn replace(&mut self, name: &str, value: Value) -> Option<Value>
+        ensures { MatchOption result (self.new ≡ insert self.old name.now value)
+            (λ back. (back ≡ value) × (self.new ≡ self.old) × (get self.old name.now ≡ None)) }
+    {
+        let Some(held) = self.values.get_mut(name) else {
+            return Some(value);
+        };
+        drop(mem::replace(held, value));
+        None
     }
 
     /// Keeps the value under the name, in the place of what was there.
