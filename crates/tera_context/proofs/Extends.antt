@@ -1,5 +1,6 @@
 -- What a map of names takes over from another, name by name.
-use Rattle.std.specs.Prelude.{◌≡◌, ◌↔◌, ◌≢◌, ℕ, IsTrue, length, nat_eq, Bool, true, false, ◌&&◌, T, List, [], ◌∷◌, ◌++◌, Result, Ok, Err, OnErr, String, refl}
+use Rattle.std.specs.Prelude.{◌≡◌, ◌↔◌, ◌≢◌, ℕ, IsTrue, length, nat_eq, Bool, true, false, ◌&&◌, T, List, [], ◌∷◌, ◌++◌}
+use Rattle.std.specs.Prelude.{Result, Ok, Err, OnErr, String, refl}
 use Rattle.std.proofs.Common.{sym, ◌∙◌, ap, subst, arith}
 use Rattle.std.proofs.lemmas.Bool.Decides.{nat_tests}
 use Rattle.std.proofs.lemmas.List.{map-append}
@@ -55,7 +56,8 @@ some_length [] next left e = absurd (omega (arith, e))
 some_length (p ∷ done) next left e = absurd (omega (arith, e))
 
 -- of the pairs of a map these are done, this one is next, and those are left
-module _ {A : Type 0} (all done : List (String A × Form)) (next : String A × Form) (left : List (String A × Form)) (whole : done ++ next ∷ left ≡ all) (ordered : AreOrdered all) where
+module _ {A : Type 0} (all done : List (String A × Form)) (next : String A × Form) (left : List (String A × Form))
+    (whole : done ++ next ∷ left ≡ all) (ordered : AreOrdered all) where
   split_named : T (is_rising (named done ++ named (next ∷ left)))
   split_named =
       subst (λ pairs. T (is_rising pairs)) (ap named (sym whole) ∙ map-append _ done (next ∷ left)) (rising_named all ordered)
@@ -90,7 +92,8 @@ module _ {A : Type 0} (all done : List (String A × Form)) (next : String A × F
 
 pub nothing_taken : (state : State) → extended state empty ≡ state
 nothing_taken state =
-    same_state (extended state empty) state (λ name. get_extended state empty name ∙ ap (λ o. option_or o (get state name)) (get-empty (slice_cmp nat_cmp) name))
+    same_state (extended state empty) state (λ name.
+    get_extended state empty name ∙ ap (λ o. option_or o (get state name)) (get-empty (slice_cmp nat_cmp) name))
 
 -- ---- equality
 

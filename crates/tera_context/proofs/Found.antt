@@ -42,7 +42,7 @@ pub copy_refused : (e : Error) (state : State) (search : Search) (into : Option 
     → FindsAt state search into (Err e) state
 copy_refused e state search into want copy = want_shown (Err e) e (IsSearchStep state search into state) refl want (inr (inr (inl copy), refl, refl))
 
--- nor one that was refused
+-- a search that was refused changes nothing
 pub search_refused : (e : Error) (given : Result Form Refusal) (state : State) (search : Search) (into : Option (List ℕ))
     → Refuses given e → found_at state search ≡ one_found given → IsCopy search → FindsAt state search into (Err e) state
 search_refused e (Ok value) state search into want finds copy = copy_refused e state search into want copy
@@ -53,7 +53,7 @@ search_refused e (Err refusal) state search into (inl shows) finds copy =
     ))
 search_refused e (Err refusal) state search into (inr want) finds copy = copy_refused e state search into want copy
 
--- nor one that takes memory for a refusal's text alone, and that is refused
+-- a refused search that takes memory for a refusal's text alone changes nothing
 pub number_refused : (e : Error) (given : Result Form Refusal) (state : State) (search : Search) (into : Option (List ℕ))
     → Refuses given e → found_at state search ≡ one_found given → IsErr given → FindsAt state search into (Err e) state
 number_refused e (Ok value) state search into want finds is = cc
@@ -66,7 +66,7 @@ number_refused e (Err refusal) state search into (inr want) finds is =
     want_shown (Err e) e (IsSearchStep state search into state) refl want
     (inr (inr (inr (subst IsErr (sym finds) refl)), refl, refl))
 
--- the same of a result that is that refusal
+-- a result that is the refusal of such a search shows it
 pub number_not_found : (r : Result Answer Error) (refusal : Refusal) (state : State) (search : Search) (into : Option (List ℕ))
     → IsErrAnd r (Raises (stated refusal)) → found_at state search ≡ one_found (Err refusal) → FindsAt state search into r state
 number_not_found (Ok answer) refusal state search into raises finds = absurd raises

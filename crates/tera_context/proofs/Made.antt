@@ -25,7 +25,8 @@ chosen_well : {A : Type 0} (name : List ℕ) (held : String A) (value : Form) (l
     → eq_by_cmp (slice_cmp nat_cmp) name (string_bytes held) ≡ b → IsWellMade value → IsHeldWell name later
     → IsHeldWell name (cond b (Some value) later)
 chosen_well name held value later true e well rest =
-    (subst IsUtf8 (sym (name_exact name (string_bytes held) ((Equal-is (slice_cmp nat_cmp name (string_bytes held))).0 e))) (IsUtf8-string_bytes held), well)
+    let is = name_exact name (string_bytes held) ((Equal-is (slice_cmp nat_cmp name (string_bytes held))).0 e) in
+    (subst IsUtf8 (sym is) (IsUtf8-string_bytes held), well)
 chosen_well name held value later false e well rest = rest
 
 found_well : {A : Type 0} (name : List ℕ) (pairs : List (String A × Form)) → HoldsWellMade pairs

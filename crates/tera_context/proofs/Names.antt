@@ -17,7 +17,8 @@ use Rattle.tera_meaning.specs.StateLaws.{same_state}
 use Rattle.tera_meaning.specs.Step.{marking}
 use Rattle.tera_context.specs.Context.{named, state_of}
 
-find_named : {A : Type 0} (pairs : List (String A × Form)) (bs : List ℕ) → find (slice_cmp nat_cmp) bs (named pairs) ≡ lookup (is_at (λ k. slice_cmp nat_cmp bs (string_bytes k))) pairs
+find_named : {A : Type 0} (pairs : List (String A × Form)) (bs : List ℕ)
+    → find (slice_cmp nat_cmp) bs (named pairs) ≡ lookup (is_at (λ k. slice_cmp nat_cmp bs (string_bytes k))) pairs
 find_named [] bs = refl
 find_named (p ∷ pairs) bs = ap (cond (eq_by_cmp (slice_cmp nat_cmp) bs (string_bytes p.0)) (Some p.1)) (find_named pairs bs)
 
@@ -29,7 +30,9 @@ tied : (bs cs : List ℕ) → eq_by_cmp (slice_cmp nat_cmp) cs bs ≡ bytes_eq b
 tied bs cs = (eq_by_cmp_equiv nat_list_cmp_total).symm cs bs ∙ is_eq-slice_cmp bs cs
 
 -- a change at one name
-pub named_insert : {A : Type 0} (old new : BTreeMap (String A) Form) (bs : List ℕ) (value : Form) → UpdatesBy string_cmp (λ k. slice_cmp nat_cmp bs (string_bytes k)) old new (Some value) → state_of new.entries ≡ insert (state_of old.entries) bs value
+pub named_insert : {A : Type 0} (old new : BTreeMap (String A) Form) (bs : List ℕ) (value : Form)
+    → UpdatesBy string_cmp (λ k. slice_cmp nat_cmp bs (string_bytes k)) old new (Some value)
+    → state_of new.entries ≡ insert (state_of old.entries) bs value
 named_insert old new bs value updates = same_state (state_of new.entries) (insert (state_of old.entries) bs value) (λ cs.
     get_named new cs
     ∙ btree_map_updates_text bs old new (Some value) updates cs
@@ -38,7 +41,9 @@ named_insert old new bs value updates = same_state (state_of new.entries) (inser
     ∙ sym (get-insert nat_list_cmp_total (state_of old.entries) bs value cs))
 
 -- a name taken away
-pub named_remove : {A : Type 0} (old new : BTreeMap (String A) Form) (bs : List ℕ) → UpdatesBy string_cmp (λ k. slice_cmp nat_cmp bs (string_bytes k)) old new None → state_of new.entries ≡ remove (state_of old.entries) bs
+pub named_remove : {A : Type 0} (old new : BTreeMap (String A) Form) (bs : List ℕ)
+    → UpdatesBy string_cmp (λ k. slice_cmp nat_cmp bs (string_bytes k)) old new None
+    → state_of new.entries ≡ remove (state_of old.entries) bs
 named_remove old new bs updates = same_state (state_of new.entries) (remove (state_of old.entries) bs) (λ cs.
     get_named new cs
     ∙ btree_map_updates_text bs old new None updates cs
@@ -47,7 +52,8 @@ named_remove old new bs updates = same_state (state_of new.entries) (remove (sta
     ∙ sym (get-remove nat_list_cmp_total (state_of old.entries) bs cs))
 
 -- a name whose value is marked where it is, and one that isn't there
-pub named_marked : {A : Type 0} (old new : BTreeMap (String A) Form) (bs : List ℕ) (value marked : Form) → get_by_text old bs ≡ Some value → marked ≡ marked_safe value
+pub named_marked : {A : Type 0} (old new : BTreeMap (String A) Form) (bs : List ℕ) (value marked : Form)
+    → get_by_text old bs ≡ Some value → marked ≡ marked_safe value
     → (IsSome (get_by_text old bs) → UpdatesBy string_cmp (λ k. slice_cmp nat_cmp bs (string_bytes k)) old new (Some marked))
     → state_of new.entries ≡ marking (state_of old.entries) bs (get (state_of old.entries) bs)
 named_marked old new bs value marked there is updates =
@@ -55,5 +61,6 @@ named_marked old new bs value marked there is updates =
     ∙ ap (insert (state_of old.entries) bs) is
     ∙ ap (marking (state_of old.entries) bs) (sym (get_named old bs ∙ there))
 
-pub none_marked : {A : Type 0} (old : BTreeMap (String A) Form) (bs : List ℕ) → get_by_text old bs ≡ None → state_of old.entries ≡ marking (state_of old.entries) bs (get (state_of old.entries) bs)
+pub none_marked : {A : Type 0} (old : BTreeMap (String A) Form) (bs : List ℕ) → get_by_text old bs ≡ None
+    → state_of old.entries ≡ marking (state_of old.entries) bs (get (state_of old.entries) bs)
 none_marked old bs absent = ap (marking (state_of old.entries) bs) (sym (get_named old bs ∙ absent))

@@ -43,7 +43,7 @@ pub(crate) fn print(context: &Context, name: &str) -> TeraResult<Answer>
     Ok(Answer::Text(value.to_text(context.allocator())?))
 }
 
-/// The same, escaped.
+/// The printed text of the value of a name, escaped.
 pub(crate) fn escape(context: &Context, name: &str) -> TeraResult<Answer>
     ensures { ShowsOneOf result (λ outcome.
         IsStep context.now (asking (ask Question.escape name.now)) outcome context.now) }
@@ -71,7 +71,7 @@ pub(crate) fn compare(context: &Context, left: &str, right: &str) -> Ordering
     value_at(context, left, &absent).cmp(value_at(context, right, &absent))
 }
 
-/// Their partial order.
+/// The partial order of the values of two names.
 pub(crate) fn try_compare(context: &Context, left: &str, right: &str) -> Option<Ordering>
     ensures { result ≡ decided (meaning_at context.now left.now)
         (meaning_at context.now right.now) }

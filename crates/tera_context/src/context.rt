@@ -71,11 +71,14 @@ impl Context {
     /// Keeps what the source gives under the name, in the place of what was there. Mirrors
     /// `Context::insert`.
     ///
-    /// The error is that of the source, or `Out of memory`; then nothing has changed. Takes memory.
+    /// The error is that of the source, or `Out of memory` once the source gave a value for a name
+    /// that isn't there; then nothing has changed. Takes memory.
     pub fn insert<T: ToValue>(&mut self, name: &str, source: T) -> TeraResult<()>
         ensures ok { OnOk result ((value : Form) × T.gives source value
             × (self.new ≡ insert self.old name.now value)) }
-        ensures err { IfErr result (λ e. IsOutOfMemory e ⊎ T.refuses source e) }
+        ensures err { IfErr result (λ e. T.refuses source e
+            ⊎ (IsOutOfMemory e × (get self.old name.now ≡ None)
+            × (value : Form) × T.gives source value)) }
         ensures unchanged { OnErr result (self.new ≡ self.old) }
     {
         let value = source.to_value(self.alloc)?;
@@ -85,12 +88,17 @@ impl Context {
     /// Keeps the value under the name, in the place of what was there. Mirrors
     /// `Context::insert_value`.
     ///
-    /// The only error is `Out of memory`, and then nothing has changed. Takes memory.
+    /// The only error is `Out of memory`, and then nothing has changed. Takes memory, but for a name
+    /// that is there.
     pub fn insert_value(&mut self, name: &str, value: Value) -> TeraResult<()>
         ensures ok { OnOk result (self.new ≡ insert self.old name.now value) }
         ensures err { IfErr result IsOutOfMemory }
         ensures unchanged { OnErr result (self.new ≡ self.old) }
+        ensures absent { OnErr result (get self.old name.now ≡ None) }
     {
+        let Some(value) = self.replace(name, value) else {
+            return Ok(());
+        };
         let name = String::from_str(self.alloc, name)?;
         self.keep(name, value)?;
         Ok(())
@@ -100,12 +108,14 @@ impl Context {
     /// `Context::extend`. The source is consumed.
     ///
     /// The only error is `Out of memory`. Then some first names of the source, in the order of
-    /// their bytes, were taken over, and nothing else has changed. Takes memory.
+    /// their bytes, were taken over, and nothing else has changed. Takes memory, but for a source of
+    /// no names.
     pub fn extend(&mut self, source: Context) -> TeraResult<()>
         ensures ok { OnOk result (self.new ≡ extended self.old source) }
         ensures err { IfErr result IsOutOfMemory }
         ensures part { OnErr result ((part : State) × IsProperBeginning part source
             × (self.new ≡ extended self.old part)) }
+        ensures nothing { source ≡ empty → IsOk result }
     {
         for (name, value) in source.values {
             self.keep(name, value)?;
@@ -173,12 +183,25 @@ impl Context {
         }
     }
 
+    // Puts the value in the place of what the name has. It comes back where the name isn't there.
+    fn replace(&mut self, name: &str, value: Value) -> Option<Value>
+        ensures { MatchOption result (self.new ≡ insert self.old name.now value)
+            (λ back. (back ≡ value) × (self.new ≡ self.old) × (get self.old name.now ≡ None)) }
+    {
+        let Some(held) = self.values.get_mut(name) else {
+            return Some(value);
+        };
+        drop(mem::replace(held, value));
+        None
+    }
+
     /// Keeps the value under the name, in the place of what was there.
     ///
-    /// Takes memory; where it is refused nothing has changed.
+    /// Takes memory, but for a name that is there; where it is refused nothing has changed.
     pub(crate) fn keep(&mut self, name: String, value: Value) -> Result<(), AllocError>
         ensures ok { OnOk result (self.new ≡ insert self.old (string_bytes name) value) }
         ensures unchanged { OnErr result (self.new ≡ self.old) }
+        ensures absent { OnErr result (get self.old (string_bytes name) ≡ None) }
     {
         self.values.insert(name, value)?;
         Ok(())

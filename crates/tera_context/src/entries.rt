@@ -1,12 +1,15 @@
 //! Contexts by their entries.
-ghost use Rattle.std.specs.Prelude.{◌≡◌, codes, pos, IfOk, IfErr};
+ghost use Rattle.std.specs.Prelude.{◌≡◌, ◌⊎◌, codes, pos, IfOk, IfErr};
 ghost use Rattle.std.specs.FinMap.{empty, insert};
+ghost use Rattle.std.specs.String.{string_bytes};
+ghost use Rattle.tera_meaning.specs.Form.{Form};
 ghost use Rattle.tera_meaning.specs.Integer.{i64};
 ghost use Rattle.tera_meaning.specs.Rows.{held, normal};
 ghost use Rattle.tera_report.specs.Errors.{IsOutOfMemory};
 
 use crate::context;
 use std::alloc::Global;
+use tera_conversions::ToValue;
 use tera_report::TeraResult;
 
 /// Makes a context: `context! { alloc; name => value, bare, .. }` keeps what each value gives under
@@ -45,4 +48,22 @@ fn both_forms(alloc: Global) -> TeraResult<crate::Context>
     let foo = "Bar";
     let con = 69i64;
     Ok(context! { alloc; foo, con => con,, })
+}
+
+// What a value refuses is passed on, a bare name is lent, and the later of equal names stands.
+fn of_any_value<T: ToValue>(
+    alloc: Global,
+    first: T,
+    text: String,
+) -> TeraResult<(crate::Context, String)>
+    ensures ok { IfOk result (λ made. (value : Form) × T.gives first value
+        × (made.0 ≡ insert
+        (insert (insert empty (codes "name") value) (codes "name") (held i64 69))
+        (codes "text") (normal (string_bytes text)))
+        × (made.1 ≡ text)) }
+    ensures err { IfErr result (λ e. T.refuses first e
+        ⊎ (IsOutOfMemory e × (value : Form) × T.gives first value)) }
+{
+    let made = context! { alloc; name => first, name => 69i64, text };
+    Ok((made, text))
 }

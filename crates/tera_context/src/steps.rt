@@ -1,5 +1,5 @@
 //! One step, and whole runs.
-ghost use Rattle.std.specs.Prelude.{◌≡◌, List, map, IfOk, IfErr, OnErr};
+ghost use Rattle.std.specs.Prelude.{◌≡◌, List, [], map, IfOk, IfErr, OnErr, IsOk};
 ghost use Rattle.std.specs.List.{AllZip};
 ghost use Rattle.std.specs.Option.{option_map};
 ghost use Rattle.std.specs.String.{string_bytes};
@@ -111,13 +111,15 @@ fn mark_safe(context: &mut Context, name: &str, into: Option<String>) -> TeraRes
 /// Runs the steps in order, one answer a step, and goes on after a step that was refused.
 ///
 /// The list of answers takes its memory first: where that is refused, `Out of memory` is the answer
-/// to the whole run and nothing was done. A step that finds no memory answers so in its place.
+/// to the whole run and nothing was done. A run of no steps takes none. A step that finds no memory
+/// answers so in its place.
 pub fn run(context: &mut Context, steps: Vec<Step>) -> TeraResult<Vec<TeraResult<Answer>>>
     ensures run { IfOk result (λ answers. (outcomes : List Outcome)
         × AllZip ShowsOutcome answers.items outcomes
         × IsRun context.old (map command_of steps.items) outcomes context.new) }
     ensures err { IfErr result IsOutOfMemory }
     ensures unchanged { OnErr result (context.new ≡ context.old) }
+    ensures nothing { steps.items ≡ [] → IsOk result }
 {
     let mut answers = Vec::with_capacity(context.allocator(), steps.len())?;
     for next in steps {

@@ -13,5 +13,6 @@ returns-in_err-held c =
     let needle : form_at state c.args.needle.now ≡ c.value_at-needle.result.now = search rules in
     weighing_refused c.from_residual.result c.in_err-held.field-0.0 state Weighing.contains c.args.of.now c.args.needle.now None
     (holds c.value_at.result.now c.value_at-needle.result.now) c.from_residual.ensures.1
-    (not_given (holds c.value_at.result.now c.value_at-needle.result.now) c.contains.result c.in_err-held.field-0.0 c.in_err-held.was c.contains.ensures.succeeds)
+    (not_given (holds c.value_at.result.now c.value_at-needle.result.now) c.contains.result
+    c.in_err-held.field-0.0 c.in_err-held.was c.contains.ensures.succeeds)
     c.in_err-held.ensures.err (λ i. truth_told (holds (container i) (needle i)))

@@ -4,7 +4,7 @@ use Rattle.std.specs.String.{string_bytes}
 use Rattle.tera_meaning.specs.Form.{Form}
 use Rattle.tera_meaning.specs.State.{IsProperBeginning}
 use Rattle.tera_context.specs.Context.{state_of}
-use Rattle.tera_context.proofs.Extends.{AreOrdered, nothing_taken, taken_on, part_taken, holds_on_err}
+use Rattle.tera_context.proofs.Extends.{AreOrdered, nothing_taken, taken_on, part_taken, none_left_out, holds_on_err}
 use Rattle.tera_context.proofs.context.Context.extend.Goals as goal
 
 pub loop-name-init : goal.loop-name-init
@@ -43,3 +43,10 @@ returns-in_err-keep-clause-part c =
       subst (IsProperBeginning (state_of done)) (ap state_of (sym was) ∙ c.loop-name.invariant.whole) begins,
       c.in_err-keep.ensures.unchanged ∙ c.loop-name.invariant.so_far,
     )
+
+pub returns-in_err-keep-clause-nothing : goal.returns-in_err-keep-clause-nothing
+returns-in_err-keep-clause-nothing c none =
+    let next : String Global × Form = (c.in-Some.name, c.in-Some.value) in
+    let left : List (String Global × Form) = c.next.new.self in
+    let was = ap (λ rest. c.loop-name.yielded ++ rest) c.in-Some.ensures.steps in
+    absurd (none_left_out _ _ next left (sym was) c.loop-name.invariant.ordered (c.loop-name.invariant.whole ∙ none))

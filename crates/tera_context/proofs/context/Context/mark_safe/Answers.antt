@@ -14,7 +14,8 @@ returns c =
     let seen = ap (λ s. marking s name (get s name)) c.self.view_is in
     elim c.match-get_mut.branch [
       | in-Some w ↦ ap (λ x. state_of x.values.entries) w.self-inside-is
-          ∙ named_marked old (c.get_mut.follows.lender w.mark.new.value) name w.in-Some.value.now w.mark.new.value (search rules) w.mark.ensures (c.get_mut.follows.holds w.mark.new.value).3
+          ∙ named_marked old (c.get_mut.follows.lender w.mark.new.value) name
+          w.in-Some.value.now w.mark.new.value (search rules) w.mark.ensures (c.get_mut.follows.holds w.mark.new.value).3
           ∙ seen
       | in_default w ↦ ap (λ x. state_of x.values.entries) w.self-inside-is
           ∙ ap (λ m. state_of m.entries) c.get_mut.follows.holds-at-none
