@@ -1,5 +1,5 @@
 -- The loop over the items of an array.
-use Rattle.std.proofs.Common.{◌≡◌, ◌≢◌, ◌<◌, ◌≤◌, ℕ, suc, max, List, [], ◌∷◌, ◌++◌, length, length-append, map, Some, None, refl, ap, sym, ◌∙◌, arith, subst, lit<}
+use Rattle.std.proofs.Common.{◌≡◌, ◌≢◌, ◌<◌, ◌≤◌, ℕ, suc, max, List, [], ◌∷◌, ◌++◌, length, length-append, map, Some, None, refl, ap, sym, ◌∙◌, arith, subst}
 use Rattle.std.proofs.lemmas.List.{map-append}
 use Rattle.tera_meaning.specs.Integer.{Integer}
 use Rattle.tera_meaning.specs.Form.{Form, MarkedText}
@@ -9,19 +9,12 @@ use Rattle.tera_meaning.specs.TreeLaws.{list_of_items}
 use Rattle.tera_script.specs.Word.{is_blank}
 use Rattle.tera_script.specs.Literal.{tree_value, item_values}
 use Rattle.tera_script.specs.Readers.{past, AllIn, BeginsWithLiteral, Ends, IsLiteralAt, IsArrayAt}
-use Rattle.tera_script.proofs.Literals.{less, only_at, stops_end}
-use Rattle.tera_script.proofs.Shapes.{literal_utf8}
+use Rattle.tera_script.proofs.Literals.{items_closed, only_at}
+use Rattle.tera_script.proofs.Openings.{literal_utf8}
 use Rattle.tera_script.proofs.Series.{ArePartsOf, deepest, IsSoFar, IsNowhere, IsWhole, none_so_far, no_part, no_mark, no_end, last_part, one_more, shorter_rest}
 
 item_parts : ArePartsOf BeginsWithLiteral Ends 93
-item_parts = record {
-  only = λ e xs x b s f y c t. only_at e xs x b s f y c t;
-  stops = stops_end;
-  shorter = λ xs e rest b. omega (arith, ap length b.spelled, length-append b.literal rest);
-  utf8 = literal_utf8;
-  word = refl;
-  comma = less 93 44 (lit< tt);
-}
+item_parts = record { closed = items_closed; only = only_at; shorter = λ xs e rest b. omega (arith, ap length b.spelled, length-append b.literal rest); utf8 = literal_utf8 }
 
 deepest_item : (all : Items Integer MarkedText KeyForm) → deepest depth (items_list all) ≡ items_depth all
 deepest_item no_items = refl
@@ -39,9 +32,6 @@ pub record HasItems (deep : ℕ) (inside : List ℕ) (values : List Form) (rest 
 
 pub no_items_yet : (deep : ℕ) (inside : List ℕ) (values : List Form) (rest : List ℕ) → values ≡ [] → rest ≡ past is_blank inside → ((end : List ℕ) → rest ≢ 93 ∷ end) → HasItems deep inside values rest
 no_items_yet deep inside values rest e r opened = record { trees = []; values_are = e; so_far = none_so_far BeginsWithLiteral Ends 93 depth deep inside rest r opened }
-
-pub empty_array : (levels : ℕ) (inside : List ℕ) (values : List Form) (value : Form) (end : List ℕ) → ¬ (levels ≡ 0) → values ≡ [] → value ≡ array (items values) → past is_blank inside ≡ 93 ∷ end → IsArrayAt levels inside (Some (value, end))
-empty_array levels inside values value end l e is h = (no_items, is ∙ ap (λ vs. array (items vs)) e, h, omega (arith, l))
 
 nowhere : (levels : ℕ) (inside : List ℕ) → IsNowhere BeginsWithLiteral Ends 93 depth levels inside → IsArrayAt levels inside None
 nowhere levels inside n = λ utf8 all rest h d. n utf8 (items_list all) rest h (subst (λ m. suc m ≤ levels) (sym (deepest_item all)) d)

@@ -20,8 +20,10 @@ use Rattle.tera_script.specs.Word.{is_name_byte, IsName}
 use Rattle.tera_script.specs.Line.{SpellsQuoted, SpellsTwo}
 use Rattle.tera_script.specs.Readers.{Stops, gap_at, operand_at, names_at, bounds_at, is_word_byte, BeginsWithLiteral, BeginsWithQuoted, IsTextAt, IsQuotedAt, BeginsWithFound, EndsFound, IsFoundAt, IsTypeOf}
 use Rattle.tera_script.proofs.Names.{gap_found, gap_only, operand_found, operand_only}
-use Rattle.tera_script.proofs.Literals.{tail, only_at}
-use Rattle.tera_script.proofs.Shapes.{literal_stops_blanks, quoted_utf8}
+use Rattle.tera_script.proofs.Fronts.{tail}
+use Rattle.tera_script.proofs.Literals.{only_at}
+use Rattle.tera_script.proofs.Openings.{quoted_utf8}
+use Rattle.tera_script.proofs.Shapes.{literal_stops_blanks}
 use Rattle.tera_script.proofs.Operands.{names_found, names_only, gap_ends_name, stops_name}
 use Rattle.tera_script.proofs.Bounds.{bounds_found, bounds_only, bound_ends_word}
 use Rattle.tera_script.proofs.TypeNames.{same_type}

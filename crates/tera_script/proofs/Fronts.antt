@@ -1,8 +1,18 @@
 -- The bytes at the front that pass a test, and those behind them.
-use Rattle.std.proofs.Common.{◌≡◌, ◌-◌, ◌≤◌, ℕ, Bool, true, false, cond, ◌&&◌, List, [], ◌∷◌, ◌++◌, length, take, drop, refl, ap, sym, ◌∙◌, arith, append_assoc, length-append}
+use Rattle.std.proofs.Common.{◌≡◌, ◌-◌, ◌≤◌, ℕ, Bool, true, false, cond, ◌&&◌, List, [], ◌∷◌, ◌++◌, length, take, drop, refl, ap, sym, ◌∙◌, arith, append_assoc, length-append, subst}
 use Rattle.std.proofs.lemmas.List.{take_at, drop_at}
 use Rattle.std.specs.List.{list_all}
-use Rattle.tera_script.specs.Readers.{Stops, front, past}
+use Rattle.std.proofs.lemmas.Bool.Decides.{nat_tests}
+use Rattle.tera_script.specs.Word.{is_blank}
+use Rattle.tera_script.specs.Readers.{Stops, front, past, is_word_byte}
+
+abbrev pub head : List ℕ → ℕ
+head [] = 0
+head (b ∷ xs) = b
+
+abbrev pub tail : List ℕ → List ℕ
+tail [] = []
+tail (b ∷ xs) = xs
 
 module _ (p : ℕ → Bool) where
   front_step : (b : ℕ) (xs : List ℕ) (t : Bool) → p b ≡ t → front p xs ++ past p xs ≡ xs → cond (p b) (b ∷ front p xs) [] ++ cond (p b) (past p xs) (b ∷ xs) ≡ b ∷ xs
@@ -67,3 +77,18 @@ module _ (p : ℕ → Bool) where
 
   pub drop_to_past : (front' xs bytes : List ℕ) → bytes ≡ front' ++ xs → drop (length bytes - length (past p xs)) bytes ≡ past p xs
   drop_to_past front' xs bytes e = ap (drop (length bytes - length (past p xs))) (cut_at front' xs bytes e) ∙ drop_at (front' ++ front p xs) (past p xs) (length bytes - length (past p xs)) (cut_length front' xs bytes e)
+
+  pub front_cut : (xs ys : List ℕ) → past p xs ≡ ys → xs ≡ front p xs ++ ys
+  front_cut xs ys h = sym (front-past xs) ∙ ap (λ zs. front p xs ++ zs) h
+
+pub blank_ends_word : (b : ℕ) → is_blank b ≡ true → is_word_byte b ≡ false
+blank_ends_word b h = grind (arith, nat_tests)
+
+-- a byte of no word ends one, behind blanks too
+pub bracket_or_comma : (xs : List ℕ) (b : ℕ) (rest : List ℕ) → past is_blank xs ≡ b ∷ rest → is_word_byte b ≡ false → Stops is_word_byte xs
+bracket_or_comma [] b rest e n = tt
+bracket_or_comma (c ∷ xs) b rest e n = by_blank (is_blank c) refl
+  where
+    by_blank : (t : Bool) → is_blank c ≡ t → is_word_byte c ≡ false
+    by_blank true h = blank_ends_word c h
+    by_blank false h = subst (λ d. is_word_byte d ≡ false) (sym (ap head (rw h at e))) n

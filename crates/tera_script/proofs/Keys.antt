@@ -1,21 +1,24 @@
 -- What the readers of keys answer.
-use Rattle.std.proofs.Common.{◌≡◌, ◌≢◌, ◌≤◌, ℕ, true, false, List, [], ◌∷◌, ◌++◌, drop, Option, Some, None, refl, ap, sym, ◌∙◌, inl, inr, arith, subst}
+use Rattle.std.proofs.Common.{◌≡◌, ◌≢◌, ℕ, true, false, List, [], ◌∷◌, ◌++◌, drop, Option, Some, None, refl, ap, sym, ◌∙◌, inl, inr, subst}
 use Rattle.std.specs.Prelude.{codes}
 use Rattle.std.specs.List.{list_all}
 use Rattle.std.specs.Option.{option_map}
 use Rattle.std.proofs.lemmas.Option.{same_Some}
 use Rattle.tera_meaning.specs.Integer.{Integer}
 use Rattle.tera_meaning.specs.KeyMeaning.{KeyForm, truth_key, number_key, text_key, owned, borrowed}
-use Rattle.tera_meaning.specs.Tree.{depth}
+use Rattle.std.specs.Str.{IsUtf8}
+use Rattle.tera_meaning.specs.Form.{Form}
+use Rattle.tera_meaning.specs.Tree.{text}
 use Rattle.tera_script.specs.Text.{SpellsText, BeginsWithText}
 use Rattle.tera_script.specs.Literal.{SpellsKey}
 use Rattle.tera_script.specs.Number.{SpellsNumber}
-use Rattle.tera_script.specs.Readers.{Stops, front, past, number_in, is_word_byte, if_key, key_in, plain_key_at, IsKeyAt, IsQuotedAt}
+use Rattle.tera_script.specs.Readers.{Stops, front, past, number_in, is_word_byte, if_key, key_in, plain_key_at, BeginsWithKey, IsKeyAt, IsQuotedAt}
 use Rattle.tera_script.proofs.Fronts.{front-past, front_is, past_stops}
 use Rattle.tera_script.proofs.Integers.{number_found, number_only}
 use Rattle.tera_script.proofs.Words.{word_found, not_word, no_number_true, no_number_false, number_is_word}
-use Rattle.tera_script.proofs.Literals.{spelled_in, quoted_found, quoted_some, key_literal, stops_end}
-use Rattle.tera_script.proofs.Shapes.{text_begins}
+use Rattle.tera_script.proofs.Literals.{quoted_some, key_literal}
+use Rattle.tera_script.proofs.Openings.{stands, quoted_utf8, stops_end}
+use Rattle.tera_script.proofs.Shapes.{quoted_bytes}
 use Rattle.tera_values.specs.Key.{key_value}
 use Rattle.tera_values.specs.View.{marked}
 
@@ -78,17 +81,21 @@ plain_key_found xs answer quote e = rw e (go (key_in (front is_word_byte xs)) re
 
 -- ---- keys in quotes
 
-key_depth : (k : KeyForm) → depth (key_value k) ≤ 0
-key_depth (truth_key b) = omega arith
-key_depth (number_key n) = omega arith
-key_depth (text_key t) = omega arith
+abbrev spelled_in : Form → List ℕ
+spelled_in (text t) = t.spelled
+spelled_in v = []
+
+-- no key is opened by a quote but a text
+quoted_key : (xs behind rest : List ℕ) (k : KeyForm) → xs ≡ 34 ∷ behind → IsUtf8 xs → BeginsWithKey xs k rest → Stops is_word_byte rest → IsQuotedAt false behind None → ⊥
+quoted_key xs behind rest k e u b stops h =
+    let s : IsQuotedAt false behind (Some (key_value k, rest)) = rw e at (stands xs (key_value k) rest (key_literal xs k rest b) (stops_end (key_value k) rest stops)) in
+    h s.1 s.0 rest (quoted_utf8 false s.0 rest (subst IsUtf8 (e ∙ ap (λ ys. 34 ∷ ys) s.4) u)) s.2 s.4
 
 pub no_text_key : (xs behind : List ℕ) → xs ≡ 34 ∷ behind → IsQuotedAt false behind None → IsKeyAt xs None
-no_text_key xs behind e h = λ utf8 k rest b stops. quoted_found 0 false xs behind None e h utf8 (key_value k) rest (key_literal xs k rest b) (key_depth k) stops
+no_text_key xs behind e h = λ utf8 k rest b stops. quoted_key xs behind rest k e utf8 b stops h
 
 pub text_key_found : (xs behind t rest : List ℕ) (used : ℕ) → xs ≡ 34 ∷ behind → BeginsWithText behind t used → rest ≡ drop used behind → IsKeyAt xs (Some (text_key (owned t), rest))
 text_key_found xs behind t rest used e h r =
     let q = quoted_some false behind t rest used (marked t false) h refl r in
-    let same : t ≡ q.1 = ap spelled_in q.3 in
-    let b = text_begins xs (record { spelled = t; safe = false }) q.0 rest (subst (SpellsText q.0) (sym same) q.2) (e ∙ ap (λ ys. 34 ∷ ys) q.4) in
-    (record { literal = b.literal; spells = b.spells; spelled = b.spelled }, tt)
+    let same : q.1 ≡ t = sym (ap spelled_in q.3) in
+    (record { literal = 34 ∷ (q.0 ++ 34 ∷ []); spells = (q.0, subst (SpellsText q.0) same q.2, refl); spelled = e ∙ ap (λ ys. 34 ∷ ys) q.4 ∙ sym (quoted_bytes false q.0 rest) }, tt)

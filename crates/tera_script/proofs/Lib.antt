@@ -1,5 +1,6 @@
 pub mod Choices
 pub mod Fronts
+pub mod Parts
 pub mod Names
 pub mod Digits
 pub mod Integers
@@ -15,6 +16,7 @@ pub mod Utf8Fronts
 pub mod Words
 pub mod HexBytes
 pub mod Shapes
+pub mod Openings
 pub mod Literals
 pub mod Keys
 pub mod Series

@@ -1,5 +1,5 @@
 -- The pairs of a map: one pair, and the loop over them.
-use Rattle.std.proofs.Common.{◌≡◌, ◌≢◌, ◌<◌, ◌≤◌, ℕ, suc, max, List, [], ◌∷◌, ◌++◌, length, length-append, map, reverse, Some, None, refl, ap, sym, ◌∙◌, arith, subst, lit<}
+use Rattle.std.proofs.Common.{◌≡◌, ◌≢◌, ◌<◌, ◌≤◌, ℕ, suc, max, List, [], ◌∷◌, ◌++◌, length, length-append, map, reverse, Some, None, refl, ap, sym, ◌∙◌, arith, subst}
 use Rattle.std.proofs.lemmas.List.{map-append, reverse-append}
 use Rattle.std.specs.BTreeMap.{insert_entry}
 use Rattle.std.specs.Str.{IsUtf8}
@@ -11,36 +11,29 @@ use Rattle.tera_meaning.specs.Tree.{Members, object, no_members, member, members
 use Rattle.tera_meaning.specs.TreeLaws.{list_of_members}
 use Rattle.tera_script.specs.Word.{is_blank}
 use Rattle.tera_script.specs.Literal.{tree_value, pair_values, in_places}
-use Rattle.tera_script.specs.Readers.{past, AllIn, BeginsWithLiteral, BeginsWithKey, BeginsWithPair, Ends, IsKeyAt, IsLiteralAt, IsPairAt, IsMapAt}
-use Rattle.tera_script.proofs.Literals.{tail, less, only_at, only_pair, stops_end, key_literal, key_ends, only_key, bracket_or_comma}
-use Rattle.tera_script.proofs.Shapes.{literal_utf8}
+use Rattle.tera_script.specs.Readers.{past, AllIn, BeginsWithLiteral, BeginsWithKey, BeginsWithPair, IsKeyAt, IsLiteralAt, IsPairAt, IsMapAt}
+use Rattle.tera_script.proofs.Fronts.{tail, bracket_or_comma}
+use Rattle.tera_script.proofs.Literals.{EndsPair, pairs_closed, only_at, only_pair, key_literal, key_ends, only_key}
+use Rattle.tera_script.proofs.Openings.{literal_utf8}
 use Rattle.tera_script.proofs.Series.{ArePartsOf, deepest, IsSoFar, IsNowhere, IsWhole, past_utf8, past_length, none_so_far, no_part, no_mark, no_end, last_part, one_more, shorter_rest}
 use Rattle.tera_script.proofs.Utf8Texts.{after_byte}
 use Rattle.tera_values.specs.Key.{key_value}
 
 -- ---- one pair
 
-key_behind : (xs : List ℕ) (k : KeyForm) (after : List ℕ) → BeginsWithKey xs k after → length after ≤ length xs
-key_behind xs k after b = omega (arith, ap length b.spelled, length-append b.literal after)
-
 at_value_utf8 : (xs : List ℕ) (k : KeyForm) (after next : List ℕ) → BeginsWithKey xs k after → past is_blank after ≡ 58 ∷ next → IsUtf8 xs → IsUtf8 (past is_blank next)
 at_value_utf8 xs k after next b e u =
-    past_utf8 next (after_byte next 58 (omega arith) (subst IsUtf8 e (past_utf8 after (literal_utf8 xs (key_value k) after (key_literal xs k after b) u))))
-
-abbrev EndsPair : KeyForm × Form → List ℕ → Type 0
-EndsPair p rest = Ends p.1 rest
+    past_utf8 next (after_byte next 58 (omega arith) (subst IsUtf8 e (past_utf8 after (literal_utf8 xs (key_value k) after (key_literal xs k after b) (key_ends k after next e) u))))
 
 abbrev pair_depth : KeyForm × Form → ℕ
 pair_depth p = depth p.1
 
 pair_parts : ArePartsOf BeginsWithPair EndsPair 125
 pair_parts = record {
-  only = λ e xs x b s f y c t. let h = only_pair xs e.0 e.1 x (λ zs d. only_at e.1 zs x d s) f.0 f.1 y b c t in ((λ i. (h.0 i, h.1 i)), h.2);
-  stops = λ e rest s. stops_end e.1 rest s;
-  shorter = λ xs e rest b. omega (arith, key_behind xs e.0 b.0 b.2, past_length b.0, ap length b.3, past_length b.1, ap length b.4.spelled, length-append b.4.literal rest);
-  utf8 = λ xs e rest b u. literal_utf8 (past is_blank b.1) e.1 rest b.4 (at_value_utf8 xs e.0 b.0 b.1 b.2 b.3 u);
-  word = refl;
-  comma = less 125 44 (lit< tt);
+  closed = pairs_closed;
+  only = λ e. only_pair e.0 e.1 (only_at e.1);
+  shorter = λ xs e rest b. omega (arith, ap length b.2.spelled, length-append b.2.literal b.0, past_length b.0, ap length b.3, past_length b.1, ap length b.4.spelled, length-append b.4.literal rest);
+  utf8 = λ xs e rest b ends u. literal_utf8 (past is_blank b.1) e.1 rest b.4 ends (at_value_utf8 xs e.0 b.0 b.1 b.2 b.3 u);
 }
 
 -- where no key stands
@@ -83,9 +76,6 @@ pub record HasPairs (deep : ℕ) (inside : List ℕ) (pairs : List (KeyForm × F
 
 pub no_pairs_yet : (deep : ℕ) (inside : List ℕ) (pairs : List (KeyForm × Form)) (rest : List ℕ) → pairs ≡ [] → rest ≡ past is_blank inside → ((end : List ℕ) → rest ≢ 125 ∷ end) → HasPairs deep inside pairs rest
 no_pairs_yet deep inside pairs rest e r opened = record { trees = []; pairs_are = e; so_far = none_so_far BeginsWithPair EndsPair 125 pair_depth deep inside rest r opened }
-
-pub empty_map : (levels : ℕ) (inside : List ℕ) (pairs : List (KeyForm × Form)) (value : Form) (end : List ℕ) → ¬ (levels ≡ 0) → pairs ≡ [] → value ≡ object (members pairs) → past is_blank inside ≡ 125 ∷ end → IsMapAt levels inside (Some (value, end))
-empty_map levels inside pairs value end l e is h = (no_members, is ∙ ap (λ ps. object (members ps)) e, h, omega (arith, l))
 
 nowhere : (levels : ℕ) (inside : List ℕ) → IsNowhere BeginsWithPair EndsPair 125 pair_depth levels inside → IsMapAt levels inside None
 nowhere levels inside n = λ utf8 all rest h d. n utf8 (members_list all) rest h (subst (λ m. suc m ≤ levels) (sym (deepest_pair all)) d)

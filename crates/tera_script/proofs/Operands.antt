@@ -8,9 +8,8 @@ use Rattle.tera_meaning.specs.Form.{Form}
 use Rattle.tera_script.specs.Word.{is_blank, AreBlanks, IsGap, is_name_byte}
 use Rattle.tera_script.specs.Line.{SpellsOperand, SpellsValue, SpellsTwo, SpellsInto}
 use Rattle.tera_script.specs.Readers.{Stops, gap_at, operand_at, names_at, two_in, one_in, arrow_at, into_in, is_word_byte, Before}
-use Rattle.tera_script.proofs.Fronts.{both_pass}
+use Rattle.tera_script.proofs.Fronts.{both_pass, blank_ends_word}
 use Rattle.tera_script.proofs.Names.{gap_only, gap_found, operand_found, operand_only}
-use Rattle.tera_script.proofs.Literals.{blank_ends_word}
 use Rattle.tera_script.proofs.Choices.{chosen, some_mapped}
 
 -- where a blank stands, no name and no word goes on

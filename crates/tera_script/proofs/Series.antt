@@ -1,10 +1,10 @@
 -- The loop over the parts between brackets or braces, each behind a comma but the first.
-use Rattle.std.proofs.Common.{◌≡◌, ◌≢◌, ◌<◌, ◌≤◌, ℕ, suc, max, false, List, [], ◌∷◌, ◌++◌, length, refl, ap, sym, ◌∙◌, arith, append_assoc, subst}
+use Rattle.std.proofs.Common.{◌≡◌, ◌≢◌, ◌<◌, ◌≤◌, ℕ, suc, max, List, [], ◌∷◌, ◌++◌, length, refl, ap, sym, ◌∙◌, arith, append_assoc, subst}
 use Rattle.std.specs.Str.{IsUtf8}
 use Rattle.tera_script.specs.Word.{is_blank}
 use Rattle.tera_script.specs.Readers.{Stops, front, past, is_word_byte, AllIn, MoreIn}
-use Rattle.tera_script.proofs.Fronts.{front-past, front_all, length-past}
-use Rattle.tera_script.proofs.Literals.{head, tail, bracket_or_comma}
+use Rattle.tera_script.proofs.Fronts.{head, tail, front-past, front_all, length-past}
+use Rattle.tera_script.proofs.Parts.{AreClosedBy, IsOnlyPart, stops_behind}
 use Rattle.tera_script.proofs.Utf8Fronts.{utf8_past_blanks}
 use Rattle.tera_script.proofs.Utf8Texts.{after_byte}
 
@@ -13,14 +13,12 @@ abbrev pub deepest : {E : Type 0} → (E → ℕ) → List E → ℕ
 deepest deep [] = 0
 deepest deep (e ∷ es) = max (deep e) (deepest deep es)
 
--- what is needed of the parts: one alone stands at the front, what stands behind it is no longer, and UTF-8 goes on there
+-- what else is needed of the parts: one alone stands at the front, what stands behind it is no longer, and UTF-8 goes on there
 pub record ArePartsOf {E : Type 0} (Begins : List ℕ → E → List ℕ → Type 0) (EndsPart : E → List ℕ → Type 0) (close : ℕ) : Type 0 where
-  pub only : (e : E) (xs x : List ℕ) → Begins xs e x → EndsPart e x → (f : E) (y : List ℕ) → Begins xs f y → EndsPart f y → (e ≡ f) × (x ≡ y)
-  pub stops : (e : E) (rest : List ℕ) → Stops is_word_byte rest → EndsPart e rest
+  pub closed : AreClosedBy Begins EndsPart close
+  pub only : (e : E) → IsOnlyPart Begins EndsPart e
   pub shorter : (xs : List ℕ) (e : E) (rest : List ℕ) → Begins xs e rest → length rest ≤ length xs
-  pub utf8 : (xs : List ℕ) (e : E) (rest : List ℕ) → Begins xs e rest → IsUtf8 xs → IsUtf8 rest
-  pub word : is_word_byte close ≡ false
-  pub comma : close ≢ 44
+  pub utf8 : (xs : List ℕ) (e : E) (rest : List ℕ) → Begins xs e rest → EndsPart e rest → IsUtf8 xs → IsUtf8 rest
 
 pub past_utf8 : (xs : List ℕ) → IsUtf8 xs → IsUtf8 (past is_blank xs)
 past_utf8 xs u = utf8_past_blanks (front is_blank xs) (past is_blank xs) (front_all is_blank xs) (subst IsUtf8 (sym (front-past is_blank xs)) u)
@@ -74,10 +72,8 @@ module _ {E : Type 0} (Begins : List ℕ → E → List ℕ → Type 0) (EndsPar
       first (e ∷ others) end h = record { part = e; others = others; behind = h.0; begins = h.1; next = h.2; is = refl }
 
   module _ (parts : ArePartsOf Begins EndsPart close) where
-    -- what stands behind a part ends it
-    stops_behind : (others : List E) (xs end : List ℕ) → MoreIn Begins close xs others end → Stops is_word_byte xs
-    stops_behind [] xs end h = bracket_or_comma xs close end h parts.word
-    stops_behind (e ∷ others) xs end h = bracket_or_comma xs 44 h.0 h.2 refl
+    behind_stops : (others : List E) (xs end : List ℕ) → MoreIn Begins close xs others end → Stops is_word_byte xs
+    behind_stops = stops_behind Begins EndsPart close parts.closed
 
     pub shorter_rest : (rest : List ℕ) (e : E) (behind : List ℕ) (b : ℕ) (next after : List ℕ) → Begins rest e behind → past is_blank behind ≡ b ∷ next → after ≡ past is_blank next → length after < length rest
     shorter_rest rest e behind b next after l m a =
@@ -89,14 +85,14 @@ module _ {E : Type 0} (Begins : List ℕ → E → List ℕ → Type 0) (EndsPar
       no_part n = λ utf8 all end h d.
           let i = so_far.backward all end h in
           let shallow : deep i.part ≤ depth = omega (arith, deepest_inside es i.part i.others, subst (λ a. suc (deepest deep a) ≤ levels) i.is d, l) in
-          n (so_far.utf8 utf8) i.part i.behind i.begins shallow (stops_behind i.others i.behind end i.next)
+          n (so_far.utf8 utf8) i.part i.behind i.begins shallow (behind_stops i.others i.behind end i.next)
 
       module _ (e : E) (behind : List ℕ) (b : Begins rest e behind) (ends : EndsPart e behind) where
         -- the part that stands there is the one that was read
         follows : (all : List E) (end : List ℕ) → AllIn Begins close inside all end → (others : List E) × MoreIn Begins close behind others end × (all ≡ es ++ e ∷ others)
         follows all end h =
             let i = so_far.backward all end h in
-            let same = parts.only e rest behind b ends i.part i.behind i.begins (parts.stops i.part i.behind (stops_behind i.others i.behind end i.next)) in
+            let same = parts.only e rest behind b ends i.part i.behind i.begins (parts.closed.stops i.part i.behind (behind_stops i.others i.behind end i.next)) in
             (i.others, subst (λ ys. MoreIn Begins close ys i.others end) (sym same.1) i.next, i.is ∙ ap (λ f. es ++ f ∷ i.others) (sym same.0))
 
         -- behind it stands the closing byte or a comma
@@ -117,13 +113,13 @@ module _ {E : Type 0} (Begins : List ℕ → E → List ℕ → Type 0) (EndsPar
         pub one_more : (next after : List ℕ) → deep e ≤ depth → past is_blank behind ≡ 44 ∷ next → after ≡ past is_blank next → IsSoFar depth inside (es ++ e ∷ []) after
         one_more next after d m a = rw a (record {
           shallow = deepest_last es e depth so_far.shallow d;
-          utf8 = λ utf8. past_utf8 next (after_byte next 44 (omega arith) (subst IsUtf8 m (past_utf8 behind (parts.utf8 rest e behind b (so_far.utf8 utf8)))));
+          utf8 = λ utf8. past_utf8 next (after_byte next 44 (omega arith) (subst IsUtf8 m (past_utf8 behind (parts.utf8 rest e behind b ends (so_far.utf8 utf8)))));
           forward = λ f others after end c n. subst (λ all. AllIn Begins close inside all end) (sym (append_assoc es (e ∷ []) (f ∷ others))) (so_far.forward e (f ∷ others) behind end b (next, after, m, c, n));
           backward = λ all end h. let f = follows all end h in at_next all f.0 end f.1 f.2;
         })
           where
             at_next : (all others : List E) (end : List ℕ) → MoreIn Begins close behind others end → all ≡ es ++ e ∷ others → HasPart (past is_blank next) all (es ++ e ∷ []) end
-            at_next all [] end n is = absurd (parts.comma (ap head (sym n ∙ m)))
+            at_next all [] end n is = absurd (parts.closed.comma (ap head (sym n ∙ m)))
             at_next all (f ∷ others) end n is =
                 let same : n.0 ≡ next = ap tail (sym n.2 ∙ m) in
                 record { part = f; others = others; behind = n.1; begins = subst (λ ys. Begins (past is_blank ys) f n.1) same n.3; next = n.4; is = is ∙ sym (append_assoc es (e ∷ []) (f ∷ others)) }

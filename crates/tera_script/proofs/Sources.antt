@@ -133,9 +133,6 @@ named_whole value state es apart is texts holds = (
 members_are : (value : Form) (ps : List (KeyForm × Form)) → value ≡ object (members ps) → members_in value ≡ Some ps
 members_are value ps e = ap members_in e ∙ ap Some (list_of_members ps)
 
-pub no_map_named : (value : Form) → members_in value ≡ None → IsSourceOf value None
-no_map_named value none = λ pairs state is named. let some = members_are value pairs is in cc
-
 in_middle : (ys rest : List (Key × Form)) (e : Key × Form) → In (key_form e.0, e.1) (forms_of (ys ++ e ∷ rest))
 in_middle [] rest e = inl refl
 in_middle (y ∷ ys) rest e = inr (in_middle ys rest e)

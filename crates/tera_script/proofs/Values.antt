@@ -8,7 +8,8 @@ use Rattle.tera_script.specs.Literal.{tree_value}
 use Rattle.tera_script.specs.Line.{levels}
 use Rattle.tera_script.specs.Readers.{gap_at, BeginsWithLiteral, Ends, IsLiteralAt, EndsInValue, IsValueAt}
 use Rattle.tera_script.proofs.Names.{gap_found, gap_only}
-use Rattle.tera_script.proofs.Literals.{only_at, stops_end}
+use Rattle.tera_script.proofs.Literals.{only_at}
+use Rattle.tera_script.proofs.Openings.{stops_end}
 use Rattle.tera_script.proofs.Operands.{blanks_end_word}
 use Rattle.tera_script.proofs.Shapes.{literal_stops_blanks}
 use Rattle.tera_script.proofs.Utf8Fronts.{utf8_past_blanks}

@@ -1,5 +1,5 @@
 -- Worked bad lines.
-use Rattle.std.proofs.Common.{subst, length-append, ◌≡◌, ◌≢◌, ◌<◌, ℕ, suc, pos, false, List, [], ◌∷◌, ◌++◌, length, Some, None, refl, ap, sym, arith, lit<, append-nil}
+use Rattle.std.proofs.Common.{subst, length-append, ◌≡◌, ◌≢◌, ◌<◌, ℕ, suc, pos, List, [], ◌∷◌, ◌++◌, length, Some, None, refl, ap, sym, arith, lit<, append-nil}
 use lib.Utf8.{encode}
 use Rattle.std.specs.Prelude.{codes}
 use Rattle.std.specs.Str.{IsUtf8, is_utf8, chars}
@@ -23,7 +23,9 @@ use Rattle.tera_script.specs.Line.{levels, IsBad}
 use Rattle.tera_script.specs.Verb.{likely_verb}
 use Rattle.tera_script.specs.Nested.{in_brackets, in_arrays}
 use Rattle.tera_script.specs.Readers.{Stops, past, gap_at, name_at, operand_at, names_at, two_in, one_in, arrow_at, into_in, is_word_byte, plain_at, value_in, number_in, unsigned_in, digits_at, suffix_in, integer_of, hex_at, BeginsWithLiteral, Ends, ItemsAt, MoreAt, IsLiteralAt, AreOperandsOf}
-use Rattle.tera_script.proofs.Literals.{head, tail, more, less, only_at, plain_found, quoted_found, bytes_found, array_found, no_literal, no_first_comma, stops_end, more_stops}
+use Rattle.tera_script.proofs.Fronts.{head, tail}
+use Rattle.tera_script.proofs.Literals.{more, less, only_at, literal_found, no_literal, no_first_comma, more_stops}
+use Rattle.tera_script.proofs.Openings.{stops_end}
 use Rattle.tera_script.proofs.Commands.{one_answer_none, two_answer_none, kept_none_into, set_none_name, set_none_value, command_answer, command_none_verb}
 use Rattle.tera_script.proofs.Found.{named_answer}
 use Rattle.tera_script.proofs.Lines.{bad_command, bad_utf8}
@@ -88,16 +90,13 @@ pub bad_value : (literal : List ℕ) → gap_at (32 ∷ literal) ≡ Some litera
 unfolding name_at operand_at gap_at
 bad_value literal g h = at_value literal g (set_none_value (codes " a " ++ literal) (codes "a") (32 ∷ literal) refl (no_value_literal (32 ∷ literal) literal g h))
 
-number_is_plain : (xs : List ℕ) → 34 < head xs → head xs < 115 → head xs ≢ 91 → None ≡ plain_at xs → IsLiteralAt levels xs None
-number_is_plain xs q s b e = plain_found levels xs None (λ ys h. more 34 (head xs) q (sym (ap head h))) (λ ys h. more (head xs) 115 s (ap head h)) (λ ys h. omega (arith, ap head h, s)) (λ ys h. b (ap head h)) (λ ys h. omega (arith, ap head h, s)) e
-
 pub bad_large : IsBad (codes "set a 18446744073709551616u64")
 unfolding gap_at plain_at value_in number_in unsigned_in digits_at suffix_in integer_of
-bad_large = bad_value (codes "18446744073709551616u64") refl (number_is_plain (codes "18446744073709551616u64") (lit< tt) (lit< tt) (more 49 91 (lit< tt)) refl)
+bad_large = bad_value (codes "18446744073709551616u64") refl (literal_found levels (codes "18446744073709551616u64") None refl)
 
 pub bad_minus : IsBad (codes "set a -1u64")
 unfolding gap_at plain_at value_in number_in unsigned_in digits_at suffix_in integer_of
-bad_minus = bad_value (codes "-1u64") refl (number_is_plain (codes "-1u64") (lit< tt) (lit< tt) (more 45 91 (lit< tt)) refl)
+bad_minus = bad_value (codes "-1u64") refl (literal_found levels (codes "-1u64") None refl)
 
 no_text : (t inner rest : List ℕ) → IsUtf8 inner → SpellsText inner t → codes "\\x\"" ≢ inner ++ 34 ∷ rest
 no_text t [] rest u s e = less 92 34 (lit< tt) (ap head e)
@@ -107,7 +106,7 @@ no_text t (a ∷ b ∷ c ∷ inner) rest u s e = let length_is = ap (λ xs. leng
 
 pub bad_escape : IsBad (codes "set a \"\\x\"")
 unfolding gap_at
-bad_escape = bad_value (codes "\"\\x\"") refl (quoted_found levels false (codes "\"\\x\"") (codes "\\x\"") None refl no_text)
+bad_escape = bad_value (codes "\"\\x\"") refl (literal_found levels (codes "\"\\x\"") None no_text)
 
 pub bad_bytes : IsBad (codes "eq a b " ++ (255 ∷ []))
 unfolding is_utf8 chars encode
@@ -116,19 +115,19 @@ bad_bytes = bad_utf8 (codes "eq a b " ++ (255 ∷ [])) refl (λ u. let yes = is_
 -- byte strings
 pub bad_odd_digits : IsBad (codes "set a x\"6\"")
 unfolding gap_at hex_at
-bad_odd_digits = bad_value (codes "x\"6\"") refl (bytes_found levels (codes "x\"6\"") (codes "6\"") None refl refl)
+bad_odd_digits = bad_value (codes "x\"6\"") refl (literal_found levels (codes "x\"6\"") None refl)
 
 pub bad_no_digit : IsBad (codes "set a x\"6g\"")
 unfolding gap_at hex_at
-bad_no_digit = bad_value (codes "x\"6g\"") refl (bytes_found levels (codes "x\"6g\"") (codes "6g\"") None refl refl)
+bad_no_digit = bad_value (codes "x\"6g\"") refl (literal_found levels (codes "x\"6g\"") None refl)
 
 pub bad_no_quote : IsBad (codes "set a x\"66")
 unfolding gap_at hex_at
-bad_no_quote = bad_value (codes "x\"66") refl (bytes_found levels (codes "x\"66") (codes "66") None refl refl)
+bad_no_quote = bad_value (codes "x\"66") refl (literal_found levels (codes "x\"66") None refl)
 
 -- arrays
 bad_array : (inside : List ℕ) → gap_at (32 ∷ 91 ∷ inside) ≡ Some (91 ∷ inside) → ((all : Items Integer MarkedText KeyForm) (rest : List ℕ) → ItemsAt inside all rest → ⊥) → IsBad (codes "set a [" ++ inside)
-bad_array inside g h = bad_value (91 ∷ inside) g (array_found levels (91 ∷ inside) inside None refl (λ utf8 all rest at d. h all rest at))
+bad_array inside g h = bad_value (91 ∷ inside) g (literal_found levels (91 ∷ inside) None (λ utf8 all rest at d. h all rest at))
 
 -- behind a first item `none`
 behind_none : (behind : List ℕ) → Stops is_word_byte behind → ((others : Items Integer MarkedText KeyForm) (rest : List ℕ) → MoreAt behind others rest → ⊥) → (all : Items Integer MarkedText KeyForm) (rest : List ℕ) → ItemsAt (codes "none" ++ behind) all rest → ⊥

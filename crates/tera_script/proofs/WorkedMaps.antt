@@ -19,9 +19,10 @@ use Rattle.tera_script.specs.Literal.{IsPair, SpellsTree, SpellsKey, tree_value}
 use Rattle.tera_script.specs.Line.{levels, Says, IsBad}
 use Rattle.tera_script.specs.Nested.{in_brackets, in_arrays, in_turns, in_both}
 use Rattle.tera_script.specs.Readers.{past, gap_at, number_in, unsigned_in, digits_at, key_in, plain_key_at, BeginsWithKey, BeginsWithPair, Ends, PairsAt, MorePairsAt, IsKeyAt, IsLiteralAt}
-use Rattle.tera_script.proofs.Fronts.{both_pass}
+use Rattle.tera_script.proofs.Fronts.{head, tail, both_pass, bracket_or_comma}
 use Rattle.tera_script.proofs.Keys.{plain_key_found}
-use Rattle.tera_script.proofs.Literals.{head, tail, more, less, only_at, only_key, only_pair, key_ends, map_found, no_pair, stops_end, more_pairs_stop, bracket_or_comma}
+use Rattle.tera_script.proofs.Literals.{more, less, only_at, only_key, only_pair, key_ends, literal_found, no_pair, more_pairs_stop}
+use Rattle.tera_script.proofs.Openings.{stops_end}
 use Rattle.tera_script.proofs.WorkedLines.{sets, one_spelled, nested_spelled}
 use Rattle.tera_script.proofs.WorkedFaults.{bad_value, too_deep}
 use Rattle.tera_values.specs.Key.{key_value}
@@ -128,7 +129,7 @@ bad_too_deep_by_turns = bad_value (in_brackets 1 (in_turns 32 (codes "none"))) r
 -- ---- bad lines
 
 bad_map : (inside : List ℕ) → gap_at (32 ∷ 123 ∷ inside) ≡ Some (123 ∷ inside) → (IsUtf8 inside → (all : Members Integer MarkedText KeyForm) (rest : List ℕ) → PairsAt inside all rest → ⊥) → IsBad (codes "set a {" ++ inside)
-bad_map inside g h = bad_value (123 ∷ inside) g (map_found levels (123 ∷ inside) inside None refl (λ utf8 all rest at d. h utf8 all rest at))
+bad_map inside g h = bad_value (123 ∷ inside) g (literal_found levels (123 ∷ inside) None (λ utf8 all rest at d. h utf8 all rest at))
 
 -- where no key and no closing brace stands
 no_key : (inside : List ℕ) → past is_blank inside ≡ inside → ((end : List ℕ) → inside ≢ 125 ∷ end) → IsKeyAt inside None → IsUtf8 inside → (all : Members Integer MarkedText KeyForm) (rest : List ℕ) → PairsAt inside all rest → ⊥
@@ -172,8 +173,8 @@ behind_first : (inside : List ℕ) (k : KeyForm) (v : Form) (x : List ℕ) → B
     → (all : Members Integer MarkedText KeyForm) (rest : List ℕ) → PairsAt inside all rest → ⊥
 behind_first inside k v x b ends opened h no_members rest at = opened rest at
 behind_first inside k v x b ends opened h (member l w others) rest at =
-    let same = only_pair (past is_blank inside) k v x (λ zs d. only_at v zs x d ends) l w at.0 b at.1 (stops_end w at.0 (more_pairs_stop others at.0 rest at.2)) in
-    h others rest (subst (λ ys. MorePairsAt ys others rest) (sym same.2) at.2)
+    let same = only_pair k v (only_at v) (past is_blank inside) x b ends (l, w) at.0 at.1 (stops_end w at.0 (more_pairs_stop others at.0 rest at.2)) in
+    h others rest (subst (λ ys. MorePairsAt ys others rest) (sym same.1) at.2)
 
 a_is_one : (rest : List ℕ) → BeginsWithPair (codes "\"a\": 1" ++ rest) (text_key_of (codes "a"), number (one i64)) rest
 a_is_one rest = (codes ": 1" ++ rest, codes " 1" ++ rest, key_a (codes ": 1" ++ rest), refl, record { literal = codes "1"; spells = one_spelled; spelled = refl })

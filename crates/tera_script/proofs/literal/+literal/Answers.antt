@@ -1,10 +1,9 @@
-use Rattle.std.proofs.Common.{◌-◌, ◌++◌, true, false, ◌∷◌, length, None, ap, sym, ◌∙◌, arith, subst}
-use Rattle.std.specs.Option.{option_map}
+use Rattle.std.proofs.Common.{◌-◌, ◌++◌, ◌∷◌, length, None, ap, sym, ◌∙◌, arith, subst}
 use Rattle.std.proofs.lemmas.Bool.Decides.{Decides-eqb}
 use Rattle.std.proofs.lemmas.Slice.Eq.{strip_prefix_is}
-use Rattle.tera_script.specs.Readers.{with_rest, IsLiteralAt}
+use Rattle.tera_script.specs.Readers.{IsLiteralAt}
 use Rattle.tera_script.proofs.Arrays.{no_items_yet, no_item, no_item_mark, no_item_end, last_item, next_item, shorter_item}
-use Rattle.tera_script.proofs.Literals.{on_answer, plain_found, quoted_found, bytes_found, array_found, map_found, other_byte}
+use Rattle.tera_script.proofs.Literals.{on_answer, literal_found, plain_found, other_byte}
 use Rattle.tera_script.proofs.Maps.{no_pairs_yet, no_more_pair, no_pair_mark, no_pair_end, last_pair, next_pair, shorter_pair, no_pair_key, no_colon, no_pair_value}
 use Rattle.tera_script.proofs.literal.+literal.Goals as goal
 use Rattle.tera_values.specs.Key.{key_form}
@@ -12,9 +11,8 @@ use Rattle.tera_values.specs.Map.{pairs_in}
 
 pub take_array-loop-items-init : goal.take_array-loop-items-init
 take_array-loop-items-init t c =
-    let closed = rw (c.in_default.is) at (strip_prefix_is Decides-eqb c.past_blanks-rest.result.now c.as_slice.result.now c.strip_prefix.result c.strip_prefix.ensures.cases) in
     no_items_yet (c.args.levels - 1) c.args.bytes.now c.new-items.result.items c.past_blanks-rest.result.now c.new-items.ensures.items c.past_blanks-rest.ensures
-    (λ end e. closed end (e ∙ ap (λ p. p ++ end) (sym c.as_slice.ensures)))
+    (rw (c.in_default.is, c.as_slice.ensures) at (strip_prefix_is Decides-eqb c.past_blanks-rest.result.now c.as_slice.result.now c.strip_prefix.result c.strip_prefix.ensures.cases))
 
 pub take_array-returns-in_default-2 : goal.take_array-returns-in_default-2
 take_array-returns-in_default-2 t c =
@@ -58,49 +56,42 @@ take_array-loop-items-preserved t c =
 
 pub take_literal-returns-in-Some : goal.take_literal-returns-in-Some
 take_literal-returns-in-Some t c =
-    let stripped = rw (c.in-Some.is) at (strip_prefix_is Decides-eqb c.args.bytes.now c.as_slice.result.now c.strip_prefix.result c.strip_prefix.ensures.cases) in
-    on_answer _ _ c.take_quoted.result (λ answer h. quoted_found c.args.levels false c.args.bytes.now c.in-Some.text.now (option_map with_rest answer) (stripped ∙ ap (λ q. q ++ c.in-Some.text.now) c.as_slice.ensures) h) c.take_quoted.ensures
+    let opens = rw (c.in-Some.is, c.as_slice.ensures) at (strip_prefix_is Decides-eqb c.args.bytes.now c.as_slice.result.now c.strip_prefix.result c.strip_prefix.ensures.cases) in
+    on_answer _ _ c.take_quoted.result (λ answer h. literal_found c.args.levels c.args.bytes.now _ (rw opens h)) c.take_quoted.ensures
 
 pub take_literal-returns-in-Some-strip_prefix : goal.take_literal-returns-in-Some-strip_prefix
 take_literal-returns-in-Some-strip_prefix t c =
-    let stripped = rw (c.in-Some-strip_prefix.is) at (strip_prefix_is Decides-eqb c.args.bytes.now c.as_slice-in_default.result.now c.strip_prefix-in_default.result c.strip_prefix-in_default.ensures.cases) in
-    on_answer _ _ c.take_quoted-in-Some-strip_prefix.result (λ answer h. quoted_found c.args.levels true c.args.bytes.now c.in-Some-strip_prefix.text.now (option_map with_rest answer) (stripped ∙ ap (λ q. q ++ c.in-Some-strip_prefix.text.now) c.as_slice-in_default.ensures) h) c.take_quoted-in-Some-strip_prefix.ensures
+    let opens = rw (c.in-Some-strip_prefix.is, c.as_slice-in_default.ensures) at (strip_prefix_is Decides-eqb c.args.bytes.now c.as_slice-in_default.result.now c.strip_prefix-in_default.result c.strip_prefix-in_default.ensures.cases) in
+    on_answer _ _ c.take_quoted-in-Some-strip_prefix.result (λ answer h. literal_found c.args.levels c.args.bytes.now _ (rw opens h)) c.take_quoted-in-Some-strip_prefix.ensures
 
 pub take_literal-returns-in-Some-strip_prefix-2 : goal.take_literal-returns-in-Some-strip_prefix-2
 take_literal-returns-in-Some-strip_prefix-2 t c =
-    let stripped = rw (c.in-Some-strip_prefix-2.is) at (strip_prefix_is Decides-eqb c.args.bytes.now c.as_slice-in_default-strip_prefix.result.now c.strip_prefix-in_default-strip_prefix.result c.strip_prefix-in_default-strip_prefix.ensures.cases) in
-    on_answer _ _ c.take_bytes.result (λ answer h. bytes_found c.args.levels c.args.bytes.now c.in-Some-strip_prefix-2.digits.now (option_map with_rest answer) (stripped ∙ ap (λ q. q ++ c.in-Some-strip_prefix-2.digits.now) c.as_slice-in_default-strip_prefix.ensures) h) c.take_bytes.ensures
+    let opens = rw (c.in-Some-strip_prefix-2.is, c.as_slice-in_default-strip_prefix.ensures) at (strip_prefix_is Decides-eqb c.args.bytes.now c.as_slice-in_default-strip_prefix.result.now c.strip_prefix-in_default-strip_prefix.result c.strip_prefix-in_default-strip_prefix.ensures.cases) in
+    on_answer _ _ c.take_bytes.result (λ answer h. literal_found c.args.levels c.args.bytes.now _ (rw opens h)) c.take_bytes.ensures
 
 pub take_literal-returns-in-Some-strip_prefix-3 : goal.take_literal-returns-in-Some-strip_prefix-3
 take_literal-returns-in-Some-strip_prefix-3 t c =
-    let stripped = rw (c.in-Some-strip_prefix-3.is) at (strip_prefix_is Decides-eqb c.args.bytes.now c.as_slice-in_default-strip_prefix-2.result.now c.strip_prefix-in_default-strip_prefix-2.result c.strip_prefix-in_default-strip_prefix-2.ensures.cases) in
-    on_answer _ _ c.take_array.result (λ answer h. array_found c.args.levels c.args.bytes.now c.in-Some-strip_prefix-3.inside.now (option_map with_rest answer) (stripped ∙ ap (λ q. q ++ c.in-Some-strip_prefix-3.inside.now) c.as_slice-in_default-strip_prefix-2.ensures) h) c.take_array.ensures
+    let opens = rw (c.in-Some-strip_prefix-3.is, c.as_slice-in_default-strip_prefix-2.ensures) at (strip_prefix_is Decides-eqb c.args.bytes.now c.as_slice-in_default-strip_prefix-2.result.now c.strip_prefix-in_default-strip_prefix-2.result c.strip_prefix-in_default-strip_prefix-2.ensures.cases) in
+    on_answer _ _ c.take_array.result (λ answer h. literal_found c.args.levels c.args.bytes.now _ (rw opens h)) c.take_array.ensures
 
 pub take_literal-returns-in-Some-strip_prefix-4 : goal.take_literal-returns-in-Some-strip_prefix-4
 take_literal-returns-in-Some-strip_prefix-4 t c =
-    let stripped = rw (c.in-Some-strip_prefix-4.is) at (strip_prefix_is Decides-eqb c.args.bytes.now c.as_slice-in_default-strip_prefix-3.result.now c.strip_prefix-in_default-strip_prefix-3.result c.strip_prefix-in_default-strip_prefix-3.ensures.cases) in
-    on_answer _ _ c.take_map.result (λ answer h. map_found c.args.levels c.args.bytes.now c.in-Some-strip_prefix-4.inside.now (option_map with_rest answer) (stripped ∙ ap (λ q. q ++ c.in-Some-strip_prefix-4.inside.now) c.as_slice-in_default-strip_prefix-3.ensures) h) c.take_map.ensures
+    let opens = rw (c.in-Some-strip_prefix-4.is, c.as_slice-in_default-strip_prefix-3.ensures) at (strip_prefix_is Decides-eqb c.args.bytes.now c.as_slice-in_default-strip_prefix-3.result.now c.strip_prefix-in_default-strip_prefix-3.result c.strip_prefix-in_default-strip_prefix-3.ensures.cases) in
+    on_answer _ _ c.take_map.result (λ answer h. literal_found c.args.levels c.args.bytes.now _ (rw opens h)) c.take_map.ensures
 
 pub take_literal-returns-in_default-strip_prefix-4 : goal.take_literal-returns-in_default-strip_prefix-4
-take_literal-returns-in_default-strip_prefix-4 t c =
-    let normal = rw (c.in_default.is) at (strip_prefix_is Decides-eqb c.args.bytes.now c.as_slice.result.now c.strip_prefix.result c.strip_prefix.ensures.cases) in
-    let safe = rw (c.in_default-strip_prefix.is) at (strip_prefix_is Decides-eqb c.args.bytes.now c.as_slice-in_default.result.now c.strip_prefix-in_default.result c.strip_prefix-in_default.ensures.cases) in
-    let hex = rw (c.in_default-strip_prefix-2.is) at (strip_prefix_is Decides-eqb c.args.bytes.now c.as_slice-in_default-strip_prefix.result.now c.strip_prefix-in_default-strip_prefix.result c.strip_prefix-in_default-strip_prefix.ensures.cases) in
-    let bracket = rw (c.in_default-strip_prefix-3.is) at (strip_prefix_is Decides-eqb c.args.bytes.now c.as_slice-in_default-strip_prefix-2.result.now c.strip_prefix-in_default-strip_prefix-2.result c.strip_prefix-in_default-strip_prefix-2.ensures.cases) in
-    let brace = rw (c.in_default-strip_prefix-4.is) at (strip_prefix_is Decides-eqb c.args.bytes.now c.as_slice-in_default-strip_prefix-3.result.now c.strip_prefix-in_default-strip_prefix-3.result c.strip_prefix-in_default-strip_prefix-3.ensures.cases) in
-    plain_found c.args.levels c.args.bytes.now (option_map with_rest c.take_plain.result)
-    (λ ys e. normal ys (e ∙ ap (λ p. p ++ ys) (sym c.as_slice.ensures)))
-    (λ ys e. safe ys (e ∙ ap (λ p. p ++ ys) (sym c.as_slice-in_default.ensures)))
-    (λ ys e. hex ys (e ∙ ap (λ p. p ++ ys) (sym c.as_slice-in_default-strip_prefix.ensures)))
-    (λ ys e. bracket ys (e ∙ ap (λ p. p ++ ys) (sym c.as_slice-in_default-strip_prefix-2.ensures)))
-    (λ ys e. brace ys (e ∙ ap (λ p. p ++ ys) (sym c.as_slice-in_default-strip_prefix-3.ensures)))
+take_literal-returns-in_default-strip_prefix-4 t c = plain_found c.args.levels c.args.bytes.now _
+    (rw (c.in_default.is, c.as_slice.ensures) at (strip_prefix_is Decides-eqb c.args.bytes.now c.as_slice.result.now c.strip_prefix.result c.strip_prefix.ensures.cases))
+    (rw (c.in_default-strip_prefix.is, c.as_slice-in_default.ensures) at (strip_prefix_is Decides-eqb c.args.bytes.now c.as_slice-in_default.result.now c.strip_prefix-in_default.result c.strip_prefix-in_default.ensures.cases))
+    (rw (c.in_default-strip_prefix-2.is, c.as_slice-in_default-strip_prefix.ensures) at (strip_prefix_is Decides-eqb c.args.bytes.now c.as_slice-in_default-strip_prefix.result.now c.strip_prefix-in_default-strip_prefix.result c.strip_prefix-in_default-strip_prefix.ensures.cases))
+    (rw (c.in_default-strip_prefix-3.is, c.as_slice-in_default-strip_prefix-2.ensures) at (strip_prefix_is Decides-eqb c.args.bytes.now c.as_slice-in_default-strip_prefix-2.result.now c.strip_prefix-in_default-strip_prefix-2.result c.strip_prefix-in_default-strip_prefix-2.ensures.cases))
+    (rw (c.in_default-strip_prefix-4.is, c.as_slice-in_default-strip_prefix-3.ensures) at (strip_prefix_is Decides-eqb c.args.bytes.now c.as_slice-in_default-strip_prefix-3.result.now c.strip_prefix-in_default-strip_prefix-3.result c.strip_prefix-in_default-strip_prefix-3.ensures.cases))
     c.take_plain.ensures
 
 pub take_map-loop-pairs-init : goal.take_map-loop-pairs-init
 take_map-loop-pairs-init t c =
-    let closed = rw (c.in_default.is) at (strip_prefix_is Decides-eqb c.past_blanks-rest.result.now c.as_slice.result.now c.strip_prefix.result c.strip_prefix.ensures.cases) in
     no_pairs_yet (c.args.levels - 1) c.args.bytes.now (pairs_in c.new-pairs.result) c.past_blanks-rest.result.now c.new-pairs.ensures c.past_blanks-rest.ensures
-    (λ end e. closed end (e ∙ ap (λ p. p ++ end) (sym c.as_slice.ensures)))
+    (rw (c.in_default.is, c.as_slice.ensures) at (strip_prefix_is Decides-eqb c.past_blanks-rest.result.now c.as_slice.result.now c.strip_prefix.result c.strip_prefix.ensures.cases))
 
 pub take_map-returns-in_default-2 : goal.take_map-returns-in_default-2
 take_map-returns-in_default-2 t c =
