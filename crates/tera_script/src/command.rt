@@ -1,17 +1,15 @@
 //! Commands: a word, its operands, and the name for what is found.
 ghost use Rattle.std.specs.Prelude.{◌≡◌, ℕ, List, Some, IfOk};
-ghost use Rattle.std.specs.List.{list_all};
 ghost use Rattle.std.specs.Option.{option_map};
 ghost use Rattle.std.specs.String.{string_bytes};
 ghost use Rattle.tera_context.specs.Call.{command_of};
-ghost use Rattle.tera_script.specs.Word.{is_blank};
-ghost use Rattle.tera_script.specs.Readers.{two_in, one_in, arrow_at, into_in, named_rest};
 ghost use Rattle.tera_script.specs.Readers.{AreOperandsOf, IsCommandAt, IsValueAt};
 ghost use Rattle.tera_script.specs.declared.verb.Verb.TheVariants.{Set, Extend, Two, One};
 
-use crate::kept::{read_keeping, take_names};
+use crate::kept::read_keeping;
 use crate::literal::{LEVELS, take_literal};
 use crate::name::name_text;
+use crate::operand::{one_in, two_in};
 use crate::source::source_of;
 use crate::verb::{OneName, TwoNames, Verb, one_call, two_call, verb_in};
 use crate::word::{are_blanks, past_gap, take_name, take_operand};
@@ -125,48 +123,4 @@ fn read_one(alloc: Global, verb: OneName, bytes: &[u8]) -> Result<Option<Step>, 
         call: one_call(verb, name),
         into: None,
     }))
-}
-
-// Two names behind one another, and no more than blanks behind them.
-#[tactic(auto, unfolding(crate::specs::Readers::two_in))]
-fn two_in(bytes: &[u8]) -> Option<(&[u8], &[u8])>
-    ensures { option_map named_rest result ≡ two_in bytes.now }
-{
-    let (names, rest) = take_names(bytes)?;
-    if are_blanks(rest) { Some(names) } else { None }
-}
-
-// One name, and no more than blanks behind it.
-#[tactic(auto, unfolding(crate::specs::Readers::one_in))]
-fn one_in(bytes: &[u8]) -> Option<&[u8]>
-    ensures { option_map (λ name. name.now) result ≡ one_in bytes.now }
-{
-    let (name, rest) = take_operand(bytes)?;
-    if are_blanks(rest) { Some(name) } else { None }
-}
-
-/// The name behind a gap and an arrow, or none where no more than blanks stand there. `None` where
-/// anything else does. Takes no memory.
-#[tactic(auto, unfolding(crate::specs::Readers::into_in))]
-pub(crate) fn into_in(bytes: &[u8]) -> Option<Option<&[u8]>>
-    ensures { option_map (option_map (λ name. name.now)) result ≡ into_in bytes.now }
-{
-    if are_blanks(bytes) {
-        return Some(None);
-    }
-    let arrow = past_gap(bytes)?;
-    let behind = past_arrow(arrow)?;
-    let name = one_in(behind)?;
-    Some(Some(name))
-}
-
-// The bytes behind an arrow.
-#[tactic(auto, unfolding(crate::specs::Readers::arrow_at))]
-fn past_arrow(bytes: &[u8]) -> Option<&[u8]>
-    ensures { option_map (λ rest. rest.now) result ≡ arrow_at bytes.now }
-{
-    match bytes {
-        [b'-', b'>', rest @ ..] => Some(rest),
-        _ => None,
-    }
 }

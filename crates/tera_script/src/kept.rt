@@ -2,21 +2,19 @@
 ghost use Rattle.std.specs.Prelude.{◌≡◌, IfOk};
 ghost use Rattle.std.specs.Option.{option_map};
 ghost use Rattle.tera_context.specs.Call.{command_of};
-ghost use Rattle.tera_script.specs.Readers.{names_at, names_rest, IsTextAt, text_rest};
 ghost use Rattle.tera_script.specs.Readers.{AreOperandsOf};
 ghost use Rattle.tera_script.specs.declared.verb.Keeping.TheVariants.{Name, Names, Part, Slice};
 ghost use Rattle.tera_script.specs.declared.verb.Keeping.TheVariants.{Read};
 ghost use Rattle.tera_script.specs.declared.verb.Verb.TheVariants.{Keeping as keeping};
 
 use crate::bound::take_bounds;
-use crate::command::into_in;
 use crate::name::{into_text, name_text};
-use crate::text::take_text;
+use crate::operand::{into_in, take_names, take_text_operand};
 use crate::types::type_in;
 use crate::verb::{
     Keeping, KeepingName, KeepingNames, KeepingPart, keeping_call, names_call, part_call,
 };
-use crate::word::{past_gap, take_operand};
+use crate::word::take_operand;
 use std::alloc::{AllocError, Global};
 use tera_context::{Call, Step};
 
@@ -151,31 +149,4 @@ fn read_typed(alloc: Global, bytes: &[u8]) -> Result<Option<Step>, AllocError>
         call: Call::Read { of, to },
         into,
     }))
-}
-
-/// Two names behind one another, and the bytes behind them. Takes no memory.
-#[tactic(auto, unfolding(crate::specs::Readers::names_at))]
-pub(crate) fn take_names(bytes: &[u8]) -> Option<((&[u8], &[u8]), &[u8])>
-    ensures { option_map names_rest result ≡ names_at bytes.now }
-{
-    let (left, behind) = take_operand(bytes)?;
-    let (right, rest) = take_operand(behind)?;
-    Some(((left, right), rest))
-}
-
-// The text in quotes behind a gap, and the bytes behind it.
-fn take_text_operand(alloc: Global, bytes: &[u8]) -> Result<Option<(String, &[u8])>, AllocError>
-    ensures { IfOk result (λ answer. IsTextAt bytes.now (option_map text_rest answer)) }
-{
-    let Some(literal) = past_gap(bytes) else {
-        return Ok(None);
-    };
-    let Some(quoted) = literal.strip_prefix(b"\"".as_slice()) else {
-        return Ok(None);
-    };
-    let Some(taken) = take_text(alloc, quoted)? else {
-        return Ok(None);
-    };
-    let (_, rest) = quoted.split_at(taken.used);
-    Ok(Some((taken.text, rest)))
 }

@@ -12,6 +12,7 @@ mod line;
 mod literal;
 mod name;
 mod number;
+mod operand;
 mod source;
 mod text;
 mod text_laws;

@@ -1,0 +1,85 @@
+//! The operands of calls, and the name for what is found.
+ghost use Rattle.std.specs.Prelude.{◌≡◌, IfOk};
+ghost use Rattle.std.specs.List.{list_all};
+ghost use Rattle.std.specs.Option.{option_map};
+ghost use Rattle.tera_script.specs.Readers.{two_in, one_in, arrow_at, into_in, named_rest};
+ghost use Rattle.tera_script.specs.Readers.{names_at, names_rest, IsTextAt, text_rest};
+ghost use Rattle.tera_script.specs.Word.{is_blank};
+
+use crate::text::take_text;
+use crate::word::{are_blanks, past_gap, take_operand};
+use std::alloc::{AllocError, Global};
+
+/// Two names behind one another, and the bytes behind them. Takes no memory.
+#[tactic(auto, unfolding(crate::specs::Readers::names_at))]
+pub(crate) fn take_names(bytes: &[u8]) -> Option<((&[u8], &[u8]), &[u8])>
+    ensures { option_map names_rest result ≡ names_at bytes.now }
+{
+    let (left, behind) = take_operand(bytes)?;
+    let (right, rest) = take_operand(behind)?;
+    Some(((left, right), rest))
+}
+
+/// The text in quotes behind a gap, and the bytes behind it.
+pub(crate) fn take_text_operand(
+    alloc: Global,
+    bytes: &[u8],
+) -> Result<Option<(String, &[u8])>, AllocError>
+    ensures { IfOk result (λ answer. IsTextAt bytes.now (option_map text_rest answer)) }
+{
+    let Some(literal) = past_gap(bytes) else {
+        return Ok(None);
+    };
+    let Some(quoted) = literal.strip_prefix(b"\"".as_slice()) else {
+        return Ok(None);
+    };
+    let Some(taken) = take_text(alloc, quoted)? else {
+        return Ok(None);
+    };
+    let (_, rest) = quoted.split_at(taken.used);
+    Ok(Some((taken.text, rest)))
+}
+
+/// Two names behind one another, and no more than blanks behind them.
+#[tactic(auto, unfolding(crate::specs::Readers::two_in))]
+pub(crate) fn two_in(bytes: &[u8]) -> Option<(&[u8], &[u8])>
+    ensures { option_map named_rest result ≡ two_in bytes.now }
+{
+    let (names, rest) = take_names(bytes)?;
+    if are_blanks(rest) { Some(names) } else { None }
+}
+
+/// One name, and no more than blanks behind it.
+#[tactic(auto, unfolding(crate::specs::Readers::one_in))]
+pub(crate) fn one_in(bytes: &[u8]) -> Option<&[u8]>
+    ensures { option_map (λ name. name.now) result ≡ one_in bytes.now }
+{
+    let (name, rest) = take_operand(bytes)?;
+    if are_blanks(rest) { Some(name) } else { None }
+}
+
+/// The name behind a gap and an arrow, or none where no more than blanks stand there. `None` where
+/// anything else does. Takes no memory.
+#[tactic(auto, unfolding(crate::specs::Readers::into_in))]
+pub(crate) fn into_in(bytes: &[u8]) -> Option<Option<&[u8]>>
+    ensures { option_map (option_map (λ name. name.now)) result ≡ into_in bytes.now }
+{
+    if are_blanks(bytes) {
+        return Some(None);
+    }
+    let arrow = past_gap(bytes)?;
+    let behind = past_arrow(arrow)?;
+    let name = one_in(behind)?;
+    Some(Some(name))
+}
+
+// The bytes behind an arrow.
+#[tactic(auto, unfolding(crate::specs::Readers::arrow_at))]
+fn past_arrow(bytes: &[u8]) -> Option<&[u8]>
+    ensures { option_map (λ rest. rest.now) result ≡ arrow_at bytes.now }
+{
+    match bytes {
+        [b'-', b'>', rest @ ..] => Some(rest),
+        _ => None,
+    }
+}
