@@ -21,7 +21,7 @@ use Rattle.tera_meaning.specs.Form.{Form}
 use Rattle.tera_meaning.specs.Meaning.{plain}
 use Rattle.tera_meaning.specs.Order.{same}
 use Rattle.tera_meaning.specs.State.{State, states_equal, extended, IsProperBeginning}
-use Rattle.tera_meaning.specs.StateLaws.{name_exact, same_state}
+use Rattle.tera_meaning.proofs.StateLaws.{name_exact, same_state}
 use Rattle.tera_context.specs.Context.{named, state_of}
 
 -- the pairs stand in the order of their names

@@ -10,7 +10,7 @@ use Rattle.std.specs.Ordering.{nat_cmp, eq_by_cmp}
 use Rattle.std.specs.Str.{IsUtf8}
 use Rattle.std.specs.String.{string_bytes}
 use Rattle.tera_meaning.specs.Form.{Form}
-use Rattle.tera_meaning.specs.StateLaws.{name_exact}
+use Rattle.tera_meaning.proofs.StateLaws.{name_exact}
 use Rattle.tera_meaning.specs.WellMade.{IsWellMade, IsWellMadeState}
 use Rattle.tera_context.specs.Context.{named, state_of}
 

@@ -13,7 +13,7 @@ use Rattle.std.specs.String.{string_bytes, string_cmp}
 use Rattle.std.proofs.lemmas.Map.Text.{is_eq-slice_cmp, btree_map_updates_text}
 use Rattle.tera_meaning.specs.Form.{Form}
 use Rattle.tera_meaning.specs.Read.{marked_safe}
-use Rattle.tera_meaning.specs.StateLaws.{same_state}
+use Rattle.tera_meaning.proofs.StateLaws.{same_state}
 use Rattle.tera_meaning.specs.Step.{marking}
 use Rattle.tera_context.specs.Context.{named, state_of}
 

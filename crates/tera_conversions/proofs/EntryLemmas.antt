@@ -11,7 +11,7 @@ use Rattle.std.proofs.lemmas.Map.Keys.{IsDistinct-IsPermutation, IsDistinct-head
 use Rattle.tera_conversions.specs.Given.{GivesPair}
 use Rattle.tera_meaning.proofs.UniqueLaws.{rising_permutes, rising_permuted}
 use Rattle.tera_meaning.specs.Form.{Form}
-use Rattle.tera_meaning.specs.KeyLaws.{key_is, key_total}
+use Rattle.tera_meaning.proofs.KeyLaws.{key_is, key_total}
 use Rattle.tera_meaning.specs.KeyMeaning.{KeyForm, key_meaning}
 use Rattle.tera_meaning.specs.Pairs.{HasDistinctKeys, key_form_order, pairs_of}
 

@@ -2,7 +2,7 @@
 use Rattle.std.specs.Prelude.{◌≡◌, true}
 use Rattle.std.specs.Ordering.{eq_by_cmp, is_eq}
 use Rattle.std.proofs.Common.{sym, ◌∙◌, ap, subst}
-use Rattle.tera_meaning.specs.KeyLaws.{key_same}
+use Rattle.tera_meaning.proofs.KeyLaws.{key_same}
 use Rattle.tera_meaning.specs.KeyMeaning.{KeyForm, key_meaning, key_order}
 use Rattle.tera_values.specs.Key.{key_form, meaning_of_key}
 use Rattle.tera_values.specs.declared.key.Key.{Key}

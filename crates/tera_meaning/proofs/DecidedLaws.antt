@@ -12,7 +12,7 @@ use Rattle.tera_meaning.specs.Decided.{decided, decided_items}
 use Rattle.tera_meaning.specs.KeyMeaning.{KeyMeaning}
 use Rattle.tera_meaning.specs.Meaning.{Meaning}
 use Rattle.tera_meaning.specs.Order.{rank, compare, compare_items}
-use Rattle.tera_meaning.specs.OrderLaws.{compare_reversed}
+use Rattle.tera_meaning.proofs.OrderLaws.{compare_reversed}
 use Rattle.tera_meaning.specs.Tree.{Items, undefined, none, truth, number, text, bytes, array, object, no_items, item, items}
 
 -- the parts of two answers, one after the other

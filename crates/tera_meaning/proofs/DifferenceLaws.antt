@@ -9,7 +9,7 @@ use Rattle.std.specs.Option.{option_eq}
 use Rattle.std.specs.Ordering.{ordering_then, eq_by_cmp, is_lt, is_eq}
 use Rattle.std.specs.declared.cmp.Ordering.{Ordering}
 use Rattle.std.specs.declared.cmp.Ordering.TheVariants.{Less, Equal, Greater}
-use Rattle.tera_meaning.specs.Chained.{first_equal, second_equal}
+use Rattle.tera_meaning.proofs.ChainedLaws.{first_equal, second_equal}
 use Rattle.tera_meaning.specs.Pairs.{Rises, rising, value_at, goes_on, entry_order, agree_at, AgreeEverywhere, IsLeastDifference, by_values, order_at}
 use Rattle.tera_meaning.proofs.PairLaws.{turned, Below, below_less, below_tied, rising_rises, found_rising, more_rising}
 

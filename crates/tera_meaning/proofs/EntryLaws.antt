@@ -9,14 +9,14 @@ use Rattle.std.specs.Ordering.{ordering_then, on, eq_by_cmp, is_eq, match_orderi
 use Rattle.std.specs.declared.cmp.Ordering.{Ordering}
 use Rattle.std.specs.declared.cmp.Ordering.TheVariants.{Less, Equal, Greater}
 use Rattle.tera_meaning.specs.Form.{Form}
-use Rattle.tera_meaning.specs.KeyLaws.{key_total}
+use Rattle.tera_meaning.proofs.KeyLaws.{key_total}
 use Rattle.tera_meaning.specs.KeyMeaning.{KeyForm, KeyMeaning, key_meaning, key_order}
 use Rattle.tera_meaning.specs.Meaning.{Meaning, plain}
 use Rattle.tera_meaning.specs.Order.{compare}
-use Rattle.tera_meaning.specs.OrderLaws.{members_exact, members_by_first_difference, compare_same, compare_tie}
+use Rattle.tera_meaning.proofs.OrderLaws.{members_exact, members_by_first_difference, compare_same, compare_tie}
 use Rattle.tera_meaning.specs.Pairs.{Rises, rising, value_at, entry_order, AgreeEverywhere, IsLeastDifference, order_at, key_form_order, pairs_of, pair_meaning, map_meaning}
 use Rattle.tera_meaning.specs.Tree.{object, members, members_list}
-use Rattle.tera_meaning.specs.TreeLaws.{members_relabeled, list_of_members}
+use Rattle.tera_meaning.proofs.TreeLaws.{members_relabeled, list_of_members}
 use Rattle.tera_meaning.proofs.PairLaws.{rising_rises}
 use Rattle.tera_meaning.proofs.DifferenceLaws.{difference_decides, agreeing_tie, agree_rising, entries_decide, entries_tie, least_or_none}
 

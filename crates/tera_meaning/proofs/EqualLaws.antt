@@ -13,9 +13,9 @@ use Rattle.tera_meaning.specs.Alike.{MeanTheSame, meaning_held}
 use Rattle.tera_meaning.specs.Form.{Form}
 use Rattle.tera_meaning.specs.Meaning.{Meaning, plain}
 use Rattle.tera_meaning.specs.Order.{same}
-use Rattle.tera_meaning.specs.OrderLaws.{same_is, same_partial_equivalence}
+use Rattle.tera_meaning.proofs.OrderLaws.{same_is, same_partial_equivalence}
 use Rattle.tera_meaning.specs.State.{State, states_equal}
-use Rattle.tera_meaning.specs.StateLaws.{name_exact}
+use Rattle.tera_meaning.proofs.StateLaws.{name_exact}
 
 abbrev Pair : Type 0
 Pair = List ℕ × Form

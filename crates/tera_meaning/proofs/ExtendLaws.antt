@@ -13,7 +13,7 @@ use Rattle.tera_meaning.specs.Alike.{MeanTheSame}
 use Rattle.tera_meaning.specs.Form.{Form}
 use Rattle.tera_meaning.specs.Meaning.{plain}
 use Rattle.tera_meaning.specs.State.{State, extended, IsProperBeginning}
-use Rattle.tera_meaning.specs.StateLaws.{same_state, name_exact}
+use Rattle.tera_meaning.proofs.StateLaws.{same_state, name_exact}
 
 -- ---- lists of pairs
 

@@ -1,28 +1,35 @@
-mod AlikeLaws
-pub mod ExtendLaws
-pub mod EqualLaws
-mod ApartLaws
+mod AlikeLemmas
+mod Among
+mod ApartLemmas
+mod ArithmeticLemmas
+mod CalculatedLemmas
+pub mod ChainedLaws
+mod ContainsLemmas
 pub mod DecidedLaws
 pub mod DifferenceLaws
+mod DivisionLemmas
 pub mod EntryLaws
-pub mod PairLaws
-mod MeantLaws
-mod PrintedLaws
-pub mod UniqueLaws
-mod RunLaws
-pub mod SliceLaws
-pub mod SlicedLaws
-mod StretchLaws
-pub mod StepLaws
-mod Utf8Laws
-mod WellMadeLaws
-mod PlainLaws
-mod ContainsLaws
-mod PathLaws
-mod SoundLaws
+pub mod EqualLaws
+pub mod ExtendLaws
+pub mod FieldLaws
+pub mod KeyLaws
+pub mod LookupLaws
+mod MeantLemmas
+pub mod OrderLaws
 mod Owed
-mod found
-mod ArithmeticLaws
-mod DivisionLaws
-mod CalculatedLaws
+pub mod PairLaws
+mod PathLemmas
+mod PlainLemmas
 pub mod PowerLaws
+mod PrintedLemmas
+mod RunLemmas
+pub mod SliceLaws
+mod SoundLemmas
+pub mod StateLaws
+pub mod StepLaws
+mod StretchLemmas
+pub mod TreeLaws
+pub mod UniqueLaws
+mod Utf8Lemmas
+mod WellMadeLemmas
+mod found

@@ -9,11 +9,11 @@ use Rattle.tera_meaning.specs.Alike.{MeanTheSame}
 use Rattle.tera_meaning.specs.Form.{Form}
 use Rattle.tera_meaning.specs.Meaning.{Meaning, plain}
 use Rattle.tera_meaning.specs.Search.{Found, one_found}
-use Rattle.tera_meaning.specs.Slice.{shape_of}
+use Rattle.tera_meaning.specs.SliceRule.{shape_of}
 use Rattle.tera_meaning.specs.State.{State, read, form_at, meaning_at}
 use Rattle.tera_meaning.specs.Tree.{undefined}
 use Rattle.tera_meaning.specs.WellMade.{IsWellMade, IsWellMadeState}
-use Rattle.tera_meaning.proofs.ArithmeticLaws.{IsNoWant}
+use Rattle.tera_meaning.proofs.ArithmeticLemmas.{IsNoWant}
 
 -- what is found, by its meaning
 abbrev pub found_shape : Found → Result (Option Meaning) Refusal

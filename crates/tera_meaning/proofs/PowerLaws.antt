@@ -6,7 +6,7 @@ use Rattle.std.proofs.lemmas.Int.{ints, unsigned_abs-mul}
 use Rattle.std.proofs.Math.IntN.{suc_ℤ, pred_ℤ, suc_ℤ-*ℤ, pred_ℤ-*ℤ, zero-*ℤ, *ℤ-one, *ℤ_comm, one}
 use Rattle.tera_meaning.specs.Arithmetic.{power_of}
 use Rattle.tera_meaning.specs.Integer.{is_small}
-use Rattle.tera_meaning.proofs.DivisionLaws.{sum_times}
+use Rattle.tera_meaning.proofs.DivisionLemmas.{sum_times}
 
 -- ---- products of three
 

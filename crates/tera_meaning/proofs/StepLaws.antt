@@ -8,16 +8,16 @@ use Rattle.std.specs.Cmp.Lexicographic.{slice_cmp, nat_list_cmp_total}
 use Rattle.std.specs.FinMap.{get as held_at, insert, get-insert}
 use Rattle.tera_report.specs.Escaping.{escaped}
 use Rattle.tera_report.specs.Refusal.{Refusal}
-use Rattle.tera_report.proofs.EscapeLemmas.{escaped_from_spelling}
+use Rattle.tera_report.proofs.EscapeLaws.{escaped_from_spelling}
 use Rattle.tera_meaning.specs.Form.{Form}
 use Rattle.tera_meaning.specs.Meaning.{plain}
 use Rattle.tera_meaning.specs.Order.{compare, same}
 use Rattle.tera_meaning.specs.Printed.{printed, IsExact, shown_in_page}
 use Rattle.tera_meaning.specs.Read.{marked_safe, safe_in}
 use Rattle.tera_meaning.specs.State.{State, form_at, meaning_at}
-use Rattle.tera_meaning.specs.StateLaws.{get_set, meaning_set, meaning_other, name_exact}
+use Rattle.tera_meaning.proofs.StateLaws.{get_set, meaning_set, meaning_other, name_exact}
 use Rattle.tera_meaning.specs.Alike.{MeanTheSame, meaning_held}
-use Rattle.tera_meaning.proofs.AlikeLaws.{plain_marked}
+use Rattle.tera_meaning.proofs.AlikeLemmas.{plain_marked}
 use Rattle.tera_meaning.specs.Answer
 use Rattle.tera_meaning.specs.Search.{Search, found_at}
 use Rattle.tera_meaning.specs.Outcome.{Outcome}

@@ -5,8 +5,8 @@ use Rattle.tera_meaning.specs.Lookup.{attr, item}
 use Rattle.tera_meaning.specs.Path.{path}
 use Rattle.tera_meaning.specs.Search
 use Rattle.tera_meaning.specs.Search.{Search, found_at}
-use Rattle.tera_meaning.specs.Slice.{reversed}
-use Rattle.tera_meaning.specs.Walk.{sliced}
+use Rattle.tera_meaning.specs.SliceRule.{reversed}
+use Rattle.tera_meaning.specs.Slice.{sliced}
 use Rattle.tera_meaning.proofs.Owed.{Owes, held_owes, finds, makes, makes_of_two}
 pub mod Attr
 pub mod Calculate

@@ -12,8 +12,6 @@ pub mod State
 pub mod Lookup
 pub mod Path
 pub mod Fields
-pub mod Slice
-pub mod Walk
 pub mod Arithmetic
 pub mod Conversion
 pub mod Answer
@@ -27,16 +25,10 @@ pub mod Steps
 pub mod WellMade
 pub mod Run
 pub mod Alike
-pub mod Chained
-pub mod KeyLaws
-pub mod OrderLaws
 pub mod Pairs
 pub mod Decided
-pub mod StateLaws
 pub mod Rows
-pub mod TreeLaws
-pub mod LookupLaws
-pub mod Among
-pub mod FieldLaws
 pub mod RefusalLaws
 pub mod Stretch
+pub mod SliceRule
+pub mod Slice

@@ -49,3 +49,7 @@ abbrev mutual
 -- whether two meanings are equal
 abbrev pub same : Meaning → Meaning → Bool
 same x y = is_eq (compare x y)
+
+-- a pair of a map by its key and then by its value
+abbrev pub pair_order : KeyMeaning × Meaning → KeyMeaning × Meaning → Ordering
+pair_order p q = ordering_then (key_order p.0 q.0) (compare p.1 q.1)

@@ -9,7 +9,7 @@ use Rattle.tera_meaning.specs.Integer.{IntegerKind}
 use Rattle.tera_meaning.specs.KeyMeaning.{KeyMeaning, KeyForm, number_key, text_key, owned}
 use Rattle.tera_meaning.specs.Meaning.{Meaning}
 use Rattle.tera_meaning.specs.Order.{compare}
-use Rattle.tera_meaning.specs.Slice.{IsSliceOf}
+use Rattle.tera_meaning.specs.SliceRule.{IsSliceOf}
 use Rattle.tera_meaning.specs.Tree.{Tree, none, number, text, array, object, items, members}
 
 abbrev pub count : ℕ → Meaning

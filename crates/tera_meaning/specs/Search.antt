@@ -7,9 +7,9 @@ use Rattle.tera_meaning.specs.Conversion.{IntegerType, read_as}
 use Rattle.tera_meaning.specs.Form.{Form}
 use Rattle.tera_meaning.specs.Lookup
 use Rattle.tera_meaning.specs.Path
-use Rattle.tera_meaning.specs.Slice.{reversed}
+use Rattle.tera_meaning.specs.SliceRule.{reversed}
 use Rattle.tera_meaning.specs.State.{State, form_at}
-use Rattle.tera_meaning.specs.Walk.{sliced}
+use Rattle.tera_meaning.specs.Slice.{sliced}
 
 -- a value, or a part of one, or what is made of it
 pub data Search : Type 0 where

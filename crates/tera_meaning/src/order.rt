@@ -6,7 +6,7 @@ ghost use Rattle.std.specs.Cmp.Lexicographic.{slice_cmp};
 ghost use Rattle.tera_meaning.specs.KeyMeaning.{KeyMeaning};
 ghost use Rattle.tera_meaning.specs.Meaning.{Meaning};
 ghost use Rattle.tera_meaning.specs.Order.{rank, compare, same};
-ghost use Rattle.tera_meaning.specs.OrderLaws.{pair_order};
+ghost use Rattle.tera_meaning.specs.Order.{pair_order};
 ghost use Rattle.tera_meaning.specs.Tree.{truth, number, text, bytes, array, object, items};
 ghost use Rattle.tera_meaning.specs.Tree.{members};
 

@@ -10,12 +10,12 @@ ghost use Rattle.tera_meaning.specs.KeyMeaning.{KeyForm};
 ghost use Rattle.tera_meaning.specs.Meaning.{plain};
 ghost use Rattle.tera_meaning.specs.Rows.{held, marked, normal, SlicesTo};
 ghost use Rattle.tera_meaning.specs.Read.{items_in};
-ghost use Rattle.tera_meaning.specs.Slice.{IsSliced, reversed, shape_of};
+ghost use Rattle.tera_meaning.specs.SliceRule.{IsSliced, reversed, shape_of};
 ghost use Rattle.tera_meaning.specs.Stretch.{stretch};
 ghost use Rattle.tera_meaning.specs.Tree.{undefined, none, truth, number, text, bytes, array};
 ghost use Rattle.tera_meaning.specs.Tree.{object};
 ghost use Rattle.tera_meaning.specs.Tree.{items, members};
-ghost use Rattle.tera_meaning.specs.Walk.{sliced, slice_of};
+ghost use Rattle.tera_meaning.specs.Slice.{sliced, slice_of};
 ghost use Rattle.tera_meaning.specs.WellMade.{IsWellMade};
 
 /// A slice of a value comes to one answer, and a walk over its items or characters gives it.

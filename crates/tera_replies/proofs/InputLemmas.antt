@@ -6,12 +6,12 @@ use Rattle.tera_meaning.specs.State.{State}
 use Rattle.tera_report.specs.Errors.{report_of}
 use Rattle.tera_report.specs.Report.{Report, report_text}
 use Rattle.tera_report.specs.Sink.{Sends, Broke}
-use Rattle.tera_report.specs.SentLaws.{sends_nothing, sends_joined, sends_flush, broke_later, broke_flush}
+use Rattle.tera_report.proofs.SentLaws.{sends_nothing, sends_joined, sends_flush, broke_later, broke_flush}
 use Rattle.tera_replies.specs.declared.fault.Fault.{Fault}
 use Rattle.tera_replies.specs.declared.fault.Fault.TheVariants.{BadLine, ReadFailed, WriteFailed, OutOfMemory}
 use Rattle.tera_replies.specs.Script.{ended, last_line, line_feed}
 use Rattle.tera_replies.specs.Replay.{AllAnswered}
-use Rattle.tera_report.specs.WriterLaws.{folds_joined}
+use Rattle.tera_report.specs.inner.WriterLaws.{folds_joined}
 use Rattle.tera_replies.specs.declared.source.ReadError.{ReadError}
 use Rattle.tera_replies.specs.Source.{EndIsTold, MayErr, Attempt, bytes_given, given_by, Reads, ReadFails}
 use Rattle.tera_replies.specs.Stretch.{Place, Goes, Runs, StopsAtBad, Begins, Stops, LineStops, Ends, start}

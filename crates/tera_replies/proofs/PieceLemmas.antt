@@ -1,7 +1,7 @@
 -- A piece of the script, line by line.
 use Rattle.std.proofs.Common.{◌≡◌, ℕ, List, [], ◌∷◌, ◌++◌, sym, ◌∙◌, ap, subst, refl, append_assoc, append-nil}
 use Rattle.tera_report.specs.Sink.{Sends, Broke}
-use Rattle.tera_report.specs.SentLaws.{sends_nothing, sends_joined, broke_later}
+use Rattle.tera_report.proofs.SentLaws.{sends_nothing, sends_joined, broke_later}
 use Rattle.tera_replies.specs.declared.fault.Fault.{Fault}
 use Rattle.tera_replies.specs.declared.fault.Fault.TheVariants.{BadLine, ReadFailed, WriteFailed, OutOfMemory}
 use Rattle.tera_replies.specs.Script.{HasNoLineFeed, without_return, ended, line_feed}

@@ -2,7 +2,7 @@
 use Rattle.std.proofs.Common.{◌≡◌, ℕ, List, sym, subst}
 use Rattle.std.specs.Prelude.{Result, Ok, Err, MatchResult, OnOk, IfOk, IfErr, IsErrAnd}
 use Rattle.tera_report.specs.Sink.{Puts, Sends, Broke}
-use Rattle.tera_report.specs.SentLaws.{sends_put, broke_put}
+use Rattle.tera_report.proofs.SentLaws.{sends_put, broke_put}
 use Rattle.tera_replies.specs.declared.fault.Fault.{Fault}
 use Rattle.tera_replies.specs.declared.fault.Fault.TheVariants.{WriteFailed}
 use Rattle.tera_replies.specs.Stretch.{ReplyStops}

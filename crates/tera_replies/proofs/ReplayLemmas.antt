@@ -1,7 +1,7 @@
 -- From how answering ended to the theorem.
 use Rattle.std.proofs.Common.{◌≡◌, ℕ, Bool, inl, inr, List, Option, None, Some, Result, Ok, Err, IfSome, sym, subst, refl}
 use Rattle.tera_report.specs.Sink.{Sends, Delivers, Broke, PutsThese}
-use Rattle.tera_report.specs.SentLaws.{broke_later, broke_flush}
+use Rattle.tera_report.proofs.SentLaws.{broke_later, broke_flush}
 use Rattle.tera_replies.specs.declared.fault.Fault.{Fault}
 use Rattle.tera_replies.specs.declared.fault.Fault.TheVariants.{BadLine, ReadFailed, WriteFailed, OutOfMemory}
 use Rattle.tera_replies.specs.Output.{TakesOrFails}

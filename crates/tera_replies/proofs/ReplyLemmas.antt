@@ -12,8 +12,8 @@ use Rattle.tera_meaning.specs.Outcome.{Outcome}
 use Rattle.tera_report.specs.Quoted.{quoted}
 use Rattle.tera_meaning.specs.Printed.{printed_with, is_exact_inside}
 use Rattle.tera_meaning.specs.Tree.{undefined, none, truth, number, text, bytes, array, object}
-use Rattle.tera_report.proofs.PutLemmas.{some_text}
-use Rattle.tera_report.proofs.TellLemmas.{some_telling, told_known}
+use Rattle.tera_report.proofs.PutLaws.{some_text}
+use Rattle.tera_report.proofs.TellLaws.{some_telling, told_known}
 use Rattle.tera_replies.specs.Reply.{IsFormOf, IsReply, IsFixedReply, order_name}
 
 -- the reply to an outcome is that to the same one

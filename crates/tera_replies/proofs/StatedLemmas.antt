@@ -3,7 +3,7 @@ use Rattle.std.specs.Prelude.{◌≡◌, ℕ, List, Result, Ok, Err, refl}
 use Rattle.std.proofs.Common.{sym, ◌∙◌, ap, subst}
 use Rattle.tera_report.specs.declared.errors.Error.{Error}
 use Rattle.tera_report.specs.Refusal.{Refusal, message, stated, Tells}
-use Rattle.tera_report.proofs.TellLemmas.{telling_stated}
+use Rattle.tera_report.proofs.TellLaws.{telling_stated}
 use Rattle.tera_meaning.specs.Outcome.{Outcome, is_want}
 use Rattle.tera_context.specs.declared.call.Answer.{Answer}
 use Rattle.tera_context.specs.Steps.{ShowsOutcome}

@@ -1,10 +1,11 @@
-pub mod EqualReports
-pub mod ErrorLemmas
-pub mod EscapeLemmas
-pub mod LaneLemmas
-pub mod PartLemmas
-pub mod PutLemmas
-pub mod QuoteLemmas
-pub mod ReportLemmas
-pub mod TellLemmas
-pub mod WatchLemmas
+mod EqualReports
+mod ErrorLemmas
+pub mod EscapeLaws
+mod LaneLemmas
+pub mod PartLaws
+pub mod PutLaws
+mod QuoteLemmas
+mod ReportLemmas
+pub mod SentLaws
+pub mod TellLaws
+mod WatchLemmas

@@ -14,7 +14,7 @@ use Rattle.std.specs.Cmp.Lexicographic.{bytes_decides}
 use Rattle.std.specs.Fmt.{◌++?◌, debug_escape, debug_str, debug_items, comma_space, digits}
 use Rattle.std.specs.List.{list_all}
 use Rattle.tera_report.specs.Quoted.{IsText, is_ascii_text, is_marked, escapes, quoted, Quotes, QuotesItems, Cuts, SkipsPlain, EscapesMarked}
-use Rattle.tera_report.proofs.PutLemmas.{texts_joined}
+use Rattle.tera_report.proofs.PutLaws.{texts_joined}
 
 -- what `escape_debug` gives for an ASCII character
 abbrev escape_chars : ℕ → List ℕ

@@ -7,7 +7,7 @@ use Rattle.std.specs.Io.KnownBytes.{Appends}
 use Rattle.std.specs.declared.io.Error.{Error}
 use Rattle.tera_report.specs.Watch.{has_failed, held, SameWriter, watched_writer, WatchedTakes, WatchedFails}
 use Rattle.tera_report.specs.Writer.{Attempt, once, is_fault, bytes_taken, all_taken, has_fault, Tries}
-use Rattle.tera_report.specs.WriterLaws.{tries_more, taken_more, faults_more}
+use Rattle.tera_report.specs.inner.WriterLaws.{tries_more, taken_more, faults_more}
 use Rattle.tera_report.specs.declared.watch.Watched.{Watched}
 
 pub kept_by_or : (x a b : Bool) → x ≡ (a || b) → IsTrue a → IsTrue x

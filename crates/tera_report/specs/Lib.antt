@@ -7,12 +7,10 @@ pub mod Quoted
 pub mod Refusal
 pub mod Report
 pub mod Room
-pub mod SentLaws
 pub mod Sink
-pub mod SinkLaws
 pub mod Span
 pub mod Spanned
 pub mod Watch
 pub mod WorkedReports
 pub mod Writer
-pub mod WriterLaws
+pub mod inner

@@ -4,12 +4,12 @@ ghost use Rattle.std.specs.Prelude.{◌≡◌, ℕ, List, [], ◌++◌, ⊤, OnE
 ghost use Rattle.tera_report.specs.Growing.{GrowingTakes, GrowingFails, grown_bytes};
 ghost use Rattle.tera_report.specs.Room.{RoomTakes, RoomFails, room_bytes};
 ghost use Rattle.tera_report.specs.Sink.{PutsThese, FormatterTakes};
-ghost use Rattle.tera_report.specs.SinkLaws.{watched_nothing, watched_joined, watched_early};
-ghost use Rattle.tera_report.specs.SinkLaws.{watched_later};
-ghost use Rattle.tera_report.specs.SinkLaws.{formatter_nothing, formatter_joined};
-ghost use Rattle.tera_report.specs.SinkLaws.{room_nothing, room_joined, room_early, room_later};
-ghost use Rattle.tera_report.specs.SinkLaws.{growing_nothing, growing_joined, growing_early};
-ghost use Rattle.tera_report.specs.SinkLaws.{growing_later};
+ghost use Rattle.tera_report.specs.inner.SinkLaws.{watched_nothing, watched_joined, watched_early};
+ghost use Rattle.tera_report.specs.inner.SinkLaws.{watched_later};
+ghost use Rattle.tera_report.specs.inner.SinkLaws.{formatter_nothing, formatter_joined};
+ghost use Rattle.tera_report.specs.inner.SinkLaws.{room_nothing, room_joined, room_early, room_later};
+ghost use Rattle.tera_report.specs.inner.SinkLaws.{growing_nothing, growing_joined, growing_early};
+ghost use Rattle.tera_report.specs.inner.SinkLaws.{growing_later};
 ghost use Rattle.tera_report.specs.Watch.{WatchedTakes, WatchedFails};
 ghost use Rattle.tera_report.specs.Watch.{WatchedFlushes, WatchedFlushFails};
 

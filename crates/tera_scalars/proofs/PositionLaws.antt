@@ -3,8 +3,8 @@ use Rattle.std.specs.Prelude.{◌≡◌, ◌≢◌, ◌⊎◌, ◌<◌, ◌≤�
 use Rattle.std.proofs.Common.{refl, sym, ap, ◌∙◌, subst, arith, inl, inr}
 use Rattle.std.proofs.lemmas.Bool.{cases_lt}
 use Rattle.std.proofs.lemmas.Int.{ints, clamps}
-use Rattle.tera_meaning.specs.Slice.{IsSliceOf, start_place, end_place}
-use Rattle.tera_meaning.specs.Walk.{IsStrided, directed, pause, place_behind, walked}
+use Rattle.tera_meaning.specs.SliceRule.{IsSliceOf, start_place, end_place}
+use Rattle.tera_meaning.specs.Slice.{IsStrided, directed, pause, place_behind, walked}
 use Rattle.tera_meaning.proofs.SliceLaws.{strided_is_slice, walked_strides, length_directed}
 use Rattle.tera_scalars.specs.Positions.{counts_from_afar}
 

@@ -8,7 +8,7 @@ use Rattle.std.proofs.lemmas.Str.Ascii.{IsAscii-cons, IsAscii-nil}
 use Rattle.std.specs.Char.{encode_utf8}
 use Rattle.std.specs.Str.{chars, encode_utf8_all, IsAscii, IsUtf8, IsCharBoundary}
 use mathlib.Core.List.{reverse_aux}
-use Rattle.tera_meaning.specs.Walk.{directed, walked}
+use Rattle.tera_meaning.specs.Slice.{directed, walked}
 use Rattle.tera_scalars.specs.Ends.{near, far, chars_from}
 use Rattle.tera_scalars.specs.Positions.{turned}
 use Rattle.tera_scalars.proofs.CharLemmas.{chars_le_bytes}

@@ -1,8 +1,8 @@
 //! Where a slice goes: its bounds and its step as places in the direction of the step.
 ghost use Rattle.std.specs.Prelude.{◌≡◌, ◌<◌, ◌≤◌, ◌-◌, ◌^◌, suc, min, ◌||◌};
 ghost use Rattle.std.specs.Int.{div_ceil};
-ghost use Rattle.tera_meaning.specs.Slice.{start_place, end_place, place_of_bound};
-ghost use Rattle.tera_meaning.specs.Walk.{pause, place_behind};
+ghost use Rattle.tera_meaning.specs.SliceRule.{start_place, end_place, place_of_bound};
+ghost use Rattle.tera_meaning.specs.Slice.{pause, place_behind};
 ghost use Rattle.tera_scalars.specs.Positions.{counts_from_afar};
 
 /// A walk over items in the direction of a step: each `by`-th of them, from one up to another, both

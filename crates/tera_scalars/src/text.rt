@@ -7,8 +7,8 @@ ghost use Rattle.std.specs.Char.{encode_utf8};
 ghost use Rattle.std.specs.Str.{chars, encode_utf8_all, IsAscii, IsUtf8};
 ghost use Rattle.std.specs.Str.Iter.{chars_rest};
 ghost use Rattle.std.specs.String.{string_bytes};
-ghost use Rattle.tera_meaning.specs.Slice.{IsSliceOf};
-ghost use Rattle.tera_meaning.specs.Walk.{walked};
+ghost use Rattle.tera_meaning.specs.SliceRule.{IsSliceOf};
+ghost use Rattle.tera_meaning.specs.Slice.{walked};
 ghost use Rattle.tera_scalars.specs.Ends.{chars_from, far, near};
 ghost use Rattle.tera_scalars.specs.Positions.{counts_from_afar, turned};
 

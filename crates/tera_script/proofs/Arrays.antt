@@ -5,7 +5,7 @@ use Rattle.tera_meaning.specs.Integer.{Integer}
 use Rattle.tera_meaning.specs.Form.{Form, MarkedText}
 use Rattle.tera_meaning.specs.KeyMeaning.{KeyForm}
 use Rattle.tera_meaning.specs.Tree.{Items, array, no_items, item, items, items_list, depth, items_depth}
-use Rattle.tera_meaning.specs.TreeLaws.{list_of_items}
+use Rattle.tera_meaning.proofs.TreeLaws.{list_of_items}
 use Rattle.tera_script.specs.Word.{is_blank}
 use Rattle.tera_script.specs.Literal.{tree_value, item_values}
 use Rattle.tera_script.specs.Readers.{past, AllIn, BeginsWithLiteral, Ends, IsLiteralAt, IsArrayAt}

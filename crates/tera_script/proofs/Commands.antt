@@ -11,7 +11,7 @@ use Rattle.tera_meaning.specs.KeyMeaning.{KeyForm}
 use Rattle.tera_meaning.specs.Read.{members_in}
 use Rattle.tera_meaning.specs.Request.{Request, Command, set, extend, asking}
 use Rattle.tera_meaning.specs.State.{State}
-use Rattle.tera_meaning.specs.TreeLaws.{list_of_members}
+use Rattle.tera_meaning.proofs.TreeLaws.{list_of_members}
 use Rattle.tera_values.specs.Placing.{some_same}
 use Rattle.tera_script.specs.declared.verb.Verb.{Verb}
 use Rattle.tera_meaning.specs.Conversion.{type_name}

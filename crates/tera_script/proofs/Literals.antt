@@ -9,7 +9,7 @@ use Rattle.tera_meaning.specs.Integer.{Integer}
 use Rattle.tera_meaning.specs.Form.{Form, MarkedText}
 use Rattle.tera_meaning.specs.KeyMeaning.{KeyForm, truth_key, number_key, text_key, owned, borrowed}
 use Rattle.tera_meaning.specs.Tree.{Items, Members, undefined, none, truth, number, text, bytes, array, object, no_items, item, no_members, member, items, items_list, members, members_list, depth}
-use Rattle.tera_meaning.specs.TreeLaws.{items_of_list, members_of_list}
+use Rattle.tera_meaning.proofs.TreeLaws.{items_of_list, members_of_list}
 use Rattle.tera_script.specs.Text.{BeginsWithText}
 use Rattle.tera_script.specs.Word.{is_blank}
 use Rattle.tera_script.specs.Literal.{mark_of, SpellsKey, SpellsTree, SpellsLiteral, tree_value}

@@ -8,7 +8,7 @@ use Rattle.tera_meaning.specs.Form.{Form, MarkedText}
 use Rattle.tera_meaning.specs.KeyMeaning.{KeyForm}
 use Rattle.tera_meaning.specs.Pairs.{key_form_order, pairs_of}
 use Rattle.tera_meaning.specs.Tree.{Members, object, no_members, member, members, members_list, depth, members_depth}
-use Rattle.tera_meaning.specs.TreeLaws.{list_of_members}
+use Rattle.tera_meaning.proofs.TreeLaws.{list_of_members}
 use Rattle.tera_script.specs.Word.{is_blank}
 use Rattle.tera_script.specs.Literal.{tree_value, pair_values, in_places}
 use Rattle.tera_script.specs.Readers.{past, AllIn, BeginsWithLiteral, BeginsWithKey, BeginsWithPair, IsKeyAt, IsLiteralAt, IsPairAt, IsMapAt}

@@ -9,7 +9,7 @@ use Rattle.std.specs.Option.{option_or}
 use Rattle.std.specs.Ordering.{eq_by_cmp, is_eq, match_ordering}
 use Rattle.std.specs.declared.cmp.Ordering.TheVariants.{Less, Equal, Greater}
 use Rattle.tera_meaning.specs.Form.{Form}
-use Rattle.tera_meaning.specs.KeyLaws.{key_total}
+use Rattle.tera_meaning.proofs.KeyLaws.{key_total}
 use Rattle.tera_meaning.specs.KeyMeaning.{KeyForm, key_meaning}
 use Rattle.tera_meaning.specs.Pairs.{Rises, rising, value_at, key_form_order}
 use Rattle.tera_meaning.proofs.PairLaws.{Below, below_less, rising_rises, found_rising}

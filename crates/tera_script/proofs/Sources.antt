@@ -6,14 +6,14 @@ use Rattle.std.specs.List.{AllByRecursion, IsDistinct}
 use Rattle.std.specs.Map.{keys_of}
 use Rattle.std.specs.Ordering.{nat_cmp, eq_by_cmp}
 use Rattle.tera_meaning.specs.Form.{Form}
-use Rattle.tera_meaning.specs.KeyLaws.{key_is}
+use Rattle.tera_meaning.proofs.KeyLaws.{key_is}
 use Rattle.tera_meaning.specs.KeyMeaning.{KeyForm, truth_key, number_key, text_key, owned, key_meaning, key_order}
 use Rattle.tera_meaning.specs.Pairs.{key_form_order, pairs_of, value_at}
 use Rattle.tera_meaning.specs.Read.{members_in}
 use Rattle.tera_meaning.specs.State.{State}
-use Rattle.tera_meaning.specs.StateLaws.{same_state}
+use Rattle.tera_meaning.proofs.StateLaws.{same_state}
 use Rattle.tera_meaning.specs.Tree.{object, members}
-use Rattle.tera_meaning.specs.TreeLaws.{list_of_members}
+use Rattle.tera_meaning.proofs.TreeLaws.{list_of_members}
 use Rattle.tera_script.specs.Line.{AreNamed}
 use Rattle.tera_script.specs.Readers.{IsSourceOf}
 use Rattle.tera_values.proofs.Parts.{map_of_members}

@@ -17,7 +17,7 @@ use Rattle.tera_meaning.specs.Form.{Form}
 use Rattle.tera_meaning.specs.KeyMeaning.{KeyForm, key_meaning}
 use Rattle.tera_meaning.specs.Printed.{shown_key}
 use Rattle.tera_meaning.specs.Tree.{object, members}
-use Rattle.tera_meaning.specs.TreeLaws.{list_of_members}
+use Rattle.tera_meaning.proofs.TreeLaws.{list_of_members}
 
 module _ {X : Type 0} (f : X → List ℕ) where
   pub has_of : (xs : List X) (t : List ℕ) → Contains (map f xs) t → (x : X) × Contains xs x × (f x ≡ t)

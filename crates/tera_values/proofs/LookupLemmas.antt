@@ -8,12 +8,12 @@ use Rattle.std.specs.Str.Pattern.{HasMatch, FindsText}
 use Rattle.std.specs.Option.{option_copied}
 use Rattle.tera_meaning.specs.Form.{Form}
 use Rattle.tera_meaning.specs.Lookup.{item, indexed, part_at, holds, occurs, paired, key_in}
-use Rattle.tera_meaning.specs.LookupLaws.{tells_occurs}
+use Rattle.tera_meaning.proofs.LookupLaws.{tells_occurs}
 use Rattle.tera_meaning.specs.KeyMeaning.{KeyForm}
 use Rattle.tera_meaning.specs.Meaning.{plain}
 use Rattle.tera_meaning.specs.Order.{same}
 use Rattle.tera_meaning.specs.Tree.{array, object, items, members}
-use Rattle.tera_meaning.specs.TreeLaws.{list_of_items, list_of_members}
+use Rattle.tera_meaning.proofs.TreeLaws.{list_of_items, list_of_members}
 use Rattle.tera_report.specs.Refusal.{in_array}
 
 pub item_of_list : (value index : Form) (xs : List Form) → value ≡ array (items xs) → item value index ≡ indexed in_array index (part_at xs)

@@ -6,7 +6,7 @@ use Rattle.std.specs.Cmp.{nat_cmp_is, ranks}
 use Rattle.std.specs.Ordering.{MatchOrdering, nat_cmp}
 use Rattle.std.specs.declared.cmp.Ordering.{Ordering}
 use Rattle.std.specs.declared.cmp.Ordering.TheVariants.{Less, Equal, Greater}
-use Rattle.tera_meaning.specs.Chained.{less_nat}
+use Rattle.tera_meaning.proofs.ChainedLaws.{less_nat}
 use Rattle.tera_meaning.specs.Form.{Form}
 use Rattle.tera_meaning.specs.KeyMeaning.{KeyForm}
 use Rattle.tera_meaning.specs.Meaning.{plain}
@@ -14,7 +14,7 @@ use Rattle.tera_meaning.specs.Order.{compare}
 use Rattle.tera_meaning.specs.Read.{items_in, members_in, is_nonempty}
 use Rattle.tera_meaning.proofs.PairLaws.{rising_rises}
 use Rattle.tera_meaning.specs.Pairs.{Rises, key_form_order, pairs_of}
-use Rattle.tera_meaning.specs.TreeLaws.{items_of_list, list_of_members, members_of_list}
+use Rattle.tera_meaning.proofs.TreeLaws.{items_of_list, list_of_members, members_of_list}
 use Rattle.tera_meaning.specs.Tree.{undefined, none, truth, number, text, bytes, object, array, items, items_list, members, members_list, depth, items_depth}
 use Rattle.tera_values.specs.Print.{plain_items, plain_pairs}
 use Rattle.tera_meaning.specs.WellMade.{IsWellMade, IsWellMadeKey, AreWellMade, AreWellMadeMembers}

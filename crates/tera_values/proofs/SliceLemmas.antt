@@ -10,12 +10,12 @@ use Rattle.tera_report.specs.Refusal.{Refusal, step_of_zero}
 use Rattle.tera_report.specs.declared.errors.Error.{Error}
 use Rattle.tera_meaning.specs.Form.{Form}
 use Rattle.tera_meaning.specs.Tree.{array, items}
-use Rattle.tera_meaning.specs.TreeLaws.{list_of_items}
-use Rattle.tera_meaning.specs.Slice.{IsSliceOf, IsCutBy, IsSliced, start_place, end_place}
-use Rattle.tera_meaning.specs.Walk.{IsStrided, directed, pause, place_behind, slice_of, cut, cut_by, sliced}
+use Rattle.tera_meaning.proofs.TreeLaws.{list_of_items}
+use Rattle.tera_meaning.specs.SliceRule.{IsSliceOf, IsCutBy, IsSliced, start_place, end_place}
+use Rattle.tera_meaning.specs.Slice.{IsStrided, directed, pause, place_behind, slice_of, cut, cut_by, sliced}
 use Rattle.tera_values.specs.View.{marked}
 use Rattle.tera_meaning.proofs.SliceLaws.{same_items, slices_same, slice_of_is}
-use Rattle.tera_meaning.proofs.SlicedLaws.{sliced_is}
+use Rattle.tera_meaning.proofs.SliceLaws.{sliced_is}
 use Rattle.tera_scalars.proofs.PositionLaws.{stride_slices}
 use Rattle.tera_scalars.specs.Positions.{turned}
 

@@ -7,7 +7,7 @@ use Rattle.std.specs.Option.{option_map}
 use Rattle.std.specs.FinMap.Entries.{where_key}
 use Rattle.std.specs.Map.{keys_of, lookup}
 use Rattle.std.specs.Ordering.{eq_by_cmp}
-use Rattle.tera_meaning.specs.KeyLaws.{key_total}
+use Rattle.tera_meaning.proofs.KeyLaws.{key_total}
 use Rattle.tera_meaning.specs.KeyMeaning.{KeyForm, key_meaning, key_order}
 use Rattle.tera_meaning.specs.Pairs.{key_form_order, pairs_of, value_at, goes_on}
 use Rattle.tera_values.specs.Key.{key_form, meaning_of_key}

@@ -8,7 +8,7 @@ ghost use Rattle.std.specs.Option.{option_map};
 ghost use Rattle.std.specs.Ordering.{on, eq_by_cmp, as_partial_cmp};
 ghost use Rattle.std.proofs.Common.{ap, refl};
 ghost use Rattle.tera_meaning.specs.Integer.{u128, i128};
-ghost use Rattle.tera_meaning.specs.KeyLaws.{key_total, key_equivalence, key_partial, key_is};
+ghost use Rattle.tera_meaning.proofs.KeyLaws.{key_total, key_equivalence, key_partial, key_is};
 ghost use Rattle.tera_meaning.specs.KeyMeaning.{truth_key, number_key, text_key, borrowed};
 ghost use Rattle.tera_meaning.specs.KeyMeaning.{key_order, key_rank};
 ghost use Rattle.tera_report.specs.Errors.{IsOutOfMemory};

@@ -23,7 +23,7 @@ use tera_scalars::{Whole, character, place};
 impl Value {
     /// What the map has at that text, lent; nothing where it has nothing there, and on every other
     /// value. Mirrors `Value::get_attr`, which is private there. Takes no memory.
-    #[tactic(auto, using(tera_meaning::specs::TreeLaws::list_of_members))]
+    #[tactic(auto, using(tera_meaning::proofs::TreeLaws::list_of_members))]
     pub fn get_attr<'a>(&'a self, name: &'a str) -> Option<&'a Value>
         ensures { option_copied result ≡ attr self.now name.now }
     {
@@ -113,7 +113,7 @@ pub(crate) fn find_value<'a>(all: &'a Map, key: &'a Value) -> Option<&'a Value>
 }
 
 // What a map has at an item.
-#[tactic(auto, using(tera_meaning::specs::TreeLaws::list_of_members))]
+#[tactic(auto, using(tera_meaning::proofs::TreeLaws::list_of_members))]
 fn item_of_map(alloc: Global, all: &Map, at: &Value) -> TeraResult<Value>
     ensures ok { IfOk result
         (λ part. item (object (members (pairs_in all.now))) at.now ≡ Ok part) }

@@ -37,7 +37,7 @@ impl Value {
     }
 
     /// The items of the array that it is, lent. Mirrors `Value::as_array`. Takes no memory.
-    #[tactic(auto, using(tera_meaning::specs::TreeLaws::list_of_items))]
+    #[tactic(auto, using(tera_meaning::proofs::TreeLaws::list_of_items))]
     pub fn as_array(&self) -> Option<&[Value]>
         ensures { MatchOption result (items_in self.now ≡ None)
             (λ xs. items_in self.now ≡ Some xs.now) }
@@ -62,7 +62,7 @@ impl Value {
 
     /// The items of the array that it is, handed on. Mirrors `Value::into_vec`, which is private
     /// there. Takes no memory.
-    #[tactic(auto, using(tera_meaning::specs::TreeLaws::list_of_items))]
+    #[tactic(auto, using(tera_meaning::proofs::TreeLaws::list_of_items))]
     pub fn into_vec(self) -> Option<Vec<Value>>
         ensures { MatchOption result (items_in self ≡ None) (λ xs. items_in self ≡ Some xs.items) }
     {
@@ -73,7 +73,7 @@ impl Value {
     }
 
     /// The pairs of the map that it is, lent. Mirrors `Value::as_map`. Takes no memory.
-    #[tactic(auto, using(tera_meaning::specs::TreeLaws::list_of_members))]
+    #[tactic(auto, using(tera_meaning::proofs::TreeLaws::list_of_members))]
     pub fn as_map(&self) -> Option<&Map>
         ensures { MatchOption result (members_in self.now ≡ None)
             (λ m. members_in self.now ≡ Some (pairs_in m.now)) }
@@ -85,7 +85,7 @@ impl Value {
     }
 
     /// The pairs of the map that it is, handed on. Mirrors `Value::into_map`. Takes no memory.
-    #[tactic(auto, using(tera_meaning::specs::TreeLaws::list_of_members))]
+    #[tactic(auto, using(tera_meaning::proofs::TreeLaws::list_of_members))]
     pub fn into_map(self) -> Option<Map>
         ensures { MatchOption result (members_in self ≡ None)
             (λ m. members_in self ≡ Some (pairs_in m)) }

@@ -3,8 +3,8 @@ ghost use Rattle.std.specs.Prelude.{◌≡◌, ◌≢◌, ◌<◌, ◌≤◌, Re
 ghost use Rattle.std.specs.Prelude.{[], reverse, length, slice_get, unwrap_or};
 ghost use Rattle.tera_meaning.specs.Form.{Form};
 ghost use Rattle.tera_meaning.specs.Read.{items_in};
-ghost use Rattle.tera_meaning.specs.Slice.{IsSliced, reversed};
-ghost use Rattle.tera_meaning.specs.Walk.{cut, slice_of, IsStrided};
+ghost use Rattle.tera_meaning.specs.SliceRule.{IsSliced, reversed};
+ghost use Rattle.tera_meaning.specs.Slice.{cut, slice_of, IsStrided};
 ghost use Rattle.tera_report.specs.Errors.{IsOutOfMemory, Refuses};
 ghost use Rattle.tera_report.specs.Refusal.{Refusal};
 ghost use Rattle.tera_scalars.specs.Positions.{turned};
@@ -53,7 +53,7 @@ impl Value {
     /// Refuses every other value with `Value of type N cannot be reversed`, where N is the name of
     /// its kind. Takes memory for what it gives, unless the array is empty, and for a refusal's
     /// text; want of it, `Out of memory`, is answered in the place of either.
-    #[tactic(auto, using(tera_meaning::specs::TreeLaws::list_of_items))]
+    #[tactic(auto, using(tera_meaning::proofs::TreeLaws::list_of_items))]
     pub fn reverse(&self, alloc: Global) -> TeraResult<Value>
         ensures ok { IfOk result (λ v. reversed self.now ≡ Ok v) }
         ensures err { IfErr result (Refuses (reversed self.now)) }
@@ -72,7 +72,7 @@ impl Value {
     }
 
     // The slice by a step other than 0.
-    #[tactic(auto, using(tera_meaning::specs::TreeLaws::list_of_items))]
+    #[tactic(auto, using(tera_meaning::proofs::TreeLaws::list_of_items))]
     fn cut(
         &self,
         alloc: Global,

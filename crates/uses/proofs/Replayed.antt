@@ -16,7 +16,7 @@ use Rattle.tera_replies.specs.Replay.{AreAnswered, AllAnswered, ReadingFailed, M
 use Rattle.tera_replies.specs.Reply.{IsReply, AreReplies}
 use Rattle.tera_replies.specs.Script.{BadLine, Script, Splits, HasNoLineFeed, ended, last_line, line_feed, without_return}
 use Rattle.tera_report.specs.Room.{room_bytes, RoomTakes}
-use Rattle.tera_report.specs.SentLaws.{sends_append}
+use Rattle.tera_report.proofs.SentLaws.{sends_append}
 use Rattle.tera_report.specs.Sink.{Delivers, Sends}
 use Rattle.tera_report.specs.declared.room.Room.{Room}
 use Rattle.tera_script.specs.Line.{Says}

@@ -9,7 +9,7 @@ use Rattle.tera_meaning.specs.Conversion.{IntegerType, converted}
 use Rattle.tera_meaning.specs.Form.{Form, MarkedText}
 use Rattle.tera_meaning.specs.Kind.{kind_in, undefined_kind}
 use Rattle.tera_meaning.specs.Read.{items_in}
-use Rattle.tera_meaning.specs.Slice.{IsSliced}
+use Rattle.tera_meaning.specs.SliceRule.{IsSliced}
 use Rattle.tera_meaning.specs.Tree.{text}
 use Rattle.tera_report.specs.Errors.{IsOutOfMemory, Raises}
 use Rattle.tera_report.specs.Refusal.{missing_argument}

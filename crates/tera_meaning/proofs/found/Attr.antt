@@ -9,8 +9,8 @@ use Rattle.tera_meaning.specs.Meaning.{plain, Meaning}
 use Rattle.tera_meaning.specs.Pairs.{value_at}
 use Rattle.tera_meaning.specs.Tree.{object, members_list}
 use Rattle.tera_meaning.specs.WellMade.{IsWellMade}
-use Rattle.tera_meaning.proofs.PlainLaws.{found_pair}
-use Rattle.tera_meaning.proofs.SoundLaws.{sound_pair}
+use Rattle.tera_meaning.proofs.PlainLemmas.{found_pair}
+use Rattle.tera_meaning.proofs.SoundLemmas.{sound_pair}
 
 attr_meant : Meaning → List ℕ → Option Meaning
 attr_meant (object ps) t = value_at key_order (members_list ps) (text_key t)

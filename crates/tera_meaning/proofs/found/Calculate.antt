@@ -13,8 +13,8 @@ use Rattle.tera_meaning.specs.Order.{same}
 use Rattle.tera_meaning.specs.Read.{number_in}
 use Rattle.tera_meaning.specs.WellMade.{IsWellMade}
 use Rattle.tera_report.specs.Refusal.{Refusal, Operator, plus, minus, times, remainder, floor_division, power, not_a_number, operand_outside_i128, not_exact, exponent_outside_u32}
-use Rattle.tera_meaning.proofs.PlainLaws.{number_by_meaning}
-use Rattle.tera_meaning.proofs.ArithmeticLaws.{refused_or, refused_then, refused_each, given_then, given_each, IsNoWant, IsSmall, small_given, small_well}
+use Rattle.tera_meaning.proofs.PlainLemmas.{number_by_meaning}
+use Rattle.tera_meaning.proofs.ArithmeticLemmas.{refused_or, refused_then, refused_each, given_then, given_each, IsNoWant, IsSmall, small_given, small_well}
 
 -- ---- by meaning
 

@@ -19,9 +19,9 @@ use Rattle.tera_meaning.specs.Tree.{Items, undefined, none, truth, number, text,
 use Rattle.tera_meaning.specs.WellMade.{IsWellMade, AreWellMade, AreWellMadeMembers}
 use Rattle.tera_report.specs.Refusal.{Container, in_array, in_text, not_a_map_key, not_an_index, Refusal}
 use lib.Utf8.{scalars}
-use Rattle.tera_meaning.proofs.PlainLaws.{plain_items, plain_pairs, items_meant, found_pair, key_meant, key_plain, number_meant, number_plain}
-use Rattle.tera_meaning.proofs.SoundLaws.{Sound, sound_pair, sound_place}
-use Rattle.tera_meaning.proofs.ArithmeticLaws.{refused_or, IsNoWant}
+use Rattle.tera_meaning.proofs.PlainLemmas.{plain_items, plain_pairs, items_meant, found_pair, key_meant, key_plain, number_meant, number_plain}
+use Rattle.tera_meaning.proofs.SoundLemmas.{Sound, sound_pair, sound_place}
+use Rattle.tera_meaning.proofs.ArithmeticLemmas.{refused_or, IsNoWant}
 use Rattle.std.proofs.lemmas.Option.{slice_get-map}
 use Rattle.std.proofs.lemmas.List.{length-map}
 use Rattle.std.specs.Prelude.{IfErr}

@@ -11,8 +11,8 @@ use Rattle.tera_meaning.specs.Order.{same}
 use Rattle.tera_meaning.specs.Read.{number_in}
 use Rattle.tera_meaning.specs.WellMade.{IsWellMade}
 use Rattle.tera_report.specs.Refusal.{Refusal, negation_outside_i128, negated_no_number}
-use Rattle.tera_meaning.proofs.PlainLaws.{number_by_meaning}
-use Rattle.tera_meaning.proofs.ArithmeticLaws.{refused_or, refused_then, given_then, IsNoWant, small_well}
+use Rattle.tera_meaning.proofs.PlainLemmas.{number_by_meaning}
+use Rattle.tera_meaning.proofs.ArithmeticLemmas.{refused_or, refused_then, given_then, IsNoWant, small_well}
 
 negated_from : Option ℤ → List ℕ → Result Form Refusal
 negated_from n name =

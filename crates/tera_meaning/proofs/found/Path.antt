@@ -10,8 +10,8 @@ use Rattle.tera_meaning.specs.Path.{path, followed, reached, place, elements_of}
 use Rattle.tera_meaning.specs.Read.{items_in}
 use Rattle.tera_meaning.specs.Tree.{undefined, none, truth, number, text, bytes, array, object, items_list}
 use Rattle.tera_meaning.specs.WellMade.{IsWellMade}
-use Rattle.tera_meaning.proofs.PlainLaws.{items_meant}
-use Rattle.tera_meaning.proofs.SoundLaws.{Sound, sound_place}
+use Rattle.tera_meaning.proofs.PlainLemmas.{items_meant}
+use Rattle.tera_meaning.proofs.SoundLemmas.{Sound, sound_place}
 use Rattle.tera_meaning.proofs.found.Attr
 use Rattle.std.proofs.lemmas.Option.{none-some, same_Some, slice_get-map}
 

@@ -12,8 +12,8 @@ use Rattle.tera_meaning.specs.Order.{same}
 use Rattle.tera_meaning.specs.Read.{number_in}
 use Rattle.tera_meaning.specs.WellMade.{IsWellMade}
 use Rattle.tera_report.specs.Refusal.{Refusal, invalid_argument, number_out_of_range}
-use Rattle.tera_meaning.proofs.PlainLaws.{number_by_meaning}
-use Rattle.tera_meaning.proofs.ArithmeticLaws.{refused_or, refused_then, refused_each, given_then, given_each, IsNoWant}
+use Rattle.tera_meaning.proofs.PlainLemmas.{number_by_meaning}
+use Rattle.tera_meaning.proofs.ArithmeticLemmas.{refused_or, refused_then, refused_each, given_then, given_each, IsNoWant}
 
 converted_from : IntegerType → Option ℤ → List ℕ → Result ℤ Refusal
 converted_from type n name = and_then (ok_or n (invalid_argument (type_name type) name)) (in_type type)

@@ -5,15 +5,15 @@ use Rattle.std.specs.Prelude.{◌≡◌, true, List, [], Result, Ok, Err, IfOk, 
 use Rattle.std.specs.Str.{chars, encode_utf8_all}
 use Rattle.tera_meaning.specs.Form.{Form}
 use Rattle.tera_meaning.specs.Meaning.{plain, Meaning}
-use Rattle.tera_meaning.specs.Slice.{reversed, shape_of}
+use Rattle.tera_meaning.specs.SliceRule.{reversed, shape_of}
 use Rattle.tera_meaning.specs.Tree.{text, bytes, array, items, items_list}
 use Rattle.tera_meaning.specs.WellMade.{IsWellMade, IsByte}
 use Rattle.tera_report.specs.Refusal.{Refusal, not_reversible}
 use lib.Utf8.{scalar}
 use mathlib.Core.List.{reverse_aux}
-use Rattle.tera_meaning.proofs.PlainLaws.{plain_items, items_meant, array_means}
-use Rattle.tera_meaning.proofs.SoundLaws.{all_reversed, listed_well, items_well, each_scalar, spelled_well}
-use Rattle.tera_meaning.proofs.ArithmeticLaws.{IsNoWant}
+use Rattle.tera_meaning.proofs.PlainLemmas.{plain_items, items_meant, array_means}
+use Rattle.tera_meaning.proofs.SoundLemmas.{all_reversed, listed_well, items_well, each_scalar, spelled_well}
+use Rattle.tera_meaning.proofs.ArithmeticLemmas.{IsNoWant}
 use Rattle.std.specs.Prelude.{IfErr}
 
 module _ {X Y : Type 0} (f : X → Y) where

@@ -9,16 +9,16 @@ use Rattle.std.specs.Str.{chars, encode_utf8_all}
 use Rattle.tera_meaning.proofs.SliceLaws.{slice_of_is, slices_same}
 use Rattle.tera_meaning.specs.Form.{Form}
 use Rattle.tera_meaning.specs.Meaning.{plain, Meaning}
-use Rattle.tera_meaning.specs.Slice.{IsSliceFrom, HasReached, place_at, item_at, start_place, end_place, IsSliced, shape_of}
+use Rattle.tera_meaning.specs.SliceRule.{IsSliceFrom, HasReached, place_at, item_at, start_place, end_place, IsSliced, shape_of}
 use Rattle.tera_meaning.specs.Tree.{text, array, items, items_list}
-use Rattle.tera_meaning.specs.Walk.{directed, distance, pause, walked, slice_of, cut, cut_by, sliced}
+use Rattle.tera_meaning.specs.Slice.{directed, distance, pause, walked, slice_of, cut, cut_by, sliced}
 use Rattle.tera_meaning.specs.WellMade.{IsWellMade}
 use Rattle.tera_report.specs.Refusal.{Refusal, step_of_zero, not_sliceable}
 use lib.Utf8.{scalar}
-use Rattle.tera_meaning.proofs.PlainLaws.{plain_items, items_meant, array_means}
-use Rattle.tera_meaning.proofs.SoundLaws.{all_reversed, listed_well, items_well, each_scalar, spelled_well}
-use Rattle.tera_meaning.proofs.ArithmeticLaws.{IsNoWant}
-use Rattle.tera_meaning.proofs.SlicedLaws.{sliced_only}
+use Rattle.tera_meaning.proofs.PlainLemmas.{plain_items, items_meant, array_means}
+use Rattle.tera_meaning.proofs.SoundLemmas.{all_reversed, listed_well, items_well, each_scalar, spelled_well}
+use Rattle.tera_meaning.proofs.ArithmeticLemmas.{IsNoWant}
+use Rattle.tera_meaning.proofs.SliceLaws.{sliced_only}
 use Rattle.tera_meaning.proofs.SliceLaws.{slice_of_is, slices_same}
 use Rattle.std.proofs.lemmas.List.{length-map}
 use Rattle.std.specs.Prelude.{IfErr}

@@ -6,7 +6,7 @@ ghost use Rattle.tera_report.specs.Report.{numbered_line, pieces_of};
 use memchr::memchr;
 
 /// The line of that number, counted from 1, without its line feed; empty where there is none.
-#[tactic(auto, using(crate::proofs::PartLemmas::line_from, crate::proofs::PartLemmas::no_line_of))]
+#[tactic(auto, using(crate::proofs::PartLaws::line_from, crate::proofs::PartLaws::no_line_of))]
 pub(super) fn numbered_line(source: &str, number: usize) -> &str
     ensures { result.now ≡ numbered_line source.now number }
 {

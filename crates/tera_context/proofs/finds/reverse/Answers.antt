@@ -3,7 +3,7 @@ use Rattle.std.specs.Option.{option_map}
 use Rattle.std.specs.String.{string_bytes}
 use Rattle.tera_meaning.specs.Search
 use Rattle.tera_meaning.specs.Search.{one_found}
-use Rattle.tera_meaning.specs.Slice.{reversed}
+use Rattle.tera_meaning.specs.SliceRule.{reversed}
 use Rattle.tera_meaning.specs.State.{form_at}
 use Rattle.tera_context.proofs.Found.{search_refused}
 use Rattle.tera_context.proofs.finds.reverse.Goals as goal

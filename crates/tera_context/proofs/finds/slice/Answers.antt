@@ -4,8 +4,8 @@ use Rattle.std.specs.String.{string_bytes}
 use Rattle.tera_meaning.specs.Search
 use Rattle.tera_meaning.specs.Search.{one_found}
 use Rattle.tera_meaning.specs.State.{form_at}
-use Rattle.tera_meaning.specs.Walk.{sliced}
-use Rattle.tera_meaning.proofs.SlicedLaws.{sliced_only}
+use Rattle.tera_meaning.specs.Slice.{sliced}
+use Rattle.tera_meaning.proofs.SliceLaws.{sliced_only}
 use Rattle.tera_context.proofs.Found.{search_refused}
 use Rattle.tera_context.proofs.finds.slice.Goals as goal
 

@@ -1,4 +1,4 @@
-use Rattle.tera_meaning.proofs.AlikeLaws.{all_outcomes_alike, states_alike}
+use Rattle.tera_meaning.proofs.AlikeLemmas.{all_outcomes_alike, states_alike}
 use Rattle.tera_meaning.proofs.alike.all_answers_depend_on_meaning.Goals as goal
 
 pub returns-clause-answers : goal.returns-clause-answers

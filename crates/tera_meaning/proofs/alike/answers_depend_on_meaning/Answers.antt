@@ -1,4 +1,4 @@
-use Rattle.tera_meaning.proofs.AlikeLaws.{outcome_alike, state_alike}
+use Rattle.tera_meaning.proofs.AlikeLemmas.{outcome_alike, state_alike}
 use Rattle.tera_meaning.proofs.alike.answers_depend_on_meaning.Goals as goal
 
 pub returns-clause-answer : goal.returns-clause-answer

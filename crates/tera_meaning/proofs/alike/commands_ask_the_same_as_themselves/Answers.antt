@@ -1,4 +1,4 @@
-use Rattle.tera_meaning.proofs.AlikeLaws.{asks_the_same, all_ask_the_same}
+use Rattle.tera_meaning.proofs.AlikeLemmas.{asks_the_same, all_ask_the_same}
 use Rattle.tera_meaning.proofs.alike.commands_ask_the_same_as_themselves.Goals as goal
 
 pub returns-clause-one : goal.returns-clause-one

@@ -1,4 +1,4 @@
-use Rattle.tera_meaning.proofs.AlikeLaws.{as_many}
+use Rattle.tera_meaning.proofs.AlikeLemmas.{as_many}
 use Rattle.tera_meaning.proofs.alike.outcomes_that_are_alike_are_as_many.Goals as goal
 
 pub returns-clause-commands : goal.returns-clause-commands

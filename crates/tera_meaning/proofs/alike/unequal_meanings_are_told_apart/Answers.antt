@@ -1,4 +1,4 @@
-use Rattle.tera_meaning.proofs.ApartLaws.{apart_at, told_apart, runs_apart_at, probe_brings, runs_told_apart}
+use Rattle.tera_meaning.proofs.ApartLemmas.{apart_at, told_apart, runs_apart_at, probe_brings, runs_told_apart}
 use Rattle.tera_meaning.proofs.alike.unequal_meanings_are_told_apart.Goals as goal
 
 pub returns-clause-name : goal.returns-clause-name

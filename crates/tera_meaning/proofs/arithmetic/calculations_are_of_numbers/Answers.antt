@@ -1,4 +1,4 @@
-use Rattle.tera_meaning.proofs.CalculatedLaws.{by_numbers, of_operands, from_numbers}
+use Rattle.tera_meaning.proofs.CalculatedLemmas.{by_numbers, of_operands, from_numbers}
 use Rattle.tera_meaning.proofs.arithmetic.calculations_are_of_numbers.Goals as goal
 
 pub returns-clause-given : goal.returns-clause-given

@@ -1,5 +1,5 @@
 use Rattle.std.proofs.Common.{rules}
-use Rattle.tera_meaning.proofs.DivisionLaws.{same_quotient, same_remainder}
+use Rattle.tera_meaning.proofs.DivisionLemmas.{same_quotient, same_remainder}
 use Rattle.tera_meaning.proofs.arithmetic.divisions_have_one_answer.Goals as goal
 
 pub returns-clause-are : goal.returns-clause-are

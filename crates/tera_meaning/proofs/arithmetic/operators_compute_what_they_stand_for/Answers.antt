@@ -6,7 +6,7 @@ use Rattle.tera_report.specs.Refusal.{Refusal, plus, minus, times, remainder, fl
 use Rattle.tera_meaning.specs.Arithmetic.{and_then, exact, exponent, power_of}
 use Rattle.tera_meaning.specs.Integer.{is_small}
 use Rattle.tera_meaning.specs.RefusalLaws.{given_by_both}
-use Rattle.tera_meaning.proofs.CalculatedLaws.{exact_is, is_exact, divided_is, is_divided, exponent_is, is_exponent}
+use Rattle.tera_meaning.proofs.CalculatedLemmas.{exact_is, is_exact, divided_is, is_divided, exponent_is, is_exponent}
 use Rattle.tera_meaning.proofs.arithmetic.operators_compute_what_they_stand_for.Goals as goal
 
 pub returns-clause-sum : goal.returns-clause-sum

@@ -1,4 +1,4 @@
-use Rattle.tera_meaning.specs.KeyLaws.{key_total}
+use Rattle.tera_meaning.proofs.KeyLaws.{key_total}
 use Rattle.tera_meaning.proofs.keys.keys_are_ordered.Goals as goal
 
 pub returns : goal.returns

@@ -1,4 +1,4 @@
-use Rattle.tera_meaning.specs.KeyLaws.{key_equivalence, key_is, key_tie}
+use Rattle.tera_meaning.proofs.KeyLaws.{key_equivalence, key_is, key_tie}
 use Rattle.tera_meaning.proofs.keys.keys_tie_themselves.Goals as goal
 
 pub returns-clause-order : goal.returns-clause-order

@@ -1,5 +1,5 @@
 use Rattle.tera_meaning.specs.Fields.{shown_in}
-use Rattle.tera_meaning.specs.FieldLaws.{rising_are_rising, only_rising_texts}
+use Rattle.tera_meaning.proofs.FieldLaws.{rising_are_rising, only_rising_texts}
 use Rattle.tera_meaning.proofs.lookups.fields_have_one_list_of_names.Goals as goal
 
 pub returns : goal.returns

@@ -1,4 +1,4 @@
-use Rattle.tera_meaning.specs.LookupLaws.{part_from_front, part_from_back}
+use Rattle.tera_meaning.proofs.LookupLaws.{part_from_front, part_from_back}
 use Rattle.tera_meaning.proofs.lookups.indices_count_from_either_end.Goals as goal
 
 pub returns : goal.returns

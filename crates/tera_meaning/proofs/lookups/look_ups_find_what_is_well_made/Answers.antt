@@ -1,4 +1,4 @@
-use Rattle.tera_meaning.proofs.SoundLaws.{sound_as_key}
+use Rattle.tera_meaning.proofs.SoundLemmas.{sound_as_key}
 use Rattle.tera_meaning.proofs.found.Attr
 use Rattle.tera_meaning.proofs.found.Item
 use Rattle.tera_meaning.proofs.found.Path

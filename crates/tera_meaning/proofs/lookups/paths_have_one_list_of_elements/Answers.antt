@@ -1,4 +1,4 @@
-use Rattle.tera_meaning.proofs.PathLaws.{these_are_elements, only_these_are_elements}
+use Rattle.tera_meaning.proofs.PathLemmas.{these_are_elements, only_these_are_elements}
 use Rattle.tera_meaning.proofs.lookups.paths_have_one_list_of_elements.Goals as goal
 
 pub returns : goal.returns

@@ -1,4 +1,4 @@
-use Rattle.tera_meaning.specs.OrderLaws.{same_equivalence, same_is}
+use Rattle.tera_meaning.proofs.OrderLaws.{same_equivalence, same_is}
 use Rattle.tera_meaning.proofs.order.equality_is_identity.Goals as goal
 
 pub returns-clause-identity : goal.returns-clause-identity

@@ -1,4 +1,4 @@
-use Rattle.tera_meaning.specs.OrderLaws.{items_by_first_difference, members_by_first_difference}
+use Rattle.tera_meaning.proofs.OrderLaws.{items_by_first_difference, members_by_first_difference}
 use Rattle.tera_meaning.proofs.order.first_difference_decides.Goals as goal
 
 pub returns-clause-arrays : goal.returns-clause-arrays

@@ -1,4 +1,4 @@
-use Rattle.tera_meaning.specs.OrderLaws.{compare_partial, compare_total}
+use Rattle.tera_meaning.proofs.OrderLaws.{compare_partial, compare_total}
 use Rattle.tera_meaning.proofs.order.meanings_are_ordered.Goals as goal
 
 pub returns-clause-total : goal.returns-clause-total

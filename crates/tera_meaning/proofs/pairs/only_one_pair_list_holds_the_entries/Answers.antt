@@ -3,7 +3,7 @@ use Rattle.std.specs.Map.{keys_of}
 use Rattle.std.specs.Ordering.{eq_by_cmp}
 use Rattle.std.proofs.lemmas.List.Sorted.{IsPermutation-map}
 use Rattle.std.proofs.lemmas.Map.Keys.{IsDistinct-IsPermutation}
-use Rattle.tera_meaning.specs.KeyLaws.{key_total}
+use Rattle.tera_meaning.proofs.KeyLaws.{key_total}
 use Rattle.tera_meaning.specs.KeyMeaning.{key_meaning}
 use Rattle.tera_meaning.specs.Pairs.{key_form_order}
 use Rattle.tera_meaning.proofs.UniqueLaws.{only_rising, rising_permuted}

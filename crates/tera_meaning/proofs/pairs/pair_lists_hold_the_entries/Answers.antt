@@ -1,5 +1,5 @@
 use Rattle.std.specs.Cmp.{on_total}
-use Rattle.tera_meaning.specs.KeyLaws.{key_total}
+use Rattle.tera_meaning.proofs.KeyLaws.{key_total}
 use Rattle.tera_meaning.specs.KeyMeaning.{key_meaning}
 use Rattle.tera_meaning.specs.Pairs.{key_form_order}
 use Rattle.tera_meaning.proofs.PairLaws.{rising_rises, found_rising, more_rising}

@@ -1,5 +1,5 @@
 use Rattle.tera_meaning.specs.Printed.{IsExact, Prints}
-use Rattle.tera_meaning.proofs.PrintedLaws.{prints_alike, prints_alike_inside, printed_one, holds_of_both}
+use Rattle.tera_meaning.proofs.PrintedLemmas.{prints_alike, prints_alike_inside, printed_one, holds_of_both}
 use Rattle.tera_meaning.proofs.printed.equal_values_print_alike.Goals as goal
 
 pub returns-clause-alone : goal.returns-clause-alone

@@ -1,4 +1,4 @@
-use Rattle.tera_meaning.proofs.PrintedLaws.{exact_items, exact_members}
+use Rattle.tera_meaning.proofs.PrintedLemmas.{exact_items, exact_members}
 use Rattle.tera_meaning.proofs.printed.exactness_comes_from_the_parts.Goals as goal
 
 pub returns-clause-array : goal.returns-clause-array

@@ -1,4 +1,4 @@
-use Rattle.tera_meaning.proofs.PrintedLaws.{ascii_is}
+use Rattle.tera_meaning.proofs.PrintedLemmas.{ascii_is}
 use Rattle.tera_meaning.proofs.printed.texts_inside_are_exact_where_they_are_ascii.Goals as goal
 
 pub returns-clause-text : goal.returns-clause-text

@@ -1,4 +1,4 @@
-use Rattle.tera_meaning.proofs.Utf8Laws.{printed_utf8, inside_utf8}
+use Rattle.tera_meaning.proofs.Utf8Lemmas.{printed_utf8, inside_utf8}
 use Rattle.tera_meaning.proofs.printed.what_is_printed_is_utf8.Goals as goal
 
 pub returns-clause-alone : goal.returns-clause-alone

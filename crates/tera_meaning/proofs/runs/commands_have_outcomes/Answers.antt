@@ -1,4 +1,4 @@
-use Rattle.tera_meaning.proofs.RunLaws.{one_outcome, some_outcome}
+use Rattle.tera_meaning.proofs.RunLemmas.{one_outcome, some_outcome}
 use Rattle.tera_meaning.proofs.runs.commands_have_outcomes.Goals as goal
 
 pub returns-clause-some : goal.returns-clause-some

@@ -1,4 +1,4 @@
-use Rattle.tera_meaning.proofs.RunLaws.{run_outcomes_alike, run_states_alike}
+use Rattle.tera_meaning.proofs.RunLemmas.{run_outcomes_alike, run_states_alike}
 use Rattle.tera_meaning.proofs.runs.runs_depend_on_meaning.Goals as goal
 
 pub returns-clause-outcomes : goal.returns-clause-outcomes

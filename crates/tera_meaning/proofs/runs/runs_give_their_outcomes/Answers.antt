@@ -1,4 +1,4 @@
-use Rattle.tera_meaning.proofs.RunLaws.{ample_outcomes, ample_from_outcomes, ample_state}
+use Rattle.tera_meaning.proofs.RunLemmas.{ample_outcomes, ample_from_outcomes, ample_state}
 use Rattle.tera_meaning.proofs.runs.runs_give_their_outcomes.Goals as goal
 
 pub returns-clause-outcomes : goal.returns-clause-outcomes

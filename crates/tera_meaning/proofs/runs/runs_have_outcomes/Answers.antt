@@ -1,4 +1,4 @@
-use Rattle.tera_meaning.proofs.RunLaws.{ample_one, some_outcomes}
+use Rattle.tera_meaning.proofs.RunLemmas.{ample_one, some_outcomes}
 use Rattle.tera_meaning.proofs.runs.runs_have_outcomes.Goals as goal
 
 pub returns-clause-some : goal.returns-clause-some

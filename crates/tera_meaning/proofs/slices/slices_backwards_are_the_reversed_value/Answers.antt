@@ -1,8 +1,8 @@
 use Rattle.std.specs.Prelude.{None, Some, negsuc}
 use Rattle.std.proofs.Common.{ap, ◌∙◌, sym}
-use Rattle.tera_meaning.specs.Slice.{shape_of}
+use Rattle.tera_meaning.specs.SliceRule.{shape_of}
 use Rattle.tera_meaning.specs.Tree.{text}
-use Rattle.tera_meaning.proofs.SlicedLaws.{backward_array, backward_text, sliced_only}
+use Rattle.tera_meaning.proofs.SliceLaws.{backward_array, backward_text, sliced_only}
 use Rattle.tera_meaning.proofs.slices.slices_backwards_are_the_reversed_value.Goals as goal
 
 pub returns-clause-array : goal.returns-clause-array

@@ -1,5 +1,5 @@
 use Rattle.std.specs.Prelude.{pos, negsuc, None, Some}
-use Rattle.tera_meaning.proofs.StretchLaws.{slice_is_stretch, array_stretch, text_stretch}
+use Rattle.tera_meaning.proofs.StretchLemmas.{slice_is_stretch, array_stretch, text_stretch}
 use Rattle.tera_meaning.proofs.slices.slices_by_one_are_stretches.Goals as goal
 
 pub returns-clause-items : goal.returns-clause-items

@@ -1,4 +1,4 @@
-use Rattle.tera_meaning.proofs.SlicedLaws.{sliced_is, sliced_only}
+use Rattle.tera_meaning.proofs.SliceLaws.{sliced_is, sliced_only}
 use Rattle.tera_meaning.proofs.slices.slices_have_one_answer.Goals as goal
 
 pub returns-clause-answered : goal.returns-clause-answered

@@ -4,7 +4,7 @@ use lib.Utf8.{encode}
 use Rattle.tera_meaning.specs.Integer.{u64, i128}
 use Rattle.tera_meaning.specs.Rows.{held, marked, normal}
 use Rattle.tera_meaning.specs.Tree.{array, items}
-use Rattle.tera_meaning.proofs.SlicedLaws.{sliced_is}
+use Rattle.tera_meaning.proofs.SliceLaws.{sliced_is}
 use Rattle.tera_meaning.proofs.slices.slices_keep_forms.Goals as goal
 
 pub returns-clause-array : goal.returns-clause-array

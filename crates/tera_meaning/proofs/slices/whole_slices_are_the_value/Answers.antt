@@ -1,4 +1,4 @@
-use Rattle.tera_meaning.proofs.SlicedLaws.{whole_array, whole_text}
+use Rattle.tera_meaning.proofs.SliceLaws.{whole_array, whole_text}
 use Rattle.tera_meaning.proofs.slices.whole_slices_are_the_value.Goals as goal
 
 pub returns-clause-array : goal.returns-clause-array

@@ -1,4 +1,4 @@
-use Rattle.tera_meaning.specs.StateLaws.{get_kept, get_removed, remove_absent}
+use Rattle.tera_meaning.proofs.StateLaws.{get_kept, get_removed, remove_absent}
 use Rattle.tera_meaning.proofs.state.removing_keeps_other_names.Goals as goal
 
 pub returns-clause-removed : goal.returns-clause-removed

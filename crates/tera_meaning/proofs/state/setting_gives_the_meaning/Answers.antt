@@ -1,4 +1,4 @@
-use Rattle.tera_meaning.specs.StateLaws.{held_empty, meaning_empty, meaning_other, meaning_set}
+use Rattle.tera_meaning.proofs.StateLaws.{held_empty, meaning_empty, meaning_other, meaning_set}
 use Rattle.tera_meaning.proofs.state.setting_gives_the_meaning.Goals as goal
 
 pub returns-clause-set : goal.returns-clause-set

@@ -1,4 +1,4 @@
-use Rattle.tera_meaning.specs.StateLaws.{get_other, get_set}
+use Rattle.tera_meaning.proofs.StateLaws.{get_other, get_set}
 use Rattle.tera_meaning.proofs.state.setting_keeps_other_names.Goals as goal
 
 pub returns-clause-set : goal.returns-clause-set

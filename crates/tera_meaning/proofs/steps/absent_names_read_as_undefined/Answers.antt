@@ -1,5 +1,5 @@
 use Rattle.std.specs.Prelude.{None, refl}
-use Rattle.tera_meaning.specs.StateLaws.{remove_absent}
+use Rattle.tera_meaning.proofs.StateLaws.{remove_absent}
 use Rattle.tera_meaning.proofs.StepLaws.{escapes}
 use Rattle.tera_meaning.proofs.steps.absent_names_read_as_undefined.Goals as goal
 

@@ -1,6 +1,6 @@
 use Rattle.tera_meaning.specs.Read.{marked_safe}
 use Rattle.tera_meaning.specs.State.{form_at}
-use Rattle.tera_meaning.specs.StateLaws.{get_other, get_set}
+use Rattle.tera_meaning.proofs.StateLaws.{get_other, get_set}
 use Rattle.tera_meaning.proofs.StepLaws.{marked_absent}
 use Rattle.tera_meaning.proofs.steps.what_is_marked_is_kept.Goals as goal
 

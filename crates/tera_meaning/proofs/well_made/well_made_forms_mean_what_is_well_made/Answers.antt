@@ -1,6 +1,6 @@
-use Rattle.tera_meaning.proofs.MeantLaws.{meant}
+use Rattle.tera_meaning.proofs.MeantLemmas.{meant}
 use Rattle.tera_meaning.proofs.Owed.{form_at_well}
-use Rattle.tera_meaning.proofs.WellMadeLaws.{held_name_well, meaning_well, meaning_at_well}
+use Rattle.tera_meaning.proofs.WellMadeLemmas.{held_name_well, meaning_well, meaning_at_well}
 use Rattle.tera_meaning.proofs.well_made.well_made_forms_mean_what_is_well_made.Goals as goal
 
 pub returns-clause-form : goal.returns-clause-form

@@ -1,4 +1,4 @@
-use Rattle.tera_meaning.proofs.WellMadeLaws.{all_left_well, empty_well, run_well}
+use Rattle.tera_meaning.proofs.WellMadeLemmas.{all_left_well, empty_well, run_well}
 use Rattle.tera_meaning.proofs.well_made.what_is_held_stays_well_made.Goals as goal
 
 pub returns-clause-empty : goal.returns-clause-empty

@@ -3,7 +3,7 @@ use Rattle.std.proofs.Common.{rules, refl, ◌++◌, codes, decimal, map, Ok, So
 use Rattle.std.specs.String.{string_bytes}
 use Rattle.tera_context.specs.Call.{answer_of}
 use Rattle.tera_meaning.specs.Answer.{found, texts}
-use Rattle.tera_report.proofs.PutLemmas.{puts_these}
+use Rattle.tera_report.proofs.PutLaws.{puts_these}
 use Rattle.tera_replies.specs.Reply.{IsReplyLine}
 use Rattle.tera_replies.specs.Script.{ended}
 use Rattle.tera_replies.proofs.PutLemmas.{puts_weaker}

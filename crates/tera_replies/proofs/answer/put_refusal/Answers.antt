@@ -1,7 +1,7 @@
 -- The word, what tells the refusal and the line feed are put in turn.
 use Rattle.std.proofs.Common.{rules, refl, sym, append_assoc, ◌++◌, codes, Err}
 use Rattle.std.proofs.lemmas.Result.{MatchResult-weaker}
-use Rattle.tera_report.proofs.TellLemmas.{some_telling}
+use Rattle.tera_report.proofs.TellLaws.{some_telling}
 use Rattle.tera_report.specs.Errors.{kind_of, refusal_of}
 use Rattle.tera_report.specs.Sink.{OfSome}
 use Rattle.tera_replies.specs.Reply.{IsReplyLine}

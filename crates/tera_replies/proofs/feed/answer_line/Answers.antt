@@ -4,7 +4,7 @@ use Rattle.tera_meaning.specs.Outcome.{Outcome}
 use Rattle.tera_meaning.specs.Step.{IsStep}
 use Rattle.tera_context.specs.Call.{command_of}
 use Rattle.tera_context.proofs.Shown.{shown_outcome}
-use Rattle.tera_report.specs.SentLaws.{sends_nothing}
+use Rattle.tera_report.proofs.SentLaws.{sends_nothing}
 use Rattle.tera_replies.specs.Script.{ended}
 use Rattle.tera_replies.specs.Stretch.{Runs}
 use Rattle.tera_replies.proofs.LineLemmas.{Runs-skipped, Runs-says}

@@ -1,6 +1,6 @@
 -- What is said of the watched writers is said of the writers.
 use Rattle.std.proofs.Common.{rules}
-use Rattle.tera_report.specs.SentLaws.{watched_delivers, watched_broke}
+use Rattle.tera_report.proofs.SentLaws.{watched_delivers, watched_broke}
 use Rattle.tera_replies.proofs.ReplayLemmas.{replays_weaker}
 use Rattle.tera_replies.proofs.WatchedLemmas.{delivers_same, broke_same, told_same, told_writer}
 use Rattle.tera_replies.proofs.replays.replay.Goals as goal

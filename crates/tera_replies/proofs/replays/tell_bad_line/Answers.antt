@@ -1,5 +1,5 @@
 use Rattle.std.proofs.Common.{rules, refl, ◌∷◌, []}
-use Rattle.tera_report.proofs.PutLemmas.{puts_after}
+use Rattle.tera_report.proofs.PutLaws.{puts_after}
 use Rattle.tera_replies.specs.Script.{line_feed}
 use Rattle.tera_replies.proofs.replays.tell_bad_line.Goals as goal
 

@@ -1,6 +1,6 @@
 use Rattle.tera_report.specs.Escaping.{Spells}
-use Rattle.tera_report.specs.SinkLaws.{decided_by}
-use Rattle.tera_report.proofs.EscapeLemmas.{one_spelling_each}
+use Rattle.tera_report.specs.inner.SinkLaws.{decided_by}
+use Rattle.tera_report.proofs.EscapeLaws.{one_spelling_each}
 use Rattle.tera_report.proofs.escape.escape_into_room.Goals as goal
 
 pub returns-clause-decided : goal.returns-clause-decided

@@ -2,7 +2,7 @@ use Rattle.std.proofs.Common.{rules, ◌++◌, subst, sym}
 use Rattle.tera_report.specs.Escaping.{escaped, Spells}
 use Rattle.tera_report.specs.Pieces.{written}
 use Rattle.tera_report.specs.Sink.{OfSome}
-use Rattle.tera_report.proofs.EscapeLemmas.{Spells-escaped, done_more, done_whole}
+use Rattle.tera_report.proofs.EscapeLaws.{Spells-escaped, done_more, done_whole}
 use Rattle.tera_report.proofs.escape.escape_to.Goals as goal
 
 pub loop-piece-preserved : goal.loop-piece-preserved

@@ -1,4 +1,4 @@
-use Rattle.tera_report.proofs.EscapeLemmas.{one_decoding_each}
+use Rattle.tera_report.proofs.EscapeLaws.{one_decoding_each}
 use Rattle.tera_report.proofs.escape.one_decoding.Goals as goal
 
 pub returns : goal.returns

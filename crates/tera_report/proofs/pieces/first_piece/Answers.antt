@@ -1,7 +1,7 @@
 use Rattle.std.proofs.Common.{◌≡◌, ◌<◌, ◌∙◌, true, length, slice_index, subst, ap}
 use Rattle.std.proofs.lemmas.Str.{IsCharBoundary-after_ascii}
 use Rattle.tera_report.specs.Escaping.{is_special}
-use Rattle.tera_report.proofs.EscapeLemmas.{escaped_run, special_is_ascii}
+use Rattle.tera_report.proofs.EscapeLaws.{escaped_run, special_is_ascii}
 use Rattle.tera_report.proofs.pieces.first_piece.Goals as goal
 
 -- The first byte is one of the special ones, which are ASCII.

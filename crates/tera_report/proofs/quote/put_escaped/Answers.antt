@@ -2,7 +2,7 @@ use Rattle.std.proofs.Common.{rules, refl, ◌++◌, sym, ap, ◌∙◌}
 use Rattle.std.proofs.lemmas.Result.{MatchResult-weaker}
 use Rattle.std.specs.Fmt.{debug_escape}
 use Rattle.tera_report.specs.Quoted.{Escapes, escapes}
-use Rattle.tera_report.proofs.PutLemmas.{failed_of}
+use Rattle.tera_report.proofs.PutLaws.{failed_of}
 use Rattle.tera_report.proofs.QuoteLemmas.{runs_more}
 use Rattle.tera_report.proofs.quote.put_escaped.Goals as goal
 

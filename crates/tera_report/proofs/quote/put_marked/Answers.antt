@@ -1,7 +1,7 @@
 use Rattle.std.proofs.Common.{rules, [], refl, sym, ◌∙◌, subst, arith}
 use Rattle.std.specs.Char.Iter.{escape_rest}
 use Rattle.tera_report.specs.Quoted.{EscapesMarked}
-use Rattle.tera_report.proofs.PutLemmas.{failed_of}
+use Rattle.tera_report.proofs.PutLaws.{failed_of}
 use Rattle.tera_report.proofs.QuoteLemmas.{marked_escape, parts_more, parts_done}
 use Rattle.tera_report.proofs.quote.put_marked.Goals as goal
 

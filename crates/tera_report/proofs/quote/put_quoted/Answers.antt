@@ -1,7 +1,7 @@
 use Rattle.std.proofs.Common.{rules, refl, ◌++◌, ◌∷◌, [], ap}
 use Rattle.std.proofs.lemmas.Result.{MatchResult-weaker}
 use Rattle.tera_report.specs.Quoted.{Quotes, escapes}
-use Rattle.tera_report.proofs.PutLemmas.{failed_of}
+use Rattle.tera_report.proofs.PutLaws.{failed_of}
 use Rattle.tera_report.proofs.quote.put_quoted.Goals as goal
 
 pub returns-in_err-put : goal.returns-in_err-put

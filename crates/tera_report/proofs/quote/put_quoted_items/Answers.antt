@@ -2,7 +2,7 @@ use Rattle.std.proofs.Common.{rules, refl, ◌+◌, ◌∷◌, [], map, string_b
 use Rattle.std.proofs.lemmas.List.{drop_more, drop_all}
 use Rattle.std.specs.Fmt.{debug_str, debug_items, comma_space}
 use Rattle.tera_report.specs.Quoted.{Quotes, QuotesItems, quoted}
-use Rattle.tera_report.proofs.PutLemmas.{failed_of, some_text}
+use Rattle.tera_report.proofs.PutLaws.{failed_of, some_text}
 use Rattle.tera_report.proofs.QuoteLemmas.{list_more}
 use Rattle.tera_report.proofs.quote.put_quoted_items.Goals as goal
 

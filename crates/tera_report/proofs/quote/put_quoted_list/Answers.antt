@@ -2,7 +2,7 @@ use Rattle.std.proofs.Common.{rules, refl, ◌∷◌, ◌++◌, [], map, string_
 use Rattle.std.proofs.lemmas.Result.{MatchResult-weaker}
 use Rattle.std.specs.Fmt.{◌++?◌, debug_str, debug_items}
 use Rattle.tera_report.specs.Quoted.{QuotesList}
-use Rattle.tera_report.proofs.PutLemmas.{failed_of, some_text, texts_joined}
+use Rattle.tera_report.proofs.PutLaws.{failed_of, some_text, texts_joined}
 use Rattle.tera_report.proofs.quote.put_quoted_list.Goals as goal
 
 pub returns-in_err-put : goal.returns-in_err-put

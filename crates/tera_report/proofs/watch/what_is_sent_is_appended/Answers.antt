@@ -1,4 +1,4 @@
-use Rattle.tera_report.specs.SentLaws.{watched_appends}
+use Rattle.tera_report.proofs.SentLaws.{watched_appends}
 use Rattle.tera_report.proofs.watch.what_is_sent_is_appended.Goals as goal
 
 pub returns : goal.returns

@@ -1,7 +1,7 @@
 use Rattle.std.proofs.Common.{◌≡◌, ◌-◌, ℕ, List, IfOk, ap, subst, ◌∙◌, reverse}
 use Rattle.std.specs.Str.{chars, encode_utf8_all}
 use Rattle.std.specs.String.{string_bytes}
-use Rattle.tera_meaning.specs.Walk.{walked}
+use Rattle.tera_meaning.specs.Slice.{walked}
 use Rattle.tera_scalars.specs.Ends.{chars_from}
 use Rattle.tera_scalars.proofs.TextLemmas.{bytes_taken, walks_behind, whole_behind}
 use Rattle.tera_scalars.proofs.text.sliced.Goals as goal

@@ -1,6 +1,6 @@
 use Rattle.std.proofs.Common.{◌≡◌, ◌<◌, ◌≤◌, ◌^◌, ◌+◌, ◌-◌, ◌++◌, List, ℕ, length, arith, rules, ap, ◌∙◌}
 use Rattle.std.specs.Str.{encode_utf8_all}
-use Rattle.tera_meaning.specs.Walk.{walked}
+use Rattle.tera_meaning.specs.Slice.{walked}
 use Rattle.tera_scalars.specs.Positions.{turned}
 use Rattle.tera_scalars.proofs.TextLemmas.{put_next, put_all, length_turned}
 use Rattle.tera_scalars.proofs.text.strided_ascii.Goals as goal

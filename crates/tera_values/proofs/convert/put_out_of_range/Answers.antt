@@ -3,7 +3,7 @@ use Rattle.std.proofs.lemmas.Result.{MatchResult-weaker}
 use Rattle.std.specs.Fmt.{◌++?◌}
 use Rattle.tera_meaning.specs.Meaning.{plain}
 use Rattle.tera_report.specs.Quoted.{IsText}
-use Rattle.tera_report.proofs.PutLemmas.{failed_of, some_text, texts_joined}
+use Rattle.tera_report.proofs.PutLaws.{failed_of, some_text, texts_joined}
 use Rattle.tera_values.specs.Converted.{range_text}
 use Rattle.tera_values.specs.Print.{printed_if_exact}
 use Rattle.tera_values.proofs.ConvertLemmas.{printed_is_text}

@@ -1,7 +1,7 @@
 use Rattle.std.proofs.Common.{map, string_bytes}
 use Rattle.std.proofs.lemmas.List.Sorted.{Contains-permutation, IsPermutation-sym}
 use Rattle.tera_meaning.specs.Fields.{shown_keys}
-use Rattle.tera_meaning.specs.FieldLaws.{only_rising_texts}
+use Rattle.tera_meaning.proofs.FieldLaws.{only_rising_texts}
 use Rattle.tera_values.specs.Map.{pairs_in}
 use Rattle.tera_values.proofs.fields.field_names.Goals as goal
 

@@ -15,7 +15,7 @@ use Rattle.tera_values.specs.Map.{above, forms_of, pairs_in, is_above}
 use Rattle.tera_values.specs.Print.{plain_items, plain_pairs, PrintsItems, PrintsPairs, PrintsPair}
 use Rattle.tera_values.proofs.PrintPairs.{empty_pairs, first_in, from_least, from_next, pairs_sorted, first_pair_done, next_pair_done, rest_pairs_done, comma_pairs_done, later_pairs}
 use Rattle.tera_values.proofs.Parts.{depth_at}
-use Rattle.tera_report.proofs.PutLemmas.{failed_of}
+use Rattle.tera_report.proofs.PutLaws.{failed_of}
 use Rattle.tera_values.proofs.PrintLemmas.{first_done, next_done, rest_done, comma_done, later, text_inside, other_inside}
 use Rattle.tera_values.proofs.print.+print.Goals as goal
 

@@ -2,7 +2,7 @@ use Rattle.std.proofs.Common.{ap, sym, ◌∙◌, arith, refl, ◌≡◌, ◌-�
 use Rattle.std.proofs.lemmas.List.{drop_all}
 use Rattle.std.proofs.lemmas.Result.{IfOk-weaker}
 use Rattle.tera_meaning.specs.Form.{Form}
-use Rattle.tera_meaning.specs.Slice.{IsSliced}
+use Rattle.tera_meaning.specs.SliceRule.{IsSliced}
 use Rattle.tera_meaning.specs.Stretch.{stretch}
 use Rattle.tera_meaning.specs.Tree.{array, items}
 use Rattle.uses.proofs.lists.last_items.Goals as goal

@@ -3,7 +3,7 @@ use Rattle.std.proofs.Common.{rules, ◌≡◌, ◌||◌, ℕ, false, List, [], 
 use Rattle.std.proofs.lemmas.Bool.{eqb-true, eqb-false}
 use Rattle.std.proofs.lemmas.List.{nil_from_length}
 use Rattle.tera_replies.specs.Script.{last_line}
-use Rattle.tera_report.specs.SentLaws.{sends_nothing}
+use Rattle.tera_report.proofs.SentLaws.{sends_nothing}
 use Rattle.tera_replies.specs.Stretch.{Runs}
 use Rattle.tera_replies.proofs.RunLemmas.{Runs-none, or_false}
 use Rattle.tera_replies.proofs.feed.Feed.finish.Goals as goal

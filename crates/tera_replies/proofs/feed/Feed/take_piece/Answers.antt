@@ -1,7 +1,7 @@
 -- What stands before the rest of the piece is read and answered.
 use Rattle.std.proofs.Common.{◌≡◌, ◌+◌, [], ◌∷◌, length, length-append, sym, ◌∙◌, ap, refl, append-nil, arith}
 use Rattle.std.proofs.lemmas.Result.{err_from_is_err_and}
-use Rattle.tera_report.specs.SentLaws.{sends_nothing}
+use Rattle.tera_report.proofs.SentLaws.{sends_nothing}
 use Rattle.tera_replies.specs.Place.{place_of}
 use Rattle.tera_replies.specs.Script.{ended, line_feed}
 use Rattle.tera_replies.proofs.StretchLemmas.{Goes-part}

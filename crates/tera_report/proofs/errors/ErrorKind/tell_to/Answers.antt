@@ -2,7 +2,7 @@
 use Rattle.std.proofs.Common.{◌++◌, ap, codes}
 use Rattle.tera_report.specs.Errors.{refusal_of}
 use Rattle.tera_report.specs.Refusal.{Tells}
-use Rattle.tera_report.proofs.PutLemmas.{puts_these}
+use Rattle.tera_report.proofs.PutLaws.{puts_these}
 use Rattle.tera_report.proofs.errors.ErrorKind.tell_to.Goals as goal
 
 pub returns-in-CircularExtend : goal.returns-in-CircularExtend

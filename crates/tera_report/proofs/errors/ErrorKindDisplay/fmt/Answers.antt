@@ -1,6 +1,6 @@
 use Rattle.tera_report.specs.Errors.{refusal_of}
 use Rattle.tera_report.specs.Refusal.{Tells}
-use Rattle.tera_report.proofs.TellLemmas.{displays_plain, displays_styled, told_known}
+use Rattle.tera_report.proofs.TellLaws.{displays_plain, displays_styled, told_known}
 use Rattle.tera_report.proofs.errors.ErrorKindDisplay.fmt.Goals as goal
 
 pub returns-clause-writes : goal.returns-clause-writes

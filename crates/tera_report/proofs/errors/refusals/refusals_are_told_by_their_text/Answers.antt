@@ -1,4 +1,4 @@
-use Rattle.tera_report.proofs.TellLemmas.{some_telling, told_known, text_tells, telling_stated}
+use Rattle.tera_report.proofs.TellLaws.{some_telling, told_known, text_tells, telling_stated}
 use Rattle.tera_report.proofs.errors.refusals.refusals_are_told_by_their_text.Goals as goal
 
 pub returns : goal.returns

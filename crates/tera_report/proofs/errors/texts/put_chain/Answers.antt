@@ -3,7 +3,7 @@ use Rattle.std.proofs.lemmas.Result.{MatchResult-weaker}
 use Rattle.std.specs.Fmt.{debug_str, debug_list}
 use Rattle.std.specs.List.{flat_map}
 use Rattle.tera_report.specs.Refusal.{TellsChain}
-use Rattle.tera_report.proofs.PutLemmas.{failed_of, some_text}
+use Rattle.tera_report.proofs.PutLaws.{failed_of, some_text}
 use Rattle.tera_report.proofs.errors.texts.put_chain.Goals as goal
 
 pub returns-in_err-put_all : goal.returns-in_err-put_all

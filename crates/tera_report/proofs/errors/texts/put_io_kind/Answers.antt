@@ -1,6 +1,6 @@
 use Rattle.std.proofs.Common.{refl}
 use Rattle.tera_report.specs.Refusal.{Tells, writing_failed}
-use Rattle.tera_report.proofs.PutLemmas.{puts_these}
+use Rattle.tera_report.proofs.PutLaws.{puts_these}
 use Rattle.tera_report.proofs.errors.texts.put_io_kind.Goals as goal
 
 pub returns : goal.returns

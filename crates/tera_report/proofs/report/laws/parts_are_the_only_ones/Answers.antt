@@ -1,4 +1,4 @@
-use Rattle.tera_report.proofs.PartLemmas.{these_are_parts, only_these_are_parts}
+use Rattle.tera_report.proofs.PartLaws.{these_are_parts, only_these_are_parts}
 use Rattle.tera_report.proofs.report.laws.parts_are_the_only_ones.Goals as goal
 
 pub returns-clause-are : goal.returns-clause-are

@@ -3,7 +3,7 @@ use Rattle.std.specs.List.{slice_get}
 use Rattle.std.specs.Option.{unwrap_or}
 use Rattle.tera_report.specs.Parts.{line_feed}
 use Rattle.tera_report.specs.Report.{pieces_of}
-use Rattle.tera_report.proofs.PartLemmas.{first_part, one_part}
+use Rattle.tera_report.proofs.PartLaws.{first_part, one_part}
 use Rattle.tera_report.proofs.report.source.first_line.Goals as goal
 
 pub returns-in-Some : goal.returns-in-Some

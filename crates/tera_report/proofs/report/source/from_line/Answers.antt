@@ -1,6 +1,6 @@
 use Rattle.std.proofs.Common.{rules, arith, ◌≡◌, ◌<◌, ◌⊎◌, inr, length}
 use Rattle.tera_report.specs.Report.{pieces_of}
-use Rattle.tera_report.proofs.PartLemmas.{last_line, line_later}
+use Rattle.tera_report.proofs.PartLaws.{last_line, line_later}
 use Rattle.tera_report.proofs.report.source.from_line.Goals as goal
 
 pub loop-line-preserved : goal.loop-line-preserved

@@ -2,7 +2,7 @@ use Rattle.std.proofs.Common.{◌≡◌, ◌==◌, ◌<◌, sym, ap, ◌∙◌, 
 use Rattle.std.proofs.lemmas.Bool.{eqb-true}
 use Rattle.std.proofs.lemmas.Str.{IsCharBoundary-after_ascii}
 use Rattle.tera_report.specs.Parts.{line_feed}
-use Rattle.tera_report.proofs.PartLemmas.{cut_at_feed}
+use Rattle.tera_report.proofs.PartLaws.{cut_at_feed}
 use Rattle.tera_report.proofs.report.source.split_line.Goals as goal
 
 pub range_from-requires : goal.range_from-requires

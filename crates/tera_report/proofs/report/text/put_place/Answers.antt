@@ -1,6 +1,6 @@
 use Rattle.std.proofs.Common.{rules, subst}
 use Rattle.tera_report.specs.Report.{underline}
-use Rattle.tera_report.proofs.PutLemmas.{puts_after}
+use Rattle.tera_report.proofs.PutLaws.{puts_after}
 use Rattle.tera_report.proofs.ReportLemmas.{place_whole}
 use Rattle.tera_report.proofs.report.text.put_place.Goals as goal
 

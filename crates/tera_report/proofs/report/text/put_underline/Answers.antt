@@ -1,7 +1,7 @@
 use Rattle.std.proofs.Common.{rules, ◌++◌, replicate, map, take, ap}
 use Rattle.std.specs.Str.{chars}
 use Rattle.tera_report.specs.Report.{caret, under, width}
-use Rattle.tera_report.proofs.PutLemmas.{puts_after}
+use Rattle.tera_report.proofs.PutLaws.{puts_after}
 use Rattle.tera_report.proofs.report.text.put_underline.Goals as goal
 
 pub returns-in_err-put_columns : goal.returns-in_err-put_columns

@@ -3,10 +3,10 @@ use Rattle.std.proofs.Common.{◌≡◌, ◌-◌, ◌++◌, true, Ok, Err, lengt
 use Rattle.std.specs.Io.KnownBytes.{Appends}
 use Rattle.std.specs.declared.io.Error.{Error}
 use Rattle.std.proofs.KnownBytes.{Appends-trans}
-use Rattle.tera_report.specs.SinkLaws.{keeps_appends}
+use Rattle.tera_report.specs.inner.SinkLaws.{keeps_appends}
 use Rattle.tera_report.specs.Watch.{watched_writer}
 use Rattle.tera_report.specs.Writer.{is_fault, once, all_taken, has_fault}
-use Rattle.tera_report.specs.WriterLaws.{tries_more, taken_more, faults_more}
+use Rattle.tera_report.specs.inner.WriterLaws.{tries_more, taken_more, faults_more}
 use Rattle.tera_report.proofs.WatchLemmas.{kept_by_or, quiet_before, not_quiet, loud_more, split_later, turn_took_one, failed_here}
 use Rattle.tera_report.proofs.watch.Watched.write_rest.Goals as goal
 use Rattle.tera_report.proofs.watch.Watched.write_rest.Goals.{in-Ok, in-Err+else-not-matches}

@@ -4,7 +4,7 @@ use Rattle.std.proofs.Math.Seq.{take-length}
 use Rattle.std.proofs.lemmas.List.{take_rest}
 use Rattle.std.proofs.lemmas.Result.{MatchResult-weaker}
 use Rattle.std.specs.declared.io.Error.{Error}
-use Rattle.tera_report.specs.SinkLaws.{appends_nothing, keeps_appends, watched_joined, watched_later}
+use Rattle.tera_report.specs.inner.SinkLaws.{appends_nothing, keeps_appends, watched_joined, watched_later}
 use Rattle.tera_report.specs.Watch.{WatchedTakes, WatchedFails}
 use Rattle.tera_report.specs.Writer.{is_fault}
 use Rattle.tera_report.proofs.WatchLemmas.{failed_here, took_once}

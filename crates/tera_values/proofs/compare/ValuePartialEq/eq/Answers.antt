@@ -2,7 +2,7 @@ use Rattle.std.proofs.Common.{◌≡◌, ◌∙◌, ◌↔◌, sym, ap, subst, B
 use Rattle.std.specs.Ordering.{is_eq}
 use Rattle.tera_meaning.specs.Meaning.{plain}
 use Rattle.tera_meaning.specs.Order.{same}
-use Rattle.tera_meaning.specs.OrderLaws.{same_is}
+use Rattle.tera_meaning.proofs.OrderLaws.{same_is}
 use Rattle.tera_values.proofs.compare.ValuePartialEq.eq.Goals as goal
 
 pub returns-clause-meaning : goal.returns-clause-meaning

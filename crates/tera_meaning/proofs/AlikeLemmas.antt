@@ -1,5 +1,5 @@
 -- Answers depend on meanings alone.
-use Rattle.tera_meaning.proofs.PlainLaws.{is_there}
+use Rattle.tera_meaning.proofs.PlainLemmas.{is_there}
 use Rattle.std.specs.Prelude.{◌≡◌, ℕ, suc, length, Bool, true, false, cond, List, [], ◌∷◌, Option, Some, None, Result, Ok, Err, is_some, refl}
 use Rattle.std.proofs.Common.{sym, ◌∙◌, ap, subst}
 use Rattle.std.specs.Option.{option_map, unwrap_or}
@@ -8,7 +8,7 @@ use Rattle.std.specs.Cmp.Lexicographic.{slice_cmp, nat_list_cmp_total}
 use Rattle.std.specs.FinMap.{get as held_at, insert, remove as without, get-insert, get-remove}
 use Rattle.tera_report.specs.Escaping.{Spells}
 use Rattle.tera_report.specs.Refusal.{Refusal, shape as refusal_shape}
-use Rattle.tera_report.proofs.EscapeLemmas.{one_spelling_each}
+use Rattle.tera_report.proofs.EscapeLaws.{one_spelling_each}
 use Rattle.tera_meaning.specs.Form.{Form}
 use Rattle.tera_meaning.specs.Meaning.{Meaning, plain}
 use Rattle.tera_meaning.specs.Printed.{printed, IsExact, Prints}
@@ -18,8 +18,8 @@ use Rattle.tera_meaning.specs.Alike.{MeanTheSame, RequestTheSame, AskTheSame, Al
 use Rattle.tera_meaning.specs.Answer
 use Rattle.tera_meaning.specs.Search.{Found, found_at}
 use Rattle.tera_meaning.specs.Lookup.{holds, seen_by}
-use Rattle.tera_meaning.proofs.ContainsLaws.{holds_by_meaning}
-use Rattle.tera_meaning.proofs.PlainLaws.{fields_by_meaning}
+use Rattle.tera_meaning.proofs.ContainsLemmas.{holds_by_meaning}
+use Rattle.tera_meaning.proofs.PlainLemmas.{fields_by_meaning}
 use Rattle.tera_meaning.proofs.Owed.{found_shape, read_alike, meaning_alike}
 use Rattle.tera_meaning.proofs.found.{owed}
 use Rattle.tera_meaning.specs.Outcome.{Outcome, shape}

@@ -8,11 +8,11 @@ use Rattle.std.specs.Str.{chars, encode_utf8_all}
 use Rattle.tera_report.specs.Refusal.{Refusal}
 use Rattle.tera_meaning.specs.Form.{Form, MarkedText}
 use Rattle.tera_meaning.specs.Read.{items_in}
-use Rattle.tera_meaning.specs.Slice.{IsSliced, place_of_bound, start_place, end_place}
+use Rattle.tera_meaning.specs.SliceRule.{IsSliced, place_of_bound, start_place, end_place}
 use Rattle.tera_meaning.specs.Stretch.{up_to_bound, from_bound, stretch}
 use Rattle.tera_meaning.specs.Tree.{undefined, none, truth, number, text, bytes, array, object, items, items_list}
-use Rattle.tera_meaning.specs.Walk.{walked, slice_of}
-use Rattle.tera_meaning.proofs.SlicedLaws.{sliced_only}
+use Rattle.tera_meaning.specs.Slice.{walked, slice_of}
+use Rattle.tera_meaning.proofs.SliceLaws.{sliced_only}
 
 -- the place of a bound from 0 on, and of one below 0
 at_front : (n bound : ℕ) → nat_abs (place_of_bound (pos 1) n (pos bound)) ≡ min bound n

@@ -18,14 +18,14 @@ use Rattle.tera_meaning.specs.Answer
 use Rattle.tera_meaning.specs.Outcome.{OutcomeOf, Outcome, shape}
 use Rattle.tera_meaning.specs.Request.{Command}
 use Rattle.tera_meaning.specs.Run.{AreOutcomes}
-use Rattle.tera_meaning.specs.OrderLaws.{same_is, same_equivalence}
-use Rattle.tera_meaning.specs.StateLaws.{meaning_set, meaning_other, name_exact}
+use Rattle.tera_meaning.proofs.OrderLaws.{same_is, same_equivalence}
+use Rattle.tera_meaning.proofs.StateLaws.{meaning_set, meaning_other, name_exact}
 use Rattle.tera_meaning.specs.Alike.{meaning_held, MeanTheSame, AreAlike, AnswerAlike, AreToldApartBy, RunsAreToldApart, probe}
-use Rattle.tera_meaning.proofs.AlikeLaws.{some_one, all_outcomes_alike, all_ask_the_same}
+use Rattle.tera_meaning.proofs.AlikeLemmas.{some_one, all_outcomes_alike, all_ask_the_same}
 use Rattle.tera_meaning.specs.Tree.{undefined}
 use Rattle.tera_meaning.specs.WellMade.{IsWellMadeState, AllBringWellMade}
-use Rattle.tera_meaning.proofs.RunLaws.{ample_outcomes}
-use Rattle.tera_meaning.proofs.WellMadeLaws.{held_name_well}
+use Rattle.tera_meaning.proofs.RunLemmas.{ample_outcomes}
+use Rattle.tera_meaning.proofs.WellMadeLemmas.{held_name_well}
 use Rattle.tera_meaning.proofs.Owed.{form_at_well}
 
 truth_of : OutcomeOf Meaning → Bool

@@ -1,5 +1,5 @@
 -- Whether a value holds another is told by meanings, and is no want of memory.
-use Rattle.tera_meaning.proofs.PlainLaws.{is_there}
+use Rattle.tera_meaning.proofs.PlainLemmas.{is_there}
 use Rattle.std.proofs.Common.{refl, sym, ap, ◌∙◌}
 use Rattle.std.specs.List.{list_any}
 use Rattle.std.specs.Option.{option_map}
@@ -15,7 +15,7 @@ use Rattle.tera_meaning.specs.Pairs.{value_at}
 use Rattle.tera_meaning.specs.Tree.{Items, undefined, none, truth, number, text, bytes, array, object, no_items, items_list, members_list, Members, item as an_item}
 use Rattle.tera_meaning.specs.Weighing.{truth_told}
 use Rattle.tera_report.specs.Refusal.{Refusal, not_a_container}
-use Rattle.tera_meaning.proofs.PlainLaws.{plain_items, plain_pairs, found_pair, key_meant, key_plain, text_meant, text_plain}
+use Rattle.tera_meaning.proofs.PlainLemmas.{plain_items, plain_pairs, found_pair, key_meant, key_plain, text_meant, text_plain}
 
 any_plain : (test : Meaning → Bool) (xs : Items Integer MarkedText KeyForm) → list_any (λ y. test (plain y)) (items_list xs)
     ≡ list_any test (items_list (plain_items xs))

@@ -7,10 +7,10 @@ use Rattle.std.specs.Io.KnownBytes.{Appends, Keeps}
 use Rattle.std.specs.List.{FoldsTo, flat_map}
 use Rattle.tera_report.specs.declared.watch.Watched.{Watched}
 use Rattle.tera_report.specs.Sink.{Use, put, flush, bytes_put, Uses, Sends, Delivers, Broke}
-use Rattle.tera_report.specs.SinkLaws.{appends_nothing, appends_joined, keeps_appends}
+use Rattle.tera_report.specs.inner.SinkLaws.{appends_nothing, appends_joined, keeps_appends}
 use Rattle.tera_report.specs.Watch.{held, watched_writer, WatchedTakes, WatchedFails, WatchedFlushes, WatchedFlushFails}
 use Rattle.tera_report.specs.Writer.{Passes, Breaks, Flushes, FlushFails}
-use Rattle.tera_report.specs.WriterLaws.{folds_joined}
+use Rattle.tera_report.specs.inner.WriterLaws.{folds_joined}
 
 module _ {S : Type 0} (takes : S → List ℕ → S → Type 0) (flushes : S → S → Type 0) where
   pub sends_nothing : (s : S) → Sends takes flushes s [] s

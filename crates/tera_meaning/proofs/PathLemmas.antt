@@ -5,7 +5,7 @@ use Rattle.std.proofs.Common.{inl, inr, sym, ◌∙◌, ap, subst}
 use Rattle.std.proofs.lemmas.Bool.{and_parts, lt-ltb, ltb-true, eqb-true}
 use Rattle.std.specs.Str.{all_ascii_digits}
 use Rattle.std.specs.Str.Parse.{digits_value}
-use Rattle.tera_report.proofs.PartLemmas.{these_are_parts, only_these_are_parts}
+use Rattle.tera_report.proofs.PartLaws.{these_are_parts, only_these_are_parts}
 use Rattle.tera_meaning.specs.Path.{AreElements, elements_of, IsPlace, place, place_of_digits, without_plus, dot, plus}
 use Rattle.tera_meaning.specs.Read.{is_nonempty}
 

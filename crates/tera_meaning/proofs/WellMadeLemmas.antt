@@ -20,7 +20,7 @@ use Rattle.tera_meaning.specs.Pairs.{Rises, key_form_order}
 use Rattle.tera_meaning.specs.Read.{marked_safe}
 use Rattle.tera_meaning.specs.Run.{IsRun, state_after_all}
 use Rattle.tera_meaning.specs.State.{State, form_at, meaning_at, extended, IsProperBeginning}
-use Rattle.tera_meaning.specs.StateLaws.{held_empty, name_exact}
+use Rattle.tera_meaning.proofs.StateLaws.{held_empty, name_exact}
 use Rattle.tera_meaning.specs.Search.{Found, found_at}
 use Rattle.tera_meaning.proofs.Owed.{IsHeldWell, form_at_well}
 use Rattle.tera_meaning.proofs.found.{owed}

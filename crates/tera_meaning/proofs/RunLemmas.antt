@@ -3,7 +3,7 @@ use Rattle.std.specs.Prelude.{◌≡◌, ◌≢◌, ℕ, Bool, true, false, List
 use Rattle.std.proofs.Common.{sym, ◌∙◌, ap, subst, inl, inr, arith}
 use Rattle.tera_report.specs.Escaping.{escaped}
 use Rattle.tera_report.specs.Refusal.{Refusal, memory_refused}
-use Rattle.tera_report.proofs.EscapeLemmas.{Spells-escaped}
+use Rattle.tera_report.proofs.EscapeLaws.{Spells-escaped}
 use Rattle.tera_meaning.specs.Answer
 use Rattle.tera_meaning.specs.Search.{Found, found_at}
 use Rattle.tera_meaning.specs.Form.{Form}
@@ -18,9 +18,9 @@ use Rattle.tera_meaning.specs.Run.{IsRun, AreOutcomes, AreFixed, state_after_all
 use Rattle.tera_meaning.specs.Alike.{MeanTheSame, AllAskTheSame, AreAlike, meaning_held}
 use Rattle.tera_meaning.specs.Weighing.{Weighing, weighed}
 use Rattle.tera_meaning.proofs.StepLaws.{refused_answer}
-use Rattle.tera_meaning.proofs.ContainsLaws.{no_container_wants}
+use Rattle.tera_meaning.proofs.ContainsLemmas.{no_container_wants}
 use Rattle.tera_meaning.proofs.found.{owed}
-use Rattle.tera_meaning.proofs.AlikeLaws.{word_alike, all_outcomes_alike, states_alike}
+use Rattle.tera_meaning.proofs.AlikeLemmas.{word_alike, all_outcomes_alike, states_alike}
 
 -- no request comes to want of memory
 never_asked : (question : Question) (held : Option Form) → IsAnswered question held out_of_memory → ⊥

@@ -10,7 +10,7 @@ use Rattle.std.specs.List.Sorted.{IsStrictlySortedBy}
 use Rattle.std.specs.Ordering.{nat_cmp, ordering_reverse, match_ordering}
 use Rattle.std.specs.declared.cmp.Ordering.{Ordering}
 use Rattle.std.specs.declared.cmp.Ordering.TheVariants.{Less, Equal, Greater}
-use Rattle.tera_meaning.specs.Among.{Among, among, contained}
+use Rattle.tera_meaning.proofs.Among.{Among, among, contained}
 use Rattle.tera_meaning.specs.Fields.{AreRisingOf, rising_texts}
 
 less_equal : Less ≡ Equal → ⊥

@@ -8,10 +8,10 @@ use Rattle.std.specs.Cmp.{IsPartialEquivalence, IsEquivalence, IsTotalOrder, IsP
 use Rattle.std.specs.Cmp.Lexicographic.{slice_cmp, nat_list_cmp_total}
 use Rattle.std.specs.FinMap.{nat_cmp-IsAntisymmetric, int_cmp-IsAntisymmetric, slice_cmp-IsAntisymmetric}
 use Rattle.tera_meaning.specs.KeyMeaning.{KeyMeaning, key_order}
-use Rattle.tera_meaning.specs.KeyLaws.{truth_exact, key_exact, key_total}
-use Rattle.tera_meaning.specs.Chained.{first_equal, second_equal, reverse_then, chain_then, then_nested, equal_less, greater_less, nat_less, less_nat, at_most, below}
+use Rattle.tera_meaning.proofs.KeyLaws.{truth_exact, key_exact, key_total}
+use Rattle.tera_meaning.proofs.ChainedLaws.{first_equal, second_equal, reverse_then, chain_then, then_nested, equal_less, greater_less, nat_less, less_nat, at_most, below}
 use Rattle.tera_meaning.specs.Meaning.{Meaning}
-use Rattle.tera_meaning.specs.Order.{rank, compare, compare_items, compare_members, same}
+use Rattle.tera_meaning.specs.Order.{pair_order, rank, compare, compare_items, compare_members, same}
 use Rattle.tera_meaning.specs.Tree.{Items, Members, undefined, none, truth, number, text, bytes, array, object, no_items, item, no_members, member, items, members}
 
 mutual
@@ -165,10 +165,6 @@ same_is x y = (λ e. compare_exact x y ((Equal-is (compare x y)).0 e), λ e. ap 
 
 pub compare_tie : (x y : Meaning) → (compare x y ≡ Equal) ↔ (x ≡ y)
 compare_tie x y = (compare_exact x y, λ e. ap (λ w. compare x w) (sym e) ∙ compare_same x)
-
--- a pair of a map by its key and then by its value
-abbrev pub pair_order : KeyMeaning × Meaning → KeyMeaning × Meaning → Ordering
-pair_order p q = ordering_then (key_order p.0 q.0) (compare p.1 q.1)
 
 -- arrays and maps compare as the lists of their items and pairs: the first that differ decide, and else the lengths
 pub items_by_first_difference : (xs ys : List Meaning) → compare (array (items xs)) (array (items ys)) ≡ slice_cmp compare xs ys

@@ -7,7 +7,7 @@ use Rattle.std.specs.declared.fmt.Formatter.{Formatter}
 use Rattle.tera_report.specs.Quoted.{IsText}
 use Rattle.tera_report.specs.Refusal.{Refusal, circular_extend, circular_include, writing_failed, message, number_out_of_range, stated, extend_words, include_words, text_of, Tells, TellsChain}
 use Rattle.tera_report.specs.Sink.{Puts, FormatterTakes}
-use Rattle.tera_report.proofs.PutLemmas.{texts_joined, some_text}
+use Rattle.tera_report.proofs.PutLaws.{texts_joined, some_text}
 
 module _ {W : Type 0} (took : W → List ℕ → W → Type 0) (P : List ℕ → Type 0) (f g : Formatter W) where
   -- what was put into a formatter is what it displays, under any options

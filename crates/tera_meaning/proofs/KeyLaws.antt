@@ -7,7 +7,7 @@ use Rattle.std.specs.Cmp.{IsTotalOrder, IsEquivalence, IsPartialOrder, eq_by_cmp
 use Rattle.std.specs.Cmp.Lexicographic.{nat_list_cmp_total}
 use Rattle.std.specs.FinMap.{nat_cmp-IsAntisymmetric, int_cmp-IsAntisymmetric, slice_cmp-IsAntisymmetric}
 use Rattle.tera_meaning.specs.KeyMeaning.{KeyMeaning, truth_key, number_key, text_key, key_rank, key_order}
-use Rattle.tera_meaning.specs.Chained.{nat_less, less_nat, at_most, below}
+use Rattle.tera_meaning.proofs.ChainedLaws.{nat_less, less_nat, at_most, below}
 
 pub truth_exact : (a b : Bool) → bool_cmp a b ≡ Equal → a ≡ b
 truth_exact true true e = refl

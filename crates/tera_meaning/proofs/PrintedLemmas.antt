@@ -12,7 +12,7 @@ use Rattle.tera_meaning.specs.Form.{Form}
 use Rattle.tera_meaning.specs.KeyMeaning.{KeyMeaning}
 use Rattle.tera_meaning.specs.Meaning.{Meaning, plain}
 use Rattle.tera_meaning.specs.Order.{same}
-use Rattle.tera_meaning.specs.OrderLaws.{same_is}
+use Rattle.tera_meaning.proofs.OrderLaws.{same_is}
 use Rattle.tera_meaning.specs.Printed.{IsExact, IsExactInside, IsExactKey, Prints, PrintsInside, are_exact_items, are_exact_members, is_exact_inside, is_exact_key, printed}
 use Rattle.tera_meaning.specs.Tree.{items, members}
 

@@ -15,7 +15,7 @@ use Rattle.tera_report.specs.Room.{RoomTakes, RoomFails, IsDecided}
 use Rattle.tera_report.specs.Sink.{FormatterTakes, Puts}
 use Rattle.tera_report.specs.Watch.{WatchedTakes, WatchedFails}
 use Rattle.tera_report.specs.Writer.{all_taken}
-use Rattle.tera_report.specs.WriterLaws.{folds_joined, passes_nothing, passes_joined, breaks_early, breaks_later, taken_joined}
+use Rattle.tera_report.specs.inner.WriterLaws.{folds_joined, passes_nothing, passes_joined, breaks_early, breaks_later, taken_joined}
 
 pub appends_nothing : (a : Option (List ℕ)) → Appends a a []
 appends_nothing None = tt
