@@ -2,9 +2,9 @@
 """Looks whether the repository keeps its house rules, without the prover: a line 'pass ..' or 'FAIL ..' for each rule, and
 behind a 'FAIL ..' each place that breaks it. The last line is 'house: end'.
 
-- calls: each word of a call in crates/tera_script/specs has a test in script_checks, a wrong body, a row in
-  docs/SCRIPT.md, an entry in tests/second.py, and a line that tests/fuzz.py makes; and its `Call` heeds `->` in all of
-  these or in none
+- calls: each word of a call in crates/tera_script/specs is in a script of script_checks or examples/, has a row in
+  docs/SCRIPT.md, an entry in tests/second.py, and a line that tests/fuzz.py makes, which heeds `->` where that entry does;
+  and each variant of `Call` is in a wrong body
 - imports: a crate imports a lower crate's proofs by its files of laws alone (docs/ARCHITECTURE.md says which these are)
 - lemmas: each is cited, and no two have one statement
 - lengths: no file of src/, specs/ or proofs/ is longer than its bound, and no line is wider
@@ -61,7 +61,8 @@ def said_calls():
 
 def words_in_specs():
     """The words that tera_script's table of verbs gives."""
-    return set(re.findall(r'codes "([a-z_]{2,})"', read("crates/tera_script/specs/Verb.antt")))
+    table = read("crates/tera_script/specs/Verb.antt").partition("pub verbs :")[0]
+    return set(re.findall(r'codes "([a-z_]+)"', table))
 
 
 def words_made():
@@ -80,7 +81,7 @@ def calls():
     spec = words_in_specs()
     page = read("docs/SCRIPT.md")
     rows = set(re.findall(r"`([a-z_]+)[ `]", "\n".join(it for it in page.split("\n") if it.startswith("| "))))
-    tests = "".join(read(it) for it in FILES if it.startswith("crates/script_checks/src/"))
+    tests = "".join(read(it) for it in FILES if re.match(r"crates/script_checks/src/|examples/.*\.replay$", it))
     edits = "".join(read(it) for it in FILES if re.match(r"crates/tera_(script|context|values)/wrong/", it))
     made = words_made()
     for word in sorted(spec | set(told)):
@@ -95,7 +96,7 @@ def calls():
         elif told.get(word) != (True in made[word]):
             yield f"`{word}` heeds `->` in one of tests/second.py and tests/fuzz.py alone"
         if not re.search(rf'\b{word} ', tests):
-            yield f"`{word}` is in no test of script_checks"
+            yield f"`{word}` is in no script of script_checks or of examples/"
     for variant in re.findall(r"(?m)^    ([A-Z]\w+)(?: \{|,)", between(read("crates/tera_context/src/call.rt"), "enum Call")):
         if not re.search(rf"\b{variant}\b", edits):
             yield f"`Call::{variant}` is in no wrong body"
@@ -129,20 +130,25 @@ HEAD = re.compile(r"(?m)^( {0,2})(?:pub )?(?:unfoldable |abbrev |opaque )*([a-z]
 
 
 class Lemma:
-    def __init__(self, path, name, margin, start, end, text):
-        self.path, self.name, self.start, self.end = path, name, start, end
-        block = text[start:end]
+    def __init__(self, path, head, text):
+        self.path, self.name = path, head[2]
+        self.line = text[: head.start()].count("\n") + 1
+        after = NEXT.search(text, head.end())
+        block = text[head.start() : after.start() if after else len(text)]
+        # how often the lemma is named where it is stated and proved, but for what is declared inside
+        self.own = WORD.findall(block).count(self.name)
         # the statement ends where the first clause begins: a line that starts with the name again
-        body = re.search(rf"(?m)^{margin}{re.escape(name)}(?![\w'-])(?! :)", block)
+        body = re.search(rf"(?m)^{head[1]}{re.escape(self.name)}(?![\w'-])(?! :)", block)
         self.statement = block[: body.start()] if body else block
-        self.line = text[:start].count("\n") + 1
+
+
+NEXT = re.compile(r"(?m)^ *(?:module _|(?:pub )?(?:unfoldable |abbrev |opaque )*[^\W\d][\w'-]* :(?= |$))")
 
 
 def lemmas_of(path, text):
     """The lemmas of a file of proofs: what stands at its margin, or below a `module _`."""
     heads = [it for it in HEAD.finditer(text) if not it[1] or it[1] == "  " and is_of_module(text, it.start())]
-    ends = [it.start() for it in heads[1:]] + [len(text)]
-    return [Lemma(path, it[2], it[1], it.start(), end, text) for it, end in zip(heads, ends)]
+    return [Lemma(path, it, text) for it in heads]
 
 
 def is_of_module(text, at):
@@ -165,8 +171,7 @@ def lemmas():
         if is_answer or is_spec:
             continue
         for lemma in lemmas_of(path, bare[path]):
-            own = WORD.findall(bare[path][lemma.start : lemma.end]).count(lemma.name)
-            if everywhere[lemma.name] <= own:
+            if everywhere[lemma.name] <= lemma.own:
                 yield f"{path}:{lemma.line}: `{lemma.name}` is cited nowhere"
             same[spelled(lemma)].append(f"{path}:{lemma.line} `{lemma.name}`")
     for places in same.values():
