@@ -3,10 +3,9 @@
 behind a 'FAIL ..' each place that breaks it. The last line is 'house: end'.
 
 - calls: each word of a call in crates/tera_script/specs is in a script of script_checks or examples/, has a row in
-  docs/SCRIPT.md, an entry in tests/second.py, and a line that tests/fuzz.py makes, which heeds `->` where that entry does;
-  and each variant of `Call` is in a wrong body
+  docs/SCRIPT.md, an entry in tests/second.py, and a line that tests/fuzz.py makes, which heeds `->` where that entry does
 - imports: a crate imports a lower crate's proofs by its files of laws alone (docs/ARCHITECTURE.md says which these are)
-- lemmas: each is cited, and no two have one statement
+- lemmas: each is cited; a line 'note: ..' tells which have one statement
 - lengths: no file of src/, specs/ or proofs/ is longer than its bound, and no line is wider
 - docs: each path, module and name that README.md and docs/ write as code is there
 """
@@ -22,7 +21,7 @@ import fuzz
 import second
 
 TOP = os.path.dirname(os.path.dirname(os.path.abspath(__file__)))
-FILE_LINES = 400
+FILE_LINES = 500
 WIDTHS = {"src": 100, "specs": 100, "proofs": 160}
 LAWS = re.compile(r"\w*Laws$")
 WORD = re.compile(r"[\w'-]+")
@@ -82,7 +81,6 @@ def calls():
     page = read("docs/SCRIPT.md")
     rows = set(re.findall(r"`([a-z_]+)[ `]", "\n".join(it for it in page.split("\n") if it.startswith("| "))))
     tests = "".join(read(it) for it in FILES if re.match(r"crates/script_checks/src/|examples/.*\.replay$", it))
-    edits = "".join(read(it) for it in FILES if re.match(r"crates/tera_(script|context|values)/wrong/", it))
     made = words_made()
     for word in sorted(spec | set(told)):
         if word not in spec:
@@ -97,15 +95,6 @@ def calls():
             yield f"`{word}` heeds `->` in one of tests/second.py and tests/fuzz.py alone"
         if not re.search(rf'\b{word} ', tests):
             yield f"`{word}` is in no script of script_checks or of examples/"
-    for variant in re.findall(r"(?m)^    ([A-Z]\w+)(?: \{|,)", between(read("crates/tera_context/src/call.rt"), "enum Call")):
-        if not re.search(rf"\b{variant}\b", edits):
-            yield f"`Call::{variant}` is in no wrong body"
-
-
-def between(text, head):
-    """The text of the item that begins with these words, up to its closing brace."""
-    start = text.index(head)
-    return text[start : text.index("\n}", start)]
 
 
 # ---- imports
@@ -176,7 +165,7 @@ def lemmas():
             same[spelled(lemma)].append(f"{path}:{lemma.line} `{lemma.name}`")
     for places in same.values():
         if len(places) > 1:
-            yield f"one statement: {', '.join(places)}"
+            print(f"note: one statement up to names: {', '.join(places)}")
 
 
 def spelled(lemma):
@@ -249,9 +238,9 @@ def is_there(code):
 
 
 RULES = {
-    "each call has its tests, its wrong body, its row and its lines": calls,
+    "each call has its scripts, its row and its lines": calls,
     "a lower crate's proofs are imported by their laws alone": imports,
-    "each lemma is cited, and none is stated twice": lemmas,
+    "each lemma is cited": lemmas,
     "files and lines keep their lengths": lengths,
     "what the documents name is there": docs,
 }

@@ -26,7 +26,8 @@ IsArrayOf xs value = (made : List Form) × Appended [] xs made × (value ≡ arr
 
 -- a map of these pairs, or of some of them
 abbrev pub IsMapOf : List (KeyForm × Form) → Form → Type 0
-IsMapOf ps value = (made : List (KeyForm × Form)) × Inserted [] ps made × (value ≡ object (members made))
+IsMapOf ps value = (made : List (KeyForm × Form)) × Inserted [] ps made
+    × (value ≡ object (members made))
 
 -- these numbers as values
 abbrev pub numbered : List ℤ → List Form

@@ -1,2 +1,2 @@
-pub mod IntegerLemmas
-pub mod ItemLemmas
+mod IntegerLemmas
+pub mod ItemLaws

@@ -14,7 +14,8 @@ module _ {S : Type 0} (escapes : S → Bool) where
   abbrev pub Renders : {Z : Type 0} → (S → List ℕ → List ℕ) → S → MarkedText → CowStr Z → Type 0
   Renders escaped state t shown =
       (is_shown_plain state t ≡ true → (¬ IsOwnedStr shown) × (cow_str_bytes shown ≡ t.spelled))
-      × (is_shown_plain state t ≡ false → IsOwnedStr shown × (cow_str_bytes shown ≡ escaped state t.spelled))
+      × (is_shown_plain state t ≡ false → IsOwnedStr shown
+      × (cow_str_bytes shown ≡ escaped state t.spelled))
 
   -- only what is escaped is refused, with an error of the escaping
   abbrev pub RendersNot : (S → List ℕ → Error → Type 0) → S → MarkedText → Error → Type 0

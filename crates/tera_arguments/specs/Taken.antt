@@ -1,5 +1,6 @@
 -- What values are taken as, by the form in which they are held.
-use Rattle.std.specs.Prelude.{◌≡◌, ℕ, ℤ, List, codes, Option, Some, None, Result, Ok, Err, MatchOption}
+use Rattle.std.specs.Prelude.{◌≡◌, ℕ, ℤ, List, codes, Option, Some, None, Result, Ok, Err}
+use Rattle.std.specs.Prelude.{MatchOption}
 use Rattle.std.specs.Cow.{cow_str_bytes, IsOwnedStr}
 use Rattle.std.specs.List.{AllZip}
 use Rattle.std.specs.Option.{ok_or}
@@ -19,12 +20,14 @@ use Rattle.tera_values.specs.Converted.{IsRefusal}
 use Rattle.tera_meaning.specs.Printed.{Prints}
 use Rattle.tera_values.specs.declared.convert.ConversionRefused.{ConversionRefused}
 
--- the error of a call that is to give this and takes no memory for it: of its refusal, or want of memory in its place
+-- the error of a call that is to give this and takes no memory for it: of its refusal, or want of
+-- memory in its place
 abbrev pub Denies : {X : Type 0} → Result X Refusal → Error → Type 0
 Denies (Ok x) e = ⊥
 Denies (Err refusal) e = Raises (stated refusal) e
 
--- what a value holds of a kind, or the refusal of a value of another kind under the name of the type that was wanted
+-- what a value holds of a kind, or the refusal of a value of another kind under the name of the
+-- type that was wanted
 abbrev pub wanted : {X : Type 0} → List ℕ → Option X → Form → Result X Refusal
 wanted type held value = ok_or held (invalid_argument type (name_of value))
 
@@ -67,17 +70,20 @@ module _ {V X : Type 0} (items : V → Option (List V)) (takes : V → X → Typ
   abbrev pub TakesItems : V → List X → Type 0
   TakesItems value taken = (held : List V) × (items value ≡ Some held) × AllZip takes held taken
 
-module _ {V X : Type 0} (items : V → Option (List V)) (is_no_array : V → Error → Type 0) (takes : V → X → Type 0) (denies : V → Error → Type 0) where
+module _ {V X : Type 0} (items : V → Option (List V)) (is_no_array : V → Error → Type 0)
+    (takes : V → X → Type 0) (denies : V → Error → Type 0) where
   -- the first refusal of an item, or that of what is no array
   abbrev pub DeniesItems : V → Error → Type 0
-  DeniesItems value e = MatchOption (items value) (is_no_array value e) (λ held. PartsRefuse takes denies held e)
+  DeniesItems value e = MatchOption (items value) (is_no_array value e)
+      (λ held. PartsRefuse takes denies held e)
 
 abbrev pub IsNoArray : Form → Error → Type 0
 IsNoArray value e = Raises (invalid_argument (codes "Vec<Value>") (name_of value)) e
 
--- the error of an integer type of that name that has not the number of a value: of a value that is no number, or of the
--- conversion's own refusal
-abbrev pub IsRaised : {X : Type 0} → (Form → Result X ConversionRefused → Type 0) → Form → List ℕ → Error → Type 0
+-- the error of an integer type of that name that has not the number of a value: of a value that is
+-- no number, or of the conversion's own refusal
+abbrev pub IsRaised : {X : Type 0} → (Form → Result X ConversionRefused → Type 0) → Form → List ℕ
+    → Error → Type 0
 IsRaised gives value name e = MatchOption (number_in value)
     (Raises (invalid_argument name (name_of value)) e)
     (λ z. (why : ConversionRefused) × gives value (Err why)

@@ -207,8 +207,8 @@ impl<'k> ArgFromValue<'k, Value> for &'k [Value] {
 }
 
 /// Each item of the array that it is, taken as one of `T`. Takes memory, but for no item; the first
-/// refusal of an item is passed on. Refuses every other value with ``Invalid type for the value, expected
-/// `Vec<Value>` but got `N` ``, N being the name of its kind, without the last blank.
+/// refusal of an item is passed on. Refuses every other value with ``Invalid type for the value,
+/// expected `Vec<Value>` but got `N` ``, N being the name of its kind, without the last blank.
 impl<'k, V: Parts, T: ArgFromValue<'k, V, Output = T> + Drop> ArgFromValue<'k, V> for Vec<T> {
     type Output = Vec<T>;
 

@@ -14,7 +14,7 @@ use Rattle.tera_meaning.specs.Step.{found_or_kept, keeping, IsStep}
 use Rattle.tera_meaning.proofs.StepLaws.{refused_answer, refused_left}
 use Rattle.tera_context.specs.declared.call.Answer.{Answer}
 use Rattle.tera_context.specs.Steps.{ShowsOneOf}
-use Rattle.tera_context.proofs.Shown.{refusal_shown, want_shown}
+use Rattle.tera_context.proofs.ShownLaws.{refusal_shown, want_shown}
 
 -- the step that a search is, and what shows it
 abbrev pub IsSearchStep : State → Search → Option (List ℕ) → State → Outcome → Type 0

@@ -1,6 +1,6 @@
-pub mod Names
-pub mod Runs
-pub mod Shown
 mod Extends
 mod Found
 mod Made
+mod Names
+mod Runs
+pub mod ShownLaws

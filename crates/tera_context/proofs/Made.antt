@@ -33,7 +33,8 @@ found_well : {A : Type 0} (name : List ℕ) (pairs : List (String A × Form)) �
     → IsHeldWell name (find (slice_cmp nat_cmp) name (named pairs))
 found_well name [] h = tt
 found_well name (p ∷ pairs) h =
-    chosen_well name p.0 p.1 (find (slice_cmp nat_cmp) name (named pairs)) (eq_by_cmp (slice_cmp nat_cmp) name (string_bytes p.0)) refl h.0 (found_well name pairs h.1)
+    chosen_well name p.0 p.1 (find (slice_cmp nat_cmp) name (named pairs)) (eq_by_cmp (slice_cmp nat_cmp) name (string_bytes p.0)) refl h.0
+    (found_well name pairs h.1)
 
 pub held_well : {A : Type 0} (pairs : List (String A × Form)) → HoldsWellMade pairs → IsWellMadeState (state_of pairs)
 held_well pairs h name =

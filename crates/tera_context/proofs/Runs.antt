@@ -10,7 +10,7 @@ use Rattle.tera_meaning.specs.State.{State}
 use Rattle.tera_meaning.specs.Step.{IsStep}
 use Rattle.tera_context.specs.declared.call.Answer.{Answer}
 use Rattle.tera_context.specs.Steps.{ShowsOutcome, ShowsOneOf}
-use Rattle.tera_context.proofs.Shown.{shown_outcome}
+use Rattle.tera_context.proofs.ShownLaws.{shown_outcome}
 
 run_on : (old : State) (commands : List Command) (outcomes : List Outcome) (mid : State) (command : Command)
     (outcome : Outcome) (new : State) → IsRun old commands outcomes mid → IsStep mid command outcome new

@@ -6,7 +6,8 @@ use Rattle.tera_meaning.specs.Answer
 use Rattle.tera_meaning.specs.Answer.{AnswerOf}
 use Rattle.tera_meaning.specs.Form.{Form}
 use Rattle.tera_meaning.specs.Question
-use Rattle.tera_meaning.specs.Request.{Request, set, extend, remove, mark_safe, ask, weigh, find, Command}
+use Rattle.tera_meaning.specs.Request.{Request, set, extend, remove, mark_safe, ask, weigh, find}
+use Rattle.tera_meaning.specs.Request.{Command}
 use Rattle.tera_meaning.specs.Search
 use Rattle.tera_meaning.specs.Weighing
 use Rattle.tera_scalars.specs.Operation.{operator_of}
@@ -40,15 +41,21 @@ request_of (call.Kind name) = ask Question.kind (string_bytes name)
 request_of (call.IsSafe name) = ask Question.is_safe (string_bytes name)
 request_of (call.MarkSafe name) = mark_safe (string_bytes name)
 request_of (call.Equal left right) = weigh Weighing.equal (string_bytes left) (string_bytes right)
-request_of (call.Compare left right) = weigh Weighing.compare (string_bytes left) (string_bytes right)
-request_of (call.TryCompare left right) = weigh Weighing.try_compare (string_bytes left) (string_bytes right)
-request_of (call.Contains name needle) = weigh Weighing.contains (string_bytes name) (string_bytes needle)
+request_of (call.Compare left right) = weigh Weighing.compare (string_bytes left)
+    (string_bytes right)
+request_of (call.TryCompare left right) = weigh Weighing.try_compare (string_bytes left)
+    (string_bytes right)
+request_of (call.Contains name needle) = weigh Weighing.contains (string_bytes name)
+    (string_bytes needle)
 request_of (call.Print name) = ask Question.print (string_bytes name)
 request_of (call.Escape name) = ask Question.escape (string_bytes name)
 request_of (call.Fields name) = ask Question.fields (string_bytes name)
 
 abbrev pub command_of : Step → Command
-command_of step = record { request = request_of step.call; into = option_map string_bytes step.into }
+command_of step = record {
+  request = request_of step.call;
+  into = option_map string_bytes step.into;
+}
 
 abbrev pub answer_of : CodeAnswer → AnswerOf Form
 answer_of answer.Done = Answer.done

@@ -88,8 +88,8 @@ impl Context {
     /// Keeps the value under the name, in the place of what was there. Mirrors
     /// `Context::insert_value`.
     ///
-    /// The only error is `Out of memory`, and then nothing has changed. Takes memory, but for a name
-    /// that is there.
+    /// The only error is `Out of memory`, and then nothing has changed. Takes memory, but for a
+    /// name that is there.
     pub fn insert_value(&mut self, name: &str, value: Value) -> TeraResult<()>
         ensures ok { OnOk result (self.new ≡ insert self.old name.now value) }
         ensures err { IfErr result IsOutOfMemory }
@@ -108,8 +108,8 @@ impl Context {
     /// `Context::extend`. The source is consumed.
     ///
     /// The only error is `Out of memory`. Then some first names of the source, in the order of
-    /// their bytes, were taken over, and nothing else has changed. Takes memory, but for a source of
-    /// no names.
+    /// their bytes, were taken over, and nothing else has changed. Takes memory, but for a source
+    /// of no names.
     pub fn extend(&mut self, source: Context) -> TeraResult<()>
         ensures ok { OnOk result (self.new ≡ extended self.old source) }
         ensures err { IfErr result IsOutOfMemory }

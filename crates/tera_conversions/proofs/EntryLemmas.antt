@@ -53,5 +53,7 @@ module _ {K X : Type 0} (eq : K → K → Bool) (key : K → KeyForm → Type 0)
   all_there entries given distinct told =
       let total = on_total key_meaning key_total in
       let apart_given = distinct_given entries given distinct told in
-      let turned = IsDistinct-IsPermutation (eq_by_cmp key_form_order) (eq_by_cmp_equiv total).symm (keys_of given) (keys_of (reverse given)) (IsPermutation-map (λ e. e.0) given (reverse given) (IsPermutation-reverse given)) apart_given in
-      subst (IsPermutation given) (rising_permuted key_form_order total given (reverse given) apart_given turned (IsPermutation-reverse given)) (rising_permutes key_form_order total given apart_given)
+      let turned = IsDistinct-IsPermutation (eq_by_cmp key_form_order) (eq_by_cmp_equiv total).symm (keys_of given) (keys_of (reverse given))
+      (IsPermutation-map (λ e. e.0) given (reverse given) (IsPermutation-reverse given)) apart_given in
+      subst (IsPermutation given) (rising_permuted key_form_order total given (reverse given) apart_given turned (IsPermutation-reverse given))
+      (rising_permutes key_form_order total given apart_given)

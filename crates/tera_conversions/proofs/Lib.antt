@@ -1,2 +1,2 @@
-pub mod GivenLemmas
-pub mod EntryLemmas
+mod EntryLemmas
+pub mod GivenLaws

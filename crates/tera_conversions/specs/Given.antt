@@ -1,5 +1,6 @@
 -- What collections give, by what their parts give.
-use Rattle.std.specs.Prelude.{◌≡◌, ◌⊎◌, ◌<◌, List, [], ◌∷◌, length, Option, Some, None, Result, Ok, Err, reverse}
+use Rattle.std.specs.Prelude.{◌≡◌, ◌⊎◌, ◌<◌, List, [], ◌∷◌, length, Option, Some, None, Result, Ok}
+use Rattle.std.specs.Prelude.{Err, reverse}
 use Rattle.std.specs.List.{AllZip}
 use Rattle.tera_meaning.specs.Form.{Form}
 use Rattle.tera_meaning.specs.KeyMeaning.{KeyForm}
@@ -45,7 +46,8 @@ module _ {K X : Type 0} (key : K → KeyForm → Type 0) (gives : X → Form →
 
   -- that map
   abbrev pub GivesMap : List (K × X) → Form → Type 0
-  GivesMap entries v = (pairs : List (KeyForm × Form)) × PutsPairs entries pairs × (v ≡ object (members pairs))
+  GivesMap entries v = (pairs : List (KeyForm × Form)) × PutsPairs entries pairs
+      × (v ≡ object (members pairs))
 
 module _ {K X : Type 0} (no_key : K → Error → Type 0) (refuses : X → Error → Type 0) where
   -- what an entry is refused with: its key's error or its value's

@@ -33,7 +33,7 @@ impl<T: ToValue + Drop> ToValue for Vec<T> {
 
     ghost refuses = { λ parts e. PartsRefuse T.gives T.refuses parts.items e };
 
-    #[tactic(auto, using(crate::proofs::GivenLemmas::refused_after))]
+    #[tactic(auto, using(crate::proofs::GivenLaws::refused_after))]
     fn to_value(self, alloc: Global) -> TeraResult<Value> {
         let mut given = Vec::with_capacity(alloc, self.len())?;
         for part in self {
@@ -50,7 +50,7 @@ impl<T: ToValue + Ord + Drop> ToValue for BTreeSet<T> {
 
     ghost refuses = { λ parts e. PartsRefuse T.gives T.refuses parts.keys e };
 
-    #[tactic(auto, using(crate::proofs::GivenLemmas::refused_after))]
+    #[tactic(auto, using(crate::proofs::GivenLaws::refused_after))]
     fn to_value(self, alloc: Global) -> TeraResult<Value> {
         let mut rising = Vec::with_capacity(alloc, self.len())?;
         for part in self {

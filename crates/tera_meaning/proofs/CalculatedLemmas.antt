@@ -1,5 +1,6 @@
 -- What is calculated of values is computed of their numbers, and what an operator computes is what it stands for.
-use Rattle.std.specs.Prelude.{◌≡◌, ◌≢◌, ◌<◌, ◌^◌, nat_lt, ℕ, zero, suc, ℤ, pos, negsuc, if◌then◌else◌, Bool, true, false, Option, Some, None, Result, Ok, Err, IsOk, refl}
+use Rattle.std.specs.Prelude.{◌≡◌, ◌≢◌, ◌<◌, ◌^◌, nat_lt, ℕ, zero, suc, ℤ, pos, negsuc, if◌then◌else◌, Bool, true, false, Option, Some, None, Result, Ok, Err}
+use Rattle.std.specs.Prelude.{IsOk, refl}
 use Rattle.std.proofs.Common.{sym, ◌∙◌, ap, subst}
 use Rattle.std.proofs.lemmas.Bool.{ltb-true, lt-ltb}
 use Rattle.std.specs.Int.{int_div_euclid}

@@ -12,7 +12,8 @@ use Rattle.tera_meaning.specs.Meaning.{plain, Meaning}
 use Rattle.tera_meaning.specs.Order.{same}
 use Rattle.tera_meaning.specs.Outcome.{out_of_memory}
 use Rattle.tera_meaning.specs.Pairs.{value_at}
-use Rattle.tera_meaning.specs.Tree.{Items, undefined, none, truth, number, text, bytes, array, object, no_items, items_list, members_list, Members, item as an_item}
+use Rattle.tera_meaning.specs.Tree.{Items, undefined, none, truth, number, text, bytes, array, object, no_items, items_list, members_list, Members}
+use Rattle.tera_meaning.specs.Tree.{item as an_item}
 use Rattle.tera_meaning.specs.Weighing.{truth_told}
 use Rattle.tera_report.specs.Refusal.{Refusal, not_a_container}
 use Rattle.tera_meaning.proofs.PlainLemmas.{plain_items, plain_pairs, found_pair, key_meant, key_plain, text_meant, text_plain}

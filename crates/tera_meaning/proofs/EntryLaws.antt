@@ -14,7 +14,8 @@ use Rattle.tera_meaning.specs.KeyMeaning.{KeyForm, KeyMeaning, key_meaning, key_
 use Rattle.tera_meaning.specs.Meaning.{Meaning, plain}
 use Rattle.tera_meaning.specs.Order.{compare}
 use Rattle.tera_meaning.proofs.OrderLaws.{members_exact, members_by_first_difference, compare_same, compare_tie}
-use Rattle.tera_meaning.specs.Pairs.{Rises, rising, value_at, entry_order, AgreeEverywhere, IsLeastDifference, order_at, key_form_order, pairs_of, pair_meaning, map_meaning}
+use Rattle.tera_meaning.specs.Pairs.{Rises, rising, value_at, entry_order, AgreeEverywhere, IsLeastDifference, order_at, key_form_order, pairs_of, pair_meaning}
+use Rattle.tera_meaning.specs.Pairs.{map_meaning}
 use Rattle.tera_meaning.specs.Tree.{object, members, members_list}
 use Rattle.tera_meaning.proofs.TreeLaws.{members_relabeled, list_of_members}
 use Rattle.tera_meaning.proofs.PairLaws.{rising_rises}
@@ -78,7 +79,8 @@ forms_decide es fs k least =
 
 pub forms_tie : (es fs : List (KeyForm × Form)) → AgreeEverywhere key_form_order (on plain compare) es fs ↔ (compare (map_meaning es) (map_meaning fs) ≡ Equal)
 forms_tie es fs =
-    let tie : AgreeEverywhere key_form_order (on plain compare) es fs ↔ (slice_cmp (entry_order key_form_order (on plain compare)) (pairs_of es) (pairs_of fs) ≡ Equal) = entries_tie key_form_order (on_total key_meaning key_total) (on plain compare) es fs in
+    let tie : AgreeEverywhere key_form_order (on plain compare) es fs ↔ (slice_cmp (entry_order key_form_order (on plain compare)) (pairs_of es) (pairs_of fs)
+    ≡ Equal) = entries_tie key_form_order (on_total key_meaning key_total) (on plain compare) es fs in
     (λ agree. compare_forms (pairs_of es) (pairs_of fs) ∙ tie.0 agree, λ e. tie.1 (sym (compare_forms (pairs_of es) (pairs_of fs)) ∙ e))
 
 pub forms_equal : (es fs : List (KeyForm × Form)) → AgreeEverywhere key_form_order (on plain compare) es fs ↔ (map_meaning es ≡ map_meaning fs)

@@ -1,5 +1,6 @@
 -- Indices from either end of a list, and the parts of a text.
-use Rattle.std.specs.Prelude.{◌≡◌, ℕ, suc, pos, negsuc, ◌-◌, ◌<◌, ◌≤◌, ◌⊎◌, ◌&&◌, ◌||◌, Bool, true, false, ◌++◌, [], ◌∷◌, ◌↔◌, if◌then◌else◌, List, reverse, length, slice_get, get_or, Some, None, refl}
+use Rattle.std.specs.Prelude.{◌≡◌, ℕ, suc, pos, negsuc, ◌-◌, ◌<◌, ◌≤◌, ◌⊎◌, ◌&&◌, ◌||◌, Bool, true, false, ◌++◌, [], ◌∷◌, ◌↔◌, if◌then◌else◌, List, reverse}
+use Rattle.std.specs.Prelude.{length, slice_get, get_or, Some, None, refl}
 use Rattle.std.proofs.Common.{inl, inr, sym, ◌∙◌, ap, arith}
 use Rattle.std.proofs.lemmas.Bool.{cases_lt, lt-ltb, le-ltb, and_parts, eq-eqb, eqb-true}
 use Rattle.std.specs.Str.Iter.{HasSubslice}

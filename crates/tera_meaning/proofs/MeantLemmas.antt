@@ -10,8 +10,10 @@ use Rattle.tera_meaning.specs.Integer.{Integer, u128, i128, IsOfKind, IsWide}
 use Rattle.tera_meaning.specs.KeyMeaning.{KeyForm, KeyMeaning, truth_key, number_key, text_key, owned, key_meaning, key_order}
 use Rattle.tera_meaning.specs.Meaning.{Meaning, plain}
 use Rattle.tera_meaning.specs.Pairs.{Rises, key_form_order}
-use Rattle.tera_meaning.specs.Tree.{Items, Members, number, text, bytes, array, object, no_items, item, no_members, member, members_list, relabeled, relabeled_items, relabeled_members}
-use Rattle.tera_meaning.specs.WellMade.{IsWellMade, IsWellMadeKey, AreWellMade, AreWellMadeMembers, IsWellMadeMeaning, IsWellMadeKeyMeaning, AreWellMadeMeanings, AreWellMadePairs}
+use Rattle.tera_meaning.specs.Tree.{Items, Members, number, text, bytes, array, object, no_items, item, no_members, member, members_list, relabeled}
+use Rattle.tera_meaning.specs.Tree.{relabeled_items, relabeled_members}
+use Rattle.tera_meaning.specs.WellMade.{IsWellMade, IsWellMadeKey, AreWellMade, AreWellMadeMembers, IsWellMadeMeaning, IsWellMadeKeyMeaning}
+use Rattle.tera_meaning.specs.WellMade.{AreWellMadeMeanings, AreWellMadePairs}
 
 -- a form for each meaning: numbers in the widest kinds, texts without the flag, and keys that own
 -- their texts

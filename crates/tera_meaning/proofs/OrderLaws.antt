@@ -4,15 +4,18 @@ use Rattle.std.proofs.Common.{sym, ◌∙◌, ap, arith}
 use Rattle.std.specs.Ordering.{ordering_then, ordering_reverse, is_eq, as_partial_cmp}
 use Rattle.std.specs.declared.cmp.Ordering.{Ordering}
 use Rattle.std.specs.declared.cmp.Ordering.TheVariants.{Less, Equal}
-use Rattle.std.specs.Cmp.{IsPartialEquivalence, IsEquivalence, IsTotalOrder, IsPartialOrder, partial_order_from_total, int_cmp_total, bool_cmp_total, tied_itself, eq_by_cmp_equiv, partial_equiv_from_equiv, Equal-is}
+use Rattle.std.specs.Cmp.{IsPartialEquivalence, IsEquivalence, IsTotalOrder, IsPartialOrder, partial_order_from_total, int_cmp_total, bool_cmp_total}
+use Rattle.std.specs.Cmp.{tied_itself, eq_by_cmp_equiv, partial_equiv_from_equiv, Equal-is}
 use Rattle.std.specs.Cmp.Lexicographic.{slice_cmp, nat_list_cmp_total}
 use Rattle.std.specs.FinMap.{nat_cmp-IsAntisymmetric, int_cmp-IsAntisymmetric, slice_cmp-IsAntisymmetric}
 use Rattle.tera_meaning.specs.KeyMeaning.{KeyMeaning, key_order}
 use Rattle.tera_meaning.proofs.KeyLaws.{truth_exact, key_exact, key_total}
-use Rattle.tera_meaning.proofs.ChainedLaws.{first_equal, second_equal, reverse_then, chain_then, then_nested, equal_less, greater_less, nat_less, less_nat, at_most, below}
+use Rattle.tera_meaning.proofs.ChainedLaws.{first_equal, second_equal, reverse_then, chain_then, then_nested, equal_less, greater_less, nat_less, less_nat}
+use Rattle.tera_meaning.proofs.ChainedLaws.{at_most, below}
 use Rattle.tera_meaning.specs.Meaning.{Meaning}
 use Rattle.tera_meaning.specs.Order.{pair_order, rank, compare, compare_items, compare_members, same}
-use Rattle.tera_meaning.specs.Tree.{Items, Members, undefined, none, truth, number, text, bytes, array, object, no_items, item, no_members, member, items, members}
+use Rattle.tera_meaning.specs.Tree.{Items, Members, undefined, none, truth, number, text, bytes, array, object, no_items, item, no_members, member, items}
+use Rattle.tera_meaning.specs.Tree.{members}
 
 mutual
   pub compare_exact : (x y : Meaning) → compare x y ≡ Equal → x ≡ y

@@ -16,7 +16,8 @@ use Rattle.tera_meaning.specs.Pairs.{value_at}
 use Rattle.tera_meaning.specs.Printed.{shown_key}
 use Rattle.tera_meaning.specs.Read.{number_in, text_in}
 use Rattle.tera_meaning.specs.SliceRule.{shape_of}
-use Rattle.tera_meaning.specs.Tree.{Items, truth, number, text, array, object, no_items, items, items_list, relabeled_items, members_list, Members, item as an_item, no_members, member, relabeled_members}
+use Rattle.tera_meaning.specs.Tree.{Items, truth, number, text, array, object, no_items, items, items_list, relabeled_items, members_list, Members}
+use Rattle.tera_meaning.specs.Tree.{item as an_item, no_members, member, relabeled_members}
 use Rattle.tera_meaning.proofs.TreeLaws.{items_relabeled}
 use Rattle.tera_report.specs.Refusal.{not_a_key}
 

@@ -124,7 +124,8 @@ large_half base e h =
     mul-le-mul two least in
     let whole : (2 * 2 ^ 127) * 1 ≤ (unsigned_abs (power_of base (e / 2)) * unsigned_abs (power_of base (e / 2))) * unsigned_abs (power_of base (e % 2)) =
     mul-le-mul square rest in
-    let size : unsigned_abs (power_of base e) ≡ (unsigned_abs (power_of base (e / 2)) * unsigned_abs (power_of base (e / 2))) * unsigned_abs (power_of base (e % 2)) = size_halves base e in
+    let size : unsigned_abs (power_of base e) ≡ (unsigned_abs (power_of base (e / 2)) * unsigned_abs (power_of base (e / 2))) * unsigned_abs
+    (power_of base (e % 2)) = size_halves base e in
     size_large (power_of base e) (omega (arith, whole, size))
 
 -- what an even power is, and an odd one

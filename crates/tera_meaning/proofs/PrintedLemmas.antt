@@ -13,7 +13,8 @@ use Rattle.tera_meaning.specs.KeyMeaning.{KeyMeaning}
 use Rattle.tera_meaning.specs.Meaning.{Meaning, plain}
 use Rattle.tera_meaning.specs.Order.{same}
 use Rattle.tera_meaning.proofs.OrderLaws.{same_is}
-use Rattle.tera_meaning.specs.Printed.{IsExact, IsExactInside, IsExactKey, Prints, PrintsInside, are_exact_items, are_exact_members, is_exact_inside, is_exact_key, printed}
+use Rattle.tera_meaning.specs.Printed.{IsExact, IsExactInside, IsExactKey, Prints, PrintsInside, are_exact_items, are_exact_members, is_exact_inside}
+use Rattle.tera_meaning.specs.Printed.{is_exact_key, printed}
 use Rattle.tera_meaning.specs.Tree.{items, members}
 
 pub prints_alike : (v w : Form) (written other : List ℕ) → IsTrue (same (plain v) (plain w))

@@ -215,7 +215,8 @@ ample_one old commands outcomes others new also fixed run other =
     one_outcomes old commands outcomes others fixed (ample_outcomes old commands outcomes new run) (ample_outcomes old commands others also other)
 
 -- two runs of commands of equal meaning from states of equal meaning, in which no step wants memory
-module _ (f g : State) (commands also : List Command) (outcomes others : List Outcome) (f' g' : State) (means : MeanTheSame f g) (asks : AllAskTheSame commands also) (run : IsAmpleRun f commands outcomes f') (other : IsAmpleRun g also others g') where
+module _ (f g : State) (commands also : List Command) (outcomes others : List Outcome) (f' g' : State) (means : MeanTheSame f g)
+    (asks : AllAskTheSame commands also) (run : IsAmpleRun f commands outcomes f') (other : IsAmpleRun g also others g') where
   pub run_outcomes_alike : AreAlike f commands outcomes others
   run_outcomes_alike =
       all_outcomes_alike f g commands also outcomes others means asks (ample_outcomes f commands outcomes f' run) (ample_outcomes g also others g' other)

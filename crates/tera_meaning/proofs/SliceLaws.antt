@@ -1,11 +1,13 @@
 -- From a walk over items to a slice of them, and slices as the walk gives them.
-use Rattle.std.specs.Prelude.{◌≡◌, ◌≢◌, ◌<◌, ◌≤◌, ◌+◌, ◌*◌, ◌-◌, min, ℕ, zero, suc, ℤ, pos, negsuc, ◌-ℤ◌, ◌≤ℤ◌, nat_abs, List, [], ◌∷◌, reverse, length, take, slice_get, Option, None, Some, Result, Ok, refl, unwrap_or}
+use Rattle.std.specs.Prelude.{◌≡◌, ◌≢◌, ◌<◌, ◌≤◌, ◌+◌, ◌*◌, ◌-◌, min, ℕ, zero, suc, ℤ, pos, negsuc, ◌-ℤ◌, ◌≤ℤ◌, nat_abs, List, [], ◌∷◌, reverse, length, take}
+use Rattle.std.specs.Prelude.{slice_get, Option, None, Some, Result, Ok, refl, unwrap_or}
 use Rattle.std.proofs.Common.{refl, sym, ap, ◌∙◌, subst, arith, inl, inr}
 use Rattle.std.proofs.lemmas.Int.{ints, clamps}
 use Rattle.std.proofs.lemmas.List.{get_or-reverse, length-reverse}
 use Rattle.std.proofs.lemmas.Option.{slice_get-get_or}
 use Rattle.std.proofs.lemmas.Bool.{cases_lt}
-use Rattle.tera_meaning.specs.SliceRule.{IsSliceFrom, IsSliceOf, IsBefore, HasReached, place_at, item_at, start_place, end_place, place_of_bound, least_place, greatest_place, reversed, IsCut, IsCutBy, IsSliced}
+use Rattle.tera_meaning.specs.SliceRule.{IsSliceFrom, IsSliceOf, IsBefore, HasReached, place_at, item_at, start_place, end_place, place_of_bound, least_place}
+use Rattle.tera_meaning.specs.SliceRule.{greatest_place, reversed, IsCut, IsCutBy, IsSliced}
 use Rattle.tera_meaning.specs.Slice.{directed, place_behind, distance, pause, walked, IsStrided, slice_of, cut, cut_by, sliced}
 use Rattle.std.proofs.lemmas.Str.{encodes-chars}
 use Rattle.std.specs.Option.{unwrap_or}

@@ -1,5 +1,6 @@
 -- A slice by a step of 1 is the items from one bound to the other.
-use Rattle.std.specs.Prelude.{◌≡◌, ◌≤◌, ◌-◌, min, ℕ, zero, suc, ℤ, pos, negsuc, nat_abs, List, [], ◌∷◌, drop, length, take, Option, None, Some, Result, Ok, refl}
+use Rattle.std.specs.Prelude.{◌≡◌, ◌≤◌, ◌-◌, min, ℕ, zero, suc, ℤ, pos, negsuc, nat_abs, List, [], ◌∷◌, drop, length, take, Option, None, Some, Result, Ok}
+use Rattle.std.specs.Prelude.{refl}
 use Rattle.std.proofs.Common.{ap, sym, ◌∙◌, arith, inl, inr}
 use Rattle.std.proofs.lemmas.Bool.{cases_lt}
 use Rattle.std.proofs.lemmas.Int.{ints, clamps}

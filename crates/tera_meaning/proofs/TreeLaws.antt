@@ -1,7 +1,8 @@
 -- Items and members as lists, and back.
 use Rattle.std.specs.Prelude.{◌≡◌, List, [], ◌∷◌, map, refl}
 use Rattle.std.proofs.Common.{ap}
-use Rattle.tera_meaning.specs.Tree.{Tree, Items, Members, no_items, item, no_members, member, items, items_list, members, members_list, relabeled, relabeled_items, relabeled_members}
+use Rattle.tera_meaning.specs.Tree.{Tree, Items, Members, no_items, item, no_members, member, items, items_list, members, members_list, relabeled}
+use Rattle.tera_meaning.specs.Tree.{relabeled_items, relabeled_members}
 
 module _ {N T K : Type 0} where
   pub items_of_list : (xs : Items N T K) → items (items_list xs) ≡ xs

@@ -10,7 +10,8 @@ use Rattle.std.specs.Map.{keys_of}
 use Rattle.std.specs.Ordering.{ordering_reverse, eq_by_cmp, is_eq, match_ordering}
 use Rattle.std.specs.declared.cmp.Ordering.{Ordering}
 use Rattle.std.specs.declared.cmp.Ordering.TheVariants.{Less, Equal, Greater}
-use Rattle.std.proofs.lemmas.List.Sorted.{IsPermutation-refl, IsPermutation-sym, IsPermutation-trans, IsPermutation-cons, IsPermutation-insert, Contains-permutation}
+use Rattle.std.proofs.lemmas.List.Sorted.{IsPermutation-refl, IsPermutation-sym, IsPermutation-trans, IsPermutation-cons, IsPermutation-insert}
+use Rattle.std.proofs.lemmas.List.Sorted.{Contains-permutation}
 use Rattle.tera_meaning.proofs.Among.{Among, among, contained}
 use Rattle.tera_meaning.proofs.ChainedLaws.{greater_less}
 use Rattle.tera_meaning.specs.Pairs.{Rises, HasDistinctKeys, rising, value_at}

@@ -1,16 +1,19 @@
 -- What is printed of a well-made meaning is UTF-8.
 use Rattle.std.specs.Prelude.{◌≢◌, ℤ, pos, negsuc, codes, if◌then◌else◌, Option, Some, None, slice_index, ◌==◌}
-use Rattle.std.proofs.Common.{◌≡◌, ℕ, zero, suc, ◌+◌, ◌<◌, ◌≤◌, Bool, true, false, ◌&&◌, nat_lt, List, [], ◌∷◌, ◌++◌, length, get_or, take, drop, IsUtf8, inl, inr, refl, sym, ap, ap₂, ◌∙◌, subst, arith, append-nil, ltb-true, ne_eqb, take_all, length-drop}
+use Rattle.std.proofs.Common.{◌≡◌, ℕ, zero, suc, ◌+◌, ◌<◌, ◌≤◌, Bool, true, false, ◌&&◌, nat_lt, List, [], ◌∷◌, ◌++◌, length, get_or, take, drop, IsUtf8, inl}
+use Rattle.std.proofs.Common.{inr, refl, sym, ap, ap₂, ◌∙◌, subst, arith, append-nil, ltb-true, ne_eqb, take_all, length-drop}
 use Rattle.std.specs.Fmt.{signed_decimal, decimal, debug_escape, digits}
 use Rattle.std.specs.Int.{is_in_range}
 use Rattle.std.specs.List.{flat_map}
 use Rattle.std.specs.Str.{is_utf8}
 use Rattle.std.specs.Option.{unwrap_or}
-use Rattle.std.specs.Str.Lossy.{utf8_lossy, utf8_valid_len, utf8_error_len, utf8_invalid_len, error_len_of_some, error_len_after_one, error_len_after_two, second_byte_min, second_byte_max, valid_len_up_to, after_first_chunk, replacement_bytes}
+use Rattle.std.specs.Str.Lossy.{utf8_lossy, utf8_valid_len, utf8_error_len, utf8_invalid_len, error_len_of_some, error_len_after_one, error_len_after_two}
+use Rattle.std.specs.Str.Lossy.{second_byte_min, second_byte_max, valid_len_up_to, after_first_chunk, replacement_bytes}
 use Rattle.std.proofs.lemmas.Bool.{and_parts, cases_lt, cases_eq, le-ltb}
 use Rattle.std.proofs.lemmas.Fmt.{IsAscii-decimal_wide}
 use Rattle.std.proofs.lemmas.List.Concat.{flat_map-append}
-use Rattle.std.proofs.lemmas.Str.{IsUtf8-append, IsUtf8-nil, IsUtf8-encode, IsUtf8-from_ascii, IsUtf8-from_is_utf8, encode_ascii, inside_one, utf8_valid_len_le, utf8_lossy-IsUtf8, utf8_lossy_step}
+use Rattle.std.proofs.lemmas.Str.{IsUtf8-append, IsUtf8-nil, IsUtf8-encode, IsUtf8-from_ascii, IsUtf8-from_is_utf8, encode_ascii, inside_one, utf8_valid_len_le}
+use Rattle.std.proofs.lemmas.Str.{utf8_lossy-IsUtf8, utf8_lossy_step}
 use lib.Utf8.{scalar, scalars, encode, encodes, low_scalar}
 use Rattle.tera_meaning.specs.KeyMeaning.{KeyMeaning, truth_key, number_key, text_key}
 use Rattle.tera_meaning.specs.Integer.{IsWide}

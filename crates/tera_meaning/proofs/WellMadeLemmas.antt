@@ -27,8 +27,10 @@ use Rattle.tera_meaning.proofs.found.{owed}
 use Rattle.tera_meaning.proofs.ExtendLaws.{get_extended, beginning_held}
 use Rattle.tera_meaning.specs.Request.{Command, Request, set, extend, remove, mark_safe, ask, weigh, find}
 use Rattle.tera_meaning.specs.Step.{keeping, marking, marking_into, leaves, LeavesInWant, IsStep, state_after}
-use Rattle.tera_meaning.specs.Tree.{Items, Members, number, text, bytes, array, object, no_items, item, no_members, member, members_list, relabeled_items, relabeled_members}
-use Rattle.tera_meaning.specs.WellMade.{IsWellMade, IsWellMadeKey, AreWellMade, AreWellMadeMembers, IsWellMadeMeaning, IsWellMadeKeyMeaning, AreWellMadeMeanings, AreWellMadePairs, IsWellMadeState, BringsWellMade, AllBringWellMade}
+use Rattle.tera_meaning.specs.Tree.{Items, Members, number, text, bytes, array, object, no_items, item, no_members, member, members_list, relabeled_items}
+use Rattle.tera_meaning.specs.Tree.{relabeled_members}
+use Rattle.tera_meaning.specs.WellMade.{IsWellMade, IsWellMadeKey, AreWellMade, AreWellMadeMembers, IsWellMadeMeaning, IsWellMadeKeyMeaning}
+use Rattle.tera_meaning.specs.WellMade.{AreWellMadeMeanings, AreWellMadePairs, IsWellMadeState, BringsWellMade, AllBringWellMade}
 
 pub marked_well : (value : Form) → IsWellMade value → IsWellMade (marked_safe value)
 marked_well (text t) h = h

@@ -8,7 +8,8 @@ use Rattle.tera_meaning.specs.Meaning.{Meaning, plain}
 use Rattle.tera_meaning.specs.Outcome.{Outcome, shape}
 use Rattle.tera_meaning.specs.Question
 use Rattle.tera_meaning.specs.Question.{IsSettledAnswer}
-use Rattle.tera_meaning.specs.Request.{Request, set, extend, remove, mark_safe, ask, weigh, find, Command, asking}
+use Rattle.tera_meaning.specs.Request.{Request, set, extend, remove, mark_safe, ask, weigh, find}
+use Rattle.tera_meaning.specs.Request.{Command, asking}
 use Rattle.tera_meaning.specs.Run.{AreOutcomes, IsAmpleRun}
 use Rattle.tera_meaning.specs.State.{State, meaning_at}
 use Rattle.tera_meaning.specs.Step.{state_after}

@@ -1,8 +1,13 @@
 -- Arithmetic on whole numbers: what each operator computes, and what is refused.
-use Rattle.std.specs.Prelude.{◌≡◌, ◌^◌, nat_lt, ℕ, zero, suc, ℤ, pos, negsuc, ◌+ℤ◌, ◌-ℤ◌, ◌*ℤ◌, ◌≤ℤ◌, ◌<ℤ◌, neg_ℤ, unsigned_abs, if◌then◌else◌, Option, Some, None, Result, Ok, Err}
+use Rattle.std.specs.Prelude.{◌≡◌, ◌^◌, nat_lt, ℕ, zero, suc, ℤ, pos, negsuc, ◌+ℤ◌, ◌-ℤ◌, ◌*ℤ◌}
+use Rattle.std.specs.Prelude.{◌≤ℤ◌, ◌<ℤ◌, neg_ℤ, unsigned_abs, if◌then◌else◌, Option, Some, None}
+use Rattle.std.specs.Prelude.{Result, Ok, Err}
 use Rattle.std.specs.Int.{int_div_euclid, int_rem_euclid}
 use Rattle.std.specs.Option.{option_map, option_and_then, ok_or}
-use Rattle.tera_report.specs.Refusal.{Refusal, Operator, plus, minus, times, remainder, floor_division, power, not_a_number, operand_outside_i128, not_exact, divided_by_zero, exponent_outside_u32, negation_outside_i128, negated_no_number}
+use Rattle.tera_report.specs.Refusal.{Refusal, Operator, plus, minus, times, remainder}
+use Rattle.tera_report.specs.Refusal.{floor_division, power, not_a_number, operand_outside_i128}
+use Rattle.tera_report.specs.Refusal.{not_exact, divided_by_zero, exponent_outside_u32}
+use Rattle.tera_report.specs.Refusal.{negation_outside_i128, negated_no_number}
 use Rattle.tera_meaning.specs.Form.{Form}
 use Rattle.tera_meaning.specs.Integer.{i128, is_small}
 use Rattle.tera_meaning.specs.Lookup.{name_of}

@@ -1,5 +1,6 @@
 -- Conversions: the integer types of Rust, and the number of a value as one of them.
-use Rattle.std.specs.Prelude.{◌^◌, nat_lt, ℕ, ℤ, pos, negsuc, Bool, false, List, codes, if◌then◌else◌, Option, Some, None, Result}
+use Rattle.std.specs.Prelude.{◌^◌, nat_lt, ℕ, ℤ, pos, negsuc, Bool, false, List, codes}
+use Rattle.std.specs.Prelude.{if◌then◌else◌, Option, Some, None, Result}
 use Rattle.std.specs.Option.{option_and_then, ok_or}
 use Rattle.tera_report.specs.Refusal.{Refusal, invalid_argument, number_out_of_range}
 use Rattle.tera_meaning.specs.Arithmetic.{and_then, each_ok}

@@ -8,7 +8,8 @@ use Rattle.std.specs.Ordering.{nat_cmp}
 use Rattle.tera_meaning.specs.Form.{Form}
 use Rattle.tera_meaning.specs.KeyMeaning.{KeyForm, key_meaning}
 use Rattle.tera_meaning.specs.Printed.{shown_key}
-use Rattle.tera_meaning.specs.Tree.{undefined, none, truth, number, text, bytes, array, object, members_list}
+use Rattle.tera_meaning.specs.Tree.{undefined, none, truth, number, text, bytes, array, object}
+use Rattle.tera_meaning.specs.Tree.{members_list}
 
 -- the texts that the keys of pairs print
 abbrev pub shown_keys : {V : Type 0} → List (KeyForm × V) → List (List ℕ)

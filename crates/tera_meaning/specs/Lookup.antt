@@ -1,11 +1,14 @@
 -- What is looked up in a value: the part that an attribute or an item names, and whether it holds a
 -- value.
-use Rattle.std.specs.Prelude.{ℕ, suc, ◌-◌, nat_lt, ◌==◌, ℤ, pos, negsuc, Bool, true, false, ◌&&◌, ◌||◌, if◌then◌else◌, List, [], ◌∷◌, length, slice_get, Option, Some, None, is_some, unwrap_or, Result, Ok, Err}
+use Rattle.std.specs.Prelude.{ℕ, suc, ◌-◌, nat_lt, ◌==◌, ℤ, pos, negsuc, Bool, true, false, ◌&&◌}
+use Rattle.std.specs.Prelude.{◌||◌, if◌then◌else◌, List, [], ◌∷◌, length, slice_get, Option, Some}
+use Rattle.std.specs.Prelude.{None, is_some, unwrap_or, Result, Ok, Err}
 use Rattle.std.specs.Char.{encode_utf8}
 use Rattle.std.specs.List.{list_any}
 use Rattle.std.specs.Option.{option_map, option_and_then, ok_or}
 use Rattle.std.specs.Str.{chars}
-use Rattle.tera_report.specs.Refusal.{Refusal, shape, Container, in_array, in_text, not_a_key, not_a_map_key, not_an_index, not_a_container}
+use Rattle.tera_report.specs.Refusal.{Refusal, shape, Container, in_array, in_text, not_a_key}
+use Rattle.tera_report.specs.Refusal.{not_a_map_key, not_an_index, not_a_container}
 use Rattle.tera_meaning.specs.Form.{Form, MarkedText}
 use Rattle.tera_meaning.specs.Kind.{kind_in, kind_name}
 use Rattle.tera_meaning.specs.KeyMeaning.{KeyForm, truth_key, number_key, text_key, owned, borrowed}
@@ -13,7 +16,8 @@ use Rattle.tera_meaning.specs.Meaning.{plain}
 use Rattle.tera_meaning.specs.Order.{same}
 use Rattle.tera_meaning.specs.Pairs.{key_form_order, value_at}
 use Rattle.tera_meaning.specs.Read.{number_in, text_in}
-use Rattle.tera_meaning.specs.Tree.{undefined, none, truth, number, text, bytes, array, object, items_list, members_list}
+use Rattle.tera_meaning.specs.Tree.{undefined, none, truth, number, text, bytes, array, object}
+use Rattle.tera_meaning.specs.Tree.{items_list, members_list}
 
 -- the name of a value's kind
 abbrev pub name_of : Form → List ℕ

@@ -6,7 +6,8 @@ use Rattle.std.specs.declared.cmp.Ordering.TheVariants.{Less, Equal, Greater}
 use Rattle.std.specs.Cmp.Lexicographic.{slice_cmp}
 use Rattle.tera_meaning.specs.KeyMeaning.{key_order}
 use Rattle.tera_meaning.specs.Meaning.{Meaning}
-use Rattle.tera_meaning.specs.Tree.{Items, Members, undefined, none, truth, number, text, bytes, array, object, no_items, item, no_members, member}
+use Rattle.tera_meaning.specs.Tree.{Items, Members, undefined, none, truth, number, text, bytes}
+use Rattle.tera_meaning.specs.Tree.{array, object, no_items, item, no_members, member}
 use Rattle.tera_meaning.specs.KeyMeaning.{KeyMeaning}
 use Rattle.std.specs.Prelude.{ℤ, List}
 

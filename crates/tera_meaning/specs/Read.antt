@@ -1,9 +1,11 @@
 -- What readers and tests answer of a value.
-use Rattle.std.specs.Prelude.{ℕ, ℤ, pos, negsuc, zero, suc, Bool, true, false, List, [], ◌∷◌, Option, Some, None, length}
+use Rattle.std.specs.Prelude.{ℕ, ℤ, pos, negsuc, zero, suc, Bool, true, false, List, [], ◌∷◌}
+use Rattle.std.specs.Prelude.{Option, Some, None, length}
 use Rattle.std.specs.Str.{chars}
 use Rattle.tera_meaning.specs.Form.{Form}
 use Rattle.tera_meaning.specs.Meaning.{Meaning}
-use Rattle.tera_meaning.specs.Tree.{Tree, undefined, none, truth, number, text, bytes, array, object, items_list, members_list}
+use Rattle.tera_meaning.specs.Tree.{Tree, undefined, none, truth, number, text, bytes, array}
+use Rattle.tera_meaning.specs.Tree.{object, items_list, members_list}
 
 module _ {N T K : Type 0} where
   -- the truth value, the bytes or the items that a value of that kind holds

@@ -1,5 +1,6 @@
 -- Small meanings, on which the definitions are tried.
-use Rattle.std.specs.Prelude.{◌≡◌, ◌-◌, ◌^◌, ℕ, Bool, true, false, ◌&&◌, ℤ, pos, negsuc, List, [], ◌∷◌, Option, None, is_none}
+use Rattle.std.specs.Prelude.{◌≡◌, ◌-◌, ◌^◌, ℕ, Bool, true, false, ◌&&◌, ℤ, pos, negsuc, List, []}
+use Rattle.std.specs.Prelude.{◌∷◌, Option, None, is_none}
 use Rattle.std.specs.List.{list_all}
 use Rattle.std.specs.Ordering.{is_lt}
 use Rattle.std.specs.declared.cmp.Ordering.{Ordering}

@@ -1,5 +1,7 @@
 -- Walks over items in the direction of a step, and the slice that a walk takes.
-use Rattle.std.specs.Prelude.{◌≡◌, ◌<◌, ◌≤◌, ◌+◌, ◌*◌, ℕ, zero, suc, ℤ, pos, negsuc, ◌-ℤ◌, nat_abs, List, [], ◌∷◌, reverse, length, take, slice_get, Option, Result, Ok, Err}
+use Rattle.std.specs.Prelude.{◌≡◌, ◌<◌, ◌≤◌, ◌+◌, ◌*◌, ℕ, zero, suc, ℤ, pos, negsuc, ◌-ℤ◌, nat_abs}
+use Rattle.std.specs.Prelude.{List, [], ◌∷◌, reverse, length, take, slice_get, Option, Result, Ok}
+use Rattle.std.specs.Prelude.{Err}
 use Rattle.std.specs.Option.{unwrap_or}
 use Rattle.std.specs.Str.{chars, encode_utf8_all}
 use Rattle.tera_report.specs.Refusal.{Refusal, step_of_zero, not_sliceable}

@@ -7,7 +7,8 @@ use Rattle.tera_meaning.specs.Form.{Form}
 use Rattle.tera_meaning.specs.Outcome.{Outcome, out_of_memory}
 use Rattle.tera_meaning.specs.Question.{IsAnswered, IsFixedAnswer, TakesMemory}
 use Rattle.tera_meaning.specs.Read.{marked_safe}
-use Rattle.tera_meaning.specs.Request.{Request, set, extend, remove, mark_safe, ask, weigh, find, Command, asking}
+use Rattle.tera_meaning.specs.Request.{Request, set, extend, remove, mark_safe, ask, weigh, find}
+use Rattle.tera_meaning.specs.Request.{Command, asking}
 use Rattle.tera_meaning.specs.State.{State, form_at, meaning_at, extended, IsProperBeginning}
 use Rattle.tera_meaning.specs.Weighing.{weighed}
 

@@ -5,8 +5,10 @@ use Rattle.std.proofs.Common.{ap}
 use Rattle.std.specs.Coded.{Coded, code_by, coded_ℕ, coded_ℤ, coded_bool, coded_list, coded×}
 use base.Stored.{Gv, gnil, gnum, gcons}
 use Rattle.tera_meaning.specs.Integer.{IntegerKind, u64, i64, u128, i128, Integer}
-use Rattle.tera_meaning.specs.KeyMeaning.{KeyOf, truth_key, number_key, text_key, KeyText, owned, borrowed}
-use Rattle.tera_meaning.specs.Tree.{Tree, Items, Members, undefined, none, truth, number, text, bytes, array, object, no_items, item, no_members, member}
+use Rattle.tera_meaning.specs.KeyMeaning.{KeyOf, truth_key, number_key, text_key, KeyText, owned}
+use Rattle.tera_meaning.specs.KeyMeaning.{borrowed}
+use Rattle.tera_meaning.specs.Tree.{Tree, Items, Members, undefined, none, truth, number, text}
+use Rattle.tera_meaning.specs.Tree.{bytes, array, object, no_items, item, no_members, member}
 use Rattle.tera_meaning.specs.Form.{Form, MarkedText}
 use Rattle.tera_meaning.specs.State.{State}
 use Rattle.std.specs.FinMap.{code}

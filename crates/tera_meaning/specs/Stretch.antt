@@ -1,5 +1,6 @@
 -- A slice by a step of 1 in closed form: the items behind some of them, up to others.
-use Rattle.std.specs.Prelude.{◌-◌, ℕ, suc, ℤ, pos, negsuc, List, drop, take, length, Option, None, Some}
+use Rattle.std.specs.Prelude.{◌-◌, ℕ, suc, ℤ, pos, negsuc, List, drop, take, length, Option, None}
+use Rattle.std.specs.Prelude.{Some}
 
 -- the items before a bound. One below 0 counts from the end
 abbrev pub up_to_bound : {X : Type 0} → Option ℤ → List X → List X

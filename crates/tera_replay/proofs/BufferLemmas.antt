@@ -38,7 +38,8 @@ nothing_read (Some bytes) fails InGave InFailed OutGets OutBroke ErrGets gave no
 )
 
 -- a watched writer took the text, or failed on it
-pub took_or_failed : {W : Type 0} (contents : W → Option (List ℕ)) (wrote : W → List ℕ → Result ℕ Error → W → Type 0) (put : Result (Unit {0}) Error) (old : Watched W) (text : List ℕ) (new : Watched W)
+pub took_or_failed : {W : Type 0} (contents : W → Option (List ℕ)) (wrote : W → List ℕ → Result ℕ Error → W → Type 0) (put : Result (Unit {0}) Error)
+    (old : Watched W) (text : List ℕ) (new : Watched W)
     → MatchResult put (λ _. WatchedTakes contents wrote old text new) (λ _. WatchedFails contents wrote old text new)
     → TakesOrFails (WatchedTakes contents wrote) (WatchedFails contents wrote) old text new
 took_or_failed contents wrote (Ok done) old text new h = inl h

@@ -1,1 +1,1 @@
-pub mod BufferLemmas
+mod BufferLemmas

@@ -1,5 +1,6 @@
 -- What a stretch from the start on says of the whole input.
-use Rattle.std.proofs.Common.{◌≡◌, ℕ, ◌+◌, ◌-◌, ◌^◌, ◌≤◌, Bool, true, false, ◌||◌, ◌⊎◌, inr, List, [], ◌∷◌, ◌++◌, length, map, codes, Option, None, Some, cond, sym, ◌∙◌, ap, subst, refl, append_assoc, append-nil, arith}
+use Rattle.std.proofs.Common.{◌≡◌, ℕ, ◌+◌, ◌-◌, ◌^◌, ◌≤◌, Bool, true, false, ◌||◌, ◌⊎◌, inr, List, [], ◌∷◌, ◌++◌, length, map, codes, Option, None, Some, cond}
+use Rattle.std.proofs.Common.{sym, ◌∙◌, ap, subst, refl, append_assoc, append-nil, arith}
 use Rattle.std.specs.List.{flat_map}
 use Rattle.std.specs.FinMap.{empty}
 use Rattle.std.proofs.lemmas.List.{length-map, map-append}
@@ -27,13 +28,27 @@ not_failing : (fails : Option Bool) → EndIsTold fails → fails ≡ Some true 
 not_failing fails told is = subst EndIsTold is told
 
 -- the first of the lines are among those given
-first_given : (fails : Option Bool) (xs ys : List (List ℕ)) (part : List ℕ) → (more : List (List ℕ)) × (lines_given fails (xs ++ ys) part ≡ map without_return xs ++ (map without_return ys ++ more))
-first_given (Some true) xs ys part = ([], map-append without_return xs ys ∙ ap (λ (zs : List (List ℕ)). map without_return xs ++ zs) (sym (append-nil (map without_return ys))))
-first_given (Some false) xs ys part = (last_line part, ap (λ (zs : List (List ℕ)). zs ++ last_line part) (map-append without_return xs ys) ∙ append_assoc (map without_return xs) (map without_return ys) (last_line part))
-first_given None xs ys part = (last_line part, ap (λ (zs : List (List ℕ)). zs ++ last_line part) (map-append without_return xs ys) ∙ append_assoc (map without_return xs) (map without_return ys) (last_line part))
+first_given : (fails : Option Bool) (xs ys : List (List ℕ)) (part : List ℕ) → (more : List (List ℕ))
+    × (lines_given fails (xs ++ ys) part ≡ map without_return xs ++ (map without_return ys ++ more))
+first_given (Some true) xs ys part = (
+  [],
+  map-append without_return xs ys ∙ ap (λ (zs : List (List ℕ)). map without_return xs ++ zs)
+      (sym (append-nil (map without_return ys))),
+)
+first_given (Some false) xs ys part = (
+  last_line part,
+  ap (λ (zs : List (List ℕ)). zs ++ last_line part) (map-append without_return xs ys)
+      ∙ append_assoc (map without_return xs) (map without_return ys) (last_line part),
+)
+first_given None xs ys part = (
+  last_line part,
+  ap (λ (zs : List (List ℕ)). zs ++ last_line part) (map-append without_return xs ys)
+      ∙ append_assoc (map without_return xs) (map without_return ys) (last_line part),
+)
 
 -- a script ends at its first bad line
-Script-bad : (n m : ℕ) (xs : List (List ℕ)) (line : List ℕ) (ys : List (List ℕ)) (cs : List Command) → Script n xs cs None → m ≡ n + length xs → IsBad line → Script n (xs ++ line ∷ ys) cs (Some (bad_at m line))
+Script-bad : (n m : ℕ) (xs : List (List ℕ)) (line : List ℕ) (ys : List (List ℕ)) (cs : List Command) → Script n xs cs None → m ≡ n + length xs → IsBad line
+    → Script n (xs ++ line ∷ ys) cs (Some (bad_at m line))
 Script-bad n m xs line ys cs s e bad =
     let P : List Command → Type 0 = λ c. Script n (xs ++ line ∷ ys) c (Some (bad_at m line)) in
     subst P (append-nil cs) (Script-append n xs (line ∷ ys) cs [] (Some (bad_at m line)) s m e (inr (inr (bad, refl, refl))))
@@ -46,7 +61,8 @@ regrouped : (bytes read more text : List ℕ) (p : Place) (g : Goes start read t
 regrouped bytes read more text p g e = e ∙ ap (λ (zs : List ℕ). zs ++ more) g.split ∙ append_assoc (flat_map ended g.lines) p.part more
 
 -- the input ended
-pub at_end : (bytes text more : List ℕ) (fails : Option Bool) (p : Place) (v : Bool) (new : State) → EndIsTold fails → Goes start bytes text p → Runs p.number p.state (last_line p.part) more v new → AllAnswered bytes fails (text ++ more) [] (cond (p.wanted || v) 1 0)
+pub at_end : (bytes text more : List ℕ) (fails : Option Bool) (p : Place) (v : Bool) (new : State) → EndIsTold fails → Goes start bytes text p
+    → Runs p.number p.state (last_line p.part) more v new → AllAnswered bytes fails (text ++ more) [] (cond (p.wanted || v) 1 0)
 at_end bytes text more fails p v new told g h =
     let all = Runs-append 1 p.number empty p.state new (map without_return g.lines) (last_line p.part) text more g.wanted v g.runs (counted bytes text p g) h in
     let P : List (List ℕ) → Type 0 = λ ls. Script 1 ls all.commands None in
@@ -64,7 +80,8 @@ at_end bytes text more fails p v new told g h =
     }
 
 -- a line that ends with a line feed is bad
-pub at_bad : (bytes text : List ℕ) (fails : Option Bool) (report : Report) → StopsAtBad start bytes report text → AllAnswered bytes fails text (ended (report_text report)) 2
+pub at_bad : (bytes text : List ℕ) (fails : Option Bool) (report : Report) → StopsAtBad start bytes report text → AllAnswered bytes fails text
+    (ended (report_text report)) 2
 at_bad bytes text fails report s =
     let g = s.goes in
     let t = split_line s.place.part s.unread g.rest in
@@ -76,11 +93,13 @@ at_bad bytes text fails report s =
       part = t.1;
       bad = Some (bad_at s.place.number (without_return s.place.part));
       outcomes = g.runs.outcomes;
-      split = Splits-more (s.place.part ++ line_feed ∷ s.unread) bytes (s.place.part ∷ t.0) g.lines t.1 g.each t.2 (regrouped bytes s.read (line_feed ∷ s.unread) text s.place g s.bytes_are);
+      split = Splits-more (s.place.part ++ line_feed ∷ s.unread) bytes (s.place.part ∷ t.0) g.lines t.1 g.each t.2
+          (regrouped bytes s.read (line_feed ∷ s.unread) text s.place g s.bytes_are);
       answers = record {
         commands = g.runs.commands;
         state = s.place.state;
-        script = subst P (sym given.1) (Script-bad 1 s.place.number (map without_return g.lines) (without_return s.place.part) (map without_return t.0 ++ given.0) g.runs.commands g.runs.script numbered s.bad);
+        script = subst P (sym given.1) (Script-bad 1 s.place.number (map without_return g.lines) (without_return s.place.part)
+            (map without_return t.0 ++ given.0) g.runs.commands g.runs.script numbered s.bad);
         run = g.runs.run;
       };
       ended = λ is. refl;
@@ -90,10 +109,12 @@ at_bad bytes text fails report s =
     }
 
 -- what follows the last line feed is bad
-pub at_bad_end : (bytes text : List ℕ) (fails : Option Bool) (p : Place) → EndIsTold fails → Goes start bytes text p → last_line p.part ≡ p.part ∷ [] → IsBad p.part → AllAnswered bytes fails text (report (Some (bad_at p.number p.part))) 2
+pub at_bad_end : (bytes text : List ℕ) (fails : Option Bool) (p : Place) → EndIsTold fails → Goes start bytes text p → last_line p.part ≡ p.part ∷ []
+    → IsBad p.part → AllAnswered bytes fails text (report (Some (bad_at p.number p.part))) 2
 at_bad_end bytes text fails p told g whole bad =
     let P : List (List ℕ) → Type 0 = λ ls. Script 1 ls g.runs.commands (Some (bad_at p.number p.part)) in
-    let given : lines_given fails g.lines p.part ≡ map without_return g.lines ++ p.part ∷ [] = all_given fails g.lines p.part told ∙ ap (λ (zs : List (List ℕ)). map without_return g.lines ++ zs) whole in
+    let given : lines_given fails g.lines p.part ≡ map without_return g.lines ++ p.part ∷ [] = all_given fails g.lines p.part told
+    ∙ ap (λ (zs : List (List ℕ)). map without_return g.lines ++ zs) whole in
     record {
       lines = g.lines;
       part = p.part;
@@ -117,7 +138,8 @@ runs_answer : (bytes text : List ℕ) (p : Place) (g : Goes start bytes text p) 
 runs_answer bytes text p g = record { commands = g.runs.commands; state = p.state; script = g.runs.script; run = g.runs.run }
 
 -- no memory was found
-pub at_memory : (bytes given rest text : List ℕ) (InGave : List ℕ → Type 0) → bytes ≡ given ++ rest → InGave given → Begins start given text → MemoryFailed bytes InGave text (codes "error: Out of memory\n") 1
+pub at_memory : (bytes given rest text : List ℕ) (InGave : List ℕ → Type 0) → bytes ≡ given ++ rest → InGave given → Begins start given text
+    → MemoryFailed bytes InGave text (codes "error: Out of memory\n") 1
 at_memory bytes given rest text InGave e gave s =
     let g = s.goes in
     let t = splits (s.place.part ++ s.unread) in
@@ -141,7 +163,8 @@ at_memory bytes given rest text InGave e gave s =
 
 -- reading failed
 pub at_failure : (bytes given rest text : List ℕ) (fails : Option Bool) (InGave InFailed : List ℕ → Type 0) (p : Place) → bytes ≡ given ++ rest
-    → (MayErr fails (Some rest) × InFailed given) ⊎ ((2 ^ 64 - 1 ≤ length given) × InGave given) → Goes start given text p → ReadingFailed bytes fails InGave InFailed text (codes "error: reading failed\n") 1
+    → (MayErr fails (Some rest) × InFailed given) ⊎ ((2 ^ 64 - 1 ≤ length given) × InGave given) → Goes start given text p → ReadingFailed bytes fails InGave
+    InFailed text (codes "error: reading failed\n") 1
 at_failure bytes given rest text fails InGave InFailed p e cause g = record {
   given = given;
   rest = rest;

@@ -1,15 +1,15 @@
-pub mod ReplyLemmas
-pub mod StatedLemmas
-pub mod StatusLemmas
-pub mod PutLemmas
-pub mod RunLemmas
-pub mod ScriptLemmas
-pub mod SourceLemmas
-pub mod SplitLemmas
-pub mod StretchLemmas
-pub mod EndLemmas
-pub mod LineLemmas
-pub mod PieceLemmas
-pub mod InputLemmas
-pub mod ReplayLemmas
-pub mod WatchedLemmas
+mod EndLemmas
+pub mod InputLaws
+mod LineLemmas
+mod PieceLemmas
+mod PutLemmas
+pub mod ReplayLaws
+mod ReplyLemmas
+mod RunLemmas
+mod ScriptLemmas
+mod SourceLemmas
+mod SplitLemmas
+mod StatedLemmas
+mod StatusLemmas
+mod StretchLemmas
+pub mod WatchedLaws

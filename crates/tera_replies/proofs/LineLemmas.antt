@@ -37,7 +37,8 @@ Runs-skipped n state line skipped = record {
   wanted_is = refl;
 }
 
-pub Runs-says : (n : ℕ) (old new : State) (line text : List ℕ) (command : Command) (outcome : Outcome) → Says line command → IsStep old command outcome new → IsReply outcome text → Runs n old (line ∷ []) (ended text) (is_want outcome) new
+pub Runs-says : (n : ℕ) (old new : State) (line text : List ℕ) (command : Command) (outcome : Outcome) → Says line command → IsStep old command outcome new
+    → IsReply outcome text → Runs n old (line ∷ []) (ended text) (is_want outcome) new
 Runs-says n old new line text command outcome says step replied = record {
   commands = command ∷ [];
   outcomes = outcome ∷ [];

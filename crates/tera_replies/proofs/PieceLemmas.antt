@@ -9,7 +9,8 @@ use Rattle.tera_replies.specs.Stretch.{Place, Goes, Begins, Stops, LineStops}
 use Rattle.tera_replies.proofs.StretchLemmas.{Goes-append, Goes-part, Goes-none}
 
 -- Of a piece this rest is left: what stands before it was read and answered, and the answers were sent.
-pub record Progress {S : Type 0} (takes : S → List ℕ → S → Type 0) (flushes : S → S → Type 0) (old : Place) (piece rest : List ℕ) (now : Place) (before after : S) : Type 0 where
+pub record Progress {S : Type 0} (takes : S → List ℕ → S → Type 0) (flushes : S → S → Type 0) (old : Place) (piece rest : List ℕ) (now : Place)
+    (before after : S) : Type 0 where
   pub read : List ℕ
   pub text : List ℕ
   pub piece_is : piece ≡ read ++ rest
@@ -27,7 +28,8 @@ module _ {S : Type 0} (takes fails : S → List ℕ → S → Type 0) (flushes f
   }
 
   -- one stretch more
-  pub Progress-more : (old now new : Place) (piece rest later bytes text : List ℕ) (before mid after : S) → Progress takes flushes old piece rest now before mid → rest ≡ bytes ++ later → Goes now bytes text new → Sends takes flushes mid text after → Progress takes flushes old piece later new before after
+  pub Progress-more : (old now new : Place) (piece rest later bytes text : List ℕ) (before mid after : S) → Progress takes flushes old piece rest now before mid
+      → rest ≡ bytes ++ later → Goes now bytes text new → Sends takes flushes mid text after → Progress takes flushes old piece later new before after
   Progress-more old now new piece rest later bytes text before mid after p e g sent = record {
     read = p.read ++ bytes;
     text = p.text ++ text;
@@ -37,17 +39,24 @@ module _ {S : Type 0} (takes fails : S → List ℕ → S → Type 0) (flushes f
   }
 
   -- all of the piece is read
-  pub Progress-all : (old now : Place) (piece : List ℕ) (before after : S) → Progress takes flushes old piece [] now before after → (text : List ℕ) × Goes old piece text now × Sends takes flushes before text after
+  pub Progress-all : (old now : Place) (piece : List ℕ) (before after : S) → Progress takes flushes old piece [] now before after → (text : List ℕ)
+      × Goes old piece text now × Sends takes flushes before text after
   Progress-all old now piece before after p =
       let P : List ℕ → Type 0 = λ bytes. Goes old bytes p.text now in
       (p.text, subst P (sym (p.piece_is ∙ append-nil p.read)) p.goes, p.sent)
 
   -- no memory was found for the rest
-  pub Progress-begins : (old now : Place) (piece rest : List ℕ) (before after : S) → Progress takes flushes old piece rest now before after → (text : List ℕ) × Begins old piece text × Sends takes flushes before text after
-  Progress-begins old now piece rest before after p = (p.text, record { read = p.read; unread = rest; place = now; bytes_are = p.piece_is; goes = p.goes }, p.sent)
+  pub Progress-begins : (old now : Place) (piece rest : List ℕ) (before after : S) → Progress takes flushes old piece rest now before after → (text : List ℕ)
+      × Begins old piece text × Sends takes flushes before text after
+  Progress-begins old now piece rest before after p = (
+    p.text,
+    record { read = p.read; unread = rest; place = now; bytes_are = p.piece_is; goes = p.goes },
+    p.sent,
+  )
 
   -- a fault at the next line
-  pub Progress-stops : (old now : Place) (piece rest line later : List ℕ) (before mid after : S) (fault : Fault) → Progress takes flushes old piece rest now before mid → HasNoLineFeed now.part → HasNoLineFeed line → rest ≡ ended line ++ later
+  pub Progress-stops : (old now : Place) (piece rest line later : List ℕ) (before mid after : S) (fault : Fault) → Progress takes flushes old piece rest now
+      before mid → HasNoLineFeed now.part → HasNoLineFeed line → rest ≡ ended line ++ later
       → LineStops now.number (without_return (now.part ++ line)) (Sends takes flushes mid [] after) (Broke takes fails flushes flush_fails mid after) fault
       → Stops old piece (λ text. Sends takes flushes before text after) (Broke takes fails flushes flush_fails before after) fault
   Progress-stops old now piece rest line later before mid after (BadLine report) p part_in line_in e h =

@@ -75,5 +75,7 @@ one_reply (Ok (Answer.size None)) line other fixed h g = h ∙ sym g
 one_reply (Ok (Answer.size (Some n))) line other fixed h g = h ∙ sym g
 one_reply (Ok (Answer.kind kind)) line other fixed h g = h ∙ sym g
 one_reply (Ok (Answer.text printed)) line other fixed h g = h ∙ sym g
-one_reply (Ok (Answer.texts texts)) line other fixed h g = h.2 ∙ ap (λ (listed : List ℕ). codes "fields " ++ listed) (one_text (debug_list debug_str texts) h.0 g.0 fixed h.1 g.1) ∙ sym g.2
-one_reply (Err refusal) line other fixed h g = h.2 ∙ ap (λ (words : List ℕ). codes "error: " ++ words) (one_text (text_of refusal) h.0 g.0 fixed (told_known refusal h.0 h.1) (told_known refusal g.0 g.1)) ∙ sym g.2
+one_reply (Ok (Answer.texts texts)) line other fixed h g = h.2 ∙ ap (λ (listed : List ℕ). codes "fields " ++ listed)
+    (one_text (debug_list debug_str texts) h.0 g.0 fixed h.1 g.1) ∙ sym g.2
+one_reply (Err refusal) line other fixed h g = h.2 ∙ ap (λ (words : List ℕ). codes "error: " ++ words)
+    (one_text (text_of refusal) h.0 g.0 fixed (told_known refusal h.0 h.1) (told_known refusal g.0 g.1)) ∙ sym g.2

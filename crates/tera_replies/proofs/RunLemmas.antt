@@ -18,7 +18,8 @@ IsRun-append a b c [] ys (o ∷ os) ps h g = absurd h
 IsRun-append a b c (x ∷ xs) ys [] ps h g = absurd h
 
 -- with no bad line among the first ones, a script goes on
-pub Script-append : (n : ℕ) (xs ys : List (List ℕ)) (cs ds : List Command) (bad : Option BadLine) → Script n xs cs None → (m : ℕ) → m ≡ n + length xs → Script m ys ds bad → Script n (xs ++ ys) (cs ++ ds) bad
+pub Script-append : (n : ℕ) (xs ys : List (List ℕ)) (cs ds : List Command) (bad : Option BadLine) → Script n xs cs None → (m : ℕ) → m ≡ n + length xs
+    → Script m ys ds bad → Script n (xs ++ ys) (cs ++ ds) bad
 Script-append n [] ys cs ds bad h m e g =
     let P : List Command → Type 0 = λ c. Script n ys (c ++ ds) bad in
     let Q : ℕ → Type 0 = λ k. Script k ys ds bad in
@@ -56,7 +57,8 @@ AreReplies-append xs ys s t h g = (
   (λ i. h.2 i ++ g.2 i) ∙ sym (flat_map-append ended h.0 g.0),
 )
 
-pub Runs-append : (n m : ℕ) (a b c : State) (xs ys : List (List ℕ)) (s t : List ℕ) (v w : Bool) → Runs n a xs s v b → m ≡ n + length xs → Runs m b ys t w c → Runs n a (xs ++ ys) (s ++ t) (v || w) c
+pub Runs-append : (n m : ℕ) (a b c : State) (xs ys : List (List ℕ)) (s t : List ℕ) (v w : Bool) → Runs n a xs s v b → m ≡ n + length xs → Runs m b ys t w c
+    → Runs n a (xs ++ ys) (s ++ t) (v || w) c
 Runs-append n m a b c xs ys s t v w g e h = record {
   commands = g.commands ++ h.commands;
   outcomes = g.outcomes ++ h.outcomes;

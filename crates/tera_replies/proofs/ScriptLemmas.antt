@@ -4,8 +4,10 @@ use Rattle.tera_meaning.specs.Request.{Command}
 use Rattle.tera_script.specs.Line.{Says, IsSkipped}
 use Rattle.tera_replies.specs.Script.{BadLine, Script}
 
-module _ (one : (line : List ℕ) (first second : Command) → Says line first → Says line second → first ≡ second) (silent : (line : List ℕ) (command : Command) → IsSkipped line → ¬ Says line command) where
-  pub one_script : (n : ℕ) (lines : List (List ℕ)) (commands others : List Command) (bad other : Option BadLine) → Script n lines commands bad → Script n lines others other → (commands ≡ others) × (bad ≡ other)
+module _ (one : (line : List ℕ) (first second : Command) → Says line first → Says line second → first ≡ second) (silent : (line : List ℕ) (command : Command)
+    → IsSkipped line → ¬ Says line command) where
+  pub one_script : (n : ℕ) (lines : List (List ℕ)) (commands others : List Command) (bad other : Option BadLine) → Script n lines commands bad
+      → Script n lines others other → (commands ≡ others) × (bad ≡ other)
   one_script n [] commands others bad other h g = (h.0 ∙ sym g.0, h.1 ∙ sym g.1)
   one_script n (line ∷ lines) commands others bad other (inl (skip, h)) (inl (also, g)) = one_script (n + 1) lines commands others bad other h g
   one_script n (line ∷ lines) commands others bad other (inl (skip, h)) (inr (inl (first, later, says, is, g))) = absurd (silent line first skip says)

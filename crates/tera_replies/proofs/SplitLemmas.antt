@@ -7,9 +7,11 @@ use Rattle.std.specs.List.{flat_map}
 use Rattle.tera_replies.specs.Script.{Splits, HasNoLineFeed, ended, line_feed}
 
 -- lines before a split
-pub Splits-more : (bytes front : List ℕ) (lines first : List (List ℕ)) (part : List ℕ) → All HasNoLineFeed first → Splits bytes lines part → front ≡ flat_map ended first ++ bytes → Splits front (first ++ lines) part
+pub Splits-more : (bytes front : List ℕ) (lines first : List (List ℕ)) (part : List ℕ) → All HasNoLineFeed first → Splits bytes lines part → front
+    ≡ flat_map ended first ++ bytes → Splits front (first ++ lines) part
 Splits-more bytes front lines first part each s e = record {
-  whole = e ∙ ap (λ (xs : List ℕ). flat_map ended first ++ xs) s.whole ∙ sym (append_assoc (flat_map ended first) (flat_map ended lines) part) ∙ ap (λ (xs : List ℕ). xs ++ part) (sym (flat_map-append ended first lines));
+  whole = e ∙ ap (λ (xs : List ℕ). flat_map ended first ++ xs) s.whole ∙ sym (append_assoc (flat_map ended first) (flat_map ended lines) part)
+      ∙ ap (λ (xs : List ℕ). xs ++ part) (sym (flat_map-append ended first lines));
   each = All-append HasNoLineFeed first lines each s.each;
   rest = s.rest;
 }
@@ -33,7 +35,8 @@ with_byte b bs (line ∷ lines) part ne s = (
   part,
   record {
     whole = ap (λ (xs : List ℕ). b ∷ xs) s.whole;
-    each = All-cons HasNoLineFeed (b ∷ line) lines (All-cons (λ byte. byte ≢ line_feed) b line ne (All-head HasNoLineFeed line lines s.each)) (All-tail HasNoLineFeed line lines s.each);
+    each = All-cons HasNoLineFeed (b ∷ line) lines (All-cons (λ byte. byte ≢ line_feed) b line ne (All-head HasNoLineFeed line lines s.each))
+        (All-tail HasNoLineFeed line lines s.each);
     rest = s.rest;
   },
 )
@@ -56,10 +59,12 @@ splits (b ∷ bs) =
     ]
 
 -- a whole line, and the split of the bytes after it
-pub split_line : (line unread : List ℕ) → HasNoLineFeed line → (lines : List (List ℕ)) × (part : List ℕ) × Splits (line ++ line_feed ∷ unread) (line ∷ lines) part
+pub split_line : (line unread : List ℕ) → HasNoLineFeed line → (lines : List (List ℕ)) × (part : List ℕ) × Splits (line ++ line_feed ∷ unread) (line ∷ lines)
+    part
 split_line line unread h =
     let s = splits unread in
-    let e : flat_map ended (line ∷ []) ++ unread ≡ line ++ line_feed ∷ unread = ap (λ (xs : List ℕ). xs ++ unread) (append-nil (ended line)) ∙ append_assoc line (line_feed ∷ []) unread in
+    let e : flat_map ended (line ∷ []) ++ unread ≡ line ++ line_feed ∷ unread = ap (λ (xs : List ℕ). xs ++ unread) (append-nil (ended line))
+    ∙ append_assoc line (line_feed ∷ []) unread in
     (s.0, s.1, Splits-more unread (line ++ line_feed ∷ unread) s.0 (line ∷ []) s.1 (All-cons HasNoLineFeed line [] h (All-nil HasNoLineFeed)) s.2 (sym e))
 
 -- two lines at the front of the same bytes are one
@@ -78,20 +83,24 @@ part_has_none : (part m y : List ℕ) → HasNoLineFeed part → part ≡ m ++ l
 part_has_none [] [] y p e = cc
 part_has_none [] (b ∷ m) y p e = cc
 part_has_none (a ∷ part) [] y p e = All-head (λ byte. byte ≢ line_feed) a part p (let is : a ≡ line_feed = cc in is)
-part_has_none (a ∷ part) (b ∷ m) y p e = let tails : part ≡ m ++ line_feed ∷ y = cc in part_has_none part m y (All-tail (λ byte. byte ≢ line_feed) a part p) tails
+part_has_none (a ∷ part) (b ∷ m) y p e = let tails : part ≡ m ++ line_feed ∷ y = cc in
+    part_has_none part m y (All-tail (λ byte. byte ≢ line_feed) a part p) tails
 
 -- the first line stands in front of the others
 regroup : (m : List ℕ) (ms : List (List ℕ)) (q : List ℕ) → flat_map ended (m ∷ ms) ++ q ≡ m ++ line_feed ∷ (flat_map ended ms ++ q)
 regroup m ms q = append_assoc (ended m) (flat_map ended ms) q ∙ append_assoc m (line_feed ∷ []) (flat_map ended ms ++ q)
 
-same_lines : (xs ys : List (List ℕ)) (p q : List ℕ) → All HasNoLineFeed xs → All HasNoLineFeed ys → HasNoLineFeed p → HasNoLineFeed q → flat_map ended xs ++ p ≡ flat_map ended ys ++ q → (xs ≡ ys) × (p ≡ q)
+same_lines : (xs ys : List (List ℕ)) (p q : List ℕ) → All HasNoLineFeed xs → All HasNoLineFeed ys → HasNoLineFeed p → HasNoLineFeed q → flat_map ended xs ++ p
+    ≡ flat_map ended ys ++ q → (xs ≡ ys) × (p ≡ q)
 same_lines [] [] p q xs_in ys_in p_in q_in e = (refl, e)
 same_lines [] (y ∷ ys) p q xs_in ys_in p_in q_in e = absurd (part_has_none p y (flat_map ended ys ++ q) p_in (e ∙ regroup y ys q))
 same_lines (x ∷ xs) [] p q xs_in ys_in p_in q_in e = absurd (part_has_none q x (flat_map ended xs ++ p) q_in (sym e ∙ regroup x xs p))
 same_lines (x ∷ xs) (y ∷ ys) p q xs_in ys_in p_in q_in e =
-    let first = first_line x y (flat_map ended xs ++ p) (flat_map ended ys ++ q) (All-head HasNoLineFeed x xs xs_in) (All-head HasNoLineFeed y ys ys_in) (sym (regroup x xs p) ∙ e ∙ regroup y ys q) in
+    let first = first_line x y (flat_map ended xs ++ p) (flat_map ended ys ++ q) (All-head HasNoLineFeed x xs xs_in) (All-head HasNoLineFeed y ys ys_in)
+    (sym (regroup x xs p) ∙ e ∙ regroup y ys q) in
     let more = same_lines xs ys p q (All-tail HasNoLineFeed x xs xs_in) (All-tail HasNoLineFeed y ys ys_in) p_in q_in first.1 in
     ((λ i. first.0 i ∷ more.0 i), more.1)
 
-pub Splits-same : (bytes part other : List ℕ) (lines others : List (List ℕ)) → Splits bytes lines part → Splits bytes others other → (lines ≡ others) × (part ≡ other)
+pub Splits-same : (bytes part other : List ℕ) (lines others : List (List ℕ)) → Splits bytes lines part → Splits bytes others other → (lines ≡ others)
+    × (part ≡ other)
 Splits-same bytes part other lines others s t = same_lines lines others part other s.each t.each s.rest t.rest (sym s.whole ∙ t.whole)

@@ -28,11 +28,13 @@ Goes-append a b c xs ys s t g h =
       number_is = omega (arith, g.number_is, h.number_is, length-append g.lines h.lines);
       wanted_is = h.wanted_is ∙ ap (λ (w : Bool). w || h.wanted) g.wanted_is ∙ or_assoc a.wanted g.wanted h.wanted;
       runs = subst P (sym (map-append without_return g.lines h.lines))
-          (Runs-append a.number b.number a.state b.state c.state (map without_return g.lines) (map without_return h.lines) s t g.wanted h.wanted g.runs counted h.runs);
+          (Runs-append a.number b.number a.state b.state c.state (map without_return g.lines) (map without_return h.lines) s t g.wanted h.wanted g.runs counted
+          h.runs);
     }
 
 -- more of the line at hand
-pub Goes-part : (a new : Place) (more : List ℕ) → HasNoLineFeed a.part → HasNoLineFeed more → new.number ≡ a.number → new.part ≡ a.part ++ more → new.state ≡ a.state → new.wanted ≡ a.wanted → Goes a more [] new
+pub Goes-part : (a new : Place) (more : List ℕ) → HasNoLineFeed a.part → HasNoLineFeed more → new.number ≡ a.number → new.part ≡ a.part ++ more → new.state
+    ≡ a.state → new.wanted ≡ a.wanted → Goes a more [] new
 Goes-part a new more part_in more_in numbered longer same_state same_wanted =
     let P : State → Type 0 = λ state. Runs a.number a.state [] [] false state in
     record {
@@ -60,14 +62,16 @@ Goes-none a part_in = record {
 }
 
 -- the end of the line at hand
-pub Goes-line : (a new : Place) (more text : List ℕ) (w : Bool) → HasNoLineFeed a.part → HasNoLineFeed more → Runs a.number a.state (without_return (a.part ++ more) ∷ []) text w new.state
+pub Goes-line : (a new : Place) (more text : List ℕ) (w : Bool) → HasNoLineFeed a.part → HasNoLineFeed more
+    → Runs a.number a.state (without_return (a.part ++ more) ∷ []) text w new.state
     → new.number ≡ a.number + 1 → new.part ≡ [] → new.wanted ≡ (a.wanted || w) → Goes a (ended more) text new
 Goes-line a new more text w part_in more_in runs numbered emptied wanted =
     let line = ended (a.part ++ more) in
     record {
       lines = (a.part ++ more) ∷ [];
       wanted = w;
-      split = sym (append_assoc a.part more (line_feed ∷ [])) ∙ sym (append-nil line) ∙ sym (append-nil (line ++ [])) ∙ ap (λ (zs : List ℕ). line ++ [] ++ zs) (sym emptied);
+      split = sym (append_assoc a.part more (line_feed ∷ [])) ∙ sym (append-nil line) ∙ sym (append-nil (line ++ [])) ∙ ap (λ (zs : List ℕ). line ++ [] ++ zs)
+          (sym emptied);
       each = All-cons HasNoLineFeed (a.part ++ more) [] (All-append (λ byte. byte ≢ line_feed) a.part more part_in more_in) (All-nil HasNoLineFeed);
       rest = subst HasNoLineFeed (sym emptied) (All-nil (λ byte. byte ≢ line_feed));
       number_is = numbered;

@@ -17,12 +17,14 @@ abbrev pub SameSink : {W : Type 0} → Terse W → Terse W → Type 0
 SameSink old new = sink_loan new ≡ sink_loan old
 
 -- what the sink takes, fails on, and what a flush of it does
-pub record TerseTakes {W : Type 0} (takes : W → List ℕ → W → Type 0) (old : Terse W) (bytes : List ℕ)
+pub record TerseTakes {W : Type 0} (takes : W → List ℕ → W → Type 0) (old : Terse W)
+    (bytes : List ℕ)
     (new : Terse W) : Type 0 where
   pub same : SameSink old new
   pub took : takes (lent_sink old) bytes (lent_sink new)
 
-pub record TerseFails {W : Type 0} (fails : W → List ℕ → W → Type 0) (old : Terse W) (bytes : List ℕ)
+pub record TerseFails {W : Type 0} (fails : W → List ℕ → W → Type 0) (old : Terse W)
+    (bytes : List ℕ)
     (new : Terse W) : Type 0 where
   pub same : SameSink old new
   pub failed : fails (lent_sink old) bytes (lent_sink new)
@@ -31,18 +33,23 @@ pub record TerseFlushes {W : Type 0} (flushes : W → W → Type 0) (old new : T
   pub same : SameSink old new
   pub passed : flushes (lent_sink old) (lent_sink new)
 
-pub record TerseFlushFails {W : Type 0} (flush_fails : W → W → Type 0) (old new : Terse W) : Type 0 where
-  pub same : SameSink old new
-  pub failed : flush_fails (lent_sink old) (lent_sink new)
+pub record TerseFlushFails {W : Type 0} (flush_fails : W → W → Type 0) (old new : Terse W) : Type 0
+  where
+    pub same : SameSink old new
+    pub failed : flush_fails (lent_sink old) (lent_sink new)
 
 module _ {W : Type 0} (takes : W → List ℕ → W → Type 0) where
   pub terse_nothing : ((s : W) → takes s [] s) → (t : Terse W) → TerseTakes takes t [] t
   terse_nothing nothing t = record { same = refl; took = nothing (lent_sink t) }
 
-  pub terse_joined : ((s : W) (a : List ℕ) (t : W) (b : List ℕ) (u : W) → takes s a t → takes t b u → takes s (a ++ b) u)
+  pub terse_joined : ((s : W) (a : List ℕ) (t : W) (b : List ℕ) (u : W) → takes s a t → takes t b u
+      → takes s (a ++ b) u)
       → (s : Terse W) (a : List ℕ) (t : Terse W) (b : List ℕ) (u : Terse W)
       → TerseTakes takes s a t → TerseTakes takes t b u → TerseTakes takes s (a ++ b) u
-  terse_joined joined s a t b u p q = record { same = q.same ∙ p.same; took = joined _ a _ b _ p.took q.took }
+  terse_joined joined s a t b u p q = record {
+    same = q.same ∙ p.same;
+    took = joined _ a _ b _ p.took q.took;
+  }
 
 module _ {W : Type 0} (fails : W → List ℕ → W → Type 0) where
   pub terse_early : ((s : W) (a : List ℕ) (t : W) (b : List ℕ) → fails s a t → fails s (a ++ b) t)
@@ -51,7 +58,11 @@ module _ {W : Type 0} (fails : W → List ℕ → W → Type 0) where
   terse_early early s a t b p = record { same = p.same; failed = early _ a _ b p.failed }
 
 module _ {W : Type 0} (takes fails : W → List ℕ → W → Type 0) where
-  pub terse_later : ((s : W) (a : List ℕ) (t : W) (b : List ℕ) (u : W) → takes s a t → fails t b u → fails s (a ++ b) u)
+  pub terse_later : ((s : W) (a : List ℕ) (t : W) (b : List ℕ) (u : W) → takes s a t → fails t b u
+      → fails s (a ++ b) u)
       → (s : Terse W) (a : List ℕ) (t : Terse W) (b : List ℕ) (u : Terse W)
       → TerseTakes takes s a t → TerseFails fails t b u → TerseFails fails s (a ++ b) u
-  terse_later later s a t b u p q = record { same = q.same ∙ p.same; failed = later _ a _ b _ p.took q.failed }
+  terse_later later s a t b u p q = record {
+    same = q.same ∙ p.same;
+    failed = later _ a _ b _ p.took q.failed;
+  }

@@ -1,4 +1,4 @@
-// The line that answers a call.
+//! The line that answers a call.
 ghost use Rattle.std.specs.Prelude.{◌≡◌, ℕ, List, ◌++◌, Ok, Err, Some, IfOk, IfErr};
 ghost use Rattle.std.specs.Prelude.{codes, decimal, map};
 ghost use Rattle.std.specs.String.{string_bytes};

@@ -1,4 +1,4 @@
-// Why a replay ends before its input does.
+//! Why a replay ends before its input does.
 ghost use Rattle.std.specs.Prelude.{◌≡◌, Ok, Err, MatchResult};
 ghost use Rattle.tera_report.specs.Sink.{PutsThese};
 ghost use Rattle.tera_replies.specs.declared.fault.Fault.TheVariants.{ReadFailed, WriteFailed};

@@ -1,4 +1,4 @@
-// From pieces of a script to its lines, each answered once it is whole.
+//! From pieces of a script to its lines, each answered once it is whole.
 ghost use Rattle.std.specs.Prelude.{◌≡◌, ◌+◌, ◌^◌, ◌<◌, ◌≤◌, ℕ, Bool, ◌||◌, List, [], ◌∷◌, ◌++◌};
 ghost use Rattle.std.specs.Prelude.{IfOk, OnOk, IfErr, IfSome, IfNone, length};
 ghost use Rattle.tera_report.specs.Sink.{Broke, Sends};

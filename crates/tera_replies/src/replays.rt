@@ -1,4 +1,4 @@
-// From a script's bytes to the bytes of its answers.
+//! From a script's bytes to the bytes of its answers.
 ghost use Rattle.std.specs.Prelude.{◌≡◌, ◌≤◌, IfSome, IfErr, IsOk, OnOk, Some};
 ghost use Rattle.tera_report.specs.Sink.{Broke, Delivers, PutsThese, Sends};
 ghost use Rattle.tera_replies.specs.declared.fault.Fault.TheVariants.{WriteFailed};

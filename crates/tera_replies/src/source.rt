@@ -1,4 +1,4 @@
-// Where the script is read from.
+//! Where the script is read from.
 ghost use Rattle.std.specs.Prelude.{◌≡◌, ◌<◌, ◌≤◌, ℕ, Bool, List, Option, Result, None, Some};
 ghost use Rattle.std.specs.Prelude.{length, IfOk, OnErr};
 ghost use Rattle.std.specs.Io.{ReadsAtMost};

@@ -1,4 +1,4 @@
-// A sink whose fault says nothing.
+//! A sink whose fault says nothing.
 ghost use Rattle.std.specs.Prelude.{◌≡◌};
 ghost use Rattle.tera_replies.specs.Terse.{lent_sink, sink_loan, TerseTakes, TerseFails};
 ghost use Rattle.tera_replies.specs.Terse.{TerseFlushes, TerseFlushFails};

@@ -5,7 +5,8 @@ use Rattle.std.specs.String.{string_eq}
 use Rattle.std.proofs.Common.{String, Global, string_bytes, true, false, ◌==◌, ◌≡◌, ℕ, List, [], ◌∷◌, ◌++◌, flat_map, map, append-nil, ap, Bor, refl}
 use Rattle.std.proofs.lemmas.Bool.{eq-eqb}
 use Rattle.tera_report.specs.Errors.{joined}
-use Rattle.tera_report.specs.Refusal.{Refusal, message, syntax_error, rendering_error, circular_extend, circular_include, missing_parent, template_not_found, component_not_found, invalid_argument, missing_argument, out_of_range, writing_failed, not_utf8}
+use Rattle.tera_report.specs.Refusal.{Refusal, message, syntax_error, rendering_error, circular_extend, circular_include, missing_parent, template_not_found}
+use Rattle.tera_report.specs.Refusal.{component_not_found, invalid_argument, missing_argument, out_of_range, writing_failed, not_utf8}
 
 -- `==` of two texts, and of two lists of texts, is that of their bytes
 pub same_text : (s t : String Global) → string_eq s t ≡ true → string_bytes s ≡ string_bytes t

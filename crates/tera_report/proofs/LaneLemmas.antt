@@ -1,5 +1,6 @@
 -- From the mask of a block's special bytes to how many ordinary bytes it begins with.
-use Rattle.std.proofs.Common.{◌≡◌, ◌≢◌, ℕ, ◌+◌, ◌%◌, ◌^◌, ◌≤◌, Bool, true, false, ◌||◌, cond, eqb, List, length, map, replicate, bit_or, refl, sym, ap, ◌∙◌, arith, ⊎_elim}
+use Rattle.std.proofs.Common.{◌≡◌, ◌≢◌, ℕ, ◌+◌, ◌%◌, ◌^◌, ◌≤◌, Bool, true, false, ◌||◌, cond, eqb, List, length, map, replicate, bit_or, refl, sym, ap, ◌∙◌}
+use Rattle.std.proofs.Common.{arith, ⊎_elim}
 use Rattle.std.proofs.lemmas.Simd.{zip2_splat, zip2_of_maps, map-map, mask_l-mod, leading_from_mask_l, trailing_mask_l, run_in_chunk_fails}
 use Rattle.std.proofs.lemmas.List.{length-map}
 use Rattle.std.proofs.lemmas.Bool.{cases_lt}

@@ -1,6 +1,7 @@
 -- Runs of one character, lengths with a cap, and equality of reports by their parts.
 use Rattle.std.proofs.lemmas.List.{nil_from_length}
-use Rattle.std.proofs.Common.{◌≡◌, ◌⊎◌, inl, inr, ℕ, zero, suc, ◌+◌, ◌-◌, ◌^◌, ◌<◌, ◌≤◌, List, [], ◌∷◌, ◌++◌, min, length, replicate, map, codes, take, drop, get_or, slice_range, refl, sym, ap, ◌∙◌, arith, append_assoc, append-nil}
+use Rattle.std.proofs.Common.{◌≡◌, ◌⊎◌, inl, inr, ℕ, zero, suc, ◌+◌, ◌-◌, ◌^◌, ◌<◌, ◌≤◌, List, [], ◌∷◌, ◌++◌, min, length, replicate, map, codes, take, drop}
+use Rattle.std.proofs.Common.{get_or, slice_range, refl, sym, ap, ◌∙◌, arith, append_assoc, append-nil}
 use Rattle.std.proofs.lemmas.List.{drop_more, length-append, length-map, length-replicate, length-take, map-append, take-append-drop, take-replicate, take_more}
 use Rattle.std.proofs.lemmas.List.Concat.{flat_map-append}
 use Rattle.std.proofs.lemmas.List.Elements.{All-replicate}
@@ -12,7 +13,8 @@ use Rattle.std.specs.Fmt.{decimal}
 use Rattle.std.specs.List.{flat_map, join_with_byte, sum}
 use Rattle.tera_report.specs.declared.span.Span.{Span}
 use Rattle.tera_report.specs.Parts.{line_feed}
-use Rattle.tera_report.specs.Report.{Note, Report, capped, space, error_lines, frame_text, line_of, line_of_note, margin, note_text, place_text, shown_lines, shown_place, underline, width}
+use Rattle.tera_report.specs.Report.{Note, Report, capped, space, error_lines, frame_text, line_of, line_of_note, margin, note_text, place_text, shown_lines}
+use Rattle.tera_report.specs.Report.{shown_place, underline, width}
 
 -- a run of one ASCII character may be cut at any place, and its front is a run
 pub run_cut : (n k c : ℕ) → c < 128 → k ≤ n → IsCharBoundary (replicate n c) k
@@ -138,7 +140,8 @@ pub head_length : (message before file line : List ℕ) (report : Report) → me
     ≡ length (join_with_byte line_feed (error_lines report))
 head_length message before file line report m b f s =
     let place = shown_place file line report.span in
-    let parts : length ((codes "error: " ++ (message ++ (codes "\n" ++ (before ++ (codes "--> " ++ []))))) ++ place) ≡ 12 + length message + length before + length place =
+    let parts : length ((codes "error: " ++ (message ++ (codes "\n" ++ (before ++ (codes "--> " ++ []))))) ++ place) ≡ 12 + length message + length before
+    + length place =
     simp length-append (omega arith) in
     sym parts ∙ ap length (head_whole message before file line report m b f s)
 

@@ -69,31 +69,32 @@ module _ {S : Type 0} (takes : S → List ℕ → S → Type 0) (flushes : S →
     pub sends_seen : (s : S) (a : List ℕ) (t : S) → Sends takes flushes s a t → Sends gets empties (seen s) a (seen t)
     sends_seen s a t p = record { uses = p.uses; turns = turns_seen s p.uses t p.turns; whole = p.whole }
 
-module _ {W : Type 0} (contents : W → Option (List ℕ)) (wrote : W → List ℕ → Result ℕ Error → W → Type 0) (flushed : W → Result (Unit {0}) Error → W → Type 0) where
-  -- what is sent to a watched writer is appended to what its writer holds
-  pub watched_appends : (s : Watched W) (a : List ℕ) (t : Watched W)
-      → Sends (WatchedTakes contents wrote) (WatchedFlushes contents flushed) s a t → Appends (held contents s) (held contents t) a
-  watched_appends = sends_append (WatchedTakes contents wrote) (WatchedFlushes contents flushed) (held contents) (λ s a t p. p.grows) (λ s t p. p.keeps)
+module _ {W : Type 0} (contents : W → Option (List ℕ)) (wrote : W → List ℕ → Result ℕ Error → W → Type 0) (flushed : W → Result (Unit {0}) Error → W → Type 0)
+  where
+    -- what is sent to a watched writer is appended to what its writer holds
+    pub watched_appends : (s : Watched W) (a : List ℕ) (t : Watched W)
+        → Sends (WatchedTakes contents wrote) (WatchedFlushes contents flushed) s a t → Appends (held contents s) (held contents t) a
+    watched_appends = sends_append (WatchedTakes contents wrote) (WatchedFlushes contents flushed) (held contents) (λ s a t p. p.grows) (λ s t p. p.keeps)
 
-  -- it is written to that writer
-  pub watched_sends : (s : Watched W) (a : List ℕ) (t : Watched W)
-      → Sends (WatchedTakes contents wrote) (WatchedFlushes contents flushed) s a t
-      → Sends (Passes wrote) (Flushes flushed) (watched_writer s) a (watched_writer t)
-  watched_sends = sends_seen (WatchedTakes contents wrote) (WatchedFlushes contents flushed) watched_writer (Passes wrote) (Flushes flushed)
-      (λ s a t p. p.passed) (λ s t p. p.passed)
+    -- it is written to that writer
+    pub watched_sends : (s : Watched W) (a : List ℕ) (t : Watched W)
+        → Sends (WatchedTakes contents wrote) (WatchedFlushes contents flushed) s a t
+        → Sends (Passes wrote) (Flushes flushed) (watched_writer s) a (watched_writer t)
+    watched_sends = sends_seen (WatchedTakes contents wrote) (WatchedFlushes contents flushed) watched_writer (Passes wrote) (Flushes flushed)
+        (λ s a t p. p.passed) (λ s t p. p.passed)
 
-  pub watched_delivers : (s : Watched W) (a : List ℕ) (t : Watched W)
-      → Delivers (WatchedTakes contents wrote) (WatchedFlushes contents flushed) s a t
-      → Appends (held contents s) (held contents t) a
-      × Delivers (Passes wrote) (Flushes flushed) (watched_writer s) a (watched_writer t)
-  watched_delivers s a t (sent, p, q) = (
-    subst (Appends (held contents s) (held contents t)) (append-nil a)
-        (watched_appends s (a ++ []) t (sends_joined _ _ s a sent [] t p (sends_flush (WatchedTakes contents wrote) _ sent t q))),
-    (watched_writer sent, watched_sends s a sent p, q.passed),
-  )
+    pub watched_delivers : (s : Watched W) (a : List ℕ) (t : Watched W)
+        → Delivers (WatchedTakes contents wrote) (WatchedFlushes contents flushed) s a t
+        → Appends (held contents s) (held contents t) a
+        × Delivers (Passes wrote) (Flushes flushed) (watched_writer s) a (watched_writer t)
+    watched_delivers s a t (sent, p, q) = (
+      subst (Appends (held contents s) (held contents t)) (append-nil a)
+          (watched_appends s (a ++ []) t (sends_joined _ _ s a sent [] t p (sends_flush (WatchedTakes contents wrote) _ sent t q))),
+      (watched_writer sent, watched_sends s a sent p, q.passed),
+    )
 
-  pub watched_broke : (s t : Watched W)
-      → Broke (WatchedTakes contents wrote) (WatchedFails contents wrote) (WatchedFlushes contents flushed) (WatchedFlushFails contents flushed) s t
-      → Broke (Passes wrote) (Breaks wrote) (Flushes flushed) (FlushFails flushed) (watched_writer s) (watched_writer t)
-  watched_broke s t (a, sent, p, inl (text, broke)) = (a, watched_writer sent, watched_sends s a sent p, inl (text, broke.broke))
-  watched_broke s t (a, sent, p, inr (fault, flushed)) = (a, watched_writer sent, watched_sends s a sent p, inr (fault, flushed.passed))
+    pub watched_broke : (s t : Watched W)
+        → Broke (WatchedTakes contents wrote) (WatchedFails contents wrote) (WatchedFlushes contents flushed) (WatchedFlushFails contents flushed) s t
+        → Broke (Passes wrote) (Breaks wrote) (Flushes flushed) (FlushFails flushed) (watched_writer s) (watched_writer t)
+    watched_broke s t (a, sent, p, inl (text, broke)) = (a, watched_writer sent, watched_sends s a sent p, inl (text, broke.broke))
+    watched_broke s t (a, sent, p, inr (fault, flushed)) = (a, watched_writer sent, watched_sends s a sent p, inr (fault, flushed.passed))

@@ -5,7 +5,8 @@ use Rattle.std.specs.Fmt.{◌++?◌, debug_str, debug_list, HasWrittenStyled, Is
 use Rattle.std.specs.declared.fmt.Error.{Error}
 use Rattle.std.specs.declared.fmt.Formatter.{Formatter}
 use Rattle.tera_report.specs.Quoted.{IsText}
-use Rattle.tera_report.specs.Refusal.{Refusal, circular_extend, circular_include, writing_failed, message, number_out_of_range, stated, extend_words, include_words, text_of, Tells, TellsChain}
+use Rattle.tera_report.specs.Refusal.{Refusal, circular_extend, circular_include, writing_failed, message, number_out_of_range, stated, extend_words}
+use Rattle.tera_report.specs.Refusal.{include_words, text_of, Tells, TellsChain}
 use Rattle.tera_report.specs.Sink.{Puts, FormatterTakes}
 use Rattle.tera_report.proofs.PutLaws.{texts_joined, some_text}
 

@@ -1,8 +1,17 @@
 -- What an `Error` holds, and which refusal it is.
-use Rattle.std.specs.Prelude.{◌≡◌, ℕ, List, [], ◌∷◌, ◌++◌, map, Option, None, Result, Ok, Err, string_bytes, ◌⊎◌, ⊤}
+use Rattle.std.specs.Prelude.{◌≡◌, ℕ, List, [], ◌∷◌, ◌++◌, map, Option, None, Result, Ok, Err}
+use Rattle.std.specs.Prelude.{string_bytes, ◌⊎◌, ⊤}
 use Rattle.anyhow.specs.declared.error.Error.{Error as Cause}
 use Rattle.tera_report.specs.declared.errors.ErrorKind.{ErrorKind}
-use Rattle.tera_report.specs.declared.errors.ErrorKind.TheVariants.{Msg, SyntaxError, RenderingError, CircularExtend, CircularInclude, MissingParent, TemplateNotFound, ComponentNotFound, InvalidArgument, MissingArgument, OutOfRangeArgument, Io, Utf8Conversion, OutOfMemory}
+use Rattle.tera_report.specs.declared.errors.ErrorKind.TheVariants.{Msg, SyntaxError}
+use Rattle.tera_report.specs.declared.errors.ErrorKind.TheVariants.{RenderingError, CircularExtend}
+use Rattle.tera_report.specs.declared.errors.ErrorKind.TheVariants.{CircularInclude, MissingParent}
+use Rattle.tera_report.specs.declared.errors.ErrorKind.TheVariants.{TemplateNotFound}
+use Rattle.tera_report.specs.declared.errors.ErrorKind.TheVariants.{ComponentNotFound}
+use Rattle.tera_report.specs.declared.errors.ErrorKind.TheVariants.{InvalidArgument}
+use Rattle.tera_report.specs.declared.errors.ErrorKind.TheVariants.{MissingArgument}
+use Rattle.tera_report.specs.declared.errors.ErrorKind.TheVariants.{OutOfRangeArgument, Io}
+use Rattle.tera_report.specs.declared.errors.ErrorKind.TheVariants.{Utf8Conversion, OutOfMemory}
 use Rattle.tera_report.specs.declared.errors.Error.{Error}
 use Rattle.tera_report.specs.declared.report.Note.{Note as NoteHeld}
 use Rattle.tera_report.specs.declared.report.ReportError.{ReportError}

@@ -1,5 +1,6 @@
 -- Escaped text: a grammar of tokens, each with its spelling and the byte that it stands for.
-use Rattle.std.specs.Prelude.{◌≡◌, ℕ, Bool, false, ◌||◌, ◌==◌, List, [], ◌∷◌, codes, map, slice_index, ◌≤◌, ◌<◌, Option, Result, ⊤, if◌then◌else◌}
+use Rattle.std.specs.Prelude.{◌≡◌, ℕ, Bool, false, ◌||◌, ◌==◌, List, [], ◌∷◌, codes, map}
+use Rattle.std.specs.Prelude.{slice_index, ◌≤◌, ◌<◌, Option, Result, ⊤, if◌then◌else◌}
 use Rattle.std.specs.List.{flat_map, AllByRecursion}
 use Rattle.std.specs.Io.KnownBytes.{Appends}
 use Rattle.std.specs.declared.io.Error.{Error}

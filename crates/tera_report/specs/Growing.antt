@@ -1,5 +1,6 @@
 -- A text that grows, and what a call that puts bytes there does.
-use Rattle.std.specs.Prelude.{◌≡◌, ℕ, ◌+◌, ◌≤◌, ◌<◌, List, ◌++◌, length, string_bytes, string_len, string_capacity}
+use Rattle.std.specs.Prelude.{◌≡◌, ℕ, ◌+◌, ◌≤◌, ◌<◌, List, ◌++◌, length, string_bytes, string_len}
+use Rattle.std.specs.Prelude.{string_capacity}
 use Rattle.tera_report.specs.declared.growing.Growing.{Growing}
 
 -- the bytes that it holds

@@ -1,8 +1,11 @@
 -- What is written for each piece of a text: a run as it is, or an entity.
 use Rattle.std.specs.Prelude.{ℕ, List}
-use Rattle.tera_report.specs.Escaping.{spelling, ampersand, less_than, greater_than, double_quote, single_quote}
+use Rattle.tera_report.specs.Escaping.{spelling, ampersand, less_than, greater_than, double_quote}
+use Rattle.tera_report.specs.Escaping.{single_quote}
 use Rattle.tera_report.specs.declared.pieces.Piece.{Piece}
-use Rattle.tera_report.specs.declared.pieces.Piece.TheVariants.{Run, Ampersand, LessThan, GreaterThan, DoubleQuote, SingleQuote}
+use Rattle.tera_report.specs.declared.pieces.Piece.TheVariants.{Run, Ampersand, LessThan}
+use Rattle.tera_report.specs.declared.pieces.Piece.TheVariants.{GreaterThan, DoubleQuote}
+use Rattle.tera_report.specs.declared.pieces.Piece.TheVariants.{SingleQuote}
 
 abbrev pub written : Piece → List ℕ
 written (Run run) = run.now

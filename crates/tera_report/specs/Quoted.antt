@@ -1,5 +1,6 @@
 -- What stands for a text where it is quoted, and for a list of texts.
-use Rattle.std.specs.Prelude.{◌≡◌, ◌<◌, ◌++◌, ◌||◌, ◌==◌, ℕ, Bool, true, List, ◌∷◌, [], IsTrue, Option, IfSome, length, slice_index, nat_lt}
+use Rattle.std.specs.Prelude.{◌≡◌, ◌<◌, ◌++◌, ◌||◌, ◌==◌, ℕ, Bool, true, List, ◌∷◌, [], IsTrue}
+use Rattle.std.specs.Prelude.{Option, IfSome, length, slice_index, nat_lt}
 use Rattle.std.specs.Char.{is_ascii}
 use Rattle.std.specs.Fmt.{debug_escape, debug_str, debug_items, debug_list}
 use Rattle.std.specs.List.{flat_map, list_all}

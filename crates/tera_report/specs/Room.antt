@@ -1,5 +1,6 @@
 -- A text in a room of fixed size, and what a call that puts bytes there does.
-use Rattle.std.specs.Prelude.{◌≡◌, ℕ, ◌+◌, ◌≤◌, ◌<◌, List, ◌++◌, ◌↔◌, Result, IsOk, OnOk, OnErr, length, string_bytes, string_len}
+use Rattle.std.specs.Prelude.{◌≡◌, ℕ, ◌+◌, ◌≤◌, ◌<◌, List, ◌++◌, ◌↔◌, Result, IsOk, OnOk, OnErr}
+use Rattle.std.specs.Prelude.{length, string_bytes, string_len}
 use Rattle.tera_report.specs.declared.room.Room.{Room}
 
 -- the bytes that it holds

@@ -1,4 +1,4 @@
-// The error type of every call, its kinds and their texts.
+//! The error type of every call, its kinds and their texts.
 ghost use Rattle.std.specs.Prelude.{◌≡◌, ◌↔◌, IsTrue, OnOk, option_copied};
 ghost use Rattle.std.specs.Fmt.{DisplaysOnOk, DisplaysStyledOnOk};
 ghost use Rattle.tera_report.specs.Errors.{kind_of, source_of, plain_error, IsOutOfMemory};

@@ -1,4 +1,4 @@
-// From a text to HTML: five bytes become entities, every other byte stays.
+//! From a text to HTML: five bytes become entities, every other byte stays.
 ghost use Rattle.std.specs.Prelude.{◌≡◌, ℕ, List, [], IsOk, IfOk, IfErr, OnOk, OnErr, string_bytes};
 ghost use Rattle.tera_report.specs.Errors.{IsOutOfMemory};
 ghost use Rattle.tera_report.specs.Escaping.{Spells, WritesEscaped, BreaksEscaped, escaped};

@@ -1,4 +1,4 @@
-// A text that grows.
+//! A text that grows.
 ghost use Rattle.std.specs.Prelude.{◌≡◌, ◌≤◌, [], IfOk, IsOk, OnErr, string_bytes};
 ghost use Rattle.tera_report.specs.Growing.{grown_bytes, grown_len, grown_capacity, GrowingTakes};
 ghost use Rattle.tera_report.specs.Growing.{GrowingFails};

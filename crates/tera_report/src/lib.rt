@@ -1,4 +1,4 @@
-// What every refusal says, and the one safe way from a text to HTML.
+//! What every refusal says, and the one safe way from a text to HTML.
 #![tactic(auto)]
 
 mod errors;

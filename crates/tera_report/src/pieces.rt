@@ -1,4 +1,4 @@
-// A text cut into runs of ordinary bytes and special bytes, one of these at a time.
+//! A text cut into runs of ordinary bytes and special bytes, one of these at a time.
 ghost use Rattle.std.specs.Prelude.{◌≡◌, ◌++◌, ◌<◌, ◌≤◌, true, false, [], length, IfNone};
 ghost use Rattle.std.specs.Prelude.{IfSome, slice_index};
 ghost use Rattle.std.specs.List.{position_or_len};

@@ -1,4 +1,4 @@
-// An error with its place in a source, and notes on other places.
+//! An error with its place in a source, and notes on other places.
 ghost use Rattle.std.specs.Prelude.{◌≡◌, ◌↔◌, [], ◌++◌, ◌∷◌, IfOk, IfErr, OnOk, OnErr, IsTrue, map};
 ghost use Rattle.std.specs.Prelude.{codes, string_bytes};
 ghost use Rattle.tera_report.specs.Errors.{IsOutOfMemory, report_of, note_of};

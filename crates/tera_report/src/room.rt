@@ -1,4 +1,4 @@
-// A text in a room of fixed size.
+//! A text in a room of fixed size.
 ghost use Rattle.std.specs.Prelude.{◌≡◌, ◌+◌, ◌-◌, ◌≤◌, [], IfOk, IsOk, OnErr, string_bytes};
 ghost use Rattle.std.specs.Prelude.{string_len, string_capacity};
 

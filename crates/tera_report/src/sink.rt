@@ -1,5 +1,5 @@
-// Where text goes, piece by piece: a watched writer, a formatter, a room of fixed size, or a text
-// that grows.
+//! Where text goes, piece by piece: a watched writer, a formatter, a room of fixed size, or a text
+//! that grows.
 ghost use Rattle.std.specs.Prelude.{◌≡◌, ℕ, List, [], ◌++◌, ⊤, OnErr, MatchResult};
 ghost use Rattle.tera_report.specs.Growing.{GrowingTakes, GrowingFails, grown_bytes};
 ghost use Rattle.tera_report.specs.Room.{RoomTakes, RoomFails, room_bytes};
@@ -7,7 +7,8 @@ ghost use Rattle.tera_report.specs.Sink.{PutsThese, FormatterTakes};
 ghost use Rattle.tera_report.specs.inner.SinkLaws.{watched_nothing, watched_joined, watched_early};
 ghost use Rattle.tera_report.specs.inner.SinkLaws.{watched_later};
 ghost use Rattle.tera_report.specs.inner.SinkLaws.{formatter_nothing, formatter_joined};
-ghost use Rattle.tera_report.specs.inner.SinkLaws.{room_nothing, room_joined, room_early, room_later};
+ghost use Rattle.tera_report.specs.inner.SinkLaws.{room_nothing, room_joined, room_early};
+ghost use Rattle.tera_report.specs.inner.SinkLaws.{room_later};
 ghost use Rattle.tera_report.specs.inner.SinkLaws.{growing_nothing, growing_joined, growing_early};
 ghost use Rattle.tera_report.specs.inner.SinkLaws.{growing_later};
 ghost use Rattle.tera_report.specs.Watch.{WatchedTakes, WatchedFails};

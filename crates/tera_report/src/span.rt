@@ -1,4 +1,4 @@
-// Where a node stands in the source of its template.
+//! Where a node stands in the source of its template.
 ghost use Rattle.std.specs.Prelude.{◌≡◌, ◌↔◌, Some, IsTrue};
 ghost use Rattle.tera_report.specs.Span.{span_text, span_debug_text, expanded, zeros};
 ghost use Rattle.tera_report.specs.declared.span.Span.{Span};

@@ -1,4 +1,4 @@
-// A node with its place in the source.
+//! A node with its place in the source.
 ghost use Rattle.std.specs.Prelude.{◌≡◌, ◌↔◌, Some, IfOk, IfErr, IsTrue};
 ghost use Rattle.std.specs.Borrow.{sem, Lends};
 ghost use Rattle.std.specs.Fmt.{◌++?◌};

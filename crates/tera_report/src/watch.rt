@@ -1,4 +1,4 @@
-// A writer that is watched, and remembers whether a write of it failed.
+//! A writer that is watched, and remembers whether a write of it failed.
 ghost use Rattle.std.specs.Prelude.{◌≡◌, ◌||◌, ℕ, List, OnOk, false, MatchResult};
 ghost use Rattle.std.specs.Io.{WritesAtMost};
 ghost use Rattle.std.specs.Io.KnownBytes.{Keeps, Appends, WriteAppends};

@@ -1,4 +1,4 @@
-// Text put in several pieces, and how many characters it has.
+//! Text put in several pieces, and how many characters it has.
 ghost use Rattle.std.specs.Prelude.{◌≡◌, length};
 ghost use Rattle.std.specs.List.{flat_map};
 ghost use Rattle.std.specs.Str.{chars};

@@ -1,4 +1,4 @@
-// A writer of which a clause can name each write, with the bytes that it was given and its answer.
+//! A writer of which a clause can name each write, with the bytes that it was given and its answer.
 ghost use Rattle.std.specs.Prelude.{ℕ, List, Option, Result};
 ghost use Rattle.std.specs.Io.{WritesAtMost};
 ghost use Rattle.std.specs.Io.KnownBytes.{Keeps, WriteAppends};

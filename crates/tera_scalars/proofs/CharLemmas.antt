@@ -1,12 +1,14 @@
 -- Characters that come off either end of a text.
-use Rattle.std.specs.Prelude.{◌≡◌, ℕ, ◌<◌, ◌≤◌, ◌⊎◌, Bool, true, false, List, [], ◌∷◌, ◌++◌, reverse, length, get_or, take, drop, slice_get, Option, Some, None, MatchOption, refl}
+use Rattle.std.specs.Prelude.{◌≡◌, ℕ, ◌<◌, ◌≤◌, ◌⊎◌, Bool, true, false, List, [], ◌∷◌, ◌++◌, reverse, length, get_or, take, drop, slice_get, Option, Some, None}
+use Rattle.std.specs.Prelude.{MatchOption, refl}
 use Rattle.std.proofs.Common.{inl, inr, sym, ◌∙◌, ap, subst, arith, append-nil}
 use Rattle.std.proofs.Math.Seq.{take-append_seam, drop-append_seam}
 use Rattle.std.proofs.lemmas.Iterator.{YieldsList}
 use Rattle.std.proofs.lemmas.Iterator.Splits.{YieldsList-from_shown_while}
 use Rattle.std.proofs.lemmas.Iterator.Consumers.{nth_from_yields_List}
 use Rattle.std.proofs.lemmas.List.{nil_from_length, reverse-append, length-append, length-reverse}
-use Rattle.std.proofs.lemmas.Str.{chars-nil, encodes-chars, length-le-encodes, chars-append, chars_past_char, IsUtf8-past_char, IsUtf8-take, IsUtf8-drop, IsCharBoundary-at_seam}
+use Rattle.std.proofs.lemmas.Str.{chars-nil, encodes-chars, length-le-encodes, chars-append, chars_past_char, IsUtf8-past_char, IsUtf8-take, IsUtf8-drop}
+use Rattle.std.proofs.lemmas.Str.{IsCharBoundary-at_seam}
 use Rattle.std.proofs.str.Laws.{order, one, two, three, four}
 use Rattle.std.specs.Char.{encode_utf8}
 use Rattle.std.specs.Iterator.{SkipsThenYields}

@@ -1,6 +1,6 @@
+mod CharLemmas
+mod Checked
 mod LossyLemmas
-pub mod TextLemmas
+mod PlaceLemmas
 pub mod PositionLaws
-pub mod CharLemmas
-pub mod PlaceLemmas
-pub mod Checked
+mod TextLemmas

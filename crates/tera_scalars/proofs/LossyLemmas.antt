@@ -39,7 +39,8 @@ chunk_text : (bs valid invalid rest : List ℕ) → bs ≡ valid ++ (invalid ++ 
     → (0 < length invalid → length invalid ≡ (decoded (invalid ++ rest)).size)
     → utf8_lossy bs ≡ valid ++ (stand_in invalid ++ utf8_lossy rest)
 chunk_text bs valid [] rest parts text end up_to size = last_chunk bs valid [] rest parts text refl (end refl)
-chunk_text bs valid (b ∷ invalid) rest parts text end up_to size = faulty_chunk bs valid (b ∷ invalid) rest parts (omega arith) (up_to (omega arith)) (size (omega arith))
+chunk_text bs valid (b ∷ invalid) rest parts text end up_to size = faulty_chunk bs valid (b ∷ invalid) rest parts (omega arith) (up_to (omega arith))
+    (size (omega arith))
 
 -- one more chunk is put
 pub chunk_more : (bytes bs done valid invalid rest : List ℕ) → done ++ utf8_lossy bs ≡ utf8_lossy bytes

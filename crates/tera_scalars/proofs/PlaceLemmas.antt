@@ -1,5 +1,6 @@
 -- What `parse` reads is a place.
-use Rattle.std.specs.Prelude.{◌≡◌, ℕ, ◌^◌, ◌<◌, ◌==◌, ◌&&◌, nat_lt, nat_le, Bool, true, false, if◌then◌else◌, cond, List, [], ◌∷◌, length, drop, Some, None, Result, Ok, Err, refl}
+use Rattle.std.specs.Prelude.{◌≡◌, ℕ, ◌^◌, ◌<◌, ◌==◌, ◌&&◌, nat_lt, nat_le, Bool, true, false, if◌then◌else◌, cond, List, [], ◌∷◌, length, drop, Some, None}
+use Rattle.std.specs.Prelude.{Result, Ok, Err, refl}
 use Rattle.std.proofs.Common.{sym, ◌∙◌, ap, subst, arith}
 use Rattle.std.proofs.lemmas.Bool.{lt-ltb, ltb-true, leb-true, le-leb, and_parts}
 use Rattle.std.proofs.lemmas.Str.{digit_value_digit}
@@ -54,7 +55,8 @@ is_place ds numeral small =
 no_place : (ds : List ℕ) → ¬ (IsNumeral 10 ds × (digits_value 10 ds < 2 ^ 64)) → place_of_digits ds ≡ None
 no_place ds none = by (is_nonempty ds && (all_ascii_digits ds && nat_lt (digits_value 10 ds) (2 ^ 64))) refl
   where
-    by : (b : Bool) → (is_nonempty ds && (all_ascii_digits ds && nat_lt (digits_value 10 ds) (2 ^ 64))) ≡ b → (if b then Some (digits_value 10 ds) else None) ≡ None
+    by : (b : Bool) → (is_nonempty ds && (all_ascii_digits ds && nat_lt (digits_value 10 ds) (2 ^ 64))) ≡ b → (if b then Some (digits_value 10 ds) else None)
+        ≡ None
     by false e = refl
     by true e =
         let one = and_parts _ _ e in

@@ -1,11 +1,15 @@
 -- The operators of the code, and why two numbers have no result.
 use Rattle.std.specs.Prelude.{ℤ, Result}
 use Rattle.std.specs.Result.{result_map_both}
-use Rattle.tera_report.specs.Refusal.{Refusal, Operator, plus, minus, times, remainder, floor_division, power, divided_by_zero, exponent_outside_u32, not_exact}
+use Rattle.tera_report.specs.Refusal.{Refusal, Operator, plus, minus, times, remainder}
+use Rattle.tera_report.specs.Refusal.{floor_division, power, divided_by_zero, exponent_outside_u32}
+use Rattle.tera_report.specs.Refusal.{not_exact}
 use Rattle.tera_scalars.specs.declared.operation.BinaryOp.{BinaryOp}
-use Rattle.tera_scalars.specs.declared.operation.BinaryOp.TheVariants.{Add, Sub, Mul, Rem, FloorDiv, Pow}
+use Rattle.tera_scalars.specs.declared.operation.BinaryOp.TheVariants.{Add, Sub, Mul, Rem, FloorDiv}
+use Rattle.tera_scalars.specs.declared.operation.BinaryOp.TheVariants.{Pow}
 use Rattle.tera_scalars.specs.declared.operation.NoResult.{NoResult}
-use Rattle.tera_scalars.specs.declared.operation.NoResult.TheVariants.{DividedByZero, ExponentOutsideU32, NotExact}
+use Rattle.tera_scalars.specs.declared.operation.NoResult.TheVariants.{DividedByZero}
+use Rattle.tera_scalars.specs.declared.operation.NoResult.TheVariants.{ExponentOutsideU32, NotExact}
 
 abbrev pub operator_of : BinaryOp → Operator
 operator_of Add = plus

@@ -1,5 +1,6 @@
 //! Texts, bytes and numbers by themselves: how they are put and compared, how a text is cut and
-//! turned round, and exact arithmetic with the errors of what it refuses. Nothing here knows a value.
+//! turned round, and exact arithmetic with the errors of what it refuses. Nothing here knows a
+//! value.
 #![tactic(auto)]
 
 mod element;

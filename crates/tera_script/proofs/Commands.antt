@@ -23,9 +23,11 @@ use Rattle.tera_script.specs.declared.verb.Keeping.TheVariants as kept
 use Rattle.tera_script.specs.Verb.{of_one, of_two, word_of}
 use Rattle.tera_script.specs.Word.{is_name_byte, IsName}
 use Rattle.tera_script.specs.Line.{AreNamed, SpellsOperand, SpellsValue, SpellsInto, SpellsFound, SpellsOperands}
-use Rattle.tera_script.specs.Readers.{Stops, name_at, operand_at, two_in, one_in, into_in, is_word_byte, BeginsWithFound, IsFoundAt, IsVerbOf, Before, EndsInValue, IsValueAt, IsSourceOf, EndsInOperands, AreOperandsOf, EndsInCommand, IsCommandAt}
+use Rattle.tera_script.specs.Readers.{Stops, name_at, operand_at, two_in, one_in, into_in, is_word_byte, BeginsWithFound, IsFoundAt, IsVerbOf, Before}
+use Rattle.tera_script.specs.Readers.{EndsInValue, IsValueAt, IsSourceOf, EndsInOperands, AreOperandsOf, EndsInCommand, IsCommandAt}
 use Rattle.tera_script.proofs.Names.{name_found, name_only, operand_found, operand_only}
-use Rattle.tera_script.proofs.Operands.{HasOne, one_found, one_only, HasTwo, two_found, two_only, HasInto, into_found, into_only, into_ends_word, value_ends_name, operand_ends_name}
+use Rattle.tera_script.proofs.Operands.{HasOne, one_found, one_only, HasTwo, two_found, two_only, HasInto, into_found, into_only, into_ends_word}
+use Rattle.tera_script.proofs.Operands.{value_ends_name, operand_ends_name}
 use Rattle.tera_script.proofs.Sources.{one_state}
 use Rattle.tera_script.proofs.Values.{one_value_at}
 use Rattle.tera_script.proofs.Found.{found_same, ends_found}
@@ -164,7 +166,8 @@ set_parts bytes command h =
     let second = h.spells.2.1 in
     record {
       behind = second ++ h.after;
-      named = rw (h.spelled, h.spells.2.4, append_assoc first second h.after) (operand_only first h.spells.0 (second ++ h.after) h.spells.2.2 (value_ends_name second h.after h.spells.1 h.spells.2.3));
+      named = rw (h.spelled, h.spells.2.4, append_assoc first second h.after)
+          (operand_only first h.spells.0 (second ++ h.after) h.spells.2.2 (value_ends_name second h.after h.spells.1 h.spells.2.3));
       held = record { part = second; after = h.after; spells = h.spells.2.3; blanks = h.blanks; spelled = refl };
     }
 
@@ -297,7 +300,8 @@ command_parts bytes command h =
     record {
       verb = verb;
       rest = operands ++ h.after;
-      named = rw (h.spelled, h.spells.3, append_assoc word operands h.after) (name_only word (operands ++ h.after) (word_is_name verb) (operands_end_name verb command operands h.after h.spells.2));
+      named = rw (h.spelled, h.spells.3, append_assoc word operands h.after)
+          (name_only word (operands ++ h.after) (word_is_name verb) (operands_end_name verb command operands h.after h.spells.2));
       operands = record { part = operands; after = h.after; spells = h.spells.2; blanks = h.blanks; spelled = refl };
     }
 

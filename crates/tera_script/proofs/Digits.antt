@@ -1,5 +1,6 @@
 -- The loop over the digits of a number.
-use Rattle.std.proofs.Common.{◌≡◌, ◌≢◌, ◌+◌, ◌*◌, ◌^◌, ◌<◌, ◌≤◌, ℕ, true, false, cond, ◌&&◌, ltb, List, [], ◌∷◌, length, Option, Some, None, refl, ap, sym, ◌∙◌, arith, length-append}
+use Rattle.std.proofs.Common.{◌≡◌, ◌≢◌, ◌+◌, ◌*◌, ◌^◌, ◌<◌, ◌≤◌, ℕ, true, false, cond, ◌&&◌, ltb, List, [], ◌∷◌, length, Option, Some, None, refl, ap, sym, ◌∙◌}
+use Rattle.std.proofs.Common.{arith, length-append}
 use Rattle.std.specs.Char.{digit_value, is_ascii_digit}
 use Rattle.std.specs.Str.Parse.{digits_value, digits_value_after}
 use Rattle.std.proofs.lemmas.Bool.Decides.{nat_tests}
@@ -21,10 +22,12 @@ too_large : (bytes : List ℕ) → 2 ^ 128 ≤ digits_value 10 (front is_ascii_d
 unfolding digits_at
 too_large bytes h =
     let fails : ltb (digits_value 10 (front is_ascii_digit bytes)) (2 ^ 128) ≡ false = grind (arith, nat_tests, h) in
-    rw fails (elim (ltb 0 (length (front is_ascii_digit bytes))) as (λ b. cond {A = Option (ℕ × List ℕ)} (b && false) (Some (digits_value 10 (front is_ascii_digit bytes), past is_ascii_digit bytes)) None ≡ None) [ true ↦ refl | false ↦ refl ])
+    rw fails (elim (ltb 0 (length (front is_ascii_digit bytes))) as (λ b. cond {A = Option (ℕ × List ℕ)} (b && false)
+    (Some (digits_value 10 (front is_ascii_digit bytes), past is_ascii_digit bytes)) None ≡ None) [ true ↦ refl | false ↦ refl ])
 
 -- one more digit
-pub so_far_more : (bytes rest others : List ℕ) (m b : ℕ) → IsSoFar bytes m rest → BeginsWithDigit rest b others → m * 10 + digit_value b < 2 ^ 128 → IsSoFar bytes (m * 10 + digit_value b) others
+pub so_far_more : (bytes rest others : List ℕ) (m b : ℕ) → IsSoFar bytes m rest → BeginsWithDigit rest b others → m * 10 + digit_value b < 2 ^ 128
+    → IsSoFar bytes (m * 10 + digit_value b) others
 so_far_more bytes rest others m b s h fits' =
     let e = h.1 in
     let digit = h.0 in
@@ -35,15 +38,24 @@ so_far_more bytes rest others m b s h fits' =
     }
 
 -- a digit that does not fit ends the reading
-pub overflows : (bytes rest others : List ℕ) (m b : ℕ) → IsSoFar bytes m rest → BeginsWithDigit rest b others → ¬ (m * 10 + digit_value b < 2 ^ 128) → digits_at bytes ≡ None
+pub overflows : (bytes rest others : List ℕ) (m b : ℕ) → IsSoFar bytes m rest → BeginsWithDigit rest b others → ¬ (m * 10 + digit_value b < 2 ^ 128)
+    → digits_at bytes ≡ None
 overflows bytes rest others m b s h large =
     let e = h.1 in
     let digit = h.0 in
-    let number : digits_value_after 10 (m * 10 + digit_value b) (front is_ascii_digit others) ≡ digits_value 10 (front is_ascii_digit bytes) = rw (e, digit) at s.number in
+    let number : digits_value_after 10 (m * 10 + digit_value b) (front is_ascii_digit others) ≡ digits_value 10 (front is_ascii_digit bytes) =
+    rw (e, digit) at s.number in
     too_large bytes (omega (arith, value_ge (m * 10 + digit_value b) (front is_ascii_digit others), number, large))
 
-front_length : (bytes rest : List ℕ) (m : ℕ) → IsSoFar bytes m rest → Stops is_ascii_digit rest → length (front is_ascii_digit bytes) + length rest ≡ length bytes
-front_length bytes rest m s stops = omega (arith, ap length (front-past is_ascii_digit bytes), length-append (front is_ascii_digit bytes) (past is_ascii_digit bytes), ap length (sym (past_at_stop is_ascii_digit rest stops) ∙ s.behind))
+front_length : (bytes rest : List ℕ) (m : ℕ) → IsSoFar bytes m rest → Stops is_ascii_digit rest → length (front is_ascii_digit bytes) + length rest
+    ≡ length bytes
+front_length bytes rest m s stops = omega (
+  arith,
+  ap length (front-past is_ascii_digit bytes),
+  length-append (front is_ascii_digit bytes)
+      (past is_ascii_digit bytes),
+  ap length (sym (past_at_stop is_ascii_digit rest stops) ∙ s.behind),
+)
 
 pub no_digits : (bytes rest : List ℕ) (m : ℕ) → IsSoFar bytes m rest → Stops is_ascii_digit rest → length rest ≡ length bytes → digits_at bytes ≡ None
 unfolding digits_at
@@ -51,7 +63,8 @@ no_digits bytes rest m s stops same =
     let none : ltb 0 (length (front is_ascii_digit bytes)) ≡ false = grind (arith, nat_tests, front_length bytes rest m s stops) in
     rw none
 
-pub all_digits : (bytes rest : List ℕ) (m : ℕ) → IsSoFar bytes m rest → Stops is_ascii_digit rest → length rest ≢ length bytes → digits_at bytes ≡ Some (m, rest)
+pub all_digits : (bytes rest : List ℕ) (m : ℕ) → IsSoFar bytes m rest → Stops is_ascii_digit rest → length rest ≢ length bytes → digits_at bytes
+    ≡ Some (m, rest)
 unfolding digits_at
 all_digits bytes rest m s stops apart =
     let some : ltb 0 (length (front is_ascii_digit bytes)) ≡ true = grind (arith, nat_tests, front_length bytes rest m s stops) in

@@ -18,7 +18,8 @@ use Rattle.tera_script.specs.Text.{SpellsText}
 use Rattle.tera_script.specs.Verb.{of_keeping, of_names, of_part}
 use Rattle.tera_script.specs.Word.{is_name_byte, IsName}
 use Rattle.tera_script.specs.Line.{SpellsQuoted, SpellsTwo}
-use Rattle.tera_script.specs.Readers.{Stops, gap_at, operand_at, names_at, bounds_at, is_word_byte, BeginsWithLiteral, BeginsWithQuoted, IsTextAt, IsQuotedAt, BeginsWithFound, EndsFound, IsFoundAt, IsTypeOf}
+use Rattle.tera_script.specs.Readers.{Stops, gap_at, operand_at, names_at, bounds_at, is_word_byte, BeginsWithLiteral, BeginsWithQuoted, IsTextAt, IsQuotedAt}
+use Rattle.tera_script.specs.Readers.{BeginsWithFound, EndsFound, IsFoundAt, IsTypeOf}
 use Rattle.tera_script.proofs.Names.{gap_found, gap_only, operand_found, operand_only}
 use Rattle.tera_script.proofs.Fronts.{tail}
 use Rattle.tera_script.proofs.Literals.{only_at}
@@ -47,7 +48,8 @@ quoted_same bytes t rest u other h g =
 
 -- the text in quotes behind a gap
 quoted_at : (bytes t rest : List ℕ) (h : BeginsWithQuoted bytes t rest) → gap_at bytes ≡ Some (h.spells.1 ++ rest)
-quoted_at bytes t rest h = rw (h.spelled, h.spells.4, append_assoc h.spells.0 h.spells.1 rest) (gap_only h.spells.0 (h.spells.1 ++ rest) h.spells.2 (literal_stops_blanks h.spells.1 rest (spelled_text t) h.spells.3))
+quoted_at bytes t rest h = rw (h.spelled, h.spells.4, append_assoc h.spells.0 h.spells.1 rest)
+    (gap_only h.spells.0 (h.spells.1 ++ rest) h.spells.2 (literal_stops_blanks h.spells.1 rest (spelled_text t) h.spells.3))
 
 pub text_none_gap : (bytes : List ℕ) → gap_at bytes ≡ None → IsTextAt bytes None
 text_none_gap bytes e = λ utf8 t rest h. let found = quoted_at bytes t rest h in cc
@@ -66,7 +68,8 @@ module _ (bytes literal : List ℕ) (g : gap_at bytes ≡ Some literal) where
     text_none none = λ utf8 t rest h.
         let gap = gap_found bytes literal g in
         let behind : quoted ≡ h.spells.3.0 ++ 34 ∷ rest = ap tail (sym q ∙ literal_is t rest h) in
-        let whole : IsUtf8 (34 ∷ (h.spells.3.0 ++ 34 ∷ rest)) = subst IsUtf8 (literal_is t rest h) (utf8_past_blanks gap.gap literal gap.blanks.1 (subst IsUtf8 gap.spelled utf8)) in
+        let whole : IsUtf8 (34 ∷ (h.spells.3.0 ++ 34 ∷ rest)) = subst IsUtf8 (literal_is t rest h)
+        (utf8_past_blanks gap.gap literal gap.blanks.1 (subst IsUtf8 gap.spelled utf8)) in
         none t h.spells.3.0 rest (quoted_utf8 false h.spells.3.0 rest whole) h.spells.3.1 behind
 
     pub text_found : (t rest : List ℕ) → IsQuotedAt false quoted (Some (spelled_text t, rest)) → IsTextAt bytes (Some (t, rest))
@@ -76,7 +79,8 @@ module _ (bytes literal : List ℕ) (g : gap_at bytes ≡ Some literal) where
         record {
           part = gap.gap ++ (34 ∷ (found.0 ++ 34 ∷ []));
           spells = (gap.gap, 34 ∷ (found.0 ++ 34 ∷ []), gap.blanks, (found.0, subst (SpellsText found.0) (sym texts) found.2, refl), refl);
-          spelled = gap.spelled ∙ ap (λ xs. gap.gap ++ xs) (q ∙ ap (λ xs. 34 ∷ xs) (found.4 ∙ sym (append_assoc found.0 (34 ∷ []) rest))) ∙ sym (append_assoc gap.gap (34 ∷ (found.0 ++ 34 ∷ [])) rest);
+          spelled = gap.spelled ∙ ap (λ xs. gap.gap ++ xs) (q ∙ ap (λ xs. 34 ∷ xs) (found.4 ∙ sym (append_assoc found.0 (34 ∷ []) rest)))
+              ∙ sym (append_assoc gap.gap (34 ∷ (found.0 ++ 34 ∷ [])) rest);
         }
 
 -- a name
@@ -134,7 +138,8 @@ module _ (o : KeepingPart) (bytes : List ℕ) where
   part_at : (request : Request) (rest : List ℕ) (h : BeginsWithFound (kept.Part o) bytes request rest)
       → operand_at bytes ≡ Some (h.spells.0, h.spells.3 ++ rest)
   part_at request rest h =
-      rw (h.spelled, h.spells.6, append_assoc h.spells.2 h.spells.3 rest) (operand_only h.spells.2 h.spells.0 (h.spells.3 ++ rest) h.spells.4 (quoted_ends_name h.spells.3 h.spells.1 rest h.spells.5))
+      rw (h.spelled, h.spells.6, append_assoc h.spells.2 h.spells.3 rest) (operand_only h.spells.2 h.spells.0 (h.spells.3 ++ rest) h.spells.4
+      (quoted_ends_name h.spells.3 h.spells.1 rest h.spells.5))
 
   pub part_none_name : operand_at bytes ≡ None → IsFoundAt (kept.Part o) bytes None
   part_none_name e = λ utf8 request rest h s. let found = part_at request rest h in cc
@@ -147,7 +152,8 @@ module _ (o : KeepingPart) (bytes : List ℕ) where
         (same.0, record { part = h.spells.3; spells = h.spells.5; spelled = same.1 })
 
     behind_utf8 : IsUtf8 bytes → IsUtf8 behind
-    behind_utf8 u = let operand = operand_found bytes name behind n in utf8_past_operand operand.operand name behind operand.spells (subst IsUtf8 operand.spelled u)
+    behind_utf8 u = let operand = operand_found bytes name behind n in
+        utf8_past_operand operand.operand name behind operand.spells (subst IsUtf8 operand.spelled u)
 
     pub part_none_text : IsTextAt behind None → IsFoundAt (kept.Part o) bytes None
     part_none_text nothing = λ utf8 request rest h s. nothing (behind_utf8 utf8) h.spells.1 rest (part_has request rest h).1
@@ -181,7 +187,9 @@ module _ (bytes : List ℕ) where
       → operand_at bytes ≡ Some (h.spells.0, h.spells.3 ++ rest)
   slice_at request rest h =
       let bounds = h.spells.5 in
-      let ends : Stops is_name_byte (h.spells.3 ++ rest) = stops_name (h.spells.3 ++ rest) (subst (Stops is_word_byte) (sym (ap (λ xs. xs ++ rest) bounds.6 ∙ append_assoc bounds.0 (bounds.1 ++ bounds.2) rest)) (bound_ends_word bounds.0 h.spells.1.start ((bounds.1 ++ bounds.2) ++ rest) bounds.3)) in
+      let ends : Stops is_name_byte (h.spells.3 ++ rest) = stops_name (h.spells.3 ++ rest)
+      (subst (Stops is_word_byte) (sym (ap (λ xs. xs ++ rest) bounds.6 ∙ append_assoc bounds.0 (bounds.1 ++ bounds.2) rest))
+      (bound_ends_word bounds.0 h.spells.1.start ((bounds.1 ++ bounds.2) ++ rest) bounds.3)) in
       rw (h.spelled, h.spells.6, append_assoc h.spells.2 h.spells.3 rest) (operand_only h.spells.2 h.spells.0 (h.spells.3 ++ rest) h.spells.4 ends)
 
   pub slice_none_name : operand_at bytes ≡ None → IsFoundAt kept.Slice bytes None

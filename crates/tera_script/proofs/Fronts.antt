@@ -1,5 +1,6 @@
 -- The bytes at the front that pass a test, and those behind them.
-use Rattle.std.proofs.Common.{◌≡◌, ◌-◌, ◌≤◌, ℕ, Bool, true, false, cond, ◌&&◌, List, [], ◌∷◌, ◌++◌, length, take, drop, refl, ap, sym, ◌∙◌, arith, append_assoc, length-append, subst}
+use Rattle.std.proofs.Common.{◌≡◌, ◌-◌, ◌≤◌, ℕ, Bool, true, false, cond, ◌&&◌, List, [], ◌∷◌, ◌++◌, length, take, drop, refl, ap, sym, ◌∙◌, arith, append_assoc}
+use Rattle.std.proofs.Common.{length-append, subst}
 use Rattle.std.proofs.lemmas.List.{take_at, drop_at}
 use Rattle.std.specs.List.{list_all}
 use Rattle.std.proofs.lemmas.Bool.Decides.{nat_tests}
@@ -15,7 +16,8 @@ tail [] = []
 tail (b ∷ xs) = xs
 
 module _ (p : ℕ → Bool) where
-  front_step : (b : ℕ) (xs : List ℕ) (t : Bool) → p b ≡ t → front p xs ++ past p xs ≡ xs → cond (p b) (b ∷ front p xs) [] ++ cond (p b) (past p xs) (b ∷ xs) ≡ b ∷ xs
+  front_step : (b : ℕ) (xs : List ℕ) (t : Bool) → p b ≡ t → front p xs ++ past p xs ≡ xs → cond (p b) (b ∷ front p xs) [] ++ cond (p b) (past p xs) (b ∷ xs) ≡ b
+      ∷ xs
   front_step b xs true e h = rw e (ap (λ ys. b ∷ ys) h)
   front_step b xs false e h = rw e
 
@@ -73,10 +75,12 @@ module _ (p : ℕ → Bool) where
   cut_length front' xs bytes e = omega (arith, ap length (cut_at front' xs bytes e), length-append (front' ++ front p xs) (past p xs))
 
   pub take_to_past : (front' xs bytes : List ℕ) → bytes ≡ front' ++ xs → take (length bytes - length (past p xs)) bytes ≡ front' ++ front p xs
-  take_to_past front' xs bytes e = ap (take (length bytes - length (past p xs))) (cut_at front' xs bytes e) ∙ take_at (front' ++ front p xs) (past p xs) (length bytes - length (past p xs)) (cut_length front' xs bytes e)
+  take_to_past front' xs bytes e = ap (take (length bytes - length (past p xs))) (cut_at front' xs bytes e) ∙ take_at (front' ++ front p xs) (past p xs)
+      (length bytes - length (past p xs)) (cut_length front' xs bytes e)
 
   pub drop_to_past : (front' xs bytes : List ℕ) → bytes ≡ front' ++ xs → drop (length bytes - length (past p xs)) bytes ≡ past p xs
-  drop_to_past front' xs bytes e = ap (drop (length bytes - length (past p xs))) (cut_at front' xs bytes e) ∙ drop_at (front' ++ front p xs) (past p xs) (length bytes - length (past p xs)) (cut_length front' xs bytes e)
+  drop_to_past front' xs bytes e = ap (drop (length bytes - length (past p xs))) (cut_at front' xs bytes e) ∙ drop_at (front' ++ front p xs) (past p xs)
+      (length bytes - length (past p xs)) (cut_length front' xs bytes e)
 
   pub front_cut : (xs ys : List ℕ) → past p xs ≡ ys → xs ≡ front p xs ++ ys
   front_cut xs ys h = sym (front-past xs) ∙ ap (λ zs. front p xs ++ zs) h

@@ -1,5 +1,6 @@
 -- Numbers: what the reader gives is spelled so, and what is spelled so is read.
-use Rattle.std.proofs.Common.{◌≡◌, ◌<◌, ◌^◌, ℕ, zero, suc, ℤ, pos, negsuc, Bool, true, false, ◌&&◌, eqb, ltb, List, [], ◌∷◌, ◌++◌, length, Option, Some, None, refl, ap, sym, ◌∙◌, ◌⊎◌, inl, inr, arith, append_assoc}
+use Rattle.std.proofs.Common.{◌≡◌, ◌<◌, ◌^◌, ℕ, zero, suc, ℤ, pos, negsuc, Bool, true, false, ◌&&◌, eqb, ltb, List, [], ◌∷◌, ◌++◌, length, Option, Some, None}
+use Rattle.std.proofs.Common.{refl, ap, sym, ◌∙◌, ◌⊎◌, inl, inr, arith, append_assoc}
 use Rattle.std.specs.Char.{is_ascii_digit, digit_value}
 use Rattle.std.specs.List.{list_all}
 use Rattle.std.specs.Str.{bytes_eq}
@@ -76,7 +77,8 @@ digit_test b h = let r = digit_from_value b h in grind (arith, nat_tests)
 
 pub digits_found : (bytes : List ℕ) → list_all is_ascii_digit bytes ≡ true → AllDigits 10 bytes
 digits_found [] e = tt
-digits_found (b ∷ bytes) e = let h = both_pass is_ascii_digit (is_ascii_digit b) (list_all is_ascii_digit bytes) e in (digit_range b h.0, digits_found bytes h.1)
+digits_found (b ∷ bytes) e = let h = both_pass is_ascii_digit (is_ascii_digit b) (list_all is_ascii_digit bytes) e in
+    (digit_range b h.0, digits_found bytes h.1)
 
 pub digits_only : (bytes : List ℕ) → AllDigits 10 bytes → list_all is_ascii_digit bytes ≡ true
 digits_only [] h = refl
@@ -97,7 +99,8 @@ suffix_only (Some i64) = refl
 suffix_only (Some u128) = refl
 suffix_only (Some i128) = refl
 
-named_found : (word : List ℕ) (kind : IntegerKind) (otherwise : Option (Option IntegerKind)) (suffix : Option IntegerKind) → if_named word kind otherwise ≡ Some suffix → (word ≡ suffix_of suffix) ⊎ (otherwise ≡ Some suffix)
+named_found : (word : List ℕ) (kind : IntegerKind) (otherwise : Option (Option IntegerKind)) (suffix : Option IntegerKind) → if_named word kind otherwise
+    ≡ Some suffix → (word ≡ suffix_of suffix) ⊎ (otherwise ≡ Some suffix)
 named_found word kind otherwise suffix e = elim (chosen (bytes_eq word (integer_kind_name kind)) (Some (Some kind)) otherwise (Some suffix) e) [
   | inl h ↦ inl ((bytes_eq-Decides word (integer_kind_name kind)).0 h.0 ∙ ap suffix_of (same_Some (Some kind) suffix h.1))
   | inr h ↦ inr h.1
@@ -123,9 +126,11 @@ suffix_found (b ∷ word) suffix e =
     ]
 
 -- a kind that holds the number, or one that does not and what is given instead
-kind_found : (kind : IntegerKind) (z : ℤ) (otherwise : Option Integer) (n : Integer) → in_kind kind z otherwise ≡ Some n → ((n.kind ≡ kind) × (n.value ≡ z) × IsOfKind kind z) ⊎ ((¬ IsOfKind kind z) × (otherwise ≡ Some n))
+kind_found : (kind : IntegerKind) (z : ℤ) (otherwise : Option Integer) (n : Integer) → in_kind kind z otherwise ≡ Some n
+    → ((n.kind ≡ kind) × (n.value ≡ z) × IsOfKind kind z) ⊎ ((¬ IsOfKind kind z) × (otherwise ≡ Some n))
 kind_found kind z otherwise n e = elim (chosen (is_of_kind kind z) (Some (record { kind = kind; value = z })) otherwise (Some n) e) [
-  | inl h ↦ let same = same_Some (record { kind = kind; value = z }) n h.1 in inl (ap (λ (i : Integer). i.kind) (sym same), ap (λ (i : Integer). i.value) (sym same), of_kind_found kind z h.0)
+  | inl h ↦ let same = same_Some (record { kind = kind; value = z }) n h.1 in
+      inl (ap (λ (i : Integer). i.kind) (sym same), ap (λ (i : Integer). i.value) (sym same), of_kind_found kind z h.0)
   | inr h ↦ inr (of_kind_refuted kind z h.0, h.1)
 ]
 
@@ -150,14 +155,16 @@ first_found z n e = elim (kind_found i64 z (in_kind u64 z (in_kind i128 z (in_ki
   ]
 ]
 
-first_only : (kind : IntegerKind) (z : ℤ) → IsFirstKind kind z → in_kind i64 z (in_kind u64 z (in_kind i128 z (in_kind u128 z None))) ≡ Some (record { kind = kind; value = z })
+first_only : (kind : IntegerKind) (z : ℤ) → IsFirstKind kind z → in_kind i64 z (in_kind u64 z (in_kind i128 z (in_kind u128 z None)))
+    ≡ Some (record { kind = kind; value = z })
 first_only i64 z h = kind_only i64 z _ h
 first_only u64 z h = kind_skips i64 z _ h.0 ∙ kind_only u64 z _ h.1
 first_only i128 z h = kind_skips i64 z _ h.0 ∙ kind_skips u64 z _ h.1 ∙ kind_only i128 z _ h.2
 first_only u128 z h = kind_skips i64 z _ h.0 ∙ kind_skips u64 z _ h.1 ∙ kind_skips i128 z _ h.2 ∙ kind_only u128 z _ h.3
 
 -- the value and the kind of a number with this sign, these digits and this suffix
-pub integer_found : (minus : Bool) (m : ℕ) (suffix : Option IntegerKind) (n : Integer) → integer_of minus m suffix ≡ Some n → (n.value ≡ signed minus m) × IsKindFor minus suffix n
+pub integer_found : (minus : Bool) (m : ℕ) (suffix : Option IntegerKind) (n : Integer) → integer_of minus m suffix ≡ Some n → (n.value ≡ signed minus m)
+    × IsKindFor minus suffix n
 unfolding integer_of
 integer_found minus m None n e = let h = first_found (signed minus m) n e in (h.0, rw (h.0) (h.1))
 integer_found minus m (Some kind) n e = elim (chosen (is_sign_for minus kind) (in_kind kind (signed minus m) None) None (Some n) e) [
@@ -168,10 +175,12 @@ integer_found minus m (Some kind) n e = elim (chosen (is_sign_for minus kind) (i
   | inr s ↦ cc
 ]
 
-pub integer_only : (minus : Bool) (m : ℕ) (suffix : Option IntegerKind) (n : Integer) → n.value ≡ signed minus m → IsKindFor minus suffix n → integer_of minus m suffix ≡ Some n
+pub integer_only : (minus : Bool) (m : ℕ) (suffix : Option IntegerKind) (n : Integer) → n.value ≡ signed minus m → IsKindFor minus suffix n
+    → integer_of minus m suffix ≡ Some n
 unfolding integer_of
 integer_only minus m None n v h = rw (← v) (first_only n.kind n.value h)
-integer_only minus m (Some kind) n v h = rw (sign_only minus kind h.0, ← v) (kind_only kind n.value None h.2 ∙ ap (λ k. Some (record { kind = k; value = n.value })) (sym h.1))
+integer_only minus m (Some kind) n v h = rw (sign_only minus kind h.0, ← v)
+    (kind_only kind n.value None h.2 ∙ ap (λ k. Some (record { kind = k; value = n.value })) (sym h.1))
 
 -- a kind that some sign and digits have holds what 128 bits hold
 first_is_wide : (kind : IntegerKind) (z : ℤ) → IsFirstKind kind z → IsOfKind kind z
@@ -230,7 +239,8 @@ digits_at_found bytes m rest e =
       | inr h ↦ cc
     ]
 
-pub digits_at_only : (digits rest : List ℕ) → IsNumeral 10 digits → digits_value 10 digits < 2 ^ 128 → Stops is_ascii_digit rest → digits_at (digits ++ rest) ≡ Some (digits_value 10 digits, rest)
+pub digits_at_only : (digits rest : List ℕ) → IsNumeral 10 digits → digits_value 10 digits < 2 ^ 128 → Stops is_ascii_digit rest → digits_at (digits ++ rest)
+    ≡ Some (digits_value 10 digits, rest)
 unfolding digits_at
 digits_at_only digits rest n small s =
     let all = digits_only digits n.1 in
@@ -241,7 +251,8 @@ digits_at_only digits rest n small s =
 -- whole numbers
 pub unsigned_found : (minus : Bool) (bytes : List ℕ) (n : Integer) → unsigned_in minus bytes ≡ Some n → SpellsNumber (sign_of minus ++ bytes) n
 unfolding unsigned_in
-unsigned_found minus bytes n e = option_and_then_some (λ (ds : ℕ × List ℕ). option_and_then (λ suffix. integer_of minus ds.0 suffix) (suffix_in ds.1)) (digits_at bytes) n e (λ ds d e'.
+unsigned_found minus bytes n e = option_and_then_some (λ (ds : ℕ × List ℕ). option_and_then (λ suffix. integer_of minus ds.0 suffix) (suffix_in ds.1))
+    (digits_at bytes) n e (λ ds d e'.
     option_and_then_some (λ suffix. integer_of minus ds.0 suffix) (suffix_in ds.1) n e' (λ suffix s i.
     let digits = digits_at_found bytes ds.0 ds.1 d in
     let word = suffix_found ds.1 suffix s in
@@ -251,7 +262,8 @@ unsigned_found minus bytes n e = option_and_then_some (λ (ds : ℕ × List ℕ)
       digits = digits.digits;
       suffix = suffix;
       numeral = digits.numeral;
-      spelled = ap (λ xs. sign_of minus ++ xs) (digits.spelled ∙ ap (λ xs. digits.digits ++ xs) word) ∙ sym (append_assoc (sign_of minus) digits.digits (suffix_of suffix));
+      spelled = ap (λ xs. sign_of minus ++ xs) (digits.spelled ∙ ap (λ xs. digits.digits ++ xs) word)
+          ∙ sym (append_assoc (sign_of minus) digits.digits (suffix_of suffix));
       value = integer.0 ∙ ap (signed minus) digits.value;
       kind = integer.1;
     }))
@@ -264,11 +276,13 @@ number_found (b ∷ bytes) n e = elim (chosen (eqb b 45) (unsigned_in true bytes
   | inr h ↦ unsigned_found false (b ∷ bytes) n h.1
 ]
 
-unsigned_only : (minus : Bool) (digits : List ℕ) (suffix : Option IntegerKind) (n : Integer) → IsNumeral 10 digits → n.value ≡ signed minus (digits_value 10 digits) → IsKindFor minus suffix n → unsigned_in minus (digits ++ suffix_of suffix) ≡ Some n
+unsigned_only : (minus : Bool) (digits : List ℕ) (suffix : Option IntegerKind) (n : Integer) → IsNumeral 10 digits → n.value
+    ≡ signed minus (digits_value 10 digits) → IsKindFor minus suffix n → unsigned_in minus (digits ++ suffix_of suffix) ≡ Some n
 unfolding unsigned_in
 unsigned_only minus digits suffix n numeral value kind =
     let small = magnitude_fits n.kind minus (digits_value 10 digits) (rw (← value) (kind_holds minus suffix n kind)) in
-    rw (digits_at_only digits (suffix_of suffix) numeral small (suffix_stops suffix), suffix_only suffix) (integer_only minus (digits_value 10 digits) suffix n value kind)
+    rw (digits_at_only digits (suffix_of suffix) numeral small (suffix_stops suffix), suffix_only suffix)
+    (integer_only minus (digits_value 10 digits) suffix n value kind)
 
 -- a word that begins with a digit has no minus
 unsigned_is_number : (digits rest : List ℕ) → IsNumeral 10 digits → number_in (digits ++ rest) ≡ unsigned_in false (digits ++ rest)

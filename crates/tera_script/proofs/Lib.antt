@@ -1,37 +1,37 @@
-pub mod Choices
-pub mod Fronts
-pub mod Parts
-pub mod Names
-pub mod Digits
-pub mod Integers
-pub mod Tokens
-pub mod Utf8Texts
-pub mod Texts
-pub mod WorkedTexts
-pub mod HexNumbers
-pub mod Decoding
-pub mod Escapes
-pub mod TextStops
-pub mod Utf8Fronts
-pub mod Words
-pub mod HexBytes
-pub mod Shapes
-pub mod Openings
-pub mod Literals
-pub mod Keys
-pub mod Series
-pub mod Arrays
-pub mod Maps
-pub mod Places
+mod Arrays
+mod Bounds
+mod Choices
+mod Commands
+mod Decoding
+mod Digits
+mod Escapes
+mod Found
+mod Fronts
+mod HexBytes
+mod HexNumbers
+mod Integers
+mod Keys
+mod Lines
+mod Literals
+mod Maps
+mod Names
+mod Openings
+mod Operands
+mod Parts
+mod Places
+mod Series
+mod Shapes
+mod Sources
+mod TextStops
+mod Texts
+mod Tokens
 mod TypeNames
-pub mod Verbs
-pub mod Operands
-pub mod Bounds
-pub mod Values
-pub mod Sources
-pub mod Found
-pub mod Commands
-pub mod Lines
-pub mod WorkedLines
-pub mod WorkedFaults
-pub mod WorkedMaps
+mod Utf8Fronts
+mod Utf8Texts
+mod Values
+mod Verbs
+mod Words
+mod WorkedFaults
+mod WorkedLines
+mod WorkedMaps
+mod WorkedTexts

@@ -19,7 +19,8 @@ call_begins line command h = ap (λ c. c ++ h.after) h.spelled.3 ∙ append_asso
 
 says_past : (line : List ℕ) (command : Command) (h : Says line command) → past is_blank line ≡ h.call ++ h.after
 says_past line command h =
-    let stops = subst (Stops is_blank) (sym (call_begins line command h)) (name_is_not_blank (word_of h.spelled.0) (h.spelled.1 ++ h.after) (word_is_name h.spelled.0)) in
+    let stops = subst (Stops is_blank) (sym (call_begins line command h))
+    (name_is_not_blank (word_of h.spelled.0) (h.spelled.1 ++ h.after) (word_is_name h.spelled.0)) in
     ap (past is_blank) (h.whole ∙ append_assoc h.before h.call h.after) ∙ past_is is_blank h.before (h.call ++ h.after) h.padded.0 stops
 
 pub says_command : (line : List ℕ) (command : Command) → Says line command → EndsInCommand (past is_blank line) command
@@ -49,10 +50,18 @@ skipped_past line (inl h) = ap is_end_or_comment (all_past line h)
 skipped_past line (inr h) = ap is_end_or_comment (ap (past is_blank) h.3 ∙ past_is is_blank h.0 (35 ∷ h.1) h.2 refl)
 
 past_skipped : (line rest : List ℕ) → past is_blank line ≡ rest → is_end_or_comment rest ≡ true → IsSkipped line
-past_skipped line [] e h = inl (subst AreBlanks (sym (append-nil (front is_blank line)) ∙ ap (λ xs. front is_blank line ++ xs) (sym e) ∙ front-past is_blank line) (front_all is_blank line))
+past_skipped line [] e h =
+    inl (subst AreBlanks (sym (append-nil (front is_blank line)) ∙ ap (λ xs. front is_blank line ++ xs) (sym e) ∙ front-past is_blank line)
+    (front_all is_blank line))
 past_skipped line (b ∷ rest) e h =
     let hash : b ≡ 35 = grind (arith, nat_tests, h) in
-    inr (front is_blank line, rest, front_all is_blank line, sym (front-past is_blank line) ∙ ap (λ xs. front is_blank line ++ xs) (e ∙ ap (λ c. c ∷ rest) hash))
+    inr (
+      front is_blank line,
+      rest,
+      front_all is_blank line,
+      sym (front-past is_blank line) ∙ ap (λ xs. front is_blank line ++ xs)
+          (e ∙ ap (λ c. c ∷ rest) hash),
+    )
 
 pub is_skipped : (line : List ℕ) → is_end_or_comment (past is_blank line) ≡ true → IsSkipped line
 is_skipped line h = past_skipped line (past is_blank line) refl h
@@ -70,7 +79,8 @@ name_is_no_comment (b ∷ name) rest n = grind (arith, nat_tests, n.0)
 pub skipped_says_nothing : (line : List ℕ) (command : Command) → IsSkipped line → ¬ Says line command
 skipped_says_nothing line command s h =
     let yes = skipped_past line s in
-    let no = ap is_end_or_comment (says_past line command h ∙ call_begins line command h) ∙ name_is_no_comment (word_of h.spelled.0) (h.spelled.1 ++ h.after) (word_is_name h.spelled.0) in
+    let no = ap is_end_or_comment (says_past line command h ∙ call_begins line command h) ∙ name_is_no_comment (word_of h.spelled.0) (h.spelled.1 ++ h.after)
+    (word_is_name h.spelled.0) in
     cc
 
 -- bad lines
@@ -81,7 +91,11 @@ pub bad_utf8 : (line : List ℕ) → is_end_or_comment (past is_blank line) ≡ 
 bad_utf8 line e u = (not_skipped line e, λ command h. u h.utf8)
 
 pub bad_command : (line : List ℕ) → is_end_or_comment (past is_blank line) ≡ false → IsCommandAt (past is_blank line) None → IsBad line
-bad_command line e nothing = (not_skipped line e, λ command h. nothing (utf8_past_blanks (front is_blank line) (past is_blank line) (front_all is_blank line) (subst IsUtf8 (sym (front-past is_blank line)) h.utf8)) command (says_command line command h))
+bad_command line e nothing = (
+  not_skipped line e,
+  λ command h. nothing (utf8_past_blanks (front is_blank line) (past is_blank line) (front_all is_blank line)
+      (subst IsUtf8 (sym (front-past is_blank line)) h.utf8)) command (says_command line command h),
+)
 
 pub no_blanks : (xs : List ℕ) (r : Bool) → r ≡ list_all is_blank xs → r ≡ false → ¬ AreBlanks xs
 no_blanks xs r e f h = cc

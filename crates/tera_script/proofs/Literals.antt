@@ -1,5 +1,6 @@
 -- No bytes begin with two literals, and what the readers of literals answer.
-use Rattle.std.proofs.Common.{◌≡◌, ◌≢◌, ◌<◌, ◌≤◌, ◌+◌, ℕ, Bool, true, false, List, [], ◌∷◌, ◌++◌, length, drop, Option, Some, None, Result, Ok, Err, IfOk, refl, ap, sym, ◌∙◌, arith, append_assoc, append-nil, length-append, subst, lit<}
+use Rattle.std.proofs.Common.{◌≡◌, ◌≢◌, ◌<◌, ◌≤◌, ◌+◌, ℕ, Bool, true, false, List, [], ◌∷◌, ◌++◌, length, drop, Option, Some, None, Result, Ok, Err, IfOk, refl}
+use Rattle.std.proofs.Common.{ap, sym, ◌∙◌, arith, append_assoc, append-nil, length-append, subst, lit<}
 use Rattle.std.specs.List.{AllByRecursion}
 use Rattle.std.specs.Str.{IsUtf8}
 use Rattle.std.specs.Option.{option_map}
@@ -8,14 +9,17 @@ use Rattle.std.proofs.lemmas.Option.{same_Some, some_pair_parts}
 use Rattle.tera_meaning.specs.Integer.{Integer}
 use Rattle.tera_meaning.specs.Form.{Form, MarkedText}
 use Rattle.tera_meaning.specs.KeyMeaning.{KeyForm, truth_key, number_key, text_key, owned, borrowed}
-use Rattle.tera_meaning.specs.Tree.{Items, Members, undefined, none, truth, number, text, bytes, array, object, no_items, item, no_members, member, items, items_list, members, members_list, depth}
+use Rattle.tera_meaning.specs.Tree.{Items, Members, undefined, none, truth, number, text, bytes, array, object, no_items, item, no_members, member, items}
+use Rattle.tera_meaning.specs.Tree.{items_list, members, members_list, depth}
 use Rattle.tera_meaning.proofs.TreeLaws.{items_of_list, members_of_list}
 use Rattle.tera_script.specs.Text.{BeginsWithText}
 use Rattle.tera_script.specs.Word.{is_blank}
 use Rattle.tera_script.specs.Literal.{mark_of, SpellsKey, SpellsTree, SpellsLiteral, tree_value}
-use Rattle.tera_script.specs.Readers.{Stops, front, past, is_word_byte, value_in, plain_at, hex_at, bytes_read, BeginsWithLiteral, BeginsWithKey, BeginsWithPair, Ends, MoreAt, MorePairsAt, IsLiteralAt, IsQuotedAt, IsArrayAt, IsMapAt}
+use Rattle.tera_script.specs.Readers.{Stops, front, past, is_word_byte, value_in, plain_at, hex_at, bytes_read, BeginsWithLiteral, BeginsWithKey}
+use Rattle.tera_script.specs.Readers.{BeginsWithPair, Ends, MoreAt, MorePairsAt, IsLiteralAt, IsQuotedAt, IsArrayAt, IsMapAt}
 use Rattle.tera_script.proofs.Fronts.{head, tail, bracket_or_comma}
-use Rattle.tera_script.proofs.Openings.{Opening, plain, quoted, hex, bracket, brace, opened, IsOpening, opening_is, Stands, stands, stops_end, literal_of, quoted_utf8}
+use Rattle.tera_script.proofs.Openings.{Opening, plain, quoted, hex, bracket, brace, opened, IsOpening, opening_is, Stands, stands, stops_end, literal_of}
+use Rattle.tera_script.proofs.Openings.{quoted_utf8}
 use Rattle.tera_script.proofs.Parts.{AreClosedBy, IsOnlyPart, stops_behind, only_all}
 use Rattle.tera_script.proofs.Shapes.{key_tree}
 use Rattle.tera_script.proofs.Texts.{one_reading, text_is_utf8}
@@ -34,7 +38,8 @@ less m n h e = omega arith
 module _ (c : ℕ) (opens : (ys : List ℕ) → opened (c ∷ ys) ≡ plain) (word : is_word_byte c ≡ false) where
   no_first : (xs : List ℕ) (v : Form) (rest ys : List ℕ) → BeginsWithLiteral xs v rest → xs ≡ c ∷ ys → Ends v rest → ⊥
   no_first xs v rest ys b e ends =
-      let s : Stands plain (c ∷ ys) v rest = subst (λ o. Stands o (c ∷ ys) v rest) (opens ys) (stands (c ∷ ys) v rest (subst (λ zs. BeginsWithLiteral zs v rest) e b) ends) in
+      let s : Stands plain (c ∷ ys) v rest = subst (λ o. Stands o (c ∷ ys) v rest) (opens ys)
+      (stands (c ∷ ys) v rest (subst (λ zs. BeginsWithLiteral zs v rest) e b) ends) in
       let found : value_in [] ≡ Some v = rw word at s.0 in
       let nothing = no_value_nowhere in
       cc
@@ -176,16 +181,19 @@ IsOpenedAt (bracket ys) levels xs answer = IsArrayAt levels ys answer
 IsOpenedAt (brace ys) levels xs answer = IsMapAt levels ys answer
 
 module _ (levels : ℕ) (xs : List ℕ) where
-  there : (o : Opening) (v : Form) (rest : List ℕ) → IsOpening xs o → Stands o xs v rest → v ≡ tree_value v → depth v ≤ levels → IsLiteralAt levels xs (Some (v, rest))
+  there : (o : Opening) (v : Form) (rest : List ℕ) → IsOpening xs o → Stands o xs v rest → v ≡ tree_value v → depth v ≤ levels
+      → IsLiteralAt levels xs (Some (v, rest))
   there o v rest i s value shallow = let l = literal_of o xs v rest i s in (v, value, l.0, l.1, shallow)
 
   opened_found : (o : Opening) (answer : Option (Form × List ℕ)) → IsOpening xs o
-      → ((w : Form) (rest : List ℕ) → BeginsWithLiteral xs w rest → Stops is_word_byte rest → Stands o xs w rest) → IsOpenedAt o levels xs answer → IsLiteralAt levels xs answer
+      → ((w : Form) (rest : List ℕ) → BeginsWithLiteral xs w rest → Stops is_word_byte rest → Stands o xs w rest) → IsOpenedAt o levels xs answer
+      → IsLiteralAt levels xs answer
   unfolding plain_at
   opened_found plain answer i meant h = rw h (go (value_in (front is_word_byte xs)) refl)
     where
       go : (v : Option Form) → value_in (front is_word_byte xs) ≡ v → IsLiteralAt levels xs (option_map (λ v. (v, past is_word_byte xs)) v)
-      go (Some v) e = there plain v (past is_word_byte xs) tt (e, refl) (word_is_value (front is_word_byte xs) v e) (value_is_flat levels (front is_word_byte xs) v e)
+      go (Some v) e = there plain v (past is_word_byte xs) tt (e, refl) (word_is_value (front is_word_byte xs) v e)
+          (value_is_flat levels (front is_word_byte xs) v e)
       go None e = λ utf8 w rest b d stops. let found = (meant w rest b stops).0 in cc
   opened_found (quoted safe ys) (Some found) i meant h =
       let l = literal_of (quoted safe ys) xs (marked h.1 safe) found.1 i (h.0, h.1, h.2, refl, h.4) in
@@ -232,7 +240,8 @@ plain_found levels xs answer normal safe digits array_opens map_opens e = litera
 pub quoted_none : (safe : Bool) (xs : List ℕ) → ((t : List ℕ) (used : ℕ) → IsUtf8 t → BeginsWithText xs t used → ⊥) → IsQuotedAt safe xs None
 quoted_none safe xs h = λ t inner rest u s e. h t (length inner + 1) (text_is_utf8 inner t s u) (inner, rest, s, e, refl)
 
-pub quoted_some : (safe : Bool) (xs t rest : List ℕ) (used : ℕ) (value : Form) → BeginsWithText xs t used → value ≡ marked t safe → rest ≡ drop used xs → IsQuotedAt safe xs (Some (value, rest))
+pub quoted_some : (safe : Bool) (xs t rest : List ℕ) (used : ℕ) (value : Form) → BeginsWithText xs t used → value ≡ marked t safe → rest ≡ drop used xs
+    → IsQuotedAt safe xs (Some (value, rest))
 quoted_some safe xs t rest used value h v r =
     let cut : xs ≡ (h.0 ++ (34 ∷ [])) ++ h.1 = h.3 ∙ sym (append_assoc h.0 (34 ∷ []) h.1) in
     let used_is : length (h.0 ++ (34 ∷ [])) ≡ used = omega (arith, length-append h.0 (34 ∷ []), h.4) in

@@ -1,5 +1,6 @@
 -- The pairs of a map: one pair, and the loop over them.
-use Rattle.std.proofs.Common.{◌≡◌, ◌≢◌, ◌<◌, ◌≤◌, ℕ, suc, max, List, [], ◌∷◌, ◌++◌, length, length-append, map, reverse, Some, None, refl, ap, sym, ◌∙◌, arith, subst}
+use Rattle.std.proofs.Common.{◌≡◌, ◌≢◌, ◌<◌, ◌≤◌, ℕ, suc, max, List, [], ◌∷◌, ◌++◌, length, length-append, map, reverse, Some, None, refl, ap, sym, ◌∙◌, arith}
+use Rattle.std.proofs.Common.{subst}
 use Rattle.std.proofs.lemmas.List.{map-append, reverse-append}
 use Rattle.std.specs.BTreeMap.{insert_entry}
 use Rattle.std.specs.Str.{IsUtf8}
@@ -15,15 +16,19 @@ use Rattle.tera_script.specs.Readers.{past, AllIn, BeginsWithLiteral, BeginsWith
 use Rattle.tera_script.proofs.Fronts.{tail, bracket_or_comma}
 use Rattle.tera_script.proofs.Literals.{EndsPair, pairs_closed, only_at, only_pair, key_literal, key_ends, only_key}
 use Rattle.tera_script.proofs.Openings.{literal_utf8}
-use Rattle.tera_script.proofs.Series.{ArePartsOf, deepest, IsSoFar, IsNowhere, IsWhole, past_utf8, past_length, none_so_far, no_part, no_mark, no_end, last_part, one_more, shorter_rest}
+use Rattle.tera_script.proofs.Series.{ArePartsOf, deepest, IsSoFar, IsNowhere, IsWhole, past_utf8, past_length, none_so_far, no_part, no_mark, no_end}
+use Rattle.tera_script.proofs.Series.{last_part, one_more, shorter_rest}
 use Rattle.tera_script.proofs.Utf8Texts.{after_byte}
 use Rattle.tera_values.specs.Key.{key_value}
 
 -- ---- one pair
 
-at_value_utf8 : (xs : List ℕ) (k : KeyForm) (after next : List ℕ) → BeginsWithKey xs k after → past is_blank after ≡ 58 ∷ next → IsUtf8 xs → IsUtf8 (past is_blank next)
+at_value_utf8 : (xs : List ℕ) (k : KeyForm) (after next : List ℕ) → BeginsWithKey xs k after → past is_blank after ≡ 58 ∷ next → IsUtf8 xs
+    → IsUtf8 (past is_blank next)
 at_value_utf8 xs k after next b e u =
-    past_utf8 next (after_byte next 58 (omega arith) (subst IsUtf8 e (past_utf8 after (literal_utf8 xs (key_value k) after (key_literal xs k after b) (key_ends k after next e) u))))
+    past_utf8 next
+    (after_byte next 58 (omega arith)
+    (subst IsUtf8 e (past_utf8 after (literal_utf8 xs (key_value k) after (key_literal xs k after b) (key_ends k after next e) u))))
 
 abbrev pair_depth : KeyForm × Form → ℕ
 pair_depth p = depth p.1
@@ -32,7 +37,17 @@ pair_parts : ArePartsOf BeginsWithPair EndsPair 125
 pair_parts = record {
   closed = pairs_closed;
   only = λ e. only_pair e.0 e.1 (only_at e.1);
-  shorter = λ xs e rest b. omega (arith, ap length b.2.spelled, length-append b.2.literal b.0, past_length b.0, ap length b.3, past_length b.1, ap length b.4.spelled, length-append b.4.literal rest);
+  shorter = λ xs e rest b. omega (
+    arith,
+    ap length b.2.spelled,
+    length-append b.2.literal b.0,
+    past_length b.0,
+    ap length b.3,
+    past_length b.1,
+    ap length
+        b.4.spelled,
+    length-append b.4.literal rest,
+  );
   utf8 = λ xs e rest b ends u. literal_utf8 (past is_blank b.1) e.1 rest b.4 ends (at_value_utf8 xs e.0 b.0 b.1 b.2 b.3 u);
 }
 
@@ -74,13 +89,19 @@ pub record HasPairs (deep : ℕ) (inside : List ℕ) (pairs : List (KeyForm × F
   pub pairs_are : pairs ≡ in_places (map pair_value trees)
   pub so_far : IsSoFar BeginsWithPair EndsPair 125 pair_depth deep inside trees rest
 
-pub no_pairs_yet : (deep : ℕ) (inside : List ℕ) (pairs : List (KeyForm × Form)) (rest : List ℕ) → pairs ≡ [] → rest ≡ past is_blank inside → ((end : List ℕ) → rest ≢ 125 ∷ end) → HasPairs deep inside pairs rest
-no_pairs_yet deep inside pairs rest e r opened = record { trees = []; pairs_are = e; so_far = none_so_far BeginsWithPair EndsPair 125 pair_depth deep inside rest r opened }
+pub no_pairs_yet : (deep : ℕ) (inside : List ℕ) (pairs : List (KeyForm × Form)) (rest : List ℕ) → pairs ≡ [] → rest ≡ past is_blank inside
+    → ((end : List ℕ) → rest ≢ 125 ∷ end) → HasPairs deep inside pairs rest
+no_pairs_yet deep inside pairs rest e r opened = record {
+  trees = [];
+  pairs_are = e;
+  so_far = none_so_far BeginsWithPair EndsPair 125 pair_depth deep inside rest r opened;
+}
 
 nowhere : (levels : ℕ) (inside : List ℕ) → IsNowhere BeginsWithPair EndsPair 125 pair_depth levels inside → IsMapAt levels inside None
 nowhere levels inside n = λ utf8 all rest h d. n utf8 (members_list all) rest h (subst (λ m. suc m ≤ levels) (sym (deepest_pair all)) d)
 
-whole : (levels : ℕ) (inside : List ℕ) (trees pairs : List (KeyForm × Form)) (value : Form) (end : List ℕ) → IsWhole BeginsWithPair EndsPair 125 pair_depth levels inside trees end
+whole : (levels : ℕ) (inside : List ℕ) (trees pairs : List (KeyForm × Form)) (value : Form) (end : List ℕ) → IsWhole BeginsWithPair EndsPair 125 pair_depth
+    levels inside trees end
     → pairs ≡ in_places (map pair_value trees) → value ≡ object (members pairs) → IsMapAt levels inside (Some (value, end))
 whole levels inside trees pairs value end w pairs_are is =
     let listed = list_of_members trees in (
@@ -90,34 +111,42 @@ whole levels inside trees pairs value end w pairs_are is =
       subst (λ m. suc m ≤ levels) (deepest_pair (members trees)) (subst (λ l. suc (deepest pair_depth l) ≤ levels) (sym listed) w.1),
     )
 
-module _ (deep : ℕ) (inside : List ℕ) (pairs : List (KeyForm × Form)) (rest : List ℕ) (h : HasPairs deep inside pairs rest) (levels : ℕ) (l : levels ≡ suc deep) where
-  -- where no pair stands
-  pub no_more_pair : IsPairAt deep rest None → IsMapAt levels inside None
-  no_more_pair n = nowhere levels inside (no_part BeginsWithPair EndsPair 125 pair_depth pair_parts deep inside h.trees rest h.so_far levels l n)
+module _ (deep : ℕ) (inside : List ℕ) (pairs : List (KeyForm × Form)) (rest : List ℕ) (h : HasPairs deep inside pairs rest) (levels : ℕ) (l : levels ≡ suc deep)
+  where
+    -- where no pair stands
+    pub no_more_pair : IsPairAt deep rest None → IsMapAt levels inside None
+    no_more_pair n = nowhere levels inside (no_part BeginsWithPair EndsPair 125 pair_depth pair_parts deep inside h.trees rest h.so_far levels l n)
 
-  module _ (k : KeyForm) (v : Form) (behind : List ℕ) (read : IsPairAt deep rest (Some (k, v, behind))) where
-    pub no_pair_mark : ((end : List ℕ) → past is_blank behind ≢ 125 ∷ end) → ((end : List ℕ) → past is_blank behind ≢ 44 ∷ end) → IsMapAt levels inside None
-    no_pair_mark closed comma = nowhere levels inside (no_mark BeginsWithPair EndsPair 125 pair_depth pair_parts deep inside h.trees rest h.so_far levels l (k, read.0) behind read.2 read.3 closed comma)
+    module _ (k : KeyForm) (v : Form) (behind : List ℕ) (read : IsPairAt deep rest (Some (k, v, behind))) where
+      pub no_pair_mark : ((end : List ℕ) → past is_blank behind ≢ 125 ∷ end) → ((end : List ℕ) → past is_blank behind ≢ 44 ∷ end) → IsMapAt levels inside None
+      no_pair_mark closed comma = nowhere levels inside (no_mark BeginsWithPair EndsPair 125 pair_depth pair_parts deep inside h.trees rest h.so_far levels l
+          (k, read.0) behind read.2 read.3 closed comma)
 
-    pub no_pair_end : length (past is_blank behind) ≡ 0 → IsMapAt levels inside None
-    no_pair_end z = nowhere levels inside (no_end BeginsWithPair EndsPair 125 pair_depth pair_parts deep inside h.trees rest h.so_far levels l (k, read.0) behind read.2 read.3 z)
+      pub no_pair_end : length (past is_blank behind) ≡ 0 → IsMapAt levels inside None
+      no_pair_end z = nowhere levels inside (no_end BeginsWithPair EndsPair 125 pair_depth pair_parts deep inside h.trees rest h.so_far levels l (k, read.0)
+          behind read.2 read.3 z)
 
-    pub shorter_pair : (b : ℕ) (next after : List ℕ) → past is_blank behind ≡ b ∷ next → after ≡ past is_blank next → length after < length rest
-    shorter_pair b next after m a = shorter_rest BeginsWithPair EndsPair 125 pair_depth pair_parts rest (k, read.0) behind b next after read.2 m a
+      pub shorter_pair : (b : ℕ) (next after : List ℕ) → past is_blank behind ≡ b ∷ next → after ≡ past is_blank next → length after < length rest
+      shorter_pair b next after m a = shorter_rest BeginsWithPair EndsPair 125 pair_depth pair_parts rest (k, read.0) behind b next after read.2 m a
 
-    more_pairs : (longer : List (KeyForm × Form)) → longer ≡ insert_entry key_form_order pairs k v → longer ≡ in_places (map pair_value (h.trees ++ (k, read.0) ∷ []))
-    more_pairs longer u =
-        let last = map-append pair_value h.trees ((k, read.0) ∷ []) in
-        u ∙ (λ i. insert_entry key_form_order (h.pairs_are i) k (read.1 i))
-        ∙ ap pairs_of (sym (ap reverse last ∙ reverse-append (map pair_value h.trees) (pair_value (k, read.0) ∷ [])))
+      more_pairs : (longer : List (KeyForm × Form)) → longer ≡ insert_entry key_form_order pairs k v → longer
+          ≡ in_places (map pair_value (h.trees ++ (k, read.0) ∷ []))
+      more_pairs longer u =
+          let last = map-append pair_value h.trees ((k, read.0) ∷ []) in
+          u ∙ (λ i. insert_entry key_form_order (h.pairs_are i) k (read.1 i))
+          ∙ ap pairs_of (sym (ap reverse last ∙ reverse-append (map pair_value h.trees) (pair_value (k, read.0) ∷ [])))
 
-    pub last_pair : (longer : List (KeyForm × Form)) (value : Form) (end : List ℕ) → longer ≡ insert_entry key_form_order pairs k v → value ≡ object (members longer) → past is_blank behind ≡ 125 ∷ end → IsMapAt levels inside (Some (value, end))
-    last_pair longer value end u is m =
-        whole levels inside (h.trees ++ (k, read.0) ∷ []) longer value end (last_part BeginsWithPair EndsPair 125 pair_depth pair_parts deep inside h.trees rest h.so_far levels l (k, read.0) behind read.2 read.3 end read.4 m) (more_pairs longer u) is
+      pub last_pair : (longer : List (KeyForm × Form)) (value : Form) (end : List ℕ) → longer ≡ insert_entry key_form_order pairs k v → value
+          ≡ object (members longer) → past is_blank behind ≡ 125 ∷ end → IsMapAt levels inside (Some (value, end))
+      last_pair longer value end u is m =
+          whole levels inside (h.trees ++ (k, read.0) ∷ []) longer value end (last_part BeginsWithPair EndsPair 125 pair_depth pair_parts deep inside h.trees rest
+          h.so_far levels l (k, read.0) behind read.2 read.3 end read.4 m) (more_pairs longer u) is
 
-    pub next_pair : (longer : List (KeyForm × Form)) (next after : List ℕ) → longer ≡ insert_entry key_form_order pairs k v → past is_blank behind ≡ 44 ∷ next → after ≡ past is_blank next → HasPairs deep inside longer after
-    next_pair longer next after u m a = record {
-      trees = h.trees ++ (k, read.0) ∷ [];
-      pairs_are = more_pairs longer u;
-      so_far = one_more BeginsWithPair EndsPair 125 pair_depth pair_parts deep inside h.trees rest h.so_far levels l (k, read.0) behind read.2 read.3 next after read.4 m a;
-    }
+      pub next_pair : (longer : List (KeyForm × Form)) (next after : List ℕ) → longer ≡ insert_entry key_form_order pairs k v → past is_blank behind ≡ 44 ∷ next
+          → after ≡ past is_blank next → HasPairs deep inside longer after
+      next_pair longer next after u m a = record {
+        trees = h.trees ++ (k, read.0) ∷ [];
+        pairs_are = more_pairs longer u;
+        so_far = one_more BeginsWithPair EndsPair 125 pair_depth pair_parts deep inside h.trees rest h.so_far levels l (k, read.0) behind read.2 read.3 next after
+            read.4 m a;
+      }

@@ -43,7 +43,8 @@ pub record HasName (bytes name rest : List ℕ) : Type 0 where
   pub spelled : bytes ≡ name ++ rest
   pub stops : Stops is_name_byte rest
 
-some_pair_of_cond : {A B : Type 0} (b : Bool) (x y : A) (u v : B) → cond {A = Option (A × B)} b (Some (x, u)) None ≡ Some (y, v) → (b ≡ true) × (x ≡ y) × (u ≡ v)
+some_pair_of_cond : {A B : Type 0} (b : Bool) (x y : A) (u v : B) → cond {A = Option (A × B)} b (Some (x, u)) None ≡ Some (y, v) → (b ≡ true) × (x ≡ y)
+    × (u ≡ v)
 some_pair_of_cond true x y u v e = (refl, (some_pair_parts x y u v e).0, (some_pair_parts x y u v e).1)
 some_pair_of_cond false x y u v e = cc
 
@@ -91,5 +92,6 @@ pub operand_only : (operand name rest : List ℕ) → SpellsOperand operand name
 unfolding operand_at
 operand_only operand name rest h s =
     let gap = h.0 in
-    let at_gap : gap_at (operand ++ rest) ≡ Some (name ++ rest) = rw (h.3, append_assoc gap name rest) (gap_only gap (name ++ rest) h.1 (name_is_not_blank name rest h.2)) in
+    let at_gap : gap_at (operand ++ rest) ≡ Some (name ++ rest) = rw (h.3, append_assoc gap name rest)
+    (gap_only gap (name ++ rest) h.1 (name_is_not_blank name rest h.2)) in
     rw at_gap (name_only name rest h.2 s)

@@ -7,13 +7,15 @@ use Rattle.tera_meaning.specs.Form.{Form, MarkedText}
 use Rattle.tera_meaning.specs.KeyMeaning.{KeyForm}
 use Rattle.tera_meaning.specs.Tree.{Items, Members, undefined, none, truth, number, text, bytes, array, object}
 use Rattle.tera_script.specs.Literal.{mark_of, SpellsTree}
-use Rattle.tera_script.specs.Readers.{Stops, front, past, number_in, unsigned_in, digits_at, is_word_byte, value_in, hex_at, BeginsWithLiteral, Ends, ItemsAt, PairsAt, IsQuotedAt}
+use Rattle.tera_script.specs.Readers.{Stops, front, past, number_in, unsigned_in, digits_at, is_word_byte, value_in, hex_at, BeginsWithLiteral, Ends, ItemsAt}
+use Rattle.tera_script.specs.Readers.{PairsAt, IsQuotedAt}
 use Rattle.tera_script.proofs.Fronts.{front_cut, past_stops, front_all}
 use Rattle.tera_script.proofs.HexBytes.{hex_only, hex_found}
 use Rattle.tera_script.proofs.Shapes.{quoted_bytes, items_at, pairs_at, items_spelled, pairs_spelled}
 use Rattle.tera_script.proofs.Utf8Fronts.{utf8_past_word}
 use Rattle.tera_script.proofs.Utf8Texts.{after_byte, around_byte}
-use Rattle.tera_script.proofs.Words.{IsWord, value_found, word_front, word_behind, no_value_nowhere, word_undefined, word_none, word_true, word_false, word_number}
+use Rattle.tera_script.proofs.Words.{IsWord, value_found, word_front, word_behind, no_value_nowhere, word_undefined, word_none, word_true, word_false}
+use Rattle.tera_script.proofs.Words.{word_number}
 
 pub data Opening : Type 0 where
   plain : Opening
@@ -40,10 +42,12 @@ IsOpening xs (hex ys) = xs ≡ 120 ∷ 34 ∷ ys
 IsOpening xs (bracket ys) = xs ≡ 91 ∷ ys
 IsOpening xs (brace ys) = xs ≡ 123 ∷ ys
 
-letter_is : (f : List ℕ → Opening) (b letter : ℕ) (xs : List ℕ) → b ≡ letter → ((ys : List ℕ) → IsOpening (letter ∷ 34 ∷ ys) (f ys)) → IsOpening (b ∷ xs) (behind f xs)
+letter_is : (f : List ℕ → Opening) (b letter : ℕ) (xs : List ℕ) → b ≡ letter → ((ys : List ℕ) → IsOpening (letter ∷ 34 ∷ ys) (f ys))
+    → IsOpening (b ∷ xs) (behind f xs)
 letter_is f b letter [] e h = tt
 letter_is f b letter (c ∷ xs) e h =
-    cond_both (eqb c 34) (f xs) plain (IsOpening (b ∷ c ∷ xs)) (λ q. subst (λ zs. IsOpening zs (f xs)) (λ i. sym e i ∷ sym (eqb-true c 34 q) i ∷ xs) (h xs)) (λ q. tt)
+    cond_both (eqb c 34) (f xs) plain (IsOpening (b ∷ c ∷ xs)) (λ q. subst (λ zs. IsOpening zs (f xs)) (λ i. sym e i ∷ sym (eqb-true c 34 q) i ∷ xs) (h xs))
+    (λ q. tt)
 
 pub opening_is : (xs : List ℕ) → IsOpening xs (opened xs)
 opening_is [] = tt
@@ -85,7 +89,8 @@ word_stands xs literal rest v w e s = by_opening (opened xs) (opening_is xs)
     by_opening (bracket ys) i = absurd (not_so (91 ∷ ys) i no_value_nowhere)
     by_opening (brace ys) i = absurd (not_so (123 ∷ ys) i no_value_nowhere)
 
-text_stands : (safe : Bool) (ys : List ℕ) (v : Form) (rest : List ℕ) → IsQuotedAt safe ys (Some (v, rest)) → Stands (opened (mark_of safe ++ (34 ∷ ys))) (mark_of safe ++ (34 ∷ ys)) v rest
+text_stands : (safe : Bool) (ys : List ℕ) (v : Form) (rest : List ℕ) → IsQuotedAt safe ys (Some (v, rest)) → Stands (opened (mark_of safe ++ (34 ∷ ys)))
+    (mark_of safe ++ (34 ∷ ys)) v rest
 text_stands true ys v rest h = h
 text_stands false ys v rest h = h
 

@@ -1,5 +1,6 @@
 -- Operands: what the readers of operands give is spelled so, and what is spelled so is read.
-use Rattle.std.proofs.Common.{◌≡◌, ℕ, Bool, true, false, cond, eqb, ◌&&◌, List, [], ◌∷◌, ◌++◌, Option, Some, None, refl, ap, sym, ◌∙◌, inl, inr, arith, append_assoc, subst, eqb-true}
+use Rattle.std.proofs.Common.{◌≡◌, ℕ, Bool, true, false, cond, eqb, ◌&&◌, List, [], ◌∷◌, ◌++◌, Option, Some, None, refl, ap, sym, ◌∙◌, inl, inr, arith}
+use Rattle.std.proofs.Common.{append_assoc, subst, eqb-true}
 use Rattle.std.specs.List.{list_all}
 use Rattle.std.specs.Option.{option_and_then, option_map}
 use Rattle.std.proofs.lemmas.Bool.Decides.{nat_tests}
@@ -29,10 +30,12 @@ gap_ends_name [] rest g = absurd (omega (arith, g.0))
 gap_ends_name (b ∷ gap) rest g = blank_ends_name b (both_pass is_blank (is_blank b) (list_all is_blank gap) g.1).0
 
 pub operand_ends_name : (operand name rest : List ℕ) → SpellsOperand operand name → Stops is_name_byte (operand ++ rest)
-operand_ends_name operand name rest h = subst (Stops is_name_byte) (sym (ap (λ xs. xs ++ rest) h.3 ∙ append_assoc h.0 name rest)) (gap_ends_name h.0 (name ++ rest) h.1)
+operand_ends_name operand name rest h = subst (Stops is_name_byte) (sym (ap (λ xs. xs ++ rest) h.3 ∙ append_assoc h.0 name rest))
+    (gap_ends_name h.0 (name ++ rest) h.1)
 
 pub value_ends_name : (operand rest : List ℕ) (value : Form) → SpellsValue operand value → Stops is_name_byte (operand ++ rest)
-value_ends_name operand rest value h = subst (Stops is_name_byte) (sym (ap (λ xs. xs ++ rest) h.7 ∙ append_assoc h.0 h.1 rest)) (gap_ends_name h.0 (h.1 ++ rest) h.3)
+value_ends_name operand rest value h = subst (Stops is_name_byte) (sym (ap (λ xs. xs ++ rest) h.7 ∙ append_assoc h.0 h.1 rest))
+    (gap_ends_name h.0 (h.1 ++ rest) h.3)
 
 -- one operand
 abbrev pub HasOne : List ℕ → List ℕ → Type 0
@@ -61,7 +64,8 @@ names_given left right rest = Some ((left, right), rest)
 
 pub names_found : (bytes left right rest : List ℕ) → names_at bytes ≡ names_given left right rest → HasNames bytes left right rest
 unfolding names_at
-names_found bytes left right rest e = option_and_then_some (λ (l : List ℕ × List ℕ). option_and_then (λ (r : List ℕ × List ℕ). names_given l.0 r.0 r.1) (operand_at l.1)) (operand_at bytes) ((left, right), rest) e (λ l at_l e'.
+names_found bytes left right rest e = option_and_then_some (λ (l : List ℕ × List ℕ). option_and_then (λ (r : List ℕ × List ℕ). names_given l.0 r.0 r.1)
+    (operand_at l.1)) (operand_at bytes) ((left, right), rest) e (λ l at_l e'.
     option_and_then_some (λ (r : List ℕ × List ℕ). names_given l.0 r.0 r.1) (operand_at l.1) ((left, right), rest) e' (λ r at_r e''.
     let found : (List ℕ × List ℕ) × List ℕ = ((l.0, r.0), r.1) in
     let given : (List ℕ × List ℕ) × List ℕ = ((left, right), rest) in
@@ -78,7 +82,8 @@ names_found bytes left right rest e = option_and_then_some (λ (l : List ℕ × 
 pub names_only : (part left right rest : List ℕ) → SpellsTwo part left right → Stops is_name_byte rest → names_at (part ++ rest) ≡ Some ((left, right), rest)
 unfolding names_at
 names_only part left right rest h s =
-    let at_left : operand_at (part ++ rest) ≡ Some (left, h.1 ++ rest) = rw (h.4, append_assoc h.0 h.1 rest) (operand_only h.0 left (h.1 ++ rest) h.2 (operand_ends_name h.1 right rest h.3)) in
+    let at_left : operand_at (part ++ rest) ≡ Some (left, h.1 ++ rest) = rw (h.4, append_assoc h.0 h.1 rest)
+    (operand_only h.0 left (h.1 ++ rest) h.2 (operand_ends_name h.1 right rest h.3)) in
     rw (at_left, operand_only h.1 right rest h.3 s)
 
 -- the same before blanks
@@ -87,10 +92,17 @@ HasTwo bytes left right = Before (λ operands. SpellsTwo operands left right) by
 
 pub two_found : (bytes left right : List ℕ) → two_in bytes ≡ Some (left, right) → HasTwo bytes left right
 unfolding two_in
-two_found bytes left right e = option_and_then_some (λ (n : (List ℕ × List ℕ) × List ℕ). cond (list_all is_blank n.1) (Some n.0) None) (names_at bytes) (left, right) e (λ n at_n e'.
+two_found bytes left right e = option_and_then_some (λ (n : (List ℕ × List ℕ) × List ℕ). cond (list_all is_blank n.1) (Some n.0) None) (names_at bytes)
+    (left, right) e (λ n at_n e'.
     let h = cond_some (list_all is_blank n.1) n.0 (left, right) e' in
     let names = names_found bytes n.0.0 n.0.1 n.1 at_n in
-    record { part = names.part; after = n.1; spells = subst (λ (p : List ℕ × List ℕ). SpellsTwo names.part p.0 p.1) h.1 names.spells; blanks = h.0; spelled = names.spelled })
+    record {
+      part = names.part;
+      after = n.1;
+      spells = subst (λ (p : List ℕ × List ℕ). SpellsTwo names.part p.0 p.1) h.1 names.spells;
+      blanks = h.0;
+      spelled = names.spelled;
+    })
 
 pub two_only : (bytes left right : List ℕ) → HasTwo bytes left right → two_in bytes ≡ Some (left, right)
 unfolding two_in
@@ -123,15 +135,19 @@ named_into bytes name e = option_and_then_some one_in (option_and_then arrow_at 
       after = one.after;
       spells = (gap.gap, one.part, gap.blanks, one.spells, refl);
       blanks = one.blanks;
-      spelled = gap.spelled ∙ ap (λ xs. gap.gap ++ xs) (arrow_found arrow behind is_arrow ∙ ap (λ xs. 45 ∷ 62 ∷ xs) one.spelled) ∙ sym (append_assoc gap.gap (45 ∷ 62 ∷ one.part) one.after);
+      spelled = gap.spelled ∙ ap (λ xs. gap.gap ++ xs) (arrow_found arrow behind is_arrow ∙ ap (λ xs. 45 ∷ 62 ∷ xs) one.spelled)
+          ∙ sym (append_assoc gap.gap (45 ∷ 62 ∷ one.part) one.after);
     }))
 
 pub into_found : (bytes : List ℕ) (into : Option (List ℕ)) → into_in bytes ≡ Some into → HasInto bytes into
 unfolding into_in
-into_found bytes into e = elim (chosen {A = Option (Option (List ℕ))} (list_all is_blank bytes) (Some None) (option_map Some (option_and_then one_in (option_and_then arrow_at (gap_at bytes)))) (Some into) e) [
-  | inl h ↦ let nothing : None ≡ into = cc in subst (HasInto bytes) nothing (record { part = []; after = bytes; spells = refl; blanks = h.0; spelled = refl })
-  | inr h ↦ let name = some_mapped (option_and_then one_in (option_and_then arrow_at (gap_at bytes))) into h.1 in subst (HasInto bytes) (sym name.2) (named_into bytes name.0 name.1)
-]
+into_found bytes into e =
+    elim (chosen {A = Option (Option (List ℕ))} (list_all is_blank bytes) (Some None)
+    (option_map Some (option_and_then one_in (option_and_then arrow_at (gap_at bytes)))) (Some into) e) [
+      | inl h ↦ let nothing : None ≡ into = cc in subst (HasInto bytes) nothing (record { part = []; after = bytes; spells = refl; blanks = h.0; spelled = refl })
+      | inr h ↦ let name = some_mapped (option_and_then one_in (option_and_then arrow_at (gap_at bytes))) into h.1 in
+          subst (HasInto bytes) (sym name.2) (named_into bytes name.0 name.1)
+    ]
 
 not_all_blanks : (gap rest : List ℕ) → list_all is_blank (gap ++ 45 ∷ rest) ≡ false
 not_all_blanks [] rest = refl
@@ -159,7 +175,9 @@ gap_ends_word (b ∷ gap) rest g = blank_ends_word b (both_pass is_blank (is_bla
 -- no word goes on where the name for what is found, or nothing, follows
 pub into_ends_word : (bytes : List ℕ) (into : Option (List ℕ)) → HasInto bytes into → Stops is_word_byte bytes
 into_ends_word bytes None h = subst (Stops is_word_byte) (sym (h.spelled ∙ ap (λ xs. xs ++ h.after) h.spells)) (blanks_end_word h.after h.blanks)
-into_ends_word bytes (Some name) h = subst (Stops is_word_byte) (sym (h.spelled ∙ ap (λ xs. xs ++ h.after) h.spells.4 ∙ append_assoc h.spells.0 (45 ∷ 62 ∷ h.spells.1) h.after)) (gap_ends_word h.spells.0 (45 ∷ 62 ∷ (h.spells.1 ++ h.after)) h.spells.2)
+into_ends_word bytes (Some name) h = subst (Stops is_word_byte)
+    (sym (h.spelled ∙ ap (λ xs. xs ++ h.after) h.spells.4 ∙ append_assoc h.spells.0 (45 ∷ 62 ∷ h.spells.1) h.after))
+    (gap_ends_word h.spells.0 (45 ∷ 62 ∷ (h.spells.1 ++ h.after)) h.spells.2)
 
 word_end_is_name_end : (b : ℕ) → is_word_byte b ≡ false → is_name_byte b ≡ false
 word_end_is_name_end b h = grind (arith, nat_tests)

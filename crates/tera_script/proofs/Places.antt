@@ -35,18 +35,23 @@ not_below k q [] h t = refl
 not_below k q (e ∷ es) h t = ap (λ r. cond (is_eq r) (Some e.0) (key_at es q)) (total.congr q k e.0 t ∙ h.0) ∙ not_below k q es h.1 t
 
 -- a key is there after an insertion where it was there, and else where it was inserted
-key_insert : (q k : KeyForm) (v : Form) (es : List (KeyForm × Form)) → Rises key_form_order es → key_at (insert_entry key_form_order es k v) q ≡ option_or (key_at es q) (cond (ties q k) (Some k) None)
+key_insert : (q k : KeyForm) (v : Form) (es : List (KeyForm × Form)) → Rises key_form_order es → key_at (insert_entry key_form_order es k v) q
+    ≡ option_or (key_at es q) (cond (ties q k) (Some k) None)
 unfolding IsStrictlySortedBy
 key_insert q k v [] h = refl
 key_insert q k v (e ∷ es) h =
-    elim (key_form_order k e.0) as (λ r. key_form_order k e.0 ≡ r → key_at (match_ordering r ((k, v) ∷ e ∷ es) ((e.0, v) ∷ es) (e ∷ insert_entry key_form_order es k v)) q ≡ option_or (key_at (e ∷ es) q) (cond (ties q k) (Some k) None)) [
+    elim (key_form_order k e.0) as (λ r. key_form_order k e.0 ≡ r
+    → key_at (match_ordering r ((k, v) ∷ e ∷ es) ((e.0, v) ∷ es) (e ∷ insert_entry key_form_order es k v)) q ≡ option_or (key_at (e ∷ es) q)
+    (cond (ties q k) (Some k) None)) [
       | Less ↦ λ p. in_front p (ties q k) refl
       | Equal ↦ λ p. same_key (ties q e.0) ∙ ap (λ r. option_or (key_at (e ∷ es) q) (cond (is_eq r) (Some k) None)) (sym (alike_right total k e.0 q p))
       | Greater ↦ λ p. ap (cond (ties q e.0) (Some e.0)) (key_insert q k v es h.1) ∙ cond_or (ties q e.0) e.0 (key_at es q) (cond (ties q k) (Some k) None)
     ] refl
   where
-    in_front : key_form_order k e.0 ≡ Less → (b : Bool) → ties q k ≡ b → cond b (Some k) (key_at (e ∷ es) q) ≡ option_or (key_at (e ∷ es) q) (cond b (Some k) None)
-    in_front p true t = ap (λ o. option_or o (Some k)) (sym (not_below k q (e ∷ es) (p, below_less key_form_order total k e.0 es p h.0) ((Equal-is (key_form_order q k)).0 t)))
+    in_front : key_form_order k e.0 ≡ Less → (b : Bool) → ties q k ≡ b → cond b (Some k) (key_at (e ∷ es) q) ≡ option_or (key_at (e ∷ es) q)
+        (cond b (Some k) None)
+    in_front p true t = ap (λ o. option_or o (Some k))
+        (sym (not_below k q (e ∷ es) (p, below_less key_form_order total k e.0 es p h.0) ((Equal-is (key_form_order q k)).0 t)))
     in_front p false t = or_none (key_at (e ∷ es) q)
 
     same_key : (b : Bool) → cond b (Some e.0) (key_at es q) ≡ option_or (cond b (Some e.0) (key_at es q)) (cond b (Some k) None)
@@ -80,7 +85,8 @@ last_reversed (w ∷ ws) q =
 pub places_rise : (written : List (KeyForm × Form)) → Rises key_form_order (in_places written)
 places_rise written = rising_rises key_form_order total (reverse written)
 
-pub last_value : (written : List (KeyForm × Form)) (key : KeyForm) → value_at key_form_order (in_places written) key ≡ value_at key_form_order (reverse written) key
+pub last_value : (written : List (KeyForm × Form)) (key : KeyForm) → value_at key_form_order (in_places written) key ≡ value_at key_form_order (reverse written)
+    key
 last_value written key = found_rising key_form_order total (reverse written) key
 
 pub first_key : (written : List (KeyForm × Form)) (key : KeyForm) → key_at (in_places written) key ≡ key_at written key

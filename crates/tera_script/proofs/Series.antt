@@ -48,7 +48,8 @@ module _ {E : Type 0} (Begins : List ℕ → E → List ℕ → Type 0) (EndsPar
   pub record IsSoFar (depth : ℕ) (inside : List ℕ) (es : List E) (rest : List ℕ) : Type 0 where
     pub shallow : deepest deep es ≤ depth
     pub utf8 : IsUtf8 inside → IsUtf8 rest
-    pub forward : (e : E) (others : List E) (behind end : List ℕ) → Begins rest e behind → MoreIn Begins close behind others end → AllIn Begins close inside (es ++ e ∷ others) end
+    pub forward : (e : E) (others : List E) (behind end : List ℕ) → Begins rest e behind → MoreIn Begins close behind others end → AllIn Begins close inside
+        (es ++ e ∷ others) end
     pub backward : (all : List E) (end : List ℕ) → AllIn Begins close inside all end → HasPart rest all es end
 
   -- none of at most these levels stands there
@@ -75,7 +76,8 @@ module _ {E : Type 0} (Begins : List ℕ → E → List ℕ → Type 0) (EndsPar
     behind_stops : (others : List E) (xs end : List ℕ) → MoreIn Begins close xs others end → Stops is_word_byte xs
     behind_stops = stops_behind Begins EndsPart close parts.closed
 
-    pub shorter_rest : (rest : List ℕ) (e : E) (behind : List ℕ) (b : ℕ) (next after : List ℕ) → Begins rest e behind → past is_blank behind ≡ b ∷ next → after ≡ past is_blank next → length after < length rest
+    pub shorter_rest : (rest : List ℕ) (e : E) (behind : List ℕ) (b : ℕ) (next after : List ℕ) → Begins rest e behind → past is_blank behind ≡ b ∷ next → after
+        ≡ past is_blank next → length after < length rest
     shorter_rest rest e behind b next after l m a =
         omega (arith, ap length a, past_length next, ap length m, past_length behind, parts.shorter rest e behind l)
 
@@ -89,10 +91,12 @@ module _ {E : Type 0} (Begins : List ℕ → E → List ℕ → Type 0) (EndsPar
 
       module _ (e : E) (behind : List ℕ) (b : Begins rest e behind) (ends : EndsPart e behind) where
         -- the part that stands there is the one that was read
-        follows : (all : List E) (end : List ℕ) → AllIn Begins close inside all end → (others : List E) × MoreIn Begins close behind others end × (all ≡ es ++ e ∷ others)
+        follows : (all : List E) (end : List ℕ) → AllIn Begins close inside all end → (others : List E) × MoreIn Begins close behind others end
+            × (all ≡ es ++ e ∷ others)
         follows all end h =
             let i = so_far.backward all end h in
-            let same = parts.only e rest behind b ends i.part i.behind i.begins (parts.closed.stops i.part i.behind (behind_stops i.others i.behind end i.next)) in
+            let same = parts.only e rest behind b ends i.part i.behind i.begins (parts.closed.stops i.part i.behind (behind_stops i.others i.behind end i.next))
+            in
             (i.others, subst (λ ys. MoreIn Begins close ys i.others end) (sym same.1) i.next, i.is ∙ ap (λ f. es ++ f ∷ i.others) (sym same.0))
 
         -- behind it stands the closing byte or a comma
@@ -110,16 +114,27 @@ module _ {E : Type 0} (Begins : List ℕ → E → List ℕ → Type 0) (EndsPar
         pub last_part : (end : List ℕ) → deep e ≤ depth → past is_blank behind ≡ close ∷ end → IsWhole levels inside (es ++ e ∷ []) end
         last_part end d h = (so_far.forward e [] behind end b h, omega (arith, deepest_last es e depth so_far.shallow d, l))
 
-        pub one_more : (next after : List ℕ) → deep e ≤ depth → past is_blank behind ≡ 44 ∷ next → after ≡ past is_blank next → IsSoFar depth inside (es ++ e ∷ []) after
+        pub one_more : (next after : List ℕ) → deep e ≤ depth → past is_blank behind ≡ 44 ∷ next → after ≡ past is_blank next
+            → IsSoFar depth inside (es ++ e ∷ []) after
         one_more next after d m a = rw a (record {
           shallow = deepest_last es e depth so_far.shallow d;
-          utf8 = λ utf8. past_utf8 next (after_byte next 44 (omega arith) (subst IsUtf8 m (past_utf8 behind (parts.utf8 rest e behind b ends (so_far.utf8 utf8)))));
-          forward = λ f others after end c n. subst (λ all. AllIn Begins close inside all end) (sym (append_assoc es (e ∷ []) (f ∷ others))) (so_far.forward e (f ∷ others) behind end b (next, after, m, c, n));
+          utf8 = λ utf8.
+              past_utf8 next (after_byte next 44 (omega arith) (subst IsUtf8 m (past_utf8 behind (parts.utf8 rest e behind b ends (so_far.utf8 utf8)))));
+          forward = λ f others after end c n. subst (λ all. AllIn Begins close inside all end) (sym (append_assoc es (e ∷ []) (f ∷ others)))
+              (so_far.forward e (f ∷ others) behind end b (next, after, m, c, n));
           backward = λ all end h. let f = follows all end h in at_next all f.0 end f.1 f.2;
         })
           where
-            at_next : (all others : List E) (end : List ℕ) → MoreIn Begins close behind others end → all ≡ es ++ e ∷ others → HasPart (past is_blank next) all (es ++ e ∷ []) end
+            at_next : (all others : List E) (end : List ℕ) → MoreIn Begins close behind others end → all ≡ es ++ e ∷ others → HasPart (past is_blank next) all
+                (es ++ e ∷ []) end
             at_next all [] end n is = absurd (parts.closed.comma (ap head (sym n ∙ m)))
             at_next all (f ∷ others) end n is =
                 let same : n.0 ≡ next = ap tail (sym n.2 ∙ m) in
-                record { part = f; others = others; behind = n.1; begins = subst (λ ys. Begins (past is_blank ys) f n.1) same n.3; next = n.4; is = is ∙ sym (append_assoc es (e ∷ []) (f ∷ others)) }
+                record {
+                  part = f;
+                  others = others;
+                  behind = n.1;
+                  begins = subst (λ ys. Begins (past is_blank ys) f n.1) same n.3;
+                  next = n.4;
+                  is = is ∙ sym (append_assoc es (e ∷ []) (f ∷ others));
+                }

@@ -3,7 +3,8 @@ use Rattle.std.proofs.Common.{◌≡◌, ℕ, Bool, true, false, List, [], ◌�
 use Rattle.tera_meaning.specs.Integer.{Integer}
 use Rattle.tera_meaning.specs.Form.{Form, MarkedText}
 use Rattle.tera_meaning.specs.KeyMeaning.{KeyForm, truth_key, number_key, text_key, owned, borrowed}
-use Rattle.tera_meaning.specs.Tree.{Items, Members, undefined, none, truth, number, text, bytes, array, object, no_items, item, no_members, member, items_list, members_list}
+use Rattle.tera_meaning.specs.Tree.{Items, Members, undefined, none, truth, number, text, bytes, array, object, no_items, item, no_members, member, items_list}
+use Rattle.tera_meaning.specs.Tree.{members_list}
 use Rattle.tera_script.specs.Word.{is_blank, AreBlanks}
 use Rattle.tera_script.specs.Literal.{mark_of, IsPadded, IsPair, SpellsKey, SpellsTree, SpellsItems, SpellsMore, SpellsPairs, SpellsMorePairs}
 use Rattle.tera_script.specs.Readers.{Stops, front, past, BeginsWithLiteral, BeginsWithKey, BeginsWithPair, ItemsAt, MoreAt, PairsAt, MorePairsAt}
@@ -27,7 +28,8 @@ literal_stops_blanks literal rest none h = rw h (word_stops_blanks _ rest none w
 literal_stops_blanks literal rest (truth true) h = rw h (word_stops_blanks _ rest (truth true) word_true)
 literal_stops_blanks literal rest (truth false) h = rw h (word_stops_blanks _ rest (truth false) word_false)
 literal_stops_blanks literal rest (number n) h = word_stops_blanks literal rest (number n) (word_number literal n h)
-literal_stops_blanks literal rest (text t) h = subst (Stops is_blank) (sym (ap (λ l. l ++ rest) h.2 ∙ quoted_bytes t.safe h.0 rest)) (mark_stops_blanks t.safe (h.0 ++ 34 ∷ rest))
+literal_stops_blanks literal rest (text t) h = subst (Stops is_blank) (sym (ap (λ l. l ++ rest) h.2 ∙ quoted_bytes t.safe h.0 rest))
+    (mark_stops_blanks t.safe (h.0 ++ 34 ∷ rest))
 literal_stops_blanks literal rest (bytes bs) h = rw (h.2) refl
 literal_stops_blanks literal rest (array xs) h = rw (h.2) refl
 literal_stops_blanks literal rest (object ps) h = rw (h.2) refl
@@ -40,14 +42,16 @@ key_tree literal (text_key (owned t)) h = h
 key_tree literal (text_key (borrowed t)) h = absurd h
 
 -- what stands between blanks, behind those before it
-padded_parts : (P : List ℕ → Type 0) (first tail : List ℕ) (p : IsPadded P first) → Stops is_blank (p.1 ++ (p.2 ++ tail)) → past is_blank (first ++ tail) ≡ p.1 ++ (p.2 ++ tail)
+padded_parts : (P : List ℕ → Type 0) (first tail : List ℕ) (p : IsPadded P first) → Stops is_blank (p.1 ++ (p.2 ++ tail)) → past is_blank (first ++ tail) ≡ p.1
+    ++ (p.2 ++ tail)
 padded_parts P first tail p stops =
     let inside = append_assoc p.1 p.2 tail in
     let spelled = ap (λ xs. xs ++ tail) p.6 ∙ append_assoc p.0 (p.1 ++ p.2) tail ∙ ap (λ xs. p.0 ++ xs) inside in
     ap (past is_blank) spelled ∙ past_is is_blank p.0 (p.1 ++ (p.2 ++ tail)) p.3 stops
 
 -- an item, a key and a pair between blanks
-padded_at : (first tail : List ℕ) (value : Form) → IsPadded (λ literal. SpellsTree literal value) first → StandsBefore BeginsWithLiteral (first ++ tail) value tail
+padded_at : (first tail : List ℕ) (value : Form) → IsPadded (λ literal. SpellsTree literal value) first → StandsBefore BeginsWithLiteral (first ++ tail) value
+    tail
 padded_at first tail value p =
     let is = padded_parts (λ literal. SpellsTree literal value) first tail p (literal_stops_blanks p.1 (p.2 ++ tail) value p.4) in
     record { after = p.2; blanks = p.5; begins = record { literal = p.1; spells = p.4; spelled = is } }
@@ -77,7 +81,8 @@ pair_at pair tail k value p =
       );
     }
 
-more_at : (all : Items Integer MarkedText KeyForm) (after more rest : List ℕ) → AreBlanks after → SpellsMore more all → MoreAt (after ++ (more ++ 93 ∷ rest)) all rest
+more_at : (all : Items Integer MarkedText KeyForm) (after more rest : List ℕ) → AreBlanks after → SpellsMore more all → MoreAt (after ++ (more ++ 93 ∷ rest))
+    all rest
 more_at no_items after more rest b h = rw h (past_is is_blank after (93 ∷ rest) b refl)
 more_at (item value all) after more rest b h =
     let s = padded_at h.0 (h.1 ++ 93 ∷ rest) value h.2 in
@@ -125,7 +130,8 @@ pair_back next behind after tail k value b blanks e =
     let second = padded_back b.1 behind after tail value b.4 blanks e in
     let colon = front_cut is_blank b.0 _ (b.3 ∙ ap (λ xs. 58 ∷ xs) second.2) in
     let gap = front is_blank b.0 in
-    let first = between_blanks (λ literal. SpellsKey literal k) next b.2.literal b.0 gap (58 ∷ (second.0 ++ tail)) b.2.spells b.2.spelled (front_all is_blank b.0) colon in
+    let first = between_blanks (λ literal. SpellsKey literal k) next b.2.literal b.0 gap (58 ∷ (second.0 ++ tail)) b.2.spells b.2.spelled
+    (front_all is_blank b.0) colon in
     (first.0 ++ 58 ∷ second.0, (first.0, second.0, first.1, second.1, refl), first.2 ∙ sym (append_assoc first.0 (58 ∷ second.0) tail))
 
 more_spelled : (all : Items Integer MarkedText KeyForm) (xs rest : List ℕ) → MoreAt xs all rest → HasMore (λ more. SpellsMore more all) 93 xs rest

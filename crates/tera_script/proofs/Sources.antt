@@ -16,7 +16,7 @@ use Rattle.tera_meaning.specs.Tree.{object, members}
 use Rattle.tera_meaning.proofs.TreeLaws.{list_of_members}
 use Rattle.tera_script.specs.Line.{AreNamed}
 use Rattle.tera_script.specs.Readers.{IsSourceOf}
-use Rattle.tera_values.proofs.Parts.{map_of_members}
+use Rattle.tera_values.proofs.PartsLaws.{map_of_members}
 use Rattle.tera_values.specs.Key.{key_form, text_in_key}
 use Rattle.tera_values.specs.Map.{forms_of, keys_tie}
 use Rattle.tera_values.specs.MapLaws.{form_total, in_pairs, in_entries}

@@ -20,10 +20,12 @@ inside : (x : ℕ) → is_in (34 ∷ 92 ∷ []) x ≡ true → (x ≡ 34) ⊎ (x
 unfolding is_in
 inside x h = either x (eqb x 34) (eqb x 92) (eqb-true x 34) (eqb-true x 92) h
 
-pub plain_before : (bytes : List ℕ) (found : Option ℕ) (k : ℕ) → IsFirstByte (is_in (34 ∷ 92 ∷ [])) bytes found → k < unwrap_or found (length bytes) → IsPlain (get_or bytes k 0)
+pub plain_before : (bytes : List ℕ) (found : Option ℕ) (k : ℕ) → IsFirstByte (is_in (34 ∷ 92 ∷ [])) bytes found → k < unwrap_or found (length bytes)
+    → IsPlain (get_or bytes k 0)
 plain_before bytes None k p h = outside (get_or bytes k 0) (p k (omega arith) h)
 plain_before bytes (Some n) k p h = outside (get_or bytes k 0) (p.0.before k (omega arith) h)
 
-pub stops_at : (bytes : List ℕ) (found : Option ℕ) → IsFirstByte (is_in (34 ∷ 92 ∷ [])) bytes found → unwrap_or found (length bytes) < length bytes → (get_or bytes (unwrap_or found (length bytes)) 0 ≡ 34) ⊎ (get_or bytes (unwrap_or found (length bytes)) 0 ≡ 92)
+pub stops_at : (bytes : List ℕ) (found : Option ℕ) → IsFirstByte (is_in (34 ∷ 92 ∷ [])) bytes found → unwrap_or found (length bytes) < length bytes
+    → (get_or bytes (unwrap_or found (length bytes)) 0 ≡ 34) ⊎ (get_or bytes (unwrap_or found (length bytes)) 0 ≡ 92)
 stops_at bytes None p h = absurd (omega arith)
 stops_at bytes (Some n) p h = inside (get_or bytes n 0) p.1

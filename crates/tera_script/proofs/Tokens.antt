@@ -66,20 +66,26 @@ no_closing null x rest h e = other_byte 92 (ap head_of e) refl
 no_closing (character digits) x rest h e = other_byte 92 (ap head_of e) refl
 
 -- where some tokens stand before x, and a whole text before its closing quote, the text's tokens begin with those, and x goes on with the rest
-pub text_goes_on : (ps qs : List Token) (x rest : List ℕ) → AllByRecursion IsToken ps → AllByRecursion IsToken qs → flat_map spelling ps ++ x ≡ flat_map spelling qs ++ 34 ∷ rest → (more : List Token) × AllByRecursion IsToken more × (qs ≡ ps ++ more) × (x ≡ flat_map spelling more ++ 34 ∷ rest)
+pub text_goes_on : (ps qs : List Token) (x rest : List ℕ) → AllByRecursion IsToken ps → AllByRecursion IsToken qs → flat_map spelling ps ++ x
+    ≡ flat_map spelling qs ++ 34 ∷ rest → (more : List Token) × AllByRecursion IsToken more × (qs ≡ ps ++ more) × (x ≡ flat_map spelling more ++ 34 ∷ rest)
 text_goes_on [] qs x rest hp hq e = (qs, hq, refl, e)
-text_goes_on (p ∷ ps) [] x rest hp hq e = absurd (no_closing p (flat_map spelling ps ++ x) rest hp.0 (sym (append_assoc (spelling p) (flat_map spelling ps) x) ∙ e))
+text_goes_on (p ∷ ps) [] x rest hp hq e =
+    absurd (no_closing p (flat_map spelling ps ++ x) rest hp.0 (sym (append_assoc (spelling p) (flat_map spelling ps) x) ∙ e))
 text_goes_on (p ∷ ps) (q ∷ qs) x rest hp hq e =
-    let heads = one_token p q (flat_map spelling ps ++ x) (flat_map spelling qs ++ 34 ∷ rest) hp.0 hq.0 (sym (append_assoc (spelling p) (flat_map spelling ps) x) ∙ (e ∙ append_assoc (spelling q) (flat_map spelling qs) (34 ∷ rest))) in
+    let heads = one_token p q (flat_map spelling ps ++ x) (flat_map spelling qs ++ 34 ∷ rest) hp.0 hq.0
+    (sym (append_assoc (spelling p) (flat_map spelling ps) x) ∙ (e ∙ append_assoc (spelling q) (flat_map spelling qs) (34 ∷ rest))) in
     let tail = text_goes_on ps qs x rest hp.1 hq.1 heads.1 in
     (tail.0, tail.1, (λ i. sym (heads.0) i ∷ tail.2 i), tail.3)
 
-nothing_more : (ps qs : List Token) (x y : List ℕ) (more : List Token) → AllByRecursion IsToken more → qs ≡ ps ++ more → 34 ∷ x ≡ flat_map spelling more ++ 34 ∷ y → ps ≡ qs
+nothing_more : (ps qs : List Token) (x y : List ℕ) (more : List Token) → AllByRecursion IsToken more → qs ≡ ps ++ more → 34 ∷ x ≡ flat_map spelling more ++ 34
+    ∷ y → ps ≡ qs
 nothing_more ps qs x y [] h e f = sym (e ∙ append-nil ps)
-nothing_more ps qs x y (m ∷ ms) h e f = absurd (no_closing m (flat_map spelling ms ++ 34 ∷ y) x h.0 (sym (f ∙ append_assoc (spelling m) (flat_map spelling ms) (34 ∷ y))))
+nothing_more ps qs x y (m ∷ ms) h e f =
+    absurd (no_closing m (flat_map spelling ms ++ 34 ∷ y) x h.0 (sym (f ∙ append_assoc (spelling m) (flat_map spelling ms) (34 ∷ y))))
 
 -- before its closing quote a text has one list of tokens
-pub one_list : (ps qs : List Token) (x y : List ℕ) → AllByRecursion IsToken ps → AllByRecursion IsToken qs → flat_map spelling ps ++ 34 ∷ x ≡ flat_map spelling qs ++ 34 ∷ y → ps ≡ qs
+pub one_list : (ps qs : List Token) (x y : List ℕ) → AllByRecursion IsToken ps → AllByRecursion IsToken qs → flat_map spelling ps ++ 34 ∷ x
+    ≡ flat_map spelling qs ++ 34 ∷ y → ps ≡ qs
 one_list ps qs x y hp hq e =
     let goes = text_goes_on ps qs (34 ∷ x) y hp hq e in
     nothing_more ps qs x y goes.0 goes.1 goes.2 goes.3

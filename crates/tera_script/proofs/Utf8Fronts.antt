@@ -43,7 +43,8 @@ utf8_past_name [] rest n u = absurd n
 utf8_past_name (b ∷ name) rest n u = utf8_past is_name_byte name_byte_is_ascii name rest n.1 (after_byte (name ++ rest) b (name_start_is_ascii b n.0) u)
 
 pub utf8_past_operand : (operand name rest : List ℕ) → SpellsOperand operand name → IsUtf8 (operand ++ rest) → IsUtf8 rest
-utf8_past_operand operand name rest h u = utf8_past_name name rest h.2 (utf8_past_blanks h.0 (name ++ rest) h.1.1 (subst IsUtf8 (ap (λ xs. xs ++ rest) h.3 ∙ append_assoc h.0 name rest) u))
+utf8_past_operand operand name rest h u = utf8_past_name name rest h.2
+    (utf8_past_blanks h.0 (name ++ rest) h.1.1 (subst IsUtf8 (ap (λ xs. xs ++ rest) h.3 ∙ append_assoc h.0 name rest) u))
 
 pub name_utf8 : (name : List ℕ) → IsName name → IsUtf8 name
 name_utf8 [] n = absurd n

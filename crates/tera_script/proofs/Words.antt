@@ -1,5 +1,6 @@
 -- Words: literals without quotes and brackets.
-use Rattle.std.proofs.Common.{◌≡◌, ℕ, Bool, true, false, cond, List, [], ◌∷◌, ◌++◌, length, Option, Some, None, refl, ap, ◌∙◌, ◌⊎◌, inl, inr, arith, ◌≤◌, take, ◌-◌}
+use Rattle.std.proofs.Common.{◌≡◌, ℕ, Bool, true, false, cond, List, [], ◌∷◌, ◌++◌, length, Option, Some, None, refl, ap, ◌∙◌, ◌⊎◌, inl, inr, arith, ◌≤◌, take}
+use Rattle.std.proofs.Common.{◌-◌}
 use Rattle.std.specs.Prelude.{codes}
 use Rattle.std.specs.Char.{is_ascii_digit}
 use Rattle.std.specs.List.{list_all}
@@ -19,31 +20,38 @@ use Rattle.tera_script.proofs.Integers.{number_found, number_only, digits_only}
 use Rattle.tera_script.proofs.Choices.{chosen}
 
 -- words
-pub word_found : {A : Type 0} (word t : List ℕ) (value : A) (otherwise : Option A) (v : A) → cond (bytes_eq word t) (Some value) otherwise ≡ Some v → ((word ≡ t) × (value ≡ v)) ⊎ (otherwise ≡ Some v)
+pub word_found : {A : Type 0} (word t : List ℕ) (value : A) (otherwise : Option A) (v : A) → cond (bytes_eq word t) (Some value) otherwise ≡ Some v
+    → ((word ≡ t) × (value ≡ v)) ⊎ (otherwise ≡ Some v)
 word_found word t value otherwise v e = elim (chosen (bytes_eq word t) (Some value) otherwise (Some v) e) [
   | inl h ↦ inl ((bytes_eq-Decides word t).0 h.0, same_Some value v h.1)
   | inr h ↦ inr h.1
 ]
 
-number_value_found : (word : List ℕ) (n : Option Integer) (v : Form) → ((i : Integer) → n ≡ Some i → SpellsNumber word i) → number_value n ≡ Some v → SpellsTree word v
+number_value_found : (word : List ℕ) (n : Option Integer) (v : Form) → ((i : Integer) → n ≡ Some i → SpellsNumber word i) → number_value n ≡ Some v
+    → SpellsTree word v
 number_value_found word None v h e = cc
 number_value_found word (Some i) v h e = rw (← same_Some (number i) v e) (h i refl)
 
 pub value_found : (word : List ℕ) (v : Form) → value_in word ≡ Some v → SpellsTree word v
 unfolding value_in
-value_found word v e = elim (word_found word (codes "undefined") undefined (if_word word (codes "none") none (if_word word (codes "true") (truth true) (if_word word (codes "false") (truth false) (number_value (number_in word))))) v e) [
-  | inl h ↦ rw (← h.1) (h.0)
-  | inr e ↦ elim (word_found word (codes "none") none (if_word word (codes "true") (truth true) (if_word word (codes "false") (truth false) (number_value (number_in word)))) v e) [
-    | inl h ↦ rw (← h.1) (h.0)
-    | inr e ↦ elim (word_found word (codes "true") (truth true) (if_word word (codes "false") (truth false) (number_value (number_in word))) v e) [
+value_found word v e =
+    elim (word_found word (codes "undefined") undefined
+    (if_word word (codes "none") none (if_word word (codes "true") (truth true) (if_word word (codes "false") (truth false) (number_value (number_in word))))) v
+    e) [
       | inl h ↦ rw (← h.1) (h.0)
-      | inr e ↦ elim (word_found word (codes "false") (truth false) (number_value (number_in word)) v e) [
-        | inl h ↦ rw (← h.1) (h.0)
-        | inr e ↦ number_value_found word (number_in word) v (λ i. number_found word i) e
-      ]
+      | inr e ↦
+          elim (word_found word (codes "none") none
+          (if_word word (codes "true") (truth true) (if_word word (codes "false") (truth false) (number_value (number_in word)))) v e) [
+            | inl h ↦ rw (← h.1) (h.0)
+            | inr e ↦ elim (word_found word (codes "true") (truth true) (if_word word (codes "false") (truth false) (number_value (number_in word))) v e) [
+              | inl h ↦ rw (← h.1) (h.0)
+              | inr e ↦ elim (word_found word (codes "false") (truth false) (number_value (number_in word)) v e) [
+                | inl h ↦ rw (← h.1) (h.0)
+                | inr e ↦ number_value_found word (number_in word) v (λ i. number_found word i) e
+              ]
+            ]
+          ]
     ]
-  ]
-]
 
 -- a number is none of the other words
 pub not_word : (word t : List ℕ) (n : Integer) → number_in word ≡ Some n → number_in t ≡ None → bytes_eq word t ≡ false
@@ -73,7 +81,14 @@ pub number_value_only : (word : List ℕ) (n : Integer) → SpellsNumber word n 
 unfolding value_in
 number_value_only word n h =
     let e = number_only word n h in
-    rw (not_word word (codes "undefined") n e no_number_undefined, not_word word (codes "none") n e no_number_none, not_word word (codes "true") n e no_number_true, not_word word (codes "false") n e no_number_false, e)
+    rw (
+      not_word word (codes "undefined") n e no_number_undefined,
+      not_word word (codes "none") n e no_number_none,
+      not_word word (codes "true") n e
+          no_number_true,
+      not_word word (codes "false") n e no_number_false,
+      e,
+    )
 
 -- the bytes of a number
 pub all_append : (p : ℕ → Bool) (xs ys : List ℕ) → list_all p xs ≡ true → list_all p ys ≡ true → list_all p (xs ++ ys) ≡ true
@@ -99,7 +114,9 @@ suffix_is_word (Some u128) = refl
 suffix_is_word (Some i128) = refl
 
 pub number_is_word : (word : List ℕ) (n : Integer) → SpellsNumber word n → list_all is_word_byte word ≡ true
-number_is_word word n h = rw (h.spelled) (all_append is_word_byte (sign_of h.minus ++ h.digits) (suffix_of h.suffix) (all_append is_word_byte (sign_of h.minus) h.digits (sign_is_word h.minus) (digits_are_word h.digits (digits_only h.digits h.numeral.1))) (suffix_is_word h.suffix))
+number_is_word word n h = rw (h.spelled) (all_append is_word_byte (sign_of h.minus ++ h.digits) (suffix_of h.suffix)
+    (all_append is_word_byte (sign_of h.minus) h.digits (sign_is_word h.minus) (digits_are_word h.digits (digits_only h.digits h.numeral.1)))
+    (suffix_is_word h.suffix))
 
 -- a literal is a word that names the value
 pub record IsWord (literal : List ℕ) (value : Form) : Type 0 where
@@ -126,10 +143,12 @@ pub word_number : (literal : List ℕ) (n : Integer) → SpellsNumber literal n 
 word_number literal n h = record { names = number_value_only literal n h; bytes = number_is_word literal n h }
 
 -- a word is what stands at the front
-pub word_front : (xs literal rest : List ℕ) (value : Form) → IsWord literal value → xs ≡ literal ++ rest → Stops is_word_byte rest → value_in (front is_word_byte xs) ≡ Some value
+pub word_front : (xs literal rest : List ℕ) (value : Form) → IsWord literal value → xs ≡ literal ++ rest → Stops is_word_byte rest
+    → value_in (front is_word_byte xs) ≡ Some value
 word_front xs literal rest value w e s = ap (λ ys. value_in (front is_word_byte ys)) e ∙ ap value_in (front_is is_word_byte literal rest w.bytes s) ∙ w.names
 
-pub word_behind : (xs literal rest : List ℕ) (value : Form) → IsWord literal value → xs ≡ literal ++ rest → Stops is_word_byte rest → past is_word_byte xs ≡ rest
+pub word_behind : (xs literal rest : List ℕ) (value : Form) → IsWord literal value → xs ≡ literal ++ rest → Stops is_word_byte rest → past is_word_byte xs
+    ≡ rest
 word_behind xs literal rest value w e s = ap (past is_word_byte) e ∙ past_is is_word_byte literal rest w.bytes s
 
 pub no_value_nowhere : value_in [] ≡ None
@@ -151,21 +170,27 @@ number_value_is P number_is None v e = cc
 number_value_is P number_is (Some i) v e = rw (← same_Some (number i) v e) (number_is i)
 
 -- what holds of undefined, none, truth values and numbers holds of what a word spells
-pub word_value_is : (P : Form → Type 0) → P undefined → P none → P (truth true) → P (truth false) → ((i : Integer) → P (number i)) → (word : List ℕ) (v : Form) → value_in word ≡ Some v → P v
+pub word_value_is : (P : Form → Type 0) → P undefined → P none → P (truth true) → P (truth false) → ((i : Integer) → P (number i)) → (word : List ℕ) (v : Form)
+    → value_in word ≡ Some v → P v
 unfolding value_in
-word_value_is P undefined_is none_is true_is false_is number_is word v e = elim (word_found word (codes "undefined") undefined (if_word word (codes "none") none (if_word word (codes "true") (truth true) (if_word word (codes "false") (truth false) (number_value (number_in word))))) v e) [
-  | inl h ↦ rw (← h.1) undefined_is
-  | inr e ↦ elim (word_found word (codes "none") none (if_word word (codes "true") (truth true) (if_word word (codes "false") (truth false) (number_value (number_in word)))) v e) [
-    | inl h ↦ rw (← h.1) none_is
-    | inr e ↦ elim (word_found word (codes "true") (truth true) (if_word word (codes "false") (truth false) (number_value (number_in word))) v e) [
-      | inl h ↦ rw (← h.1) true_is
-      | inr e ↦ elim (word_found word (codes "false") (truth false) (number_value (number_in word)) v e) [
-        | inl h ↦ rw (← h.1) false_is
-        | inr e ↦ number_value_is P number_is (number_in word) v e
-      ]
+word_value_is P undefined_is none_is true_is false_is number_is word v e =
+    elim (word_found word (codes "undefined") undefined
+    (if_word word (codes "none") none (if_word word (codes "true") (truth true) (if_word word (codes "false") (truth false) (number_value (number_in word))))) v
+    e) [
+      | inl h ↦ rw (← h.1) undefined_is
+      | inr e ↦
+          elim (word_found word (codes "none") none
+          (if_word word (codes "true") (truth true) (if_word word (codes "false") (truth false) (number_value (number_in word)))) v e) [
+            | inl h ↦ rw (← h.1) none_is
+            | inr e ↦ elim (word_found word (codes "true") (truth true) (if_word word (codes "false") (truth false) (number_value (number_in word))) v e) [
+              | inl h ↦ rw (← h.1) true_is
+              | inr e ↦ elim (word_found word (codes "false") (truth false) (number_value (number_in word)) v e) [
+                | inl h ↦ rw (← h.1) false_is
+                | inr e ↦ number_value_is P number_is (number_in word) v e
+              ]
+            ]
+          ]
     ]
-  ]
-]
 
 -- no word spells an array or a map
 pub value_is_flat : (levels : ℕ) (word : List ℕ) (v : Form) → value_in word ≡ Some v → depth v ≤ levels

@@ -22,7 +22,9 @@ use Rattle.tera_script.specs.Literal.{SpellsTree}
 use Rattle.tera_script.specs.Line.{levels, IsBad}
 use Rattle.tera_script.specs.Verb.{likely_verb}
 use Rattle.tera_script.specs.Nested.{in_brackets, in_arrays}
-use Rattle.tera_script.specs.Readers.{Stops, past, gap_at, name_at, operand_at, names_at, two_in, one_in, arrow_at, into_in, is_word_byte, plain_at, value_in, number_in, unsigned_in, digits_at, suffix_in, integer_of, hex_at, BeginsWithLiteral, Ends, ItemsAt, MoreAt, IsLiteralAt, AreOperandsOf}
+use Rattle.tera_script.specs.Readers.{Stops, past, gap_at, name_at, operand_at, names_at, two_in, one_in, arrow_at, into_in, is_word_byte, plain_at, value_in}
+use Rattle.tera_script.specs.Readers.{number_in, unsigned_in, digits_at, suffix_in, integer_of, hex_at, BeginsWithLiteral, Ends, ItemsAt, MoreAt, IsLiteralAt}
+use Rattle.tera_script.specs.Readers.{AreOperandsOf}
 use Rattle.tera_script.proofs.Fronts.{head, tail}
 use Rattle.tera_script.proofs.Literals.{more, less, only_at, literal_found, no_literal, no_first_comma, more_stops}
 use Rattle.tera_script.proofs.Openings.{stops_end}
@@ -44,22 +46,27 @@ bad_longer_word = bad_command (codes "eqa b c") refl (command_none_verb (codes "
 
 pub bad_one_operand : IsBad (codes "eq a")
 unfolding name_at two_in names_at operand_at gap_at
-bad_one_operand = bad_command (codes "eq a") refl (command_answer (codes "eq a") (codes "eq") (codes " a") refl (Two Equal) refl None (two_answer_none Equal (codes " a") refl))
+bad_one_operand = bad_command (codes "eq a") refl (command_answer (codes "eq a") (codes "eq") (codes " a") refl (Two Equal) refl None
+    (two_answer_none Equal (codes " a") refl))
 
 pub bad_name : IsBad (codes "set 1a none")
 unfolding name_at operand_at gap_at
-bad_name = bad_command (codes "set 1a none") refl (command_answer (codes "set 1a none") (codes "set") (codes " 1a none") refl Set refl None (set_none_name (codes " 1a none") refl))
+bad_name = bad_command (codes "set 1a none") refl (command_answer (codes "set 1a none") (codes "set") (codes " 1a none") refl Set refl None
+    (set_none_name (codes " 1a none") refl))
 
 -- names for what is found
 pub bad_has_into : IsBad (codes "has a -> b")
 unfolding name_at one_in operand_at gap_at
-bad_has_into = bad_command (codes "has a -> b") refl (command_answer (codes "has a -> b") (codes "has") (codes " a -> b") refl (One Has) refl None (one_answer_none Has (codes " a -> b") refl))
+bad_has_into = bad_command (codes "has a -> b") refl (command_answer (codes "has a -> b") (codes "has") (codes " a -> b") refl (One Has) refl None
+    (one_answer_none Has (codes " a -> b") refl))
 
 pub bad_print_into : IsBad (codes "print a -> b")
 unfolding name_at one_in operand_at gap_at
-bad_print_into = bad_command (codes "print a -> b") refl (command_answer (codes "print a -> b") (codes "print") (codes " a -> b") refl (One Print) refl None (one_answer_none Print (codes " a -> b") refl))
+bad_print_into = bad_command (codes "print a -> b") refl (command_answer (codes "print a -> b") (codes "print") (codes " a -> b") refl (One Print) refl None
+    (one_answer_none Print (codes " a -> b") refl))
 
-bad_get : (behind name rest : List ℕ) → name_at (codes "get" ++ behind) ≡ Some (codes "get", behind) → operand_at behind ≡ Some (name, rest) → into_in rest ≡ None → IsBad (codes "get" ++ behind)
+bad_get : (behind name rest : List ℕ) → name_at (codes "get" ++ behind) ≡ Some (codes "get", behind) → operand_at behind ≡ Some (name, rest) → into_in rest
+    ≡ None → IsBad (codes "get" ++ behind)
 bad_get behind name rest n o e =
     bad_command (codes "get" ++ behind) refl
     (command_answer (codes "get" ++ behind) (codes "get") behind n (Keeping (Name Get)) refl None
@@ -84,11 +91,13 @@ bad_into_two = bad_get (codes " a -> b c") (codes "a") (codes " -> b c") refl re
 -- a value that is none
 at_value : (literal : List ℕ) → gap_at (32 ∷ literal) ≡ Some literal → AreOperandsOf Set (codes " a " ++ literal) None → IsBad (codes "set a " ++ literal)
 unfolding name_at
-at_value literal g h = bad_command (codes "set a " ++ literal) refl (command_answer (codes "set a " ++ literal) (codes "set") (codes " a " ++ literal) refl Set refl None h)
+at_value literal g h = bad_command (codes "set a " ++ literal) refl (command_answer (codes "set a " ++ literal) (codes "set") (codes " a " ++ literal) refl Set
+    refl None h)
 
 pub bad_value : (literal : List ℕ) → gap_at (32 ∷ literal) ≡ Some literal → IsLiteralAt levels literal None → IsBad (codes "set a " ++ literal)
 unfolding name_at operand_at gap_at
-bad_value literal g h = at_value literal g (set_none_value (codes " a " ++ literal) (codes "a") (32 ∷ literal) refl (no_value_literal (32 ∷ literal) literal g h))
+bad_value literal g h = at_value literal g (set_none_value (codes " a " ++ literal) (codes "a") (32 ∷ literal) refl
+    (no_value_literal (32 ∷ literal) literal g h))
 
 pub bad_large : IsBad (codes "set a 18446744073709551616u64")
 unfolding gap_at plain_at value_in number_in unsigned_in digits_at suffix_in integer_of
@@ -102,7 +111,8 @@ no_text : (t inner rest : List ℕ) → IsUtf8 inner → SpellsText inner t → 
 no_text t [] rest u s e = less 92 34 (lit< tt) (ap head e)
 no_text t (a ∷ []) rest u s e = less 120 34 (lit< tt) (ap (λ xs. head (tail xs)) e)
 no_text t (a ∷ b ∷ []) rest u s e = unknown_escape t (subst (λ xs. SpellsText xs t) (λ i. ap head (sym e) i ∷ ap (λ xs. head (tail xs)) (sym e) i ∷ []) s)
-no_text t (a ∷ b ∷ c ∷ inner) rest u s e = let length_is = ap (λ xs. length (tail (tail (tail xs)))) e in omega (arith, length_is, length-append inner (34 ∷ rest))
+no_text t (a ∷ b ∷ c ∷ inner) rest u s e = let length_is = ap (λ xs. length (tail (tail (tail xs)))) e in
+    omega (arith, length_is, length-append inner (34 ∷ rest))
 
 pub bad_escape : IsBad (codes "set a \"\\x\"")
 unfolding gap_at
@@ -126,17 +136,21 @@ unfolding gap_at hex_at
 bad_no_quote = bad_value (codes "x\"66") refl (literal_found levels (codes "x\"66") None refl)
 
 -- arrays
-bad_array : (inside : List ℕ) → gap_at (32 ∷ 91 ∷ inside) ≡ Some (91 ∷ inside) → ((all : Items Integer MarkedText KeyForm) (rest : List ℕ) → ItemsAt inside all rest → ⊥) → IsBad (codes "set a [" ++ inside)
+bad_array : (inside : List ℕ) → gap_at (32 ∷ 91 ∷ inside) ≡ Some (91 ∷ inside)
+    → ((all : Items Integer MarkedText KeyForm) (rest : List ℕ) → ItemsAt inside all rest → ⊥) → IsBad (codes "set a [" ++ inside)
 bad_array inside g h = bad_value (91 ∷ inside) g (literal_found levels (91 ∷ inside) None (λ utf8 all rest at d. h all rest at))
 
 -- behind a first item `none`
-behind_none : (behind : List ℕ) → Stops is_word_byte behind → ((others : Items Integer MarkedText KeyForm) (rest : List ℕ) → MoreAt behind others rest → ⊥) → (all : Items Integer MarkedText KeyForm) (rest : List ℕ) → ItemsAt (codes "none" ++ behind) all rest → ⊥
+behind_none : (behind : List ℕ) → Stops is_word_byte behind → ((others : Items Integer MarkedText KeyForm) (rest : List ℕ) → MoreAt behind others rest → ⊥)
+    → (all : Items Integer MarkedText KeyForm) (rest : List ℕ) → ItemsAt (codes "none" ++ behind) all rest → ⊥
 behind_none behind s h no_items rest at = less 110 93 (lit< tt) (ap head at)
 behind_none behind s h (item v others) rest at =
-    let same = only_at none (codes "none" ++ behind) behind (record { literal = codes "none"; spells = refl; spelled = refl }) s v at.0 at.1 (stops_end v at.0 (more_stops others at.0 rest at.2)) in
+    let same = only_at none (codes "none" ++ behind) behind (record { literal = codes "none"; spells = refl; spelled = refl }) s v at.0 at.1
+    (stops_end v at.0 (more_stops others at.0 rest at.2)) in
     h others rest (subst (λ xs. MoreAt xs others rest) (sym same.1) at.2)
 
-nothing_more : (behind : List ℕ) → head (past is_blank behind) < 44 → (others : Items Integer MarkedText KeyForm) (rest : List ℕ) → MoreAt behind others rest → ⊥
+nothing_more : (behind : List ℕ) → head (past is_blank behind) < 44 → (others : Items Integer MarkedText KeyForm) (rest : List ℕ) → MoreAt behind others rest
+    → ⊥
 nothing_more behind s no_items rest m = omega (arith, s, ap head m)
 nothing_more behind s (item v others) rest m = omega (arith, s, ap head m.2)
 
@@ -178,7 +192,8 @@ too_deep xs tree s ends h = λ utf8 w rest b d stops.
     omega (arith, ap depth same.0, d, h)
 
 nested_too_deep : (n : ℕ) → levels < suc n → IsLiteralAt levels (in_brackets (suc n) (codes "none")) None
-nested_too_deep n h = too_deep (in_brackets (suc n) (codes "none")) (in_arrays (suc n) none) (nested_spelled (suc n) (codes "none") none refl) tt (omega (arith, nested_depth (suc n) none, h))
+nested_too_deep n h = too_deep (in_brackets (suc n) (codes "none")) (in_arrays (suc n) none) (nested_spelled (suc n) (codes "none") none refl) tt
+    (omega (arith, nested_depth (suc n) none, h))
 
 pub bad_too_deep : IsBad (codes "set a " ++ in_brackets 65 (codes "none"))
 unfolding gap_at
@@ -187,4 +202,6 @@ bad_too_deep = bad_value (in_brackets 65 (codes "none")) refl (nested_too_deep 6
 -- a name behind a value
 pub bad_set_into : IsBad (codes "set a 1 -> b")
 unfolding name_at operand_at gap_at
-bad_set_into = at_value (codes "1 -> b") refl (set_none_value (codes " a 1 -> b") (codes "a") (codes " 1 -> b") refl (no_value_end (codes " 1 -> b") (codes "1 -> b") refl (number (record { kind = i64; value = pos 1 })) (codes " -> b") (record { literal = codes "1"; spells = one_spelled; spelled = refl }) refl (λ b. let no = b in cc)))
+bad_set_into = at_value (codes "1 -> b") refl (set_none_value (codes " a 1 -> b") (codes "a") (codes " 1 -> b") refl
+    (no_value_end (codes " 1 -> b") (codes "1 -> b") refl (number (record { kind = i64; value = pos 1 })) (codes " -> b")
+    (record { literal = codes "1"; spells = one_spelled; spelled = refl }) refl (λ b. let no = b in cc)))

@@ -1,5 +1,6 @@
 -- Worked lines that say a call or are skipped.
-use Rattle.std.proofs.Common.{◌≡◌, ◌≤◌, ◌+◌, ℕ, zero, suc, pos, true, false, List, [], ◌∷◌, ◌++◌, Some, None, refl, ap, sym, inl, inr, arith, lit<, lit≤, append-nil}
+use Rattle.std.proofs.Common.{◌≡◌, ◌≤◌, ◌+◌, ℕ, zero, suc, pos, true, false, List, [], ◌∷◌, ◌++◌, Some, None, refl, ap, sym, inl, inr, arith, lit<, lit≤}
+use Rattle.std.proofs.Common.{append-nil}
 use lib.Utf8.{encode}
 use Rattle.std.specs.Prelude.{codes}
 use Rattle.std.specs.Str.{IsUtf8, IsAscii}
@@ -111,14 +112,28 @@ says_escape = says_one one.Escape (codes "escape a", (refl, refl))
 pub says_get : Says (codes "get a") (asking (find (Search.get (codes "a"))))
 unfolding encode
 says_get =
-    says (codes "get a") (asking (find (Search.get (codes "a")))) (codes "get a", (refl, refl))
-    (verb.Keeping (kept.Name keep.Get), codes " a", record { first = codes " a"; second = []; found = (codes "a", operand_a, refl); into = refl; whole = refl }, refl)
+    says (codes "get a") (asking (find (Search.get (codes "a")))) (codes "get a", (refl, refl)) (
+      verb.Keeping (kept.Name keep.Get),
+      codes " a",
+      record { first = codes " a"; second = []; found = (codes "a", operand_a, refl); into = refl; whole = refl },
+      refl,
+    )
 
 pub says_mark_safe : Says (codes "mark_safe a") (asking (mark_safe (codes "a")))
 unfolding encode
 says_mark_safe =
-    says (codes "mark_safe a") (asking (mark_safe (codes "a"))) (codes "mark_safe a", (refl, refl))
-    (verb.Keeping (kept.Name keep.MarkSafe), codes " a", record { first = codes " a"; second = []; found = (codes "a", operand_a, refl); into = refl; whole = refl }, refl)
+    says (codes "mark_safe a") (asking (mark_safe (codes "a"))) (codes "mark_safe a", (refl, refl)) (
+      verb.Keeping (kept.Name keep.MarkSafe),
+      codes " a",
+      record {
+        first = codes " a";
+        second = [];
+        found = (codes "a", operand_a, refl);
+        into = refl;
+        whole = refl;
+      },
+      refl,
+    )
 
 -- with a name for what is found
 pub says_get_into : Says (codes "get a -> b") (asking_into (find (Search.get (codes "a"))) (codes "b"))
@@ -172,20 +187,52 @@ says_set_zero = record {
   call = codes "set a_1   -0";
   after = codes "  ";
   padded = (refl, refl);
-  spelled = (verb.Set, codes " a_1   -0", (codes "a_1", number (record { kind = i64; value = pos 0 }), (codes " a_1", codes "   -0", blank_then (codes "a_1") (refl, refl), (codes "   ", codes "-0", number (record { kind = i64; value = pos 0 }), (lit< tt, refl), zero_spelled, lit≤ tt, refl, refl), refl), refl), refl);
+  spelled = (
+    verb.Set,
+    codes " a_1   -0",
+    (
+      codes "a_1",
+      number (record { kind = i64; value = pos 0 }),
+      (
+        codes " a_1",
+        codes "   -0",
+        blank_then (codes "a_1") (refl, refl),
+        (codes "   ", codes "-0", number (record { kind = i64; value = pos 0 }), (lit< tt, refl), zero_spelled, lit≤ tt, refl, refl),
+        refl,
+      ),
+      refl,
+    ),
+    refl,
+  );
   whole = refl;
 }
 
 -- a line that sets a
-pub sets : (literal : List ℕ) (tree value : Form) → value ≡ tree_value tree → IsUtf8 (codes "set a " ++ literal) → SpellsTree literal tree → depth tree ≤ levels → Says (codes "set a " ++ literal) (asking (set (codes "a") value))
-sets literal tree value is u s d = says (codes "set a " ++ literal) (asking (set (codes "a") value)) u (verb.Set, codes " a " ++ literal, (codes "a", value, (codes " a", codes " " ++ literal, operand_a, (codes " ", literal, tree, one_blank, s, d, is, refl), refl), refl), refl)
+pub sets : (literal : List ℕ) (tree value : Form) → value ≡ tree_value tree → IsUtf8 (codes "set a " ++ literal) → SpellsTree literal tree → depth tree ≤ levels
+    → Says (codes "set a " ++ literal) (asking (set (codes "a") value))
+sets literal tree value is u s d = says (codes "set a " ++ literal) (asking (set (codes "a") value)) u (
+  verb.Set,
+  codes " a "
+      ++ literal,
+  (codes "a", value, (codes " a", codes " " ++ literal, operand_a, (codes " ", literal, tree, one_blank, s, d, is, refl), refl), refl),
+  refl,
+)
 
 abbrev one_in : IntegerKind → Integer
 one_in kind = record { kind = kind; value = pos 1 }
 
 pub says_set_u64 : Says (codes "set a 1u64") (asking (set (codes "a") (number (one_in u64))))
 unfolding encode
-says_set_u64 = sets (codes "1u64") (number (one_in u64)) _ refl (codes "set a 1u64", (refl, refl)) (record { minus = false; digits = codes "1"; suffix = Some u64; numeral = (lit< tt, (lit< tt, tt)); spelled = refl; value = refl; kind = (tt, refl, lit< tt) }) (lit≤ tt)
+says_set_u64 = sets (codes "1u64") (number (one_in u64)) _ refl (codes "set a 1u64", (refl, refl))
+    (record {
+      minus = false;
+      digits = codes "1";
+      suffix = Some u64;
+      numeral = (lit< tt, (lit< tt, tt));
+      spelled = refl;
+      value = refl;
+      kind = (tt, refl, lit< tt);
+    }) (lit≤ tt)
 
 pub one_spelled : SpellsNumber (codes "1") (one_in i64)
 one_spelled = record { minus = false; digits = codes "1"; suffix = None; numeral = (lit< tt, (lit< tt, tt)); spelled = refl; value = refl; kind = lit< tt }
@@ -196,16 +243,48 @@ says_set_plain = sets (codes "1") (number (one_in i64)) _ refl (codes "set a 1",
 
 safe_text : SpellsText (codes "a\\u{e9}\\n") (97 ∷ 195 ∷ 169 ∷ 10 ∷ [])
 unfolding encode
-safe_text = (itself 97 ∷ character (codes "e9") ∷ line_feed ∷ [], ((less 97 34 (lit< tt), less 97 92 (lit< tt)), (((lit< tt, (lit< tt, tt)), lit< tt, lit≤ tt, refl), (tt, tt))), refl, refl)
+safe_text = (
+  itself 97 ∷ character (codes "e9") ∷ line_feed
+      ∷ [],
+  ((less 97 34 (lit< tt), less 97 92 (lit< tt)), (((lit< tt, (lit< tt, tt)), lit< tt, lit≤ tt, refl), (tt, tt))),
+  refl,
+  refl,
+)
 
 pub says_set_text : Says (codes "set t s\"a\\u{e9}\\n\"") (asking (set (codes "t") (text (record { spelled = 97 ∷ 195 ∷ 169 ∷ 10 ∷ []; safe = true }))))
 unfolding encode
-says_set_text = says (codes "set t s\"a\\u{e9}\\n\"") (asking (set (codes "t") (text (record { spelled = 97 ∷ 195 ∷ 169 ∷ 10 ∷ []; safe = true })))) (codes "set t s\"a\\u{e9}\\n\"", (refl, refl))
-    (verb.Set, codes " t s\"a\\u{e9}\\n\"", (codes "t", text (record { spelled = 97 ∷ 195 ∷ 169 ∷ 10 ∷ []; safe = true }), (codes " t", codes " s\"a\\u{e9}\\n\"", blank_then (codes "t") (refl, refl), (codes " ", codes "s\"a\\u{e9}\\n\"", text (record { spelled = 97 ∷ 195 ∷ 169 ∷ 10 ∷ []; safe = true }), one_blank, (codes "a\\u{e9}\\n", safe_text, refl), lit≤ tt, refl, refl), refl), refl), refl)
+says_set_text = says (codes "set t s\"a\\u{e9}\\n\"") (asking (set (codes "t") (text (record { spelled = 97 ∷ 195 ∷ 169 ∷ 10 ∷ []; safe = true }))))
+    (codes "set t s\"a\\u{e9}\\n\"", (refl, refl)) (
+      verb.Set,
+      codes " t s\"a\\u{e9}\\n\"",
+      (
+        codes "t",
+        text (record { spelled = 97 ∷ 195 ∷ 169 ∷ 10 ∷ []; safe = true }),
+        (
+          codes " t",
+          codes " s\"a\\u{e9}\\n\"",
+          blank_then (codes "t") (refl, refl),
+          (
+            codes " ",
+            codes "s\"a\\u{e9}\\n\"",
+            text (record { spelled = 97 ∷ 195 ∷ 169 ∷ 10 ∷ []; safe = true }),
+            one_blank,
+            (codes "a\\u{e9}\\n", safe_text, refl),
+            lit≤ tt,
+            refl,
+            refl,
+          ),
+          refl,
+        ),
+        refl,
+      ),
+      refl,
+    )
 
 pub says_set_bytes : Says (codes "set a x\"6aFF\"") (asking (set (codes "a") (bytes (106 ∷ 255 ∷ []))))
 unfolding encode
-says_set_bytes = sets (codes "x\"6aFF\"") (bytes (106 ∷ 255 ∷ [])) _ refl (codes "set a x\"6aFF\"", (refl, refl)) (codes "6aFF", (54, 97, codes "FF", lit< tt, lit< tt, refl, (70, 70, [], lit< tt, lit< tt, refl, refl, refl), refl), refl) (lit≤ tt)
+says_set_bytes = sets (codes "x\"6aFF\"") (bytes (106 ∷ 255 ∷ [])) _ refl (codes "set a x\"6aFF\"", (refl, refl))
+    (codes "6aFF", (54, 97, codes "FF", lit< tt, lit< tt, refl, (70, 70, [], lit< tt, lit< tt, refl, refl, refl), refl), refl) (lit≤ tt)
 
 pub says_set_no_bytes : Says (codes "set a x\"\"") (asking (set (codes "a") (bytes [])))
 unfolding encode
@@ -217,8 +296,17 @@ says_set_no_items = sets (codes "[]") (array (items [])) _ refl (codes "set a []
 
 pub says_set_blanks : Says (codes "set a [ none\t,[ ] ]") (asking (set (codes "a") (array (items (none ∷ array (items []) ∷ [])))))
 unfolding encode
-says_set_blanks = sets (codes "[ none\t,[ ] ]") (array (items (none ∷ array (items []) ∷ []))) _ refl (codes "set a [ none\t,[ ] ]", (refl, refl))
-    (codes " none\t,[ ] ", (codes " none\t", codes ",[ ] ", (codes " ", codes "none", codes "\t", refl, refl, refl, refl), (codes "[ ] ", [], ([], codes "[ ]", codes " ", refl, (codes " ", refl, refl), refl, refl), refl, refl), refl), refl) (lit≤ tt)
+says_set_blanks = sets (codes "[ none\t,[ ] ]") (array (items (none ∷ array (items []) ∷ []))) _ refl (codes "set a [ none\t,[ ] ]", (refl, refl)) (
+  codes " none\t,[ ] ",
+  (
+    codes " none\t",
+    codes ",[ ] ",
+    (codes " ", codes "none", codes "\t", refl, refl, refl, refl),
+    (codes "[ ] ", [], ([], codes "[ ]", codes " ", refl, (codes " ", refl, refl), refl, refl), refl, refl),
+    refl,
+  ),
+  refl,
+) (lit≤ tt)
 
 -- arrays that nest
 pub nested_spelled : (n : ℕ) (literal : List ℕ) (value : Form) → SpellsTree literal value → SpellsTree (in_brackets n literal) (in_arrays n value)
@@ -237,18 +325,25 @@ nested_value (suc n) tree = ap (λ v. array (item v no_items)) (nested_value n t
 
 nested_ascii : (n : ℕ) (literal : List ℕ) → IsAscii literal → IsAscii (in_brackets n literal)
 nested_ascii zero literal a = a
-nested_ascii (suc n) literal a = IsAscii-cons 91 (in_brackets n literal ++ 93 ∷ []) (lit< tt) (IsAscii-append (in_brackets n literal) (93 ∷ []) (nested_ascii n literal a) (IsAscii-cons 93 [] (lit< tt) IsAscii-nil))
+nested_ascii (suc n) literal a = IsAscii-cons 91 (in_brackets n literal ++ 93 ∷ []) (lit< tt)
+    (IsAscii-append (in_brackets n literal) (93 ∷ []) (nested_ascii n literal a) (IsAscii-cons 93 [] (lit< tt) IsAscii-nil))
 
 none_ascii : IsAscii (codes "none")
-none_ascii = IsAscii-cons 110 (codes "one") (lit< tt) (IsAscii-cons 111 (codes "ne") (lit< tt) (IsAscii-cons 110 (codes "e") (lit< tt) (IsAscii-cons 101 [] (lit< tt) IsAscii-nil)))
+none_ascii = IsAscii-cons 110 (codes "one") (lit< tt)
+    (IsAscii-cons 111 (codes "ne") (lit< tt) (IsAscii-cons 110 (codes "e") (lit< tt) (IsAscii-cons 101 [] (lit< tt) IsAscii-nil)))
 
 set_ascii : IsAscii (codes "set a ")
-set_ascii = IsAscii-cons 115 (codes "et a ") (lit< tt) (IsAscii-cons 101 (codes "t a ") (lit< tt) (IsAscii-cons 116 (codes " a ") (lit< tt) (IsAscii-cons 32 (codes "a ") (lit< tt) (IsAscii-cons 97 (codes " ") (lit< tt) (IsAscii-cons 32 [] (lit< tt) IsAscii-nil)))))
+set_ascii = IsAscii-cons 115 (codes "et a ") (lit< tt)
+    (IsAscii-cons 101 (codes "t a ") (lit< tt)
+    (IsAscii-cons 116 (codes " a ") (lit< tt)
+    (IsAscii-cons 32 (codes "a ") (lit< tt) (IsAscii-cons 97 (codes " ") (lit< tt) (IsAscii-cons 32 [] (lit< tt) IsAscii-nil)))))
 
 nested_says : (n : ℕ) → n ≤ levels → Says (codes "set a " ++ in_brackets n (codes "none")) (asking (set (codes "a") (in_arrays n none)))
 nested_says n h =
     let literal = in_brackets n (codes "none") in
-    sets literal (in_arrays n none) (in_arrays n none) (nested_value n none) (IsUtf8-from_ascii (codes "set a " ++ literal) (IsAscii-append (codes "set a ") literal set_ascii (nested_ascii n (codes "none") none_ascii))) (nested_spelled n (codes "none") none refl) (omega (arith, nested_depth n none, h))
+    sets literal (in_arrays n none) (in_arrays n none) (nested_value n none)
+    (IsUtf8-from_ascii (codes "set a " ++ literal) (IsAscii-append (codes "set a ") literal set_ascii (nested_ascii n (codes "none") none_ascii)))
+    (nested_spelled n (codes "none") none refl) (omega (arith, nested_depth n none, h))
 
 pub says_deepest : Says (codes "set a " ++ in_brackets 64 (codes "none")) (asking (set (codes "a") (in_arrays 64 none)))
 says_deepest = nested_says 64 (lit≤ tt)

@@ -1,5 +1,6 @@
 -- What a line of a script says.
-use Rattle.std.specs.Prelude.{◌≡◌, ◌≤◌, ℕ, ℤ, ◌⊎◌, Bool, false, List, [], ◌∷◌, ◌++◌, Option, Some, None, IsSome, codes}
+use Rattle.std.specs.Prelude.{◌≡◌, ◌≤◌, ℕ, ℤ, ◌⊎◌, Bool, false, List, [], ◌∷◌, ◌++◌, Option, Some}
+use Rattle.std.specs.Prelude.{None, IsSome, codes}
 use Rattle.std.specs.FinMap.{get}
 use Rattle.std.specs.List.{AllByRecursion}
 use Rattle.std.specs.Str.{IsUtf8}
@@ -35,10 +36,12 @@ levels = 64
 -- a gap and a literal
 abbrev pub SpellsValue : List ℕ → Form → Type 0
 SpellsValue bytes value =
-    (gap : List ℕ) × (literal : List ℕ) × (tree : Form) × IsGap gap × SpellsTree literal tree × (depth tree ≤ levels)
+    (gap : List ℕ) × (literal : List ℕ) × (tree : Form) × IsGap gap × SpellsTree literal tree
+    × (depth tree ≤ levels)
     × (value ≡ tree_value tree) × (bytes ≡ gap ++ literal)
 
--- the keys of the pairs are all texts, and the state holds under each text what is paired with it, and nothing else
+-- the keys of the pairs are all texts, and the state holds under each text what is paired with it,
+-- and nothing else
 abbrev pub AreNamed : List (KeyForm × Form) → State → Type 0
 AreNamed pairs state =
     AllByRecursion (λ pair. IsSome (text_in_key pair.0)) pairs
@@ -47,12 +50,14 @@ AreNamed pairs state =
 -- a gap and a map whose keys are all texts, and the state of its pairs
 abbrev pub SpellsSource : List ℕ → State → Type 0
 SpellsSource bytes source =
-    (pairs : List (KeyForm × Form)) × SpellsValue bytes (object (members pairs)) × AreNamed pairs source
+    (pairs : List (KeyForm × Form)) × SpellsValue bytes (object (members pairs))
+    × AreNamed pairs source
 
 -- an operand and a value
 abbrev pub SpellsNamed : List ℕ → List ℕ → Form → Type 0
 SpellsNamed bytes name value =
-    (first : List ℕ) × (second : List ℕ) × SpellsOperand first name × SpellsValue second value × (bytes ≡ first ++ second)
+    (first : List ℕ) × (second : List ℕ) × SpellsOperand first name × SpellsValue second value
+    × (bytes ≡ first ++ second)
 
 -- two operands, one behind the other
 abbrev pub SpellsTwo : List ℕ → List ℕ → List ℕ → Type 0
@@ -70,7 +75,8 @@ SpellsInto bytes (Some into) =
 -- a gap and a text in quotes with no mark
 abbrev pub SpellsQuoted : List ℕ → List ℕ → Type 0
 SpellsQuoted bytes t =
-    (gap : List ℕ) × (literal : List ℕ) × IsGap gap × SpellsTree literal (text (record { spelled = t; safe = false }))
+    (gap : List ℕ) × (literal : List ℕ) × IsGap gap
+    × SpellsTree literal (text (record { spelled = t; safe = false }))
     × (bytes ≡ gap ++ literal)
 
 -- _ where there is no bound; else an optional minus and digits, of a number that i128 holds
@@ -82,12 +88,14 @@ IsBound word (Some z) =
 
 -- a gap and a bound
 abbrev pub SpellsBound : List ℕ → Option ℤ → Type 0
-SpellsBound bytes bound = (gap : List ℕ) × (word : List ℕ) × IsGap gap × IsBound word bound × (bytes ≡ gap ++ word)
+SpellsBound bytes bound = (gap : List ℕ) × (word : List ℕ) × IsGap gap × IsBound word bound
+    × (bytes ≡ gap ++ word)
 
 -- three bounds one behind another
 abbrev pub SpellsBounds : List ℕ → Bounds → Type 0
 SpellsBounds bytes bounds =
-    (first : List ℕ) × (second : List ℕ) × (third : List ℕ) × SpellsBound first bounds.start × SpellsBound second bounds.end
+    (first : List ℕ) × (second : List ℕ) × (third : List ℕ) × SpellsBound first bounds.start
+    × SpellsBound second bounds.end
     × SpellsBound third bounds.step × (bytes ≡ first ++ (second ++ third))
 
 -- what stands before the name for what is found, and the request that it makes
@@ -95,16 +103,19 @@ abbrev pub SpellsFound : Keeping → List ℕ → Request → Type 0
 SpellsFound (kept.Name o) bytes request =
     (name : List ℕ) × SpellsOperand bytes name × (request ≡ (of_keeping o).1 name)
 SpellsFound (kept.Names o) bytes request =
-    (left : List ℕ) × (right : List ℕ) × SpellsTwo bytes left right × (request ≡ (of_names o).1 left right)
+    (left : List ℕ) × (right : List ℕ) × SpellsTwo bytes left right
+    × (request ≡ (of_names o).1 left right)
 SpellsFound (kept.Part o) bytes request =
     (name : List ℕ) × (t : List ℕ) × (first : List ℕ) × (second : List ℕ) × SpellsOperand first name
     × SpellsQuoted second t × (bytes ≡ first ++ second) × (request ≡ (of_part o).1 name t)
 SpellsFound kept.Slice bytes request =
-    (name : List ℕ) × (bounds : Bounds) × (first : List ℕ) × (second : List ℕ) × SpellsOperand first name
+    (name : List ℕ) × (bounds : Bounds) × (first : List ℕ) × (second : List ℕ)
+    × SpellsOperand first name
     × SpellsBounds second bounds × (bytes ≡ first ++ second)
     × (request ≡ find (Search.slice name bounds.start bounds.end bounds.step))
 SpellsFound kept.Read bytes request =
-    (type : IntegerType) × (name : List ℕ) × SpellsTwo bytes (type_name type) name × (request ≡ find (Search.read type name))
+    (type : IntegerType) × (name : List ℕ) × SpellsTwo bytes (type_name type) name
+    × (request ≡ find (Search.read type name))
 
 -- this, and then the name for what is found, if one is given
 pub record SpellsKeeping (verb : Keeping) (bytes : List ℕ) (command : Command) : Type 0 where
@@ -114,22 +125,26 @@ pub record SpellsKeeping (verb : Keeping) (bytes : List ℕ) (command : Command)
   pub into : SpellsInto second command.into
   pub whole : bytes ≡ first ++ second
 
--- what stands behind the word of a call, and the command that it gives. Only some may have a name for what they find
+-- what stands behind the word of a call, and the command that it gives. Only some may have a name
+-- for what they find
 abbrev pub SpellsOperands : Verb → List ℕ → Command → Type 0
 SpellsOperands verb.Set bytes command =
-    (name : List ℕ) × (value : Form) × SpellsNamed bytes name value × (command ≡ asking (set name value))
+    (name : List ℕ) × (value : Form) × SpellsNamed bytes name value
+    × (command ≡ asking (set name value))
 SpellsOperands verb.Extend bytes command =
     (source : State) × SpellsSource bytes source × (command ≡ asking (extend source))
 SpellsOperands (verb.One o) bytes command =
     (name : List ℕ) × SpellsOperand bytes name × (command ≡ asking ((of_one o).1 name))
 SpellsOperands (verb.Two o) bytes command =
-    (left : List ℕ) × (right : List ℕ) × SpellsTwo bytes left right × (command ≡ asking ((of_two o).1 left right))
+    (left : List ℕ) × (right : List ℕ) × SpellsTwo bytes left right
+    × (command ≡ asking ((of_two o).1 left right))
 SpellsOperands (verb.Keeping o) bytes command = SpellsKeeping o bytes command
 
 -- the word of a call and its operands
 abbrev pub SpellsCommand : List ℕ → Command → Type 0
 SpellsCommand bytes command =
-    (verb : Verb) × (operands : List ℕ) × SpellsOperands verb operands command × (bytes ≡ word_of verb ++ operands)
+    (verb : Verb) × (operands : List ℕ) × SpellsOperands verb operands command
+    × (bytes ≡ word_of verb ++ operands)
 
 -- a command with blanks before and after it, or with none, all of it UTF-8
 pub record Says (line : List ℕ) (command : Command) : Type 0 where

@@ -22,4 +22,5 @@ in_turns (suc n) literal = codes "[{true:" ++ (in_turns n literal ++ codes "}]")
 -- the value in n arrays and n maps, by turns
 abbrev pub in_both : ℕ → Form → Form
 in_both zero value = value
-in_both (suc n) value = array (item (object (member (truth_key true) (in_both n value) no_members)) no_items)
+in_both (suc n) value =
+    array (item (object (member (truth_key true) (in_both n value) no_members)) no_items)

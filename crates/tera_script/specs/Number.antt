@@ -1,5 +1,7 @@
--- Numbers as a script spells them: an optional minus, digits in base ten, and an optional suffix that names a kind.
-use Rattle.std.specs.Prelude.{◌≡◌, ℕ, Bool, true, false, List, [], ◌++◌, ℤ, pos, neg_ℤ, Option, Some, None, codes}
+-- Numbers as a script spells them: an optional minus, digits in base ten, and an optional suffix
+-- that names a kind.
+use Rattle.std.specs.Prelude.{◌≡◌, ℕ, Bool, true, false, List, [], ◌++◌, ℤ, pos, neg_ℤ, Option}
+use Rattle.std.specs.Prelude.{Some, None, codes}
 use Rattle.std.specs.Str.Parse.{IsNumeral, digits_value}
 use Rattle.tera_meaning.specs.Integer.{IntegerKind, u64, i64, u128, i128, Integer, IsOfKind}
 use Rattle.tera_meaning.specs.Kind.{integer_kind_name}
@@ -31,12 +33,14 @@ IsFirstKind u64 z = (¬ IsOfKind i64 z) × IsOfKind u64 z
 IsFirstKind i128 z = (¬ IsOfKind i64 z) × (¬ IsOfKind u64 z) × IsOfKind i128 z
 IsFirstKind u128 z = (¬ IsOfKind i64 z) × (¬ IsOfKind u64 z) × (¬ IsOfKind i128 z) × IsOfKind u128 z
 
--- the kind of a number with this sign and suffix: the suffix's, which has to hold it; with no suffix the first that does
+-- the kind of a number with this sign and suffix: the suffix's, which has to hold it; with no
+-- suffix the first that does
 abbrev pub IsKindFor : Bool → Option IntegerKind → Integer → Type 0
 IsKindFor minus (Some kind) n = IsSignFor minus kind × (n.kind ≡ kind) × IsOfKind kind n.value
 IsKindFor minus None n = IsFirstKind n.kind n.value
 
--- the word is a sign, one digit or more, and a suffix, and the number is theirs. So -0 is 0, and zeros may lead
+-- the word is a sign, one digit or more, and a suffix, and the number is theirs. So -0 is 0, and
+-- zeros may lead
 pub record SpellsNumber (word : List ℕ) (number : Integer) : Type 0 where
   pub minus : Bool
   pub digits : List ℕ

@@ -1,5 +1,7 @@
 -- What the readers give, as functions on lists: a value and the bytes behind it, or nothing.
-use Rattle.std.specs.Prelude.{◌≡◌, ◌≢◌, ◌≤◌, ◌+◌, ◌*◌, IsTrue, ℕ, ◌^◌, ℤ, pos, negsuc, Bool, true, false, cond, ◌&&◌, ◌||◌, ◌==◌, ◌++◌, codes, nat_lt, List, [], ◌∷◌, length, Option, Some, None, option_and_then, Vec}
+use Rattle.std.specs.Prelude.{◌≡◌, ◌≢◌, ◌≤◌, ◌+◌, ◌*◌, IsTrue, ℕ, ◌^◌, ℤ, pos, negsuc, Bool, true}
+use Rattle.std.specs.Prelude.{false, cond, ◌&&◌, ◌||◌, ◌==◌, ◌++◌, codes, nat_lt, List, [], ◌∷◌}
+use Rattle.std.specs.Prelude.{length, Option, Some, None, option_and_then, Vec}
 use Rattle.std.specs.Borrow.{Bor}
 use Rattle.std.specs.Option.{option_map}
 use Rattle.std.specs.Char.{digit_value, is_ascii_digit}
@@ -11,7 +13,9 @@ use Rattle.tera_meaning.specs.Conversion.{IntegerType, type_name}
 use Rattle.tera_meaning.specs.Form.{Form, MarkedText}
 use Rattle.tera_meaning.specs.Kind.{integer_kind_name}
 use Rattle.tera_meaning.specs.KeyMeaning.{KeyForm, truth_key, number_key}
-use Rattle.tera_meaning.specs.Tree.{Items, Members, undefined, none, truth, number, text as text_value, bytes as bytes_value, array, object, items_list, members_list, members, depth}
+use Rattle.tera_meaning.specs.Tree.{Items, Members, undefined, none, truth, number}
+use Rattle.tera_meaning.specs.Tree.{text as text_value, bytes as bytes_value, array, object}
+use Rattle.tera_meaning.specs.Tree.{items_list, members_list, members, depth}
 use Rattle.tera_meaning.specs.Request.{Request, Command}
 use Rattle.tera_values.specs.Converted.{integer_type}
 use Rattle.tera_values.specs.declared.integers.IntType.{IntType}
@@ -26,7 +30,8 @@ use Rattle.tera_script.specs.declared.verb.Verb.{Verb}
 use Rattle.tera_script.specs.Verb.{word_of}
 use Rattle.tera_script.specs.Word.{is_blank, AreBlanks, is_name_start, is_name_byte}
 use Rattle.tera_meaning.specs.State.{State}
-use Rattle.tera_script.specs.Line.{SpellsValue, AreNamed, SpellsOperands, SpellsCommand, SpellsQuoted, SpellsFound}
+use Rattle.tera_script.specs.Line.{SpellsValue, AreNamed, SpellsOperands, SpellsCommand}
+use Rattle.tera_script.specs.Line.{SpellsQuoted, SpellsFound}
 use Rattle.tera_script.specs.declared.bound.Bounds.{Bounds}
 use Rattle.tera_script.specs.declared.verb.Keeping.{Keeping}
 use Rattle.tera_script.specs.declared.verb.Keeping.TheVariants as kept
@@ -72,24 +77,32 @@ gap_at (b ∷ bytes) = cond (is_blank b) (Some (past is_blank bytes)) None
 -- a name
 unfoldable pub name_at : List ℕ → Option (List ℕ × List ℕ)
 name_at [] = None
-name_at (b ∷ bytes) = cond (is_name_start b) (Some (b ∷ front is_name_byte bytes, past is_name_byte bytes)) None
+name_at (b ∷ bytes) = cond (is_name_start b)
+    (Some (b ∷ front is_name_byte bytes, past is_name_byte bytes)) None
 
 -- the name behind a gap
 unfoldable pub operand_at : List ℕ → Option (List ℕ × List ℕ)
 operand_at bytes = gap_at bytes >>= name_at
 
--- the number of the digits at the front, if there are any and 128 bits hold it, and the bytes behind them
+-- the number of the digits at the front, if there are any and 128 bits hold it, and the bytes
+-- behind them
 unfoldable pub digits_at : List ℕ → Option (ℕ × List ℕ)
-digits_at bytes = cond (nat_lt 0 (length (front is_ascii_digit bytes)) && nat_lt (digits_value 10 (front is_ascii_digit bytes)) (2 ^ 128)) (Some (digits_value 10 (front is_ascii_digit bytes), past is_ascii_digit bytes)) None
+digits_at bytes =
+    cond (nat_lt 0 (length (front is_ascii_digit bytes))
+    && nat_lt (digits_value 10 (front is_ascii_digit bytes)) (2 ^ 128))
+    (Some (digits_value 10 (front is_ascii_digit bytes), past is_ascii_digit bytes)) None
 
 -- the kind, if this is its word, and else what is given
-abbrev pub if_named : List ℕ → IntegerKind → Option (Option IntegerKind) → Option (Option IntegerKind)
-if_named word kind otherwise = cond (bytes_eq word (integer_kind_name kind)) (Some (Some kind)) otherwise
+abbrev pub if_named : List ℕ → IntegerKind → Option (Option IntegerKind)
+    → Option (Option IntegerKind)
+if_named word kind otherwise = cond (bytes_eq word (integer_kind_name kind)) (Some (Some kind))
+    otherwise
 
 -- the kind that a word names, or none where there is no word. Any other word is no suffix
 unfoldable pub suffix_in : List ℕ → Option (Option IntegerKind)
 suffix_in [] = Some None
-suffix_in (b ∷ bytes) = if_named (b ∷ bytes) u64 (if_named (b ∷ bytes) i64 (if_named (b ∷ bytes) u128 (if_named (b ∷ bytes) i128 None)))
+suffix_in (b ∷ bytes) = if_named (b ∷ bytes) u64
+    (if_named (b ∷ bytes) i64 (if_named (b ∷ bytes) u128 (if_named (b ∷ bytes) i128 None)))
 
 -- `IsOfKind` and `IsSignFor` as tests
 abbrev pub is_of_kind : IntegerKind → ℤ → Bool
@@ -109,11 +122,15 @@ is_sign_for minus kind = true
 
 -- the number in this kind, if the kind holds it, and else what is given
 abbrev pub in_kind : IntegerKind → ℤ → Option Integer → Option Integer
-in_kind kind z otherwise = cond (is_of_kind kind z) (Some (record { kind = kind; value = z })) otherwise
+in_kind kind z otherwise = cond (is_of_kind kind z) (Some (record { kind = kind; value = z }))
+    otherwise
 
 unfoldable pub integer_of : Bool → ℕ → Option IntegerKind → Option Integer
-integer_of minus n (Some kind) = cond (is_sign_for minus kind) (in_kind kind (signed minus n) None) None
-integer_of minus n None = in_kind i64 (signed minus n) (in_kind u64 (signed minus n) (in_kind i128 (signed minus n) (in_kind u128 (signed minus n) None)))
+integer_of minus n (Some kind) = cond (is_sign_for minus kind) (in_kind kind (signed minus n) None)
+    None
+integer_of minus n None = in_kind i64 (signed minus n)
+    (in_kind u64 (signed minus n)
+    (in_kind i128 (signed minus n) (in_kind u128 (signed minus n) None)))
 
 -- the number that a word spells, behind its sign, and whole
 unfoldable pub unsigned_in : Bool → List ℕ → Option Integer
@@ -164,7 +181,10 @@ if_word word text value otherwise = cond (bytes_eq word text) (Some value) other
 
 -- the value that a literal without quotes spells
 unfoldable pub value_in : List ℕ → Option Form
-value_in word = if_word word (codes "undefined") undefined (if_word word (codes "none") none (if_word word (codes "true") (truth true) (if_word word (codes "false") (truth false) (number_value (number_in word)))))
+value_in word = if_word word (codes "undefined") undefined
+    (if_word word (codes "none") none
+    (if_word word (codes "true") (truth true)
+    (if_word word (codes "false") (truth false) (number_value (number_in word)))))
 
 -- a literal stands before the rest
 pub record BeginsWithLiteral (bytes : List ℕ) (tree : Form) (rest : List ℕ) : Type 0 where
@@ -180,29 +200,39 @@ Ends (array xs) rest = Unit {0}
 Ends (object ps) rest = Unit {0}
 Ends tree rest = Stops is_word_byte rest
 
--- what a reader of literals answers: a literal of at most these levels and the rest, or nothing, and then there is none that ends as a word does
+-- what a reader of literals answers: a literal of at most these levels and the rest, or nothing,
+-- and then there is none that ends as a word does
 abbrev pub IsLiteralAt : ℕ → List ℕ → Option (Form × List ℕ) → Type 0
-IsLiteralAt levels xs (Some found) = (tree : Form) × (found.0 ≡ tree_value tree) × BeginsWithLiteral xs tree found.1 × Ends tree found.1 × (depth tree ≤ levels)
-IsLiteralAt levels xs None = IsUtf8 xs → (tree : Form) (rest : List ℕ) → BeginsWithLiteral xs tree rest → depth tree ≤ levels → ¬ Stops is_word_byte rest
+IsLiteralAt levels xs (Some found) = (tree : Form) × (found.0 ≡ tree_value tree)
+    × BeginsWithLiteral xs tree found.1 × Ends tree found.1 × (depth tree ≤ levels)
+IsLiteralAt levels xs None = IsUtf8 xs → (tree : Form) (rest : List ℕ) → BeginsWithLiteral xs tree
+    rest → depth tree ≤ levels → ¬ Stops is_word_byte rest
 
 -- a literal without quotes, and the bytes behind it
 unfoldable pub plain_at : List ℕ → Option (Form × List ℕ)
-plain_at bytes = option_map (λ v. (v, past is_word_byte bytes)) (value_in (front is_word_byte bytes))
+plain_at bytes = option_map (λ v. (v, past is_word_byte bytes))
+    (value_in (front is_word_byte bytes))
 
--- what a reader of texts answers behind the opening quote: a text, its closing quote and the rest, or nothing
+-- what a reader of texts answers behind the opening quote: a text, its closing quote and the rest,
+-- or nothing
 abbrev pub IsQuotedAt : Bool → List ℕ → Option (Form × List ℕ) → Type 0
-IsQuotedAt safe bytes (Some found) = (inner : List ℕ) × (t : List ℕ) × SpellsText inner t × (found.0 ≡ marked t safe) × (bytes ≡ inner ++ 34 ∷ found.1)
-IsQuotedAt safe bytes None = (t inner rest : List ℕ) → IsUtf8 inner → SpellsText inner t → bytes ≢ inner ++ 34 ∷ rest
+IsQuotedAt safe bytes (Some found) = (inner : List ℕ) × (t : List ℕ) × SpellsText inner t
+    × (found.0 ≡ marked t safe) × (bytes ≡ inner ++ 34 ∷ found.1)
+IsQuotedAt safe bytes None = (t inner rest : List ℕ) → IsUtf8 inner → SpellsText inner t
+    → bytes ≢ inner ++ 34 ∷ rest
 
 -- a byte more before what was read
 abbrev pub byte_before : ℕ → ℕ → Option (List ℕ × List ℕ) → Option (List ℕ × List ℕ)
-byte_before high low read = option_map (λ found. ((digit_value high * 16 + digit_value low) ∷ found.0, found.1)) read
+byte_before high low read =
+    option_map (λ found. ((digit_value high * 16 + digit_value low) ∷ found.0, found.1)) read
 
 -- the bytes that the digits up to the closing quote spell, and what stands behind it
 unfoldable pub hex_at : List ℕ → Option (List ℕ × List ℕ)
 hex_at [] = None
 hex_at (high ∷ []) = cond (high == 34) (Some ([], [])) None
-hex_at (high ∷ low ∷ rest) = cond (high == 34) (Some ([], low ∷ rest)) (cond (nat_lt (digit_value high) 16 && nat_lt (digit_value low) 16) (byte_before high low (hex_at rest)) None)
+hex_at (high ∷ low ∷ rest) = cond (high == 34) (Some ([], low ∷ rest))
+    (cond (nat_lt (digit_value high) 16 && nat_lt (digit_value low) 16)
+    (byte_before high low (hex_at rest)) None)
 
 -- some bytes and a slice, by what they hold
 abbrev pub bytes_rest : {A : Type 0} → Vec ℕ A × Bor (List ℕ) → List ℕ × List ℕ
@@ -212,17 +242,20 @@ bytes_rest pair = (pair.0.items, pair.1.now)
 abbrev pub bytes_read : Option (List ℕ × List ℕ) → Option (Form × List ℕ)
 bytes_read found = option_map (λ pair. (bytes_value pair.0, pair.1)) found
 
--- parts that begin so, with commas (44) between them, up to the closing byte, and what stands behind it
+-- parts that begin so, with commas (44) between them, up to the closing byte, and what stands
+-- behind it
 module _ {E : Type 0} (Begins : List ℕ → E → List ℕ → Type 0) (close : ℕ) where
   -- behind a part
   abbrev pub MoreIn : List ℕ → List E → List ℕ → Type 0
   MoreIn xs [] rest = past is_blank xs ≡ close ∷ rest
-  MoreIn xs (e ∷ es) rest = (next : List ℕ) × (behind : List ℕ) × (past is_blank xs ≡ 44 ∷ next) × Begins (past is_blank next) e behind × MoreIn behind es rest
+  MoreIn xs (e ∷ es) rest = (next : List ℕ) × (behind : List ℕ) × (past is_blank xs ≡ 44 ∷ next)
+      × Begins (past is_blank next) e behind × MoreIn behind es rest
 
   -- behind the opening byte
   abbrev pub AllIn : List ℕ → List E → List ℕ → Type 0
   AllIn xs [] rest = past is_blank xs ≡ close ∷ rest
-  AllIn xs (e ∷ es) rest = (behind : List ℕ) × Begins (past is_blank xs) e behind × MoreIn behind es rest
+  AllIn xs (e ∷ es) rest = (behind : List ℕ) × Begins (past is_blank xs) e behind
+      × MoreIn behind es rest
 
 -- behind an item, and behind an opening bracket: the items up to the closing one (93)
 abbrev pub MoreAt : List ℕ → Items Integer MarkedText KeyForm → List ℕ → Type 0
@@ -233,8 +266,10 @@ ItemsAt xs all rest = AllIn BeginsWithLiteral 93 xs (items_list all) rest
 
 -- what a reader of arrays answers behind the opening bracket
 abbrev pub IsArrayAt : ℕ → List ℕ → Option (Form × List ℕ) → Type 0
-IsArrayAt levels xs (Some found) = (all : Items Integer MarkedText KeyForm) × (found.0 ≡ tree_value (array all)) × ItemsAt xs all found.1 × (depth (array all) ≤ levels)
-IsArrayAt levels xs None = IsUtf8 xs → (all : Items Integer MarkedText KeyForm) (rest : List ℕ) → ItemsAt xs all rest → ¬ (depth (array all) ≤ levels)
+IsArrayAt levels xs (Some found) = (all : Items Integer MarkedText KeyForm)
+    × (found.0 ≡ tree_value (array all)) × ItemsAt xs all found.1 × (depth (array all) ≤ levels)
+IsArrayAt levels xs None = IsUtf8 xs → (all : Items Integer MarkedText KeyForm) (rest : List ℕ)
+    → ItemsAt xs all rest → ¬ (depth (array all) ≤ levels)
 
 -- a key stands before the rest
 pub record BeginsWithKey (bytes : List ℕ) (key : KeyForm) (rest : List ℕ) : Type 0 where
@@ -242,10 +277,12 @@ pub record BeginsWithKey (bytes : List ℕ) (key : KeyForm) (rest : List ℕ) : 
   pub spells : SpellsKey literal key
   pub spelled : bytes ≡ literal ++ rest
 
--- what a reader of keys answers: a key and the rest, or nothing, and then there is none that ends as a word does
+-- what a reader of keys answers: a key and the rest, or nothing, and then there is none that ends
+-- as a word does
 abbrev pub IsKeyAt : List ℕ → Option (KeyForm × List ℕ) → Type 0
 IsKeyAt xs (Some found) = BeginsWithKey xs found.0 found.1 × Ends (key_value found.0) found.1
-IsKeyAt xs None = IsUtf8 xs → (key : KeyForm) (rest : List ℕ) → BeginsWithKey xs key rest → ¬ Stops is_word_byte rest
+IsKeyAt xs None = IsUtf8 xs → (key : KeyForm) (rest : List ℕ) → BeginsWithKey xs key rest
+    → ¬ Stops is_word_byte rest
 
 -- the key, if the word is this text, and else what is given
 abbrev pub if_key : List ℕ → List ℕ → KeyForm → Option KeyForm → Option KeyForm
@@ -253,20 +290,25 @@ if_key word text key otherwise = cond (bytes_eq word text) (Some key) otherwise
 
 -- the key that a word spells
 unfoldable pub key_in : List ℕ → Option KeyForm
-key_in word = if_key word (codes "true") (truth_key true) (if_key word (codes "false") (truth_key false) (option_map number_key (number_in word)))
+key_in word = if_key word (codes "true") (truth_key true)
+    (if_key word (codes "false") (truth_key false) (option_map number_key (number_in word)))
 
 -- a key without quotes, and the bytes behind it
 unfoldable pub plain_key_at : List ℕ → Option (KeyForm × List ℕ)
-plain_key_at bytes = option_map (λ k. (k, past is_word_byte bytes)) (key_in (front is_word_byte bytes))
+plain_key_at bytes = option_map (λ k. (k, past is_word_byte bytes))
+    (key_in (front is_word_byte bytes))
 
 -- a key, a colon (58) and a literal stand before the rest, with blanks around the colon or none
 abbrev pub BeginsWithPair : List ℕ → KeyForm × Form → List ℕ → Type 0
-BeginsWithPair bytes pair rest = (after : List ℕ) × (next : List ℕ) × BeginsWithKey bytes pair.0 after × (past is_blank after ≡ 58 ∷ next) × BeginsWithLiteral (past is_blank next) pair.1 rest
+BeginsWithPair bytes pair rest = (after : List ℕ) × (next : List ℕ) × BeginsWithKey bytes pair.0
+    after × (past is_blank after ≡ 58 ∷ next) × BeginsWithLiteral (past is_blank next) pair.1 rest
 
 -- what a reader of pairs answers
 abbrev pub IsPairAt : ℕ → List ℕ → Option (KeyForm × Form × List ℕ) → Type 0
-IsPairAt levels xs (Some found) = (tree : Form) × (found.1 ≡ tree_value tree) × BeginsWithPair xs (found.0, tree) found.2 × Ends tree found.2 × (depth tree ≤ levels)
-IsPairAt levels xs None = IsUtf8 xs → (pair : KeyForm × Form) (rest : List ℕ) → BeginsWithPair xs pair rest → depth pair.1 ≤ levels → ¬ Stops is_word_byte rest
+IsPairAt levels xs (Some found) = (tree : Form) × (found.1 ≡ tree_value tree)
+    × BeginsWithPair xs (found.0, tree) found.2 × Ends tree found.2 × (depth tree ≤ levels)
+IsPairAt levels xs None = IsUtf8 xs → (pair : KeyForm × Form) (rest : List ℕ)
+    → BeginsWithPair xs pair rest → depth pair.1 ≤ levels → ¬ Stops is_word_byte rest
 
 -- behind a pair, and behind an opening brace: the pairs up to the closing one (125)
 abbrev pub MorePairsAt : List ℕ → Members Integer MarkedText KeyForm → List ℕ → Type 0
@@ -277,8 +319,10 @@ PairsAt xs all rest = AllIn BeginsWithPair 125 xs (members_list all) rest
 
 -- what a reader of maps answers behind the opening brace
 abbrev pub IsMapAt : ℕ → List ℕ → Option (Form × List ℕ) → Type 0
-IsMapAt levels xs (Some found) = (all : Members Integer MarkedText KeyForm) × (found.0 ≡ tree_value (object all)) × PairsAt xs all found.1 × (depth (object all) ≤ levels)
-IsMapAt levels xs None = IsUtf8 xs → (all : Members Integer MarkedText KeyForm) (rest : List ℕ) → PairsAt xs all rest → ¬ (depth (object all) ≤ levels)
+IsMapAt levels xs (Some found) = (all : Members Integer MarkedText KeyForm)
+    × (found.0 ≡ tree_value (object all)) × PairsAt xs all found.1 × (depth (object all) ≤ levels)
+IsMapAt levels xs None = IsUtf8 xs → (all : Members Integer MarkedText KeyForm) (rest : List ℕ)
+    → PairsAt xs all rest → ¬ (depth (object all) ≤ levels)
 
 -- a key and a slice, by what they hold; the same of a key, a value and a slice
 abbrev pub key_rest : Key × Bor (List ℕ) → KeyForm × List ℕ
@@ -317,20 +361,23 @@ arrow_at (b ∷ c ∷ rest) = cond ((b == 45) && (c == 62)) (Some rest) None
 
 -- the name for what is found, if there are more than blanks
 unfoldable pub into_in : List ℕ → Option (Option (List ℕ))
-into_in bytes = cond (list_all is_blank bytes) (Some None) (option_map Some (gap_at bytes >>= arrow_at >>= one_in))
+into_in bytes = cond (list_all is_blank bytes) (Some None)
+    (option_map Some (gap_at bytes >>= arrow_at >>= one_in))
 
 -- the number that a sign and digits spell, if nothing else stands there and i128 holds it
 unfoldable pub small_in : Bool → List ℕ → Option ℤ
 small_in minus bytes = do
   digits ← digits_at bytes
-  cond ((length digits.1 == 0) && is_of_kind i128 (signed minus digits.0)) (Some (signed minus digits.0)) None
+  cond ((length digits.1 == 0) && is_of_kind i128 (signed minus digits.0))
+      (Some (signed minus digits.0)) None
 
 -- the bound that a word spells (95 is _, 45 a minus)
 unfoldable pub bound_in : List ℕ → Option (Option ℤ)
 bound_in [] = None
 bound_in (b ∷ bytes) =
     cond ((b == 95) && (length bytes == 0)) (Some None)
-    (cond (b == 45) (option_map Some (small_in true bytes)) (option_map Some (small_in false (b ∷ bytes))))
+    (cond (b == 45) (option_map Some (small_in true bytes))
+    (option_map Some (small_in false (b ∷ bytes))))
 
 -- the bound behind a gap
 unfoldable pub bound_at : List ℕ → Option (Option ℤ × List ℕ)
@@ -347,8 +394,8 @@ bounds_at bytes = do
   step ← bound_at end.1
   Some (record { start = start.0; end = end.0; step = step.0 }, step.1)
 
--- what a reader of texts in quotes answers behind a name: the text and what stands behind it, or nothing where no text
--- in quotes stands there
+-- what a reader of texts in quotes answers behind a name: the text and what stands behind it, or
+-- nothing where no text in quotes stands there
 pub record BeginsWithQuoted (bytes t rest : List ℕ) : Type 0 where
   pub part : List ℕ
   pub spells : SpellsQuoted part t
@@ -361,8 +408,10 @@ IsTextAt bytes None = IsUtf8 bytes → (t rest : List ℕ) → ¬ BeginsWithQuot
 abbrev pub text_rest : {A : Type 0} → String A × Bor (List ℕ) → List ℕ × List ℕ
 text_rest pair = (string_bytes pair.0, pair.1.now)
 
--- what stands before the name for what is found, before the rest, and ends there as a name or a bound does
-pub record BeginsWithFound (verb : Keeping) (bytes : List ℕ) (request : Request) (rest : List ℕ) : Type 0 where
+-- what stands before the name for what is found, before the rest, and ends there as a name or a
+-- bound does
+pub record BeginsWithFound (verb : Keeping) (bytes : List ℕ) (request : Request)
+    (rest : List ℕ) : Type 0 where
   pub part : List ℕ
   pub spells : SpellsFound verb part request
   pub spelled : bytes ≡ part ++ rest
@@ -374,9 +423,11 @@ EndsFound (kept.Part o) rest = Unit {0}
 EndsFound kept.Slice rest = Stops is_word_byte rest
 EndsFound kept.Read rest = Stops is_name_byte rest
 
--- what a reader of this answers: a request and the rest, or nothing, and then none that ends as a word does stands there
+-- what a reader of this answers: a request and the rest, or nothing, and then none that ends as a
+-- word does stands there
 abbrev pub IsFoundAt : Keeping → List ℕ → Option (Request × List ℕ) → Type 0
-IsFoundAt verb bytes (Some found) = BeginsWithFound verb bytes found.0 found.1 × EndsFound verb found.1
+IsFoundAt verb bytes (Some found) = BeginsWithFound verb bytes found.0 found.1
+    × EndsFound verb found.1
 IsFoundAt verb bytes None =
     IsUtf8 bytes → (request : Request) (rest : List ℕ) → BeginsWithFound verb bytes request rest
     → ¬ Stops is_word_byte rest
@@ -408,20 +459,25 @@ abbrev pub IsValueAt : List ℕ → Option Form → Type 0
 IsValueAt bytes (Some value) = EndsInValue bytes value
 IsValueAt bytes None = IsUtf8 bytes → (value : Form) → ¬ EndsInValue bytes value
 
--- what is answered of a value: the state of its pairs, or nothing where it is no map whose keys are all texts
+-- what is answered of a value: the state of its pairs, or nothing where it is no map whose keys are
+-- all texts
 abbrev pub IsSourceOf : Form → Option State → Type 0
-IsSourceOf value (Some state) = (pairs : List (KeyForm × Form)) × (value ≡ object (members pairs)) × AreNamed pairs state
+IsSourceOf value (Some state) = (pairs : List (KeyForm × Form)) × (value ≡ object (members pairs))
+    × AreNamed pairs state
 IsSourceOf value None =
-    (pairs : List (KeyForm × Form)) (state : State) → value ≡ object (members pairs) → ¬ AreNamed pairs state
+    (pairs : List (KeyForm × Form)) (state : State) → value ≡ object (members pairs)
+    → ¬ AreNamed pairs state
 
 -- the operands of a verb that give the command stand before blanks
 abbrev pub EndsInOperands : Verb → List ℕ → Command → Type 0
 EndsInOperands verb bytes command = Before (λ operands. SpellsOperands verb operands command) bytes
 
--- what a reader of operands answers behind a call's word: the one command that stands there, or nothing where none does
+-- what a reader of operands answers behind a call's word: the one command that stands there, or
+-- nothing where none does
 abbrev pub AreOperandsOf : Verb → List ℕ → Option Command → Type 0
 AreOperandsOf verb bytes (Some command) = EndsInOperands verb bytes command
-AreOperandsOf verb bytes None = IsUtf8 bytes → (command : Command) → ¬ EndsInOperands verb bytes command
+AreOperandsOf verb bytes None = IsUtf8 bytes → (command : Command) → ¬ EndsInOperands verb bytes
+    command
 
 -- a command stands before blanks
 abbrev pub EndsInCommand : List ℕ → Command → Type 0

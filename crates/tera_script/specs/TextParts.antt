@@ -9,12 +9,17 @@ IsPlain byte = (byte ≢ 34) × (byte ≢ 92)
 
 -- run stands for itself, and rest is empty or begins with a quote or a backslash
 abbrev pub BeginsWithRun : List ℕ → List ℕ → List ℕ → Type 0
-BeginsWithRun bytes run rest = SpellsText run run × (bytes ≡ run ++ rest) × ((byte : ℕ) (more : List ℕ) → rest ≡ byte ∷ more → (byte ≡ 34) ⊎ (byte ≡ 92))
+BeginsWithRun bytes run rest = SpellsText run run × (bytes ≡ run ++ rest)
+    × ((byte : ℕ) (more : List ℕ) → rest ≡ byte ∷ more → (byte ≡ 34) ⊎ (byte ≡ 92))
 
--- the bytes, which begin behind a backslash, begin with an escape of the character c, and rest follows it
+-- the bytes, which begin behind a backslash, begin with an escape of the character c, and rest
+-- follows it
 abbrev pub BeginsWithEscape : List ℕ → ℕ → List ℕ → Type 0
-BeginsWithEscape bytes c rest = (token : Token) × IsToken token × (decoding token ≡ encode_utf8 c) × (92 ∷ bytes ≡ spelling token ++ rest)
+BeginsWithEscape bytes c rest = (token : Token) × IsToken token × (decoding token ≡ encode_utf8 c)
+    × (92 ∷ bytes ≡ spelling token ++ rest)
 
--- the bytes begin with the number of the character c in braces, by these digits, and rest follows it
+-- the bytes begin with the number of the character c in braces, by these digits, and rest follows
+-- it
 abbrev pub BeginsWithNumber : List ℕ → List ℕ → ℕ → List ℕ → Type 0
-BeginsWithNumber bytes digits c rest = IsToken (character digits) × (c ≡ digits_value 16 digits) × (bytes ≡ 123 ∷ (digits ++ 125 ∷ rest))
+BeginsWithNumber bytes digits c rest = IsToken (character digits) × (c ≡ digits_value 16 digits)
+    × (bytes ≡ 123 ∷ (digits ++ 125 ∷ rest))

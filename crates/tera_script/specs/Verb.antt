@@ -1,5 +1,7 @@
--- The words of the calls, by the shape of what stands behind them, and the request that each makes of its operands.
-use Rattle.std.specs.Prelude.{ℕ, Bool, true, cond, ◌&&◌, ◌==◌, List, [], ◌∷◌, length, codes, Option, Some, None}
+-- The words of the calls, by the shape of what stands behind them, and the request that each makes
+-- of its operands.
+use Rattle.std.specs.Prelude.{ℕ, Bool, true, cond, ◌&&◌, ◌==◌, List, [], ◌∷◌, length, codes, Option}
+use Rattle.std.specs.Prelude.{Some, None}
 use Rattle.tera_meaning.specs.Question
 use Rattle.tera_meaning.specs.Request.{Request, remove, mark_safe, ask, weigh, find}
 use Rattle.tera_meaning.specs.Search
@@ -82,7 +84,8 @@ word_of (verb.One o) = (of_one o).0
 word_of (verb.Two o) = (of_two o).0
 word_of (verb.Keeping o) = keeping_word o
 
--- each of them, with the first byte or the first two of its word, which tell that from all others of its length
+-- each of them, with the first byte or the first two of its word, which tell that from all others
+-- of its length
 abbrev pub verbs : List (Verb × List ℕ)
 verbs =
     (verb.Two two.Equal, codes "e")

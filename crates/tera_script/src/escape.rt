@@ -1,4 +1,4 @@
-// Escapes inside the texts of a script.
+//! Escapes inside the texts of a script.
 #![tactic(auto)]
 
 ghost use Rattle.std.specs.Prelude.{◌≡◌, ℕ, List, ◌∷◌, ◌++◌, IfSome, IfNone, MatchOption};

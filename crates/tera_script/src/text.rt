@@ -1,4 +1,4 @@
-// The texts of a script.
+//! The texts of a script.
 
 ghost use Rattle.std.specs.Prelude.{◌≡◌, ℕ, ◌+◌, List, ◌∷◌, ◌++◌, IfOk, MatchOption, ◌<◌, ◌≤◌, ◌⊎◌};
 ghost use Rattle.std.specs.Prelude.{IsUtf8, string_bytes, length, slice_index};

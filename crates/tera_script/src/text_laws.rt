@@ -1,4 +1,4 @@
-// Laws of the spellings of texts. Each function does nothing, and its contract is the law.
+//! Laws of the spellings of texts. Each function does nothing, and its contract is the law.
 #![tactic(auto)]
 
 ghost use Rattle.std.specs.Prelude.{◌≡◌, ℕ, List, [], ◌∷◌, ◌++◌, IsUtf8, codes};

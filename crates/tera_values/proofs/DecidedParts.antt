@@ -12,7 +12,7 @@ use Rattle.tera_meaning.specs.Meaning.{Meaning, plain}
 use Rattle.tera_meaning.specs.Order.{compare}
 use Rattle.tera_meaning.proofs.DecidedLaws.{decided_agrees}
 use Rattle.tera_meaning.specs.Tree.{array, items}
-use Rattle.tera_values.proofs.Parts.{nat_cmp_suc}
+use Rattle.tera_values.proofs.PartsLaws.{nat_cmp_suc}
 
 abbrev pub lists_decided : List Form → List Form → Option Ordering
 lists_decided xs ys = decided (plain (array (items xs))) (plain (array (items ys)))

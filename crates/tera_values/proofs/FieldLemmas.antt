@@ -34,7 +34,8 @@ module _ {X : Type 0} (f : X → List ℕ) where
       let (n, within, at) = of_has ys x (k, omega arith, is) in
       (suc n, omega arith, at)
 
-  below_of : (x : X) (xs : List X) → AllByRecursion (λ y. on f (slice_cmp nat_cmp) x y ≡ Less) xs → AllByRecursion (λ t. slice_cmp nat_cmp (f x) t ≡ Less) (map f xs)
+  below_of : (x : X) (xs : List X) → AllByRecursion (λ y. on f (slice_cmp nat_cmp) x y ≡ Less) xs → AllByRecursion (λ t. slice_cmp nat_cmp (f x) t ≡ Less)
+      (map f xs)
   below_of x [] h = tt
   below_of x (y ∷ ys) h = (h.0, below_of x ys h.1)
 
@@ -44,21 +45,26 @@ module _ {X : Type 0} (f : X → List ℕ) where
   sorted_of (x ∷ xs) h = (below_of x xs h.0, sorted_of xs h.1)
 
   one_text : (x y : X) → on f (pointwise nat_eq) x y ≡ true → f x ≡ f y
-  one_text x y e = slice_cmp-IsAntisymmetric nat_cmp-IsAntisymmetric (f x) (f y) ((Equal-is (slice_cmp nat_cmp (f x) (f y))).0 (sym (texts_ties (f x) (f y)) ∙ e))
+  one_text x y e = slice_cmp-IsAntisymmetric nat_cmp-IsAntisymmetric (f x) (f y)
+      ((Equal-is (slice_cmp nat_cmp (f x) (f y))).0 (sym (texts_ties (f x) (f y)) ∙ e))
 
   keeps : (sorted : List X) (t : List ℕ) → Contains (map f sorted) t → Contains (map f (dedup (on f (pointwise nat_eq)) sorted)) t
   keeps sorted t c =
       let (x, has, is) = has_of sorted t c in
       let (k, y, below, at, same) = Any-dedup (on_texts_equal f) sorted x has in
-      subst (Contains (map f (dedup (on f (pointwise nat_eq)) sorted))) (sym (one_text x y same) ∙ is) (of_has (dedup (on f (pointwise nat_eq)) sorted) y (k, below, at))
+      subst (Contains (map f (dedup (on f (pointwise nat_eq)) sorted))) (sym (one_text x y same) ∙ is)
+      (of_has (dedup (on f (pointwise nat_eq)) sorted) y (k, below, at))
 
   -- what is left of sorted texts, one of those that are equal
-  pub left_of_sorted : (old sorted : List X) → IsPermutation old sorted → IsSorted (on f (slice_cmp nat_cmp)) sorted → AreRisingOf (map f old) (map f (dedup (on f (pointwise nat_eq)) sorted))
+  pub left_of_sorted : (old sorted : List X) → IsPermutation old sorted → IsSorted (on f (slice_cmp nat_cmp)) sorted
+      → AreRisingOf (map f old) (map f (dedup (on f (pointwise nat_eq)) sorted))
   left_of_sorted old sorted moved up = (
     sorted_of _ (IsStrictlySortedBy-dedup (on_texts f) (λ x y. texts_ties (f x) (f y)) sorted up),
     λ t. (
       λ c. let (x, has, is) = has_of (dedup (on f (pointwise nat_eq)) sorted) t c in
-          subst (Contains (map f old)) is (of_has old x (Contains-permutation sorted old x (IsPermutation-sym old sorted moved) (Contains-from_dedup (on f (pointwise nat_eq)) sorted x has))),
+          subst (Contains (map f old)) is
+          (of_has old x (Contains-permutation sorted old x (IsPermutation-sym old sorted moved)
+          (Contains-from_dedup (on f (pointwise nat_eq)) sorted x has))),
       λ c. let (x, has, is) = has_of old t c in
           keeps sorted t (subst (Contains (map f sorted)) is (of_has sorted x (Contains-permutation old sorted x moved has))),
     ),

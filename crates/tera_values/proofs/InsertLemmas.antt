@@ -29,15 +29,18 @@ module _ {V : Type 0} where
       → insert_entry key_form_order (match_ordering r ((a, w) ∷ p ∷ ps) ((p.0, w) ∷ ps) (p ∷ insert_entry key_form_order ps a w)) k v
       ≡ match_ordering r ((a, v) ∷ p ∷ ps) ((p.0, v) ∷ ps) (p ∷ insert_entry key_form_order ps a v)) [
         | Less ↦ λ e. ap (λ r. match_ordering r ((k, v) ∷ (a, w) ∷ p ∷ ps) ((a, v) ∷ p ∷ ps) ((a, w) ∷ insert_entry key_form_order (p ∷ ps) k v)) t
-        | Equal ↦ λ e. ap (λ r. match_ordering r ((k, v) ∷ (p.0, w) ∷ ps) ((p.0, v) ∷ ps) ((p.0, w) ∷ insert_entry key_form_order ps k v)) (form_total.congr k a p.0 t ∙ e)
-        | Greater ↦ λ e. ap (λ r. match_ordering r ((k, v) ∷ p ∷ insert_entry key_form_order ps a w) ((p.0, v) ∷ insert_entry key_form_order ps a w) (p ∷ insert_entry key_form_order (insert_entry key_form_order ps a w) k v)) (form_total.congr k a p.0 t ∙ e)
+        | Equal ↦ λ e. ap (λ r. match_ordering r ((k, v) ∷ (p.0, w) ∷ ps) ((p.0, v) ∷ ps) ((p.0, w) ∷ insert_entry key_form_order ps k v))
+            (form_total.congr k a p.0 t ∙ e)
+        | Greater ↦ λ e. ap (λ r. match_ordering r ((k, v) ∷ p ∷ insert_entry key_form_order ps a w) ((p.0, v) ∷ insert_entry key_form_order ps a w)
+            (p ∷ insert_entry key_form_order (insert_entry key_form_order ps a w) k v)) (form_total.congr k a p.0 t ∙ e)
             ∙ ap (λ l. p ∷ l) (insert_tied k a v w ps t)
       ] refl
 
   forms_permuted : (es fs : List (Key × V)) → IsDistinct keys_tie (keys_of fs) → IsPermutation es fs → pairs_of (forms_of es) ≡ pairs_of (forms_of fs)
   forms_permuted es fs d perm =
       rising_permuted key_form_order form_total (forms_of es) (forms_of fs)
-      (distinct es (IsDistinct-IsPermutation keys_tie keys_flip (keys_of fs) (keys_of es) (IsPermutation-map (λ e. e.0) fs es (IsPermutation-sym es fs perm)) d))
+      (distinct es (IsDistinct-IsPermutation keys_tie keys_flip (keys_of fs) (keys_of es) (IsPermutation-map (λ e. e.0) fs es (IsPermutation-sym es fs perm))
+      d))
       (distinct fs d)
       (IsPermutation-map (λ e. (key_form e.0, e.1)) es fs perm)
     where
@@ -57,7 +60,14 @@ module _ {V : Type 0} where
   found_split k v w [] h = cc
   found_split k v w (e ∷ es) h =
       elim (keys_tie k e.0) as (λ b. keys_tie k e.0 ≡ b → cond b (Some e.1) (lookup (keys_tie k) es) ≡ Some w → Split k v (e ∷ es)) [
-        | true ↦ λ t is. record { before = []; at = e; after = es; is = refl; set = ap (λ b. cond b ((e.0, v) ∷ es) (e ∷ set_value (keys_tie k) es v)) t; ties = t }
+        | true ↦ λ t is. record {
+          before = [];
+          at = e;
+          after = es;
+          is = refl;
+          set = ap (λ b. cond b ((e.0, v) ∷ es) (e ∷ set_value (keys_tie k) es v)) t;
+          ties = t;
+        }
         | false ↦ λ t is. let rest = found_split k v w es is in
             record {
               before = e ∷ rest.before;
@@ -72,7 +82,9 @@ module _ {V : Type 0} where
   to_front : (es before : List (Key × V)) (e : Key × V) (after : List (Key × V)) → IsDistinct keys_tie (keys_of es) → es ≡ before ++ e ∷ after
       → pairs_of (forms_of es) ≡ insert_entry key_form_order (pairs_of (forms_of (before ++ after))) (key_form e.0) e.1
   to_front es before e after d is =
-      sym (forms_permuted (e ∷ (before ++ after)) es d (subst (IsPermutation (e ∷ (before ++ after))) (sym is) (IsPermutation-sym (before ++ e ∷ after) (e ∷ (before ++ after)) (IsPermutation-middle before e after))))
+      sym (forms_permuted (e ∷ (before ++ after)) es d
+      (subst (IsPermutation (e ∷ (before ++ after))) (sym is)
+      (IsPermutation-sym (before ++ e ∷ after) (e ∷ (before ++ after)) (IsPermutation-middle before e after))))
 
   -- what a table's `insert` leaves
   pub inserted : (es fs : List (Key × V)) (k : Key) (v : V) (old : Option V) → IsDistinct keys_tie (keys_of fs) → (IsSome old → keys_of fs ≡ keys_of es)

@@ -25,10 +25,12 @@ module _ {K V : Type 0} (R : K → K → Ordering) where
   put_among : (k : K) (v : V) (ps : List (K × V)) → find R k ps ≡ None → IsPermutation ((k, v) ∷ ps) (put R k v ps)
   put_among k v [] none = IsPermutation-refl _
   put_among k v (p ∷ ps) none =
-      elim (R k p.0) as (λ r. cond (is_eq r) (Some p.1) (find R k ps) ≡ None → IsPermutation ((k, v) ∷ p ∷ ps) (by_order r ((k, v) ∷ p ∷ ps) ((p.0, v) ∷ ps) (p ∷ put R k v ps))) [
+      elim (R k p.0) as (λ r. cond (is_eq r) (Some p.1) (find R k ps) ≡ None → IsPermutation ((k, v) ∷ p ∷ ps)
+      (by_order r ((k, v) ∷ p ∷ ps) ((p.0, v) ∷ ps) (p ∷ put R k v ps))) [
         | Less ↦ λ absent. IsPermutation-refl _
         | Equal ↦ λ absent. absurd (not_there p.1 None absent)
-        | Greater ↦ λ absent. IsPermutation-trans _ (p ∷ (k, v) ∷ ps) _ (IsPermutation-middle ((k, v) ∷ []) p ps) (IsPermutation-cons p _ _ (put_among k v ps absent))
+        | Greater ↦ λ absent. IsPermutation-trans _ (p ∷ (k, v) ∷ ps) _ (IsPermutation-middle ((k, v) ∷ []) p ps)
+            (IsPermutation-cons p _ _ (put_among k v ps absent))
       ] none
 
   -- entries that are apart are the pairs in some order
@@ -53,4 +55,5 @@ module _ {V : Type 0} where
   pub keys_of_pairs : (es : List (Key × V)) → IsDistinct keys_tie (keys_of es)
       → IsPermutation (map (λ k. key_form k) (keys_of es)) (keys_of (pairs_of (forms_of es)))
   keys_of_pairs es h =
-      subst (λ l. IsPermutation l (keys_of (pairs_of (forms_of es)))) (keys_of_forms es) (IsPermutation-map (λ e. e.0) (forms_of es) (pairs_of (forms_of es)) (entries_of_pairs es h))
+      subst (λ l. IsPermutation l (keys_of (pairs_of (forms_of es)))) (keys_of_forms es) (IsPermutation-map (λ e. e.0) (forms_of es) (pairs_of (forms_of es))
+      (entries_of_pairs es h))

@@ -1,14 +1,14 @@
-pub mod Parts
-pub mod PrintLemmas
-pub mod Walks
-pub mod UnlikeLemmas
-pub mod InsertLemmas
-pub mod PrintPairs
-pub mod DecidedParts
-pub mod LookupLemmas
-pub mod PathLemmas
-pub mod FieldLemmas
-pub mod SliceLemmas
-pub mod ConvertLemmas
-mod PairWalks
+mod ConvertLemmas
+mod DecidedParts
+mod FieldLemmas
+mod InsertLemmas
 mod KeyWalks
+mod LookupLemmas
+mod PairWalks
+pub mod PartsLaws
+mod PathLemmas
+mod PrintLemmas
+mod PrintPairs
+mod SliceLemmas
+mod UnlikeLemmas
+mod Walks

@@ -12,18 +12,24 @@ module _ {S : Type 0} (steps : S → Option (Bor (List ℕ)) → S → Type 0) w
   LeadsOn all s here =
       (left : List (List ℕ)) × AlwaysYields steps (λ x. x.now) s left × (all ≡ followed here left)
 
-  leads_on_along : (all : Option Form) (s t : S) (x : Bor (List ℕ)) (here next : Form) (left : List (List ℕ)) → AlwaysYields steps (λ x. x.now) s left → all ≡ followed here left
+  leads_on_along : (all : Option Form) (s t : S) (x : Bor (List ℕ)) (here next : Form) (left : List (List ℕ)) → AlwaysYields steps (λ x. x.now) s left → all
+      ≡ followed here left
       → steps s (Some x) t → reached here x.now (place x.now) ≡ Some next → LeadsOn all t next
   leads_on_along all s t x here next [] never same step found = absurd (never x t step)
   leads_on_along all s t x here next (y ∷ ys) yields same step found =
-      let more = yields.1 x t step in
-      (ys, more.1, same ∙ ap (λ e. option_and_then (λ part. followed part ys) (reached here e (place e))) (sym more.0) ∙ ap (option_and_then (λ part. followed part ys)) found)
+      let more = yields.1 x t step in (
+        ys,
+        more.1,
+        same ∙ ap (λ e. option_and_then (λ part. followed part ys) (reached here e (place e))) (sym more.0)
+            ∙ ap (option_and_then (λ part. followed part ys)) found,
+      )
 
   pub leads_on : (all : Option Form) (s t : S) (x : Bor (List ℕ)) (here next : Form) → LeadsOn all s here
       → steps s (Some x) t → reached here x.now (place x.now) ≡ Some next → LeadsOn all t next
   leads_on all s t x here next (left, yields, same) step found = leads_on_along all s t x here next left yields same step found
 
-  stops_along : (all : Option Form) (s t : S) (x : Bor (List ℕ)) (here : Form) (left : List (List ℕ)) → AlwaysYields steps (λ x. x.now) s left → all ≡ followed here left
+  stops_along : (all : Option Form) (s t : S) (x : Bor (List ℕ)) (here : Form) (left : List (List ℕ)) → AlwaysYields steps (λ x. x.now) s left → all
+      ≡ followed here left
       → steps s (Some x) t → reached here x.now (place x.now) ≡ None → all ≡ None
   stops_along all s t x here [] never same step lost = absurd (never x t step)
   stops_along all s t x here (y ∷ ys) yields same step lost =
@@ -34,7 +40,8 @@ module _ {S : Type 0} (steps : S → Option (Bor (List ℕ)) → S → Type 0) w
       → steps s (Some x) t → reached here x.now (place x.now) ≡ None → all ≡ None
   stops all s t x here (left, yields, same) step lost = stops_along all s t x here left yields same step lost
 
-  arrives_along : (all : Option Form) (s t : S) (here : Form) (left : List (List ℕ)) → AlwaysYields steps (λ x. x.now) s left → all ≡ followed here left → steps s None t → all ≡ Some here
+  arrives_along : (all : Option Form) (s t : S) (here : Form) (left : List (List ℕ)) → AlwaysYields steps (λ x. x.now) s left → all ≡ followed here left
+      → steps s None t → all ≡ Some here
   arrives_along all s t here [] yields same step = same
   arrives_along all s t here (y ∷ ys) yields same step = absurd (yields.0 t step)
 

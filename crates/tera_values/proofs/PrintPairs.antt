@@ -30,7 +30,8 @@ not_above_itself k = ap is_lt (tied_itself form_total k)
 
 all_above : (k : KeyForm) (ps : List (KeyForm × Form)) → T (below_all key_form_order k ps) → above (Some k) ps ≡ ps
 all_above k [] h = refl
-all_above k (p ∷ ps) h = ap (λ b. cond b (p ∷ above (Some k) ps) (above (Some k) ps)) (is_true _ (first_part _ _ h)) ∙ ap (λ l. p ∷ l) (all_above k ps (second_part _ _ h))
+all_above k (p ∷ ps) h = ap (λ b. cond b (p ∷ above (Some k) ps) (above (Some k) ps)) (is_true _ (first_part _ _ h))
+    ∙ ap (λ l. p ∷ l) (all_above k ps (second_part _ _ h))
 
 pub first_in : (t : KeyForm → Bool) (p : KeyForm × Form) (ps : List (KeyForm × Form)) → first_pair (where_key key_form_order t ps) ≡ Some p → In p ps
 first_in t p [] e = cc
@@ -44,7 +45,8 @@ first_in t p (q ∷ qs) e =
 head_above : (p : KeyForm × Form) (ps : List (KeyForm × Form)) → T (below_all key_form_order p.0 ps) → p ∷ ps ≡ p ∷ above (Some p.0) (p ∷ ps)
 head_above p ps h = ap (λ l. p ∷ l) (sym (ap (λ b. cond b (p ∷ above (Some p.0) ps) (above (Some p.0) ps)) (not_above_itself p.0) ∙ all_above p.0 ps h))
 
-pub from_least : (p : KeyForm × Form) (ps : List (KeyForm × Form)) → T (is_sorted key_form_order ps) → first_pair (above None ps) ≡ Some p → ps ≡ p ∷ above (Some p.0) ps
+pub from_least : (p : KeyForm × Form) (ps : List (KeyForm × Form)) → T (is_sorted key_form_order ps) → first_pair (above None ps) ≡ Some p → ps ≡ p
+    ∷ above (Some p.0) ps
 from_least p [] h e = cc
 from_least p (q ∷ qs) h e = let same : q ≡ p = cc in head_above q qs (first_part _ _ h) ∙ ap (λ r. r ∷ above (Some r.0) (q ∷ qs)) same
 
@@ -89,7 +91,8 @@ first_printed p (q ∷ qs) = refl
 -- what is done and what is printed of the pairs that are left are the whole, where that is exact
 abbrev pub ArePairsDone : List (KeyForm × Form) → List ℕ → List (KeyForm × Form) → Type 0
 ArePairsDone all done left =
-    IsTrue (are_exact_members (plain_pairs all)) → IsTrue (are_exact_members (plain_pairs left)) × (printed_members (plain_pairs all) ≡ done ++ later_pairs left)
+    IsTrue (are_exact_members (plain_pairs all)) → IsTrue (are_exact_members (plain_pairs left))
+    × (printed_members (plain_pairs all) ≡ done ++ later_pairs left)
 
 both_true : (a b : Bool) → IsTrue a → IsTrue b → IsTrue (a && b)
 both_true true b p q = q

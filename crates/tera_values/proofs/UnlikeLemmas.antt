@@ -24,7 +24,8 @@ use Rattle.tera_values.specs.declared.map.Unlike.TheVariants.{Values, LeftAlone,
 abbrev pub from_left : List (KeyForm × Form) → KeyForm × Form → Option Unlike
 from_left qs e = unlike (Some e.1) (value_at key_form_order qs e.0)
 
-pub met_below : (least : Option (KeyForm × Unlike)) (k : KeyForm) (how : Option Unlike) → is_before key_form_order k least ≡ true → met least k how ≡ difference_at how k least
+pub met_below : (least : Option (KeyForm × Unlike)) (k : KeyForm) (how : Option Unlike) → is_before key_form_order k least ≡ true → met least k how
+    ≡ difference_at how k least
 met_below least k how e = ap (λ b. cond b (difference_at how k least) least) e
 
 pub met_not_below : (least : Option (KeyForm × Unlike)) (k : KeyForm) (how : Option Unlike) → is_before key_form_order k least ≡ false → met least k how ≡ least
@@ -48,7 +49,8 @@ reaches_tied : (found : Option (KeyForm × Unlike)) (k l : KeyForm) → key_form
 reaches_tied None k l t r = r
 reaches_tied (Some d) k l t r = λ less. r (sym (form_total.congr l k d.0 t) ∙ less)
 
-found_keeps : (how : Option Unlike) (k : KeyForm) (least : Option (KeyForm × Unlike)) (l : KeyForm) → is_before key_form_order k least ≡ true → Reaches least l → Reaches (difference_at how k least) l
+found_keeps : (how : Option Unlike) (k : KeyForm) (least : Option (KeyForm × Unlike)) (l : KeyForm) → is_before key_form_order k least ≡ true → Reaches least l
+    → Reaches (difference_at how k least) l
 found_keeps None k least l e r = r
 found_keeps (Some h) k None l e r = absurd r
 found_keeps (Some h) k (Some d) l e r = λ less. r (form_total.trans l k d.0 less (is_less _ e))
@@ -79,7 +81,8 @@ found_has P (Some h) k least p q = q
 
 met_has : (P : KeyForm × Unlike → Type 0) (least : Option (KeyForm × Unlike)) (k : KeyForm) (how : Option Unlike)
     → IfSome least P → IfSome how (λ h. P (k, h)) → IfSome (met least k how) P
-met_has P least k how p q = elim (is_before key_form_order k least) as (λ b. IfSome (cond b (difference_at how k least) least) P) [ true ↦ found_has P how k least p q | false ↦ p ]
+met_has P least k how p q = elim (is_before key_form_order k least) as (λ b. IfSome (cond b (difference_at how k least) least) P)
+    [ true ↦ found_has P how k least p q | false ↦ p ]
 
 module _ {V : Type 0} (differs : KeyForm × V → Option Unlike) where
   pub walk_keeps : (least : Option (KeyForm × Unlike)) (es : List (KeyForm × V)) (l : KeyForm) → Reaches least l → Reaches (least_met differs least es) l
@@ -145,8 +148,10 @@ value_tied es k l t = value_is key_form_order es k ∙ sym (find_tied key_form_o
 first_found : {V : Type 0} (es : List (KeyForm × V)) → Apart key_form_order es → (e : KeyForm × V) → In e es → value_at key_form_order es e.0 ≡ Some e.1
 first_found [] a e i = absurd i
 first_found (f ∷ fs) a e i = elim i as (λ _. value_at key_form_order (f ∷ fs) e.0 ≡ Some e.1) [
-  | inl same ↦ subst (λ x. value_at key_form_order (f ∷ fs) x.0 ≡ Some x.1) (sym same) (ap (λ r. cond (is_eq r) (Some f.1) (value_at key_form_order fs f.0)) (tied_itself form_total f.0))
-  | inr later ↦ ap (λ b. cond b (Some f.1) (value_at key_form_order fs e.0)) ((eq_by_cmp_equiv form_total).symm e.0 f.0 ∙ differs_from_none key_form_order f.0 fs a.0 e later) ∙ first_found fs a.1 e later
+  | inl same ↦ subst (λ x. value_at key_form_order (f ∷ fs) x.0 ≡ Some x.1) (sym same) (ap (λ r. cond (is_eq r) (Some f.1) (value_at key_form_order fs f.0))
+      (tied_itself form_total f.0))
+  | inr later ↦ ap (λ b. cond b (Some f.1) (value_at key_form_order fs e.0)) ((eq_by_cmp_equiv form_total).symm e.0 f.0 ∙ differs_from_none key_form_order f.0
+      fs a.0 e later) ∙ first_found fs a.1 e later
 ]
 
 if_some : {A : Type 0} (o : Option A) (Q : A → Type 0) → ((h : A) → o ≡ Some h → Q h) → IfSome o Q
@@ -175,23 +180,26 @@ module _ (es fs : List (KeyForm × Form)) where
   reaches_unlike l (Some v) y p q =
       let (e, i, tie, same) = found_entry es l v (sym (value_of_rising key_form_order form_total es l) ∙ p) in
       let other : value_at key_form_order (pairs_of fs) e.0 ≡ y = sym (value_tied (pairs_of fs) l e.0 tie) ∙ q in
-      elim (walk_reaches (λ d. unlike (Some d.1) (value_at key_form_order (pairs_of fs) d.0)) None es e i) as (λ _. (unlike (Some v) y ≡ None) ⊎ Reaches both_walks l) [
+      elim (walk_reaches (λ d. unlike (Some d.1) (value_at key_form_order (pairs_of fs) d.0)) None es e i) as (λ _. (unlike (Some v) y ≡ None)
+      ⊎ Reaches both_walks l) [
         | inl none ↦ inl (sym (λ j. unlike (Some (same j)) (other j)) ∙ none)
         | inr r ↦ inr (walk_keeps _ left_walk fs l (reaches_tied left_walk e.0 l tie r))
       ]
   reaches_unlike l None (Some w) p q =
       let (f, i, tie, same) = found_entry fs l w (sym (value_of_rising key_form_order form_total fs l) ∙ q) in
       let other : value_at key_form_order (pairs_of es) f.0 ≡ None = sym (value_tied (pairs_of es) l f.0 tie) ∙ p in
-      elim (walk_reaches (λ d. lacking (value_at key_form_order (pairs_of es) d.0)) left_walk fs f i) as (λ _. (unlike None (Some w) ≡ None) ⊎ Reaches both_walks l) [
+      elim (walk_reaches (λ d. lacking (value_at key_form_order (pairs_of es) d.0)) left_walk fs f i) as (λ _. (unlike None (Some w) ≡ None)
+      ⊎ Reaches both_walks l) [
         | inl none ↦ absurd (lacking_none _ other none)
         | inr r ↦ inr (reaches_tied both_walks f.0 l tie r)
       ]
 
   agrees_or_reaches : (l : KeyForm) → (agree_at key_form_order form_values (pairs_of es) (pairs_of fs) l ≡ true) ⊎ Reaches both_walks l
-  agrees_or_reaches l = elim (reaches_unlike l _ _ refl refl) as (λ _. (agree_at key_form_order form_values (pairs_of es) (pairs_of fs) l ≡ true) ⊎ Reaches both_walks l) [
-    | inl none ↦ inl (agrees (value_at key_form_order (pairs_of es) l) (value_at key_form_order (pairs_of fs) l) none)
-    | inr r ↦ inr r
-  ]
+  agrees_or_reaches l = elim (reaches_unlike l _ _ refl refl) as (λ _. (agree_at key_form_order form_values (pairs_of es) (pairs_of fs) l ≡ true)
+      ⊎ Reaches both_walks l) [
+        | inl none ↦ inl (agrees (value_at key_form_order (pairs_of es) l) (value_at key_form_order (pairs_of fs) l) none)
+        | inr r ↦ inr r
+      ]
 
   abbrev IsUnlike : KeyForm × Unlike → Type 0
   IsUnlike d = unlike (value_at key_form_order (pairs_of es) d.0) (value_at key_form_order (pairs_of fs) d.0) ≡ Some d.1
@@ -205,11 +213,17 @@ module _ (es fs : List (KeyForm × Form)) where
         (walk_has _ IsUnlike None es tt (λ e i. if_some _ _ (λ h is. ap (λ x. unlike x (value_at key_form_order (pairs_of fs) e.0)) (in_pairs es a e i) ∙ is)))
         (λ f i. if_some _ _ (λ h is. ap (unlike (value_at key_form_order (pairs_of es) f.0)) (in_pairs fs b f i) ∙ lacking_is _ f.1 h is))
 
-    least_is : (found : Option (KeyForm × Unlike)) → ((l : KeyForm) → (agree_at key_form_order form_values (pairs_of es) (pairs_of fs) l ≡ true) ⊎ Reaches found l)
+    least_is : (found : Option (KeyForm × Unlike)) → ((l : KeyForm) → (agree_at key_form_order form_values (pairs_of es) (pairs_of fs) l ≡ true)
+        ⊎ Reaches found l)
         → IfSome found IsUnlike → IsLeastUnlike (pairs_of es) (pairs_of fs) found
-    least_is None r h = λ l. elim (r l) as (λ _. agree_at key_form_order form_values (pairs_of es) (pairs_of fs) l ≡ true) [ inl agree ↦ agree | inr none ↦ absurd none ]
+    least_is None r h = λ l. elim (r l) as (λ _. agree_at key_form_order form_values (pairs_of es) (pairs_of fs) l ≡ true)
+        [ inl agree ↦ agree | inr none ↦ absurd none ]
     least_is (Some d) r h = (
-      (disagrees (value_at key_form_order (pairs_of es) d.0) (value_at key_form_order (pairs_of fs) d.0) d.1 h, λ l less. elim (r l) as (λ _. agree_at key_form_order form_values (pairs_of es) (pairs_of fs) l ≡ true) [ inl agree ↦ agree | inr not ↦ absurd (not less) ]),
+      (
+        disagrees (value_at key_form_order (pairs_of es) d.0) (value_at key_form_order (pairs_of fs) d.0) d.1 h,
+        λ l less.
+            elim (r l) as (λ _. agree_at key_form_order form_values (pairs_of es) (pairs_of fs) l ≡ true) [ inl agree ↦ agree | inr not ↦ absurd (not less) ],
+      ),
       h,
     )
 
@@ -254,7 +268,8 @@ left_decides None (Some w) g h e = cc
 left_decides (Some v) None g h e = refl
 left_decides (Some v) (Some w) g h e = absurd ((not_alone (form_values v w)).0 e)
 
-pub right_decides : (x y : Option Form) (g h : Bool) → unlike x y ≡ Some RightAlone → by_values key_form_order form_values x y g h ≡ (if g then Greater else Less)
+pub right_decides : (x y : Option Form) (g h : Bool) → unlike x y ≡ Some RightAlone → by_values key_form_order form_values x y g h
+    ≡ (if g then Greater else Less)
 right_decides None None g h e = cc
 right_decides None (Some w) g h e = refl
 right_decides (Some v) None g h e = cc
@@ -270,8 +285,10 @@ module _ (es fs : List (KeyForm × Form)) (k : KeyForm) (least : IsLeastDifferen
   pub by_held : (o : Ordering) → unlike here there ≡ Some (Values o) → o ≡ maps_order (pairs_of es) (pairs_of fs)
   by_held o e = sym (ordered_at es fs k least ∙ values_decide here there _ _ o e)
 
-  pub by_left : (b : Bool) → unlike here there ≡ Some LeftAlone → goes_on key_form_order (pairs_of fs) k ≡ b → (if b then Less else Greater) ≡ maps_order (pairs_of es) (pairs_of fs)
+  pub by_left : (b : Bool) → unlike here there ≡ Some LeftAlone → goes_on key_form_order (pairs_of fs) k ≡ b → (if b then Less else Greater)
+      ≡ maps_order (pairs_of es) (pairs_of fs)
   by_left b e g = sym (ordered_at es fs k least ∙ left_decides here there _ _ e ∙ ap (λ c. if c then Less else Greater) g)
 
-  pub by_right : (b : Bool) → unlike here there ≡ Some RightAlone → goes_on key_form_order (pairs_of es) k ≡ b → (if b then Greater else Less) ≡ maps_order (pairs_of es) (pairs_of fs)
+  pub by_right : (b : Bool) → unlike here there ≡ Some RightAlone → goes_on key_form_order (pairs_of es) k ≡ b → (if b then Greater else Less)
+      ≡ maps_order (pairs_of es) (pairs_of fs)
   by_right b e g = sym (ordered_at es fs k least ∙ right_decides here there _ _ e ∙ ap (λ c. if c then Greater else Less) g)

@@ -19,9 +19,11 @@ module _ {V : Type 0} where
   pub first_left : (left : List (Key × V)) (e : Key × V) (rest : List (Key × V)) → left ≡ e ∷ rest → In (key_form e.0, e.1) (forms_of left)
   first_left left e rest is = subst (λ l. In (key_form e.0, e.1) (forms_of l)) (sym is) (inl refl)
 
-  pub later_left : (left : List (Key × V)) (e : Key × V) (rest : List (Key × V)) → left ≡ e ∷ rest → (p : KeyForm × V) → In p (forms_of rest) → In p (forms_of left)
+  pub later_left : (left : List (Key × V)) (e : Key × V) (rest : List (Key × V)) → left ≡ e ∷ rest → (p : KeyForm × V) → In p (forms_of rest)
+      → In p (forms_of left)
   later_left left e rest is p i = subst (λ l. In p (forms_of l)) (sym is) (inr i)
 
 -- a value of a table is less deep than its map
-pub less_deep : (es : List (Key × Form)) → IsDistinct keys_tie (keys_of es) → (p : KeyForm × Form) → In p (forms_of es) → depth p.1 ≤ members_depth (members (pairs_of (forms_of es)))
+pub less_deep : (es : List (Key × Form)) → IsDistinct keys_tie (keys_of es) → (p : KeyForm × Form) → In p (forms_of es) → depth p.1 ≤ members_depth
+    (members (pairs_of (forms_of es)))
 less_deep es h p i = member_le-depth p _ (in_pairs es h p i)

@@ -1,5 +1,6 @@
 -- What conversions of the code give, and what their refusals tell.
-use Rattle.std.specs.Prelude.{◌≡◌, ◌⊎◌, ◌++◌, ℕ, codes, List, Option, Some, IfSome, IfNone, Result, Ok, Err}
+use Rattle.std.specs.Prelude.{◌≡◌, ◌⊎◌, ◌++◌, ℕ, codes, List, Option, Some, IfSome, IfNone, Result}
+use Rattle.std.specs.Prelude.{Ok, Err}
 use Rattle.std.specs.Fmt.{◌++?◌}
 use Rattle.tera_meaning.specs.Conversion.{IntegerType}
 use Rattle.tera_meaning.specs.Form.{Form}
@@ -8,7 +9,8 @@ use Rattle.tera_meaning.specs.Meaning.{plain}
 use Rattle.tera_meaning.specs.Printed.{Prints}
 use Rattle.tera_meaning.specs.Read.{number_in}
 use Rattle.tera_report.specs.Errors.{Raises, IsOutOfMemory}
-use Rattle.tera_report.specs.Refusal.{Refusal, text_of, invalid_argument, out_of_range, number_out_of_range}
+use Rattle.tera_report.specs.Refusal.{Refusal, text_of, invalid_argument, out_of_range}
+use Rattle.tera_report.specs.Refusal.{number_out_of_range}
 use Rattle.tera_report.specs.declared.errors.Error.{Error}
 use Rattle.tera_values.specs.Print.{printed_if_exact}
 use Rattle.tera_values.specs.declared.integers.IntType.{IntType}
@@ -27,7 +29,8 @@ IsRefusal value refusal refused = ⊥
 -- what is given of a value is this, or its refusal
 abbrev pub Gives : {X : Type 0} → Result X Refusal → Form → Result X ConversionRefused → Type 0
 Gives due value (Ok x) = due ≡ Ok x
-Gives due value (Err refused) = (refusal : Refusal) × (due ≡ Err refusal) × IsRefusal value refusal refused
+Gives due value (Err refused) = (refusal : Refusal) × (due ≡ Err refusal)
+    × IsRefusal value refusal refused
 
 -- the text of a value that is outside a type, where it prints exactly
 abbrev pub range_text : Form → List ℕ → Option (List ℕ)
@@ -46,12 +49,14 @@ IsDueTo value name refused =
     IfSome (number_in value) (λ z. IsRefusal value (number_out_of_range z name) refused)
     × IfNone (number_in value) (IsRefusal value (invalid_argument name (name_of value)) refused)
 
--- the error of whatever was not converted: with both names, or with the name of the type and what the value prints; or
--- want of memory
+-- the error of whatever was not converted: with both names, or with the name of the type and what
+-- the value prints; or want of memory
 abbrev pub RaisesWhy : ConversionRefused → Error → Type 0
-RaisesWhy (WrongType expected actual) error = Raises (invalid_argument expected.now actual.now) error
+RaisesWhy (WrongType expected actual) error = Raises (invalid_argument expected.now actual.now)
+    error
 RaisesWhy (OutOfRange value target) error =
-    ((text : List ℕ) × Prints (plain value) text × Raises (out_of_range text target.now) error) ⊎ IsOutOfMemory error
+    ((text : List ℕ) × Prints (plain value) text × Raises (out_of_range text target.now) error)
+    ⊎ IsOutOfMemory error
 
 -- the integer type that the code's `IntType` names
 abbrev pub integer_type : IntType → IntegerType

@@ -1,10 +1,12 @@
--- From the code's keys to how they are held, and what a key prints, feeds to a hasher and is as a value.
+-- From the code's keys to how they are held, and what a key prints, feeds to a hasher and is as a
+-- value.
 use Rattle.std.specs.Prelude.{ℕ, pos, negsuc, ℤ, false, List, ◌++◌, Option, Some, None}
 use Rattle.std.specs.Hash as hash
 use Rattle.std.specs.Rc.{rc_str_bytes}
 use Rattle.tera_meaning.specs.Form.{Form}
 use Rattle.tera_meaning.specs.Integer.{IntegerKind, u64, i64, u128, i128}
-use Rattle.tera_meaning.specs.KeyMeaning.{KeyMeaning, KeyForm, truth_key, number_key, text_key, owned, borrowed, key_text, key_meaning}
+use Rattle.tera_meaning.specs.KeyMeaning.{KeyMeaning, KeyForm, truth_key, number_key, text_key}
+use Rattle.tera_meaning.specs.KeyMeaning.{owned, borrowed, key_text, key_meaning}
 pub use Rattle.tera_meaning.specs.Printed.{shown_key}
 use Rattle.tera_meaning.specs.Tree.{truth, number, text}
 use Rattle.tera_values.specs.declared.key.Key.{Key}

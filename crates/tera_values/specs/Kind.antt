@@ -1,8 +1,11 @@
 -- From the code's kinds to the kinds of the model.
 use Rattle.tera_meaning.specs.Integer.{u64, i64, u128, i128}
-use Rattle.tera_meaning.specs.Kind.{Kind, undefined_kind, none_kind, truth_kind, number_kind, text_kind, array_kind, object_kind, bytes_kind}
+use Rattle.tera_meaning.specs.Kind.{Kind, undefined_kind, none_kind, truth_kind, number_kind}
+use Rattle.tera_meaning.specs.Kind.{text_kind, array_kind, object_kind, bytes_kind}
 use Rattle.tera_values.specs.declared.kind.ValueKind.{ValueKind}
-use Rattle.tera_values.specs.declared.kind.ValueKind.TheVariants.{Undefined, None, Bool, U64, I64, U128, I128, String, Array, Map, Bytes}
+use Rattle.tera_values.specs.declared.kind.ValueKind.TheVariants.{Undefined, None, Bool, U64, I64}
+use Rattle.tera_values.specs.declared.kind.ValueKind.TheVariants.{U128, I128, String, Array, Map}
+use Rattle.tera_values.specs.declared.kind.ValueKind.TheVariants.{Bytes}
 
 abbrev pub kind_form : ValueKind → Kind
 kind_form Undefined = undefined_kind

@@ -35,7 +35,8 @@ lacking None = Some RightAlone
 lacking (Some v) = None
 
 -- a difference at a key in place of the least so far
-abbrev pub difference_at : Option Unlike → KeyForm → Option (KeyForm × Unlike) → Option (KeyForm × Unlike)
+abbrev pub difference_at : Option Unlike → KeyForm → Option (KeyForm × Unlike)
+    → Option (KeyForm × Unlike)
 difference_at None k least = least
 difference_at (Some how) k least = Some (k, how)
 
@@ -54,7 +55,8 @@ abbrev pub maps_order : List (KeyForm × Form) → List (KeyForm × Form) → Or
 maps_order ps qs = compare (plain (object (members ps))) (plain (object (members qs)))
 
 -- how two maps differ at the least key where they do
-abbrev pub IsLeastUnlike : List (KeyForm × Form) → List (KeyForm × Form) → Option (KeyForm × Unlike) → Type 0
+abbrev pub IsLeastUnlike : List (KeyForm × Form) → List (KeyForm × Form) → Option (KeyForm × Unlike)
+    → Type 0
 IsLeastUnlike ps qs found = MatchOption found (AgreeEverywhere key_form_order form_values ps qs)
     (λ d. IsLeastDifference key_form_order form_values ps qs d.0
     × (unlike (value_at key_form_order ps d.0) (value_at key_form_order qs d.0) ≡ Some d.1))

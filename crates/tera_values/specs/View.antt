@@ -4,10 +4,13 @@ use Rattle.std.specs.Prelude.{ℕ, pos, ℤ, Bool, List, ⊤}
 use Rattle.std.specs.String.{string_bytes}
 use Rattle.tera_meaning.specs.Form.{Form}
 use Rattle.tera_meaning.specs.Integer.{IntegerKind, u64, i64, u128, i128}
-use Rattle.tera_meaning.specs.Tree.{undefined, none, truth, number, text, bytes, array, object, items, members}
+use Rattle.tera_meaning.specs.Tree.{undefined, none, truth, number, text, bytes, array, object}
+use Rattle.tera_meaning.specs.Tree.{items, members}
 use Rattle.tera_values.specs.Map.{pairs_in, keys_tie}
 use Rattle.tera_values.specs.declared.value.ValueInner.{ValueInner}
-use Rattle.tera_values.specs.declared.value.ValueInner.TheVariants.{Undefined, None, Bool as Truth, U64, I64, U128, I128, String, Array, Bytes, Map}
+use Rattle.tera_values.specs.declared.value.ValueInner.TheVariants.{Undefined, None, Bool as Truth}
+use Rattle.tera_values.specs.declared.value.ValueInner.TheVariants.{U64, I64, U128, I128, String}
+use Rattle.tera_values.specs.declared.value.ValueInner.TheVariants.{Array, Bytes, Map}
 
 -- a number as a value holds it
 abbrev pub integer : IntegerKind → ℤ → Form

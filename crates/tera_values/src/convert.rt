@@ -100,8 +100,8 @@ impl fmt::Display for ConversionRefused {
     }
 }
 
-/// What a conversion's refusal tells is the text of the refusal that it is, so Display and the error
-/// that `into_error` makes can't part. Takes no memory.
+/// What a conversion's refusal tells is the text of the refusal that it is, so Display and the
+/// error that `into_error` makes can't part. Takes no memory.
 pub fn what_is_told_is_the_refusal()
     ensures { (value : Form) (refusal : Refusal) (refused : ConversionRefused)
         → IsRefusal value refusal refused → told_text refused ≡ text_of refusal }

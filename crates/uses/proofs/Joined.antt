@@ -4,7 +4,7 @@ use Rattle.std.specs.Cow.{cow_str_bytes}
 use Rattle.std.specs.declared.borrow.CowStr.{CowStr}
 use Rattle.std.proofs.Common.{ap, sym, subst, ◌∙◌, get_or, arith}
 use Rattle.std.proofs.lemmas.List.{append_assoc, map-append, length-take-le}
-use Rattle.tera_arguments.proofs.ItemLemmas.{up_to}
+use Rattle.tera_arguments.proofs.ItemLaws.{up_to}
 use Rattle.tera_arguments.specs.Rendered.{Renders, is_shown_plain}
 use Rattle.tera_meaning.specs.Form.{MarkedText}
 use Rattle.uses.specs.Filters.{joined, shown}

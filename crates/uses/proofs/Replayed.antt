@@ -1,5 +1,6 @@
 -- What answers two short scripts.
-use Rattle.std.proofs.Common.{◌≡◌, ◌≢◌, ℕ, ◌+◌, ◌^◌, ◌-◌, ◌<◌, ◌≤◌, ◌⊎◌, ◌↔◌, IsTrue, rules, inl, inr, Bool, true, false, List, [], ◌∷◌, ◌++◌, All, length, map, codes, Option, None, Some, Ok, sym, ◌∙◌, ap, subst, refl, append-nil, arith, length-append}
+use Rattle.std.proofs.Common.{◌≡◌, ◌≢◌, ℕ, ◌+◌, ◌^◌, ◌-◌, ◌<◌, ◌≤◌, ◌⊎◌, ◌↔◌, IsTrue, rules, inl, inr, Bool, true, false, List, [], ◌∷◌, ◌++◌, All, length, map}
+use Rattle.std.proofs.Common.{codes, Option, None, Some, Ok, sym, ◌∙◌, ap, subst, refl, append-nil, arith, length-append}
 use Rattle.std.specs.FinMap.{empty, get-empty}
 use Rattle.std.specs.List.{AllZip, flat_map}
 use Rattle.std.specs.declared.cmp.Ordering.TheVariants.{Equal}
@@ -37,7 +38,8 @@ abbrev OneSplit : Type 0
 OneSplit = (bytes part other : List ℕ) (lines others : List (List ℕ)) → Splits bytes lines part → Splits bytes others other → (lines ≡ others) × (part ≡ other)
 
 abbrev OneScript : Type 0
-OneScript = (n : ℕ) (lines : List (List ℕ)) (commands others : List Command) (bad other : Option BadLine) → Script n lines commands bad → Script n lines others other → (commands ≡ others) × (bad ≡ other)
+OneScript = (n : ℕ) (lines : List (List ℕ)) (commands others : List Command) (bad other : Option BadLine) → Script n lines commands bad
+    → Script n lines others other → (commands ≡ others) × (bad ≡ other)
 
 abbrev Ties : Type 0
 Ties = (x y : Meaning) → (Order.compare x y ≡ Equal) ↔ (x ≡ y)
@@ -84,20 +86,27 @@ pub both_answered : Ties → Alike → OneSplit → OneScript → Says (codes "c
     → AllAnswered (codes "cmp a b\neq a b\n") (Some false) out err status → (out ≡ codes "equal\ntrue\n") × (status ≡ 0)
 both_answered ties alike split script first second out err status h =
     let lines = split _ h.part [] h.lines two_lines h.split two_split in
-    let said : Script 1 two_lines (compared ∷ equated ∷ []) None = inr (inl (compared, equated ∷ [], first, refl, inr (inl (equated, [], second, refl, (refl, refl))))) in
+    let said : Script 1 two_lines (compared ∷ equated ∷ []) None =
+    inr (inl (compared, equated ∷ [], first, refl, inr (inl (equated, [], second, refl, (refl, refl))))) in
     let given : map without_return h.lines ++ last_line h.part ≡ two_lines = (λ i. map without_return (lines.0 i) ++ last_line (lines.1 i)) in
-    let same = script 1 two_lines h.answers.commands (compared ∷ equated ∷ []) h.bad None (subst (λ ls. Script 1 ls h.answers.commands h.bad) given h.answers.script) said in
+    let same = script 1 two_lines h.answers.commands (compared ∷ equated ∷ []) h.bad None
+    (subst (λ ls. Script 1 ls h.answers.commands h.bad) given h.answers.script) said in
     let ran = both_run ties alike h.outcomes h.answers.state (subst (λ cs. IsRun empty cs h.outcomes h.answers.state) same.0 h.answers.run) in
     (both_replied out (subst (λ os. AreReplies os out) ran h.replied), h.status_is ∙ (λ i. status_of (same.1 i) (ran i)))
 
 module _ (InGave InFailed OutGets ErrGets : List ℕ → Type 0) (OutBroke : Type 0) where
   -- the status of two calls is 0 or 1, and at 0 the output got their answers
-  pub both_status : Ties → Alike → OneSplit → OneScript → Says (codes "cmp a b") compared → Says (codes "eq a b") equated → (bytes : List ℕ) (fails : Option Bool) (status : ℕ) → bytes ≡ codes "cmp a b\neq a b\n" → fails ≡ Some false
+  pub both_status : Ties → Alike → OneSplit → OneScript → Says (codes "cmp a b") compared → Says (codes "eq a b") equated
+      → (bytes : List ℕ) (fails : Option Bool) (status : ℕ) → bytes ≡ codes "cmp a b\neq a b\n" → fails ≡ Some false
       → Replays bytes fails InGave InFailed OutGets OutBroke ErrGets status → (status ≤ 1) × (status ≡ 0 → OutGets (codes "equal\ntrue\n"))
-  both_status ties alike split script first second bytes fails status is ends h = by (subst (λ f. Replays (codes "cmp a b\neq a b\n") f InGave InFailed OutGets OutBroke ErrGets status) ends (subst (λ bs. Replays bs fails InGave InFailed OutGets OutBroke ErrGets status) is h))
+  both_status ties alike split script first second bytes fails status is ends h =
+      by (subst (λ f. Replays (codes "cmp a b\neq a b\n") f InGave InFailed OutGets OutBroke ErrGets status) ends
+      (subst (λ bs. Replays bs fails InGave InFailed OutGets OutBroke ErrGets status) is h))
     where
-      by : Replays (codes "cmp a b\neq a b\n") (Some false) InGave InFailed OutGets OutBroke ErrGets status → (status ≤ 1) × (status ≡ 0 → OutGets (codes "equal\ntrue\n"))
-      by (inl (out, err, inl all, gets, told)) = let both = both_answered ties alike split script first second out err status all in (omega (arith, both.1), λ zero. subst OutGets both.0 gets)
+      by : Replays (codes "cmp a b\neq a b\n") (Some false) InGave InFailed OutGets OutBroke ErrGets status → (status ≤ 1)
+          × (status ≡ 0 → OutGets (codes "equal\ntrue\n"))
+      by (inl (out, err, inl all, gets, told)) = let both = both_answered ties alike split script first second out err status all in
+          (omega (arith, both.1), λ zero. subst OutGets both.0 gets)
       by (inl (out, err, inr (inl failed), gets, told)) = (omega (arith, failed.status_is), λ zero. absurd (omega (arith, zero, failed.status_is)))
       by (inl (out, err, inr (inr failed), gets, told)) = (omega (arith, failed.status_is), λ zero. absurd (omega (arith, zero, failed.status_is)))
       by (inr (broke, is_one, told)) = (omega (arith, is_one), λ zero. absurd (omega (arith, zero, is_one)))

@@ -1,5 +1,6 @@
 -- What the filters of these programs give.
-use Rattle.std.specs.Prelude.{◌≡◌, ◌≢◌, ◌⊎◌, ◌++◌, ℕ, pos, Bool, List, [], ◌∷◌, map, codes, if◌then◌else◌}
+use Rattle.std.specs.Prelude.{◌≡◌, ◌≢◌, ◌⊎◌, ◌++◌, ℕ, pos, Bool, List, [], ◌∷◌, map, codes}
+use Rattle.std.specs.Prelude.{if◌then◌else◌}
 use Rattle.std.specs.Prelude.{Option, None, Some, Ok, MatchOption}
 use Rattle.std.specs.List.{AllZip}
 use Rattle.std.specs.Option.{IsSomeAnd}
@@ -18,7 +19,8 @@ use Rattle.tera_values.specs.View.{marked}
 
 -- a text up to the length that is given, with its flag
 abbrev pub IsTruncated : MarkedText → Option Form → Form → Type 0
-IsTruncated t given v = IsSomeAnd given (λ length. (n : ℕ) × (converted IntegerType.u64 length ≡ Ok (pos n))
+IsTruncated t given v =
+    IsSomeAnd given (λ length. (n : ℕ) × (converted IntegerType.u64 length ≡ Ok (pos n))
     × IsSliced (text t) None (Some (pos n)) None (Ok v))
 
 -- no length is given, or it is none
@@ -50,18 +52,21 @@ module _ {S : Type 0} (escapes : S → Bool) (escaped : S → List ℕ → List 
   -- the texts of an array as they are shown, with the one that is given between them
   abbrev pub IsJoined : Form → Option Form → Form → Type 0
   IsJoined value given v = (parts : List MarkedText) × (held : List Form) × (between : MarkedText)
-      × (items_in value ≡ Some held) × AllZip (λ item part. as_marked_text item ≡ Ok part) held parts
+      × (items_in value ≡ Some held) × AllZip (λ item part. as_marked_text item ≡ Ok part) held
+      parts
       × IsSomeAnd given (λ sep. as_marked_text sep ≡ Ok between)
       × (v ≡ marked (joined (shown between) (map shown parts)) (escapes state))
 
 -- the value is no array of texts
 abbrev pub RefusesTexts : Form → Error → Type 0
 RefusesTexts value e =
-    DeniesItems items_in IsNoArray (λ item part. as_marked_text item ≡ Ok part) (λ item. Denies (as_marked_text item)) value e
+    DeniesItems items_in IsNoArray (λ item part. as_marked_text item ≡ Ok part)
+    (λ item. Denies (as_marked_text item)) value e
 
 -- no separator is given, or it is no text
 abbrev pub RefusesSeparator : Option Form → Error → Type 0
-RefusesSeparator given e = MatchOption given (Raises (missing_argument (codes "sep")) e) (λ sep. Denies (as_marked_text sep) e)
+RefusesSeparator given e = MatchOption given (Raises (missing_argument (codes "sep")) e)
+    (λ sep. Denies (as_marked_text sep) e)
 
 -- a text was not escaped, or there was no memory
 abbrev pub EscapeRefuses : {S : Type 0} → (S → List ℕ → Error → Type 0) → S → Error → Type 0

@@ -13,7 +13,8 @@ use Rattle.tera_values.specs.Key.{integer_key}
 -- the pairs after each of the numbers was put as a key of `true`, one after another
 abbrev pub with_each : List (KeyForm × Form) → List ℕ → List (KeyForm × Form)
 with_each pairs [] = pairs
-with_each pairs (n ∷ ns) = with_each (insert_entry key_form_order pairs (integer_key u64 (pos n)) (truth true)) ns
+with_each pairs (n ∷ ns) =
+    with_each (insert_entry key_form_order pairs (integer_key u64 (pos n)) (truth true)) ns
 
 -- the values of pairs
 abbrev pub values_of : List (KeyForm × Form) → List Form

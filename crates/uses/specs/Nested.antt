@@ -12,4 +12,6 @@ inner = object (members ((text_key (borrowed (codes "b")), marked (codes "x") fa
 
 -- {"a": [1, {"b": "x"}]}
 abbrev pub nested : Form
-nested = object (members ((text_key (borrowed (codes "a")), array (items (integer u64 (pos 1) ∷ inner ∷ []))) ∷ []))
+nested = object
+    (members ((text_key (borrowed (codes "a")), array (items (integer u64 (pos 1) ∷ inner ∷ [])))
+    ∷ []))

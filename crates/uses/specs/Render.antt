@@ -1,5 +1,6 @@
 -- What a page of pieces is.
-use Rattle.std.specs.Prelude.{◌≡◌, ◌++◌, ℕ, Bool, true, false, List, [], ◌∷◌, Option, None, Some, IfSome, ⊤}
+use Rattle.std.specs.Prelude.{◌≡◌, ◌++◌, ℕ, Bool, true, false, List, [], ◌∷◌, Option, None, Some}
+use Rattle.std.specs.Prelude.{IfSome, ⊤}
 use Rattle.std.specs.FinMap.{get}
 use Rattle.std.specs.Option.{option_and_then, option_map}
 use Rattle.std.specs.String.{string_bytes}
@@ -25,7 +26,8 @@ StandsFor false shown text = Spells shown text
 
 -- what a value shows: what stands for its printed text
 abbrev pub ShowsValue : Form → List ℕ → Type 0
-ShowsValue value shown = (text : List ℕ) × Prints (plain value) text × StandsFor (safe_in value) shown text
+ShowsValue value shown = (text : List ℕ) × Prints (plain value) text × StandsFor (safe_in value)
+    shown text
 
 -- and what is found: nothing is shown where nothing is
 abbrev pub ShowsFound : Option Form → List ℕ → Type 0
@@ -35,19 +37,22 @@ ShowsFound (Some value) shown = ShowsValue value shown
 -- what a piece shows: a text itself, or what is found
 abbrev pub ShowsPiece : State → Piece → List ℕ → Type 0
 ShowsPiece state (Text text) shown = shown ≡ string_bytes text
-ShowsPiece state (Path name to) shown = ShowsFound (found state (string_bytes name) (option_map string_bytes to)) shown
+ShowsPiece state (Path name to) shown =
+    ShowsFound (found state (string_bytes name) (option_map string_bytes to)) shown
 
 -- the page of pieces: what the first shows, and then the page of the rest
 abbrev pub IsRendered : State → List Piece → List ℕ → Type 0
 IsRendered state [] page = page ≡ []
 IsRendered state (piece ∷ pieces) page =
-    (shown rest : List ℕ) × ShowsPiece state piece shown × IsRendered state pieces rest × (page ≡ shown ++ rest)
+    (shown rest : List ℕ) × ShowsPiece state piece shown × IsRendered state pieces rest
+    × (page ≡ shown ++ rest)
 
 -- what a piece finds has one printed text
 abbrev pub IsExactPiece : State → Piece → Type 0
 IsExactPiece state (Text text) = ⊤
 IsExactPiece state (Path name to) =
-    IfSome (found state (string_bytes name) (option_map string_bytes to)) (λ value. IsExact (plain value))
+    IfSome (found state (string_bytes name) (option_map string_bytes to))
+    (λ value. IsExact (plain value))
 
 -- and then it shows this
 abbrev pub shown_if_found : Option Form → List ℕ
@@ -56,4 +61,5 @@ shown_if_found (Some value) = shown_in_page value
 
 abbrev pub shown_by : State → Piece → List ℕ
 shown_by state (Text text) = string_bytes text
-shown_by state (Path name to) = shown_if_found (found state (string_bytes name) (option_map string_bytes to))
+shown_by state (Path name to) =
+    shown_if_found (found state (string_bytes name) (option_map string_bytes to))

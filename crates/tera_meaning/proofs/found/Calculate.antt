@@ -3,7 +3,8 @@ use Rattle.std.proofs.Common.{refl, sym, ap, ◌∙◌, arith}
 use Rattle.std.proofs.lemmas.Bool.{ltb-true, lt-ltb}
 use Rattle.std.specs.Int.{int_div_euclid, int_rem_euclid}
 use Rattle.std.specs.Option.{ok_or}
-use Rattle.std.specs.Prelude.{◌≡◌, ◌<◌, ◌-◌, ◌%◌, ◌^◌, ℕ, zero, suc, ℤ, pos, negsuc, ◌+ℤ◌, ◌-ℤ◌, ◌*ℤ◌, unsigned_abs, if◌then◌else◌, Bool, true, false, List, [], Option, Some, None, Result, Ok, Err, IfOk, IfErr, refl}
+use Rattle.std.specs.Prelude.{◌≡◌, ◌<◌, ◌-◌, ◌%◌, ◌^◌, ℕ, zero, suc, ℤ, pos, negsuc, ◌+ℤ◌, ◌-ℤ◌, ◌*ℤ◌, unsigned_abs, if◌then◌else◌, Bool, true, false, List, []}
+use Rattle.std.specs.Prelude.{Option, Some, None, Result, Ok, Err, IfOk, IfErr, refl}
 use Rattle.tera_meaning.specs.Arithmetic.{and_then, each_ok, small, operand, exact, divided, exponent, power_of, computed, as_i128, calculated}
 use Rattle.tera_meaning.specs.Form.{Form}
 use Rattle.tera_meaning.specs.Integer.{is_small}
@@ -12,7 +13,8 @@ use Rattle.tera_meaning.specs.Meaning.{plain}
 use Rattle.tera_meaning.specs.Order.{same}
 use Rattle.tera_meaning.specs.Read.{number_in}
 use Rattle.tera_meaning.specs.WellMade.{IsWellMade}
-use Rattle.tera_report.specs.Refusal.{Refusal, Operator, plus, minus, times, remainder, floor_division, power, not_a_number, operand_outside_i128, not_exact, exponent_outside_u32}
+use Rattle.tera_report.specs.Refusal.{Refusal, Operator, plus, minus, times, remainder, floor_division, power, not_a_number, operand_outside_i128, not_exact}
+use Rattle.tera_report.specs.Refusal.{exponent_outside_u32}
 use Rattle.tera_meaning.proofs.PlainLemmas.{number_by_meaning}
 use Rattle.tera_meaning.proofs.ArithmeticLemmas.{refused_or, refused_then, refused_each, given_then, given_each, IsNoWant, IsSmall, small_given, small_well}
 

@@ -5,7 +5,8 @@ use Rattle.std.proofs.lemmas.Option.{slice_get-map}
 use Rattle.std.proofs.lemmas.Str.{scalars-chars, IsUtf8-encode}
 use Rattle.std.specs.Char.{encode_utf8}
 use Rattle.std.specs.Option.{option_map, option_and_then, ok_or, unwrap_or}
-use Rattle.std.specs.Prelude.{◌≡◌, ℕ, zero, suc, ℤ, true, List, [], Option, Some, None, Result, Ok, Err, IfOk, IfErr, refl, ◌∷◌, map, slice_get, length, unwrap_or, IfSome}
+use Rattle.std.specs.Prelude.{◌≡◌, ℕ, zero, suc, ℤ, true, List, [], Option, Some, None, Result, Ok, Err, IfOk, IfErr, refl, ◌∷◌, map, slice_get, length}
+use Rattle.std.specs.Prelude.{unwrap_or, IfSome}
 use Rattle.std.specs.Str.{chars, IsUtf8}
 use Rattle.tera_meaning.specs.Form.{Form, MarkedText}
 use Rattle.tera_meaning.specs.Integer.{Integer}

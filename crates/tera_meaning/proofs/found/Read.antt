@@ -2,7 +2,8 @@
 use Rattle.std.proofs.Common.{refl, sym, ◌∙◌, arith, lt_of_lt_of_le, pow_mono}
 use Rattle.std.proofs.lemmas.Bool.{ltb-true}
 use Rattle.std.specs.Option.{ok_or}
-use Rattle.std.specs.Prelude.{◌≡◌, ◌<◌, ◌≤◌, ◌^◌, nat_lt, ℕ, ℤ, pos, negsuc, if◌then◌else◌, Bool, true, false, List, [], Option, Some, None, Result, Ok, Err, IfOk, IfErr, refl}
+use Rattle.std.specs.Prelude.{◌≡◌, ◌<◌, ◌≤◌, ◌^◌, nat_lt, ℕ, ℤ, pos, negsuc, if◌then◌else◌, Bool, true, false, List, [], Option, Some, None, Result, Ok, Err}
+use Rattle.std.specs.Prelude.{IfOk, IfErr, refl}
 use Rattle.tera_meaning.specs.Arithmetic.{and_then, each_ok}
 use Rattle.tera_meaning.specs.Conversion.{IntegerType, type_name, has_number, where_in, in_type, converted, held_as}
 use Rattle.tera_meaning.specs.Form.{Form}

@@ -4,7 +4,8 @@ use Rattle.std.proofs.lemmas.Option.{slice_get-map}
 use Rattle.std.proofs.lemmas.Str.{scalars-chars}
 use Rattle.std.specs.List.{AllByRecursion}
 use Rattle.std.specs.Option.{option_map, unwrap_or}
-use Rattle.std.specs.Prelude.{◌≡◌, ◌<◌, ℕ, zero, suc, ℤ, pos, negsuc, true, List, [], Option, Result, Ok, Err, IfOk, IfErr, refl, ◌∷◌, map, length, unwrap_or, ◌≢◌, take}
+use Rattle.std.specs.Prelude.{◌≡◌, ◌<◌, ℕ, zero, suc, ℤ, pos, negsuc, true, List, [], Option, Result, Ok, Err, IfOk, IfErr, refl, ◌∷◌, map, length, unwrap_or}
+use Rattle.std.specs.Prelude.{◌≢◌, take}
 use Rattle.std.specs.Str.{chars, encode_utf8_all}
 use Rattle.tera_meaning.proofs.SliceLaws.{slice_of_is, slices_same}
 use Rattle.tera_meaning.specs.Form.{Form}

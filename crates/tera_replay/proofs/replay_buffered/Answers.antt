@@ -1,9 +1,9 @@
 -- A replay through a buffer, and the text for want of one.
 use Rattle.std.proofs.Common.{refl, rules}
 use Rattle.tera_replay.proofs.BufferLemmas.{nothing_read, took_or_failed}
-use Rattle.tera_replies.proofs.InputLemmas.{reads_nothing}
-use Rattle.tera_replies.proofs.ReplayLemmas.{replays_weaker}
-use Rattle.tera_replies.proofs.WatchedLemmas.{told_same, told_writer}
+use Rattle.tera_replies.proofs.InputLaws.{reads_nothing}
+use Rattle.tera_replies.proofs.ReplayLaws.{replays_weaker}
+use Rattle.tera_replies.proofs.WatchedLaws.{told_same, told_writer}
 use Rattle.tera_replay.proofs.replay_buffered.Goals as goal
 
 pub returns-in-Ok-clause-known : goal.returns-in-Ok-clause-known

@@ -15,7 +15,8 @@ use Rattle.tera_report.specs.Room.{RoomTakes, RoomFails, IsDecided}
 use Rattle.tera_report.specs.Sink.{FormatterTakes, Puts}
 use Rattle.tera_report.specs.Watch.{WatchedTakes, WatchedFails}
 use Rattle.tera_report.specs.Writer.{all_taken}
-use Rattle.tera_report.specs.inner.WriterLaws.{folds_joined, passes_nothing, passes_joined, breaks_early, breaks_later, taken_joined}
+use Rattle.tera_report.specs.inner.WriterLaws.{folds_joined, passes_nothing, passes_joined}
+use Rattle.tera_report.specs.inner.WriterLaws.{breaks_early, breaks_later, taken_joined}
 
 pub appends_nothing : (a : Option (List ℕ)) → Appends a a []
 appends_nothing None = tt
@@ -34,7 +35,8 @@ keeps_appends None b h = tt
 keeps_appends (Some xs) None h = absurd h
 keeps_appends (Some xs) (Some ys) h = h ∙ sym (append-nil xs)
 
-module _ {W : Type 0} (contents : W → Option (List ℕ)) (wrote : W → List ℕ → Result ℕ Error → W → Type 0) where
+module _ {W : Type 0} (contents : W → Option (List ℕ)) (wrote : W → List ℕ → Result ℕ Error → W
+    → Type 0) where
   pub watched_nothing : (s : Watched W) → WatchedTakes contents wrote s [] s
   watched_nothing s = record {
     same = refl;

@@ -1,10 +1,12 @@
 -- Writes in turn, one stretch after another.
-use Rattle.std.specs.Prelude.{◌≡◌, ℕ, Bool, true, false, ◌||◌, List, [], ◌∷◌, ◌++◌, IsTrue, Result, refl}
+use Rattle.std.specs.Prelude.{◌≡◌, ℕ, Bool, true, false, ◌||◌, List, [], ◌∷◌, ◌++◌, IsTrue, Result}
+use Rattle.std.specs.Prelude.{refl}
 use Rattle.std.proofs.Common.{◌∙◌, ap, sym, subst, append_assoc, append-nil}
 use Rattle.std.proofs.lemmas.List.Concat.{flat_map-append}
 use Rattle.std.specs.declared.io.Error.{Error}
 use Rattle.std.specs.List.{FoldsTo}
-use Rattle.tera_report.specs.Writer.{Attempt, once, is_fault, bytes_taken, all_taken, has_fault, Tries, Passes, Breaks}
+use Rattle.tera_report.specs.Writer.{Attempt, once, is_fault, bytes_taken, all_taken, has_fault}
+use Rattle.tera_report.specs.Writer.{Tries, Passes, Breaks}
 
 -- some turns, and then some more
 pub folds_joined : {P A : Type 0} (R : P → A → P → Type 0) (p : P) (xs : List A) (q : P)

@@ -1,4 +1,4 @@
-// A constructor for each kind that holds texts, and what other errors become.
+//! A constructor for each kind that holds texts, and what other errors become.
 ghost use Rattle.anyhow.specs.Error.{IsMadeOf};
 ghost use Rattle.std.specs.Prelude.{◌≡◌, ◌⊎◌, [], Some, IfOk, IsSomeAnd, map, string_bytes};
 ghost use Rattle.std.specs.IoError.{error_kind as io_kind};

@@ -1,4 +1,4 @@
-// Copies of kinds, with texts of their own.
+//! Copies of kinds, with texts of their own.
 ghost use Rattle.std.specs.Prelude.{◌≡◌, IfOk, IfErr, IsOk, map, string_bytes};
 ghost use Rattle.tera_report.specs.Errors.{HoldsNoText, refusal_of, report_of, IsOutOfMemory};
 ghost use Rattle.tera_report.specs.Refusal.{circular_extend, circular_include};

@@ -1,5 +1,5 @@
-// The texts of refusals, tried on numbers and names from outside. Each function here does nothing:
-// its clauses are the rows.
+//! The texts of refusals, tried on numbers and names from outside. Each function here does nothing:
+//! its clauses are the rows.
 ghost use Rattle.std.specs.Prelude.{◌≡◌, ◌↔◌, ◌^◌, ◌-◌, ◌++◌, ℕ, ℤ, List, [], codes, pos};
 ghost use Rattle.std.specs.Prelude.{negsuc, Some};
 ghost use Rattle.tera_report.specs.Refusal.{not_a_number, operand_outside_i128, not_exact};

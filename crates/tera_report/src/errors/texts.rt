@@ -1,4 +1,4 @@
-// What a refusal is told by, piece by piece.
+//! What a refusal is told by, piece by piece.
 ghost use Rattle.std.specs.Prelude.{map, string_bytes};
 ghost use Rattle.std.specs.List.{flat_map};
 ghost use Rattle.tera_report.specs.Errors.{kind_of, refusal_of};

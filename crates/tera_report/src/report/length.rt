@@ -1,4 +1,4 @@
-// How long the text of a report is.
+//! How long the text of a report is.
 ghost use Rattle.std.specs.Prelude.{◌≡◌, length, map};
 ghost use Rattle.std.specs.List.{flat_map, sum};
 ghost use Rattle.tera_report.specs.Errors.{note_of, report_of};

@@ -1,4 +1,4 @@
-// The lines of a source.
+//! The lines of a source.
 ghost use Rattle.std.specs.Prelude.{◌≡◌, ◌<◌, ◌-◌, ◌++◌, ◌∷◌, ◌⊎◌, length, drop, IfSome, IfNone};
 ghost use Rattle.tera_report.specs.Parts.{HasNoLineFeed, line_feed};
 ghost use Rattle.tera_report.specs.Report.{numbered_line, pieces_of};

@@ -8,7 +8,7 @@ use Rattle.tera_values.specs.MapLaws.{form_total, entries_apart}
 use Rattle.tera_values.specs.Placing.{gathered, gathered_is_placed, insert_puts, rising_is}
 use Rattle.tera_values.specs.declared.key.Key.{Key}
 use Rattle.tera_values.proofs.Walks.{first_left, later_left, less_deep}
-use Rattle.tera_values.proofs.Parts.{depth_at}
+use Rattle.tera_values.proofs.PartsLaws.{depth_at}
 use Rattle.tera_values.proofs.+copy.Goals as goal
 
 pub copy::copies-clone-requires : goal.copy::copies-clone-requires

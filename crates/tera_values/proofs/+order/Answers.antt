@@ -12,7 +12,7 @@ use Rattle.tera_values.specs.Unlike.{IsLeastUnlike, least_met, unlike, lacking, 
 use Rattle.tera_values.specs.declared.key.Key.{Key}
 use Rattle.tera_values.proofs.UnlikeLemmas.{from_left, met_below, met_not_below, by_held, by_left, by_right, all_tie, walks_meet_least}
 use Rattle.tera_values.proofs.Walks.{first_left, later_left, less_deep}
-use Rattle.tera_values.proofs.Parts.{depth_at, array_of_items, map_of_members, order_ended}
+use Rattle.tera_values.proofs.PartsLaws.{depth_at, array_of_items, map_of_members, order_ended}
 use Rattle.tera_values.proofs.+order.Goals as goal
 
 pub compare::array_order-returns-in-Some : goal.compare::array_order-returns-in-Some
@@ -43,27 +43,32 @@ compare::map_order-returns-in-Some t c =
 pub compare::pairs_order-returns-in-Some-default-Values : goal.compare::pairs_order-returns-in-Some-default-Values
 compare::pairs_order-returns-in-Some-default-Values t c =
     let d = c.in-Some-default-Values in
-    by_held (forms_of c.args.left.now.entries) (forms_of c.args.right.now.entries) (key_form d.field-0-0.now) d.ensures.0 d.order (d.ensures.1 ∙ ap Some d.field-0-1-is)
+    by_held (forms_of c.args.left.now.entries) (forms_of c.args.right.now.entries) (key_form d.field-0-0.now) d.ensures.0 d.order
+    (d.ensures.1 ∙ ap Some d.field-0-1-is)
 
 pub compare::pairs_order-returns-then-goes_on : goal.compare::pairs_order-returns-then-goes_on
 compare::pairs_order-returns-then-goes_on t c =
     let d = c.in-Some-default-LeftAlone in
-    by_left (forms_of c.args.left.now.entries) (forms_of c.args.right.now.entries) (key_form d.key.now) d.ensures.0 true (d.ensures.1 ∙ ap Some d.field-0-1-is) (sym c.goes_on.ensures ∙ c.if-goes_on.true)
+    by_left (forms_of c.args.left.now.entries) (forms_of c.args.right.now.entries) (key_form d.key.now) d.ensures.0 true (d.ensures.1 ∙ ap Some d.field-0-1-is)
+    (sym c.goes_on.ensures ∙ c.if-goes_on.true)
 
 pub compare::pairs_order-returns-else-goes_on : goal.compare::pairs_order-returns-else-goes_on
 compare::pairs_order-returns-else-goes_on t c =
     let d = c.in-Some-default-LeftAlone in
-    by_left (forms_of c.args.left.now.entries) (forms_of c.args.right.now.entries) (key_form d.key.now) d.ensures.0 false (d.ensures.1 ∙ ap Some d.field-0-1-is) (sym c.goes_on.ensures ∙ c.if-goes_on.false)
+    by_left (forms_of c.args.left.now.entries) (forms_of c.args.right.now.entries) (key_form d.key.now) d.ensures.0 false (d.ensures.1 ∙ ap Some d.field-0-1-is)
+    (sym c.goes_on.ensures ∙ c.if-goes_on.false)
 
 pub compare::pairs_order-returns-then-goes_on-2 : goal.compare::pairs_order-returns-then-goes_on-2
 compare::pairs_order-returns-then-goes_on-2 t c =
     let d = c.in-Some-default-RightAlone in
-    by_right (forms_of c.args.left.now.entries) (forms_of c.args.right.now.entries) (key_form d.key.now) d.ensures.0 true (d.ensures.1 ∙ ap Some d.field-0-1-is) (sym c.goes_on-in-Some-default-RightAlone.ensures ∙ c.if-goes_on-2.true)
+    by_right (forms_of c.args.left.now.entries) (forms_of c.args.right.now.entries) (key_form d.key.now) d.ensures.0 true (d.ensures.1 ∙ ap Some d.field-0-1-is)
+    (sym c.goes_on-in-Some-default-RightAlone.ensures ∙ c.if-goes_on-2.true)
 
 pub compare::pairs_order-returns-else-goes_on-2 : goal.compare::pairs_order-returns-else-goes_on-2
 compare::pairs_order-returns-else-goes_on-2 t c =
     let d = c.in-Some-default-RightAlone in
-    by_right (forms_of c.args.left.now.entries) (forms_of c.args.right.now.entries) (key_form d.key.now) d.ensures.0 false (d.ensures.1 ∙ ap Some d.field-0-1-is) (sym c.goes_on-in-Some-default-RightAlone.ensures ∙ c.if-goes_on-2.false)
+    by_right (forms_of c.args.left.now.entries) (forms_of c.args.right.now.entries) (key_form d.key.now) d.ensures.0 false
+    (d.ensures.1 ∙ ap Some d.field-0-1-is) (sym c.goes_on-in-Some-default-RightAlone.ensures ∙ c.if-goes_on-2.false)
 
 pub compare::pairs_order-returns-in-None : goal.compare::pairs_order-returns-in-None
 compare::pairs_order-returns-in-None t c =
@@ -76,7 +81,8 @@ map::least_difference-returns t c =
     let met = c.least_absent.ensures.least
     ∙ ap (λ l. least_met (λ e. lacking (value_at key_form_order (pairs_of es) e.0)) l fs) c.least_unlike.ensures.least in
     subst (IsLeastUnlike (pairs_of es) (pairs_of fs)) (sym met)
-    (walks_meet_least es fs (entries_apart c.args.left.now.entries c.least_unlike.ensures.distinct) (entries_apart c.args.right.now.entries c.least_absent.ensures.distinct))
+    (walks_meet_least es fs (entries_apart c.args.left.now.entries c.least_unlike.ensures.distinct)
+    (entries_apart c.args.right.now.entries c.least_absent.ensures.distinct))
 
 pub map::least_unlike-unlike-requires : goal.map::least_unlike-unlike-requires
 map::least_unlike-unlike-requires t c =

@@ -8,7 +8,7 @@ use Rattle.tera_values.specs.Key.{key_form}
 use Rattle.tera_values.specs.Map.{forms_of, pairs_in}
 use Rattle.tera_values.specs.Placing.{In}
 use Rattle.tera_values.specs.Unlike.{least_met, unlike}
-use Rattle.tera_values.proofs.Parts.{lists_order}
+use Rattle.tera_values.proofs.PartsLaws.{lists_order}
 use Rattle.tera_values.proofs.+order.Given as goal
 
 abbrev pub decreases-compare::order : goal.decreases-compare::order
@@ -44,6 +44,7 @@ abbrev pub invariant-map::least_unlike-loop-key : goal.invariant-map::least_unli
 invariant-map::least_unlike-loop-key l =
     record {
       within : (p : KeyForm × Form) → In p (forms_of l.key-iterator) → In p (forms_of l.left.entries);
-      least : least_met (λ e. unlike (Some e.1) (value_at key_form_order (pairs_in l.right) e.0)) (option_map (λ d. (key_form d.0.now, d.1)) l.least) (forms_of l.key-iterator)
+      least : least_met (λ e. unlike (Some e.1) (value_at key_form_order (pairs_in l.right) e.0)) (option_map (λ d. (key_form d.0.now, d.1)) l.least)
+          (forms_of l.key-iterator)
           ≡ least_met (λ e. unlike (Some e.1) (value_at key_form_order (pairs_in l.right) e.0)) None (forms_of l.left.entries);
     }

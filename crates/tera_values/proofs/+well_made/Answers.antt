@@ -2,7 +2,7 @@ use Rattle.std.proofs.Common.{◌⊎◌, inl, inr, arith, sym, subst, take}
 use Rattle.std.proofs.Math.Numerals.{suc-eq-add-one}
 use Rattle.tera_meaning.specs.Tree.{items}
 use Rattle.tera_meaning.specs.WellMade.{AreWellMade}
-use Rattle.tera_values.proofs.Parts.{depth_at, one_more_well_made, IsWellMadePair, map_well_made}
+use Rattle.tera_values.proofs.PartsLaws.{depth_at, one_more_well_made, IsWellMadePair, map_well_made}
 use Rattle.tera_values.proofs.Walks.{first_left, later_left, less_deep}
 use Rattle.tera_meaning.specs.Form.{Form}
 use Rattle.tera_values.specs.declared.key.Key.{Key}

@@ -4,7 +4,7 @@ use Rattle.tera_meaning.specs.Form.{Form}
 use Rattle.tera_meaning.specs.KeyMeaning.{KeyForm}
 use Rattle.tera_values.specs.Map.{forms_of, pairs_in}
 use Rattle.tera_values.specs.Placing.{In}
-use Rattle.tera_values.proofs.Parts.{IsWellMadePair}
+use Rattle.tera_values.proofs.PartsLaws.{IsWellMadePair}
 use Rattle.tera_meaning.specs.WellMade.{IsWellMade}
 use Rattle.tera_values.proofs.+well_made.Given as goal
 

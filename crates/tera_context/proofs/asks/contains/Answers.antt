@@ -3,7 +3,7 @@ use Rattle.tera_meaning.specs.Lookup.{holds}
 use Rattle.tera_meaning.specs.State.{form_at}
 use Rattle.tera_meaning.specs.Weighing
 use Rattle.tera_meaning.specs.Weighing.{truth_told}
-use Rattle.tera_context.proofs.Shown.{weighing_refused, not_given}
+use Rattle.tera_context.proofs.ShownLaws.{weighing_refused, not_given}
 use Rattle.tera_context.proofs.asks.contains.Goals as goal
 
 pub returns-in_err-held : goal.returns-in_err-held

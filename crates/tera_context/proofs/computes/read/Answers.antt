@@ -7,7 +7,7 @@ use Rattle.tera_meaning.specs.Search.{one_found}
 use Rattle.tera_meaning.specs.State.{form_at}
 use Rattle.tera_values.specs.Converted.{integer_type}
 use Rattle.tera_context.proofs.Found.{number_refused}
-use Rattle.tera_context.proofs.Shown.{not_given}
+use Rattle.tera_context.proofs.ShownLaws.{not_given}
 use Rattle.tera_context.proofs.computes.read.Goals as goal
 
 pub returns-in-Err : goal.returns-in-Err

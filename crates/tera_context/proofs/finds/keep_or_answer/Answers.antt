@@ -1,5 +1,5 @@
 use Rattle.std.proofs.Common.{inl, inr, refl}
-use Rattle.tera_context.proofs.Shown.{want_passed}
+use Rattle.tera_context.proofs.ShownLaws.{want_passed}
 use Rattle.tera_context.proofs.finds.keep_or_answer.Goals as goal
 
 pub returns-in_err-keep-in-Some : goal.returns-in_err-keep-in-Some

@@ -1,5 +1,5 @@
 use Rattle.std.proofs.Common.{inr, refl}
-use Rattle.tera_context.proofs.Shown.{want_shown}
+use Rattle.tera_context.proofs.ShownLaws.{want_shown}
 use Rattle.tera_context.proofs.steps.extend.Goals as goal
 
 pub returns-in_err-extend : goal.returns-in_err-extend

@@ -1,5 +1,5 @@
 use Rattle.std.proofs.Common.{inr, refl}
-use Rattle.tera_context.proofs.Shown.{want_shown, want_passed}
+use Rattle.tera_context.proofs.ShownLaws.{want_shown, want_passed}
 use Rattle.tera_context.proofs.steps.mark_safe.Goals as goal
 
 pub returns-in_err-value-in-Some : goal.returns-in_err-value-in-Some

@@ -1,5 +1,5 @@
 use Rattle.std.proofs.Common.{inr, refl}
-use Rattle.tera_context.proofs.Shown.{want_passed}
+use Rattle.tera_context.proofs.ShownLaws.{want_passed}
 use Rattle.tera_context.proofs.steps.set.Goals as goal
 
 pub returns-in_err-keep : goal.returns-in_err-keep

@@ -1,4 +1,4 @@
-use Rattle.tera_conversions.proofs.GivenLemmas.{pair_put}
+use Rattle.tera_conversions.proofs.GivenLaws.{pair_put}
 use Rattle.tera_conversions.proofs.maps.put.Goals as goal
 
 pub returns-clause-ok : goal.returns-clause-ok

@@ -30,4 +30,9 @@ returns g c =
     let first = g.met.W.Sink.joined _ (codes "error: ") _ words _ c.in_ok-put.ensures took in
     MatchResult-weaker c.put-2.result c.put-2.ensures
     (λ _ last. (ended (codes "error: " ++ words), (codes "error: " ++ words, (words, told, refl), refl), g.met.W.Sink.joined _ _ _ (codes "\n") _ first last))
-    (λ _ bad. (ended (codes "error: " ++ words), (codes "error: " ++ words, (words, told, refl), refl), g.met.W.Sink.failed_later _ _ _ (codes "\n") _ first bad))
+    (λ _ bad. (
+      ended (codes "error: " ++ words),
+      (codes "error: " ++ words, (words, told, refl), refl),
+      g.met.W.Sink.failed_later _ _ _ (codes "\n") _ first
+          bad,
+    ))

@@ -12,14 +12,16 @@ pub returns-in_err-put : goal.returns-in_err-put
 returns-in_err-put g c =
     let (form, is) = some_form c.args.value.now in
     let failed = g.met.W.Sink.failed_early _ (codes "value ") _ (ended form) c.in_err-put.ensures in
-    let bad : OfSome g.W.Sink.fails (IsReplyLine (Ok (found (Some c.args.value.now)))) c.args.out.now c.put.new.out = (codes "value " ++ ended form, (codes "value " ++ form, (form, is, refl), sym (append_assoc (codes "value ") form (codes "\n"))), failed) in
+    let bad : OfSome g.W.Sink.fails (IsReplyLine (Ok (found (Some c.args.value.now)))) c.args.out.now c.put.new.out =
+    (codes "value " ++ ended form, (codes "value " ++ form, (form, is, refl), sym (append_assoc (codes "value ") form (codes "\n"))), failed) in
     search rules
 
 pub returns-in_err-put_form : goal.returns-in_err-put_form
 returns-in_err-put_form g c =
     let (form, is, refused) = c.in_err-put_form.ensures in
     let failed = g.met.W.Sink.failed_early _ _ _ (codes "\n") (g.met.W.Sink.failed_later _ (codes "value ") _ form _ c.in_ok-put.ensures refused) in
-    let bad : OfSome g.W.Sink.fails (IsReplyLine (Ok (found (Some c.args.value.now)))) c.args.out.now c.put_form.new.out = (ended (codes "value " ++ form), (codes "value " ++ form, (form, is, refl), refl), failed) in
+    let bad : OfSome g.W.Sink.fails (IsReplyLine (Ok (found (Some c.args.value.now)))) c.args.out.now c.put_form.new.out =
+    (ended (codes "value " ++ form), (codes "value " ++ form, (form, is, refl), refl), failed) in
     search rules
 
 pub returns : goal.returns

@@ -3,7 +3,7 @@ use Rattle.std.proofs.Common.{ℕ, Bool, List, [], ◌∷◌, sym, ◌∙◌, su
 use Rattle.tera_meaning.specs.Outcome.{Outcome}
 use Rattle.tera_meaning.specs.Step.{IsStep}
 use Rattle.tera_context.specs.Call.{command_of}
-use Rattle.tera_context.proofs.Shown.{shown_outcome}
+use Rattle.tera_context.proofs.ShownLaws.{shown_outcome}
 use Rattle.tera_report.proofs.SentLaws.{sends_nothing}
 use Rattle.tera_replies.specs.Script.{ended}
 use Rattle.tera_replies.specs.Stretch.{Runs}

@@ -1,7 +1,7 @@
 -- What the source gave so far is answered.
 use Rattle.std.proofs.Common.{◌≡◌, ◌+◌, ◌*◌, ◌≤◌}
 use Rattle.tera_replies.specs.Place.{place_of}
-use Rattle.tera_replies.proofs.InputLemmas.{Fed}
+use Rattle.tera_replies.proofs.InputLaws.{Fed}
 use Rattle.tera_replies.proofs.replays.answer_all.Given as goal
 
 abbrev pub invariant-pieces : goal.invariant-pieces

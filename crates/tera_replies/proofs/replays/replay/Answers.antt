@@ -1,8 +1,8 @@
 -- What is said of the watched writers is said of the writers.
 use Rattle.std.proofs.Common.{rules}
 use Rattle.tera_report.proofs.SentLaws.{watched_delivers, watched_broke}
-use Rattle.tera_replies.proofs.ReplayLemmas.{replays_weaker}
-use Rattle.tera_replies.proofs.WatchedLemmas.{delivers_same, broke_same, told_same, told_writer}
+use Rattle.tera_replies.proofs.ReplayLaws.{replays_weaker}
+use Rattle.tera_replies.proofs.WatchedLaws.{delivers_same, broke_same, told_same, told_writer}
 use Rattle.tera_replies.proofs.replays.replay.Goals as goal
 
 pub returns-clause-known : goal.returns-clause-known

@@ -5,7 +5,9 @@ use Rattle.std.proofs.Common.{rules, ap, refl}
 use Rattle.std.specs.contracts.io.ErrorKind.{the_type}
 use denote.Enum.Bare.{same_true, true_same}
 use Rattle.tera_report.specs.Refusal.{message, syntax_error, rendering_error, writing_failed, template_not_found, component_not_found, missing_argument}
-use Rattle.tera_report.specs.declared.errors.ErrorKind.TheVariants.{Msg, SyntaxError, RenderingError, CircularExtend, CircularInclude, MissingParent, TemplateNotFound, ComponentNotFound, InvalidArgument, MissingArgument, OutOfRangeArgument, Io, Utf8Conversion, OutOfMemory}
+use Rattle.tera_report.specs.declared.errors.ErrorKind.TheVariants.{Msg, SyntaxError, RenderingError, CircularExtend, CircularInclude, MissingParent}
+use Rattle.tera_report.specs.declared.errors.ErrorKind.TheVariants.{TemplateNotFound, ComponentNotFound, InvalidArgument, MissingArgument, OutOfRangeArgument}
+use Rattle.tera_report.specs.declared.errors.ErrorKind.TheVariants.{Io, Utf8Conversion, OutOfMemory}
 use Rattle.tera_report.proofs.EqualReports.{same_report, report_same}
 use Rattle.tera_report.proofs.ErrorLemmas.{same_text, text_same, same_texts, texts_same, number_of, other_number}
 use Rattle.tera_report.proofs.errors.kinds_equal_by_refusal.Goals as goal

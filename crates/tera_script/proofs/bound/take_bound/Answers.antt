@@ -11,8 +11,10 @@ slice_bounds-bound_in-count c = rw (c.past_word-rest.ensures) (length-past is_wo
 pub returns-in_err-bound : goal.returns-in_err-bound
 returns-in_err-bound c =
     ap (option_map with_rest) c.from_residual-in_err-bound.ensures
-    ∙ sym (bound_none c.args.bytes.now c.in_ok-word.word.now c.past_word-rest.result.now (sym c.in_ok-word.ensures) c.past_word-rest.ensures (sym c.bound_in.ensures ∙ c.in_err-bound.was))
+    ∙ sym (bound_none c.args.bytes.now c.in_ok-word.word.now c.past_word-rest.result.now (sym c.in_ok-word.ensures) c.past_word-rest.ensures
+    (sym c.bound_in.ensures ∙ c.in_err-bound.was))
 
 pub returns : goal.returns
 returns c =
-    sym (bound_some c.args.bytes.now c.in_ok-word.word.now c.past_word-rest.result.now (sym c.in_ok-word.ensures) c.past_word-rest.ensures c.in_ok-bound.bound (sym c.bound_in.ensures ∙ c.in_ok-bound.was))
+    sym (bound_some c.args.bytes.now c.in_ok-word.word.now c.past_word-rest.result.now (sym c.in_ok-word.ensures) c.past_word-rest.ensures c.in_ok-bound.bound
+    (sym c.bound_in.ensures ∙ c.in_ok-bound.was))

@@ -11,4 +11,5 @@ pub name_text-requires : goal.name_text-requires
 name_text-requires c = one_name c.args.bytes.now c.in-Some.name.now (sym c.in-Some.ensures)
 
 pub returns : goal.returns
-returns c = one_answer_found c.args.verb c.args.bytes.now (string_bytes c.in_ok-name.name) _ (sym c.in-Some.ensures ∙ ap Some (sym c.in_ok-name.ensures)) (ap asking c.one_call.ensures)
+returns c = one_answer_found c.args.verb c.args.bytes.now (string_bytes c.in_ok-name.name) _ (sym c.in-Some.ensures ∙ ap Some (sym c.in_ok-name.ensures))
+    (ap asking c.one_call.ensures)

@@ -12,4 +12,5 @@ pub returns-in_default-verb_in : goal.returns-in_default-verb_in
 returns-in_default-verb_in c = command_none_verb c.args.bytes.now c.in-Some.word.now c.in-Some.operands.now (sym c.in-Some.ensures) c.in_default-verb_in.ensures
 
 pub returns : goal.returns
-returns c = on_answer _ _ c.read_operands.result (λ answer h. command_answer c.args.bytes.now c.in-Some.word.now c.in-Some.operands.now (sym c.in-Some.ensures) c.in-Some-verb_in.verb c.in-Some-verb_in.ensures (option_map command_of answer) h) c.read_operands.ensures
+returns c = on_answer _ _ c.read_operands.result (λ answer h. command_answer c.args.bytes.now c.in-Some.word.now c.in-Some.operands.now (sym c.in-Some.ensures)
+    c.in-Some-verb_in.verb c.in-Some-verb_in.ensures (option_map command_of answer) h) c.read_operands.ensures

@@ -6,37 +6,44 @@ use Rattle.tera_script.proofs.escape.take_number.Goals as goal
 
 pub returns-in_err-character-clause-none : goal.returns-in_err-character-clause-none
 returns-in_err-character-clause-none c = rw c.from_residual-in_err-character.ensures (λ digits rest c' p.
-    no_scalar c.args.bytes.now c.in_ok-brace.digits.now digits rest c.in_ok-brace.brace.now c' c.loop-place.place c.loop-place.number c.in_ok-brace.ensures.cases.0 c.loop-place.invariant.digits c.if-byte-eq125.true c.loop-place.invariant.number c.in_err-character.ensures.value p)
+    no_scalar c.args.bytes.now c.in_ok-brace.digits.now digits rest c.in_ok-brace.brace.now c' c.loop-place.place c.loop-place.number
+    c.in_ok-brace.ensures.cases.0 c.loop-place.invariant.digits c.if-byte-eq125.true c.loop-place.invariant.number c.in_err-character.ensures.value p)
 
 pub returns-in_err-digit-clause-none : goal.returns-in_err-digit-clause-none
 returns-in_err-digit-clause-none c = rw c.from_residual-in_err-digit.ensures (λ digits rest c' p.
     let none : 16 ≤ digit_value (get_or c.in_ok-brace.digits.now c.loop-place.place 0) = rw (← c.from.ensures) (omega (arith, c.in_err-digit.ensures.value)) in
-    no_closing_brace c.args.bytes.now c.in_ok-brace.digits.now digits rest c.in_ok-brace.brace.now c' c.loop-place.place c.in_ok-brace.ensures.cases.0 c.loop-place.invariant.digits none
+    no_closing_brace c.args.bytes.now c.in_ok-brace.digits.now digits rest c.in_ok-brace.brace.now c' c.loop-place.place c.in_ok-brace.ensures.cases.0
+    c.loop-place.invariant.digits none
     (λ brace. ⊎_elim (λ first. omega (arith, first)) (λ other. absurd (other brace)) c.else-byte-eq125.either) p)
 
 pub returns-then-place-eq6-clause-none : goal.returns-then-place-eq6-clause-none
 returns-then-place-eq6-clause-none c = λ digits rest c' p.
     let digit : digit_value (get_or c.in_ok-brace.digits.now c.loop-place.place 0) < 16 = rw (← c.from.ensures) c.in_ok-digit.ensures.value.0 in
-    too_long c.args.bytes.now c.in_ok-brace.digits.now digits rest c.in_ok-brace.brace.now c' c.loop-place.place c.in_ok-brace.ensures.cases.0 c.loop-place.invariant.digits digit (omega arith) p
+    too_long c.args.bytes.now c.in_ok-brace.digits.now digits rest c.in_ok-brace.brace.now c' c.loop-place.place c.in_ok-brace.ensures.cases.0
+    c.loop-place.invariant.digits digit (omega arith) p
 
 pub overflow_mul-number : goal.overflow_mul-number
 overflow_mul-number c =
-    let fits = number_fits c.in_ok-brace.digits.now c.loop-place.place c.loop-place.number 0 c.loop-place.invariant.digits c.loop-place.invariant.number (omega arith) (omega arith) in
+    let fits = number_fits c.in_ok-brace.digits.now c.loop-place.place c.loop-place.number 0 c.loop-place.invariant.digits c.loop-place.invariant.number
+    (omega arith) (omega arith) in
     omega arith
 
 pub overflow_add-number : goal.overflow_add-number
 overflow_add-number c =
-    let fits = number_fits c.in_ok-brace.digits.now c.loop-place.place c.loop-place.number c.in_ok-digit.digit c.loop-place.invariant.digits c.loop-place.invariant.number (omega arith) (omega (arith, c.in_ok-digit.ensures.value.0, c.in_ok-digit.ensures.value.1)) in
+    let fits = number_fits c.in_ok-brace.digits.now c.loop-place.place c.loop-place.number c.in_ok-digit.digit c.loop-place.invariant.digits
+    c.loop-place.invariant.number (omega arith) (omega (arith, c.in_ok-digit.ensures.value.0, c.in_ok-digit.ensures.value.1)) in
     omega arith
 
 pub loop-place-preserved : goal.loop-place-preserved
 loop-place-preserved c =
     let digit : digit_value (get_or c.in_ok-brace.digits.now c.loop-place.place 0) < 16 = rw (← c.from.ensures) c.in_ok-digit.ensures.value.0 in record {
       digits = digits_more 16 c.in_ok-brace.digits.now c.loop-place.place c.loop-place-test.true c.loop-place.invariant.digits digit;
-      number = next_number c.in_ok-brace.digits.now c.loop-place.place c.loop-place.number c.in_ok-digit.digit c.loop-place-test.true c.loop-place.invariant.number (c.in_ok-digit.ensures.value.1 ∙ ap digit_value c.from.ensures);
+      number = next_number c.in_ok-brace.digits.now c.loop-place.place c.loop-place.number c.in_ok-digit.digit c.loop-place-test.true
+          c.loop-place.invariant.number (c.in_ok-digit.ensures.value.1 ∙ ap digit_value c.from.ensures);
       few = omega arith;
     }
 
 pub returns-clause-none : goal.returns-clause-none
 returns-clause-none c = λ digits rest c' p.
-    no_end c.args.bytes.now c.in_ok-brace.digits.now digits rest c.in_ok-brace.brace.now c' c.loop-place.place c.in_ok-brace.ensures.cases.0 c.loop-place.invariant.digits c.loop-place-test.false p
+    no_end c.args.bytes.now c.in_ok-brace.digits.now digits rest c.in_ok-brace.brace.now c' c.loop-place.place c.in_ok-brace.ensures.cases.0
+    c.loop-place.invariant.digits c.loop-place-test.false p

@@ -8,6 +8,7 @@ loop-high-preserved c =
     let spelled = c.in-Some.ensures.cases.0 ∙ ap (λ xs. c.in-Some.high.now ∷ xs) c.in-Some-split_first.ensures.cases.0 in
     let digits = c.in-Some-byte_of.ensures in
     ap (λ xs. after_bytes xs (hex_at c.in-Some-split_first.others.now)) c.in_ok-push.ensures.items
-    ∙ hex_more c.loop-high.taken.items c.in-Some-split_first.others.now c.in-Some.high.now c.in-Some-split_first.low.now c.in-Some-byte_of.byte digits.0.0 digits.0.1 digits.1
+    ∙ hex_more c.loop-high.taken.items c.in-Some-split_first.others.now c.in-Some.high.now c.in-Some-split_first.low.now c.in-Some-byte_of.byte digits.0.0
+    digits.0.1 digits.1
     ∙ ap (λ xs. after_bytes c.loop-high.taken.items (hex_at xs)) (sym spelled)
     ∙ c.loop-high.invariant

@@ -28,7 +28,8 @@ name_text-requires c = operand_name c.args.bytes.now c.in-Some.name.now c.in-Som
 
 pub into_text-requires : goal.into_text-requires
 into_text-requires c =
-    lent_name c.in-Some-into_in.into (into_names c.in-Some-take_bounds.rest.now (option_map (λ name. name.now) c.in-Some-into_in.into) (sym c.in-Some-into_in.ensures))
+    lent_name c.in-Some-into_in.into (into_names c.in-Some-take_bounds.rest.now (option_map (λ name. name.now) c.in-Some-into_in.into)
+    (sym c.in-Some-into_in.ensures))
 
 pub returns : goal.returns
 returns c =

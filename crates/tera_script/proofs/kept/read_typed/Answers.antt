@@ -20,7 +20,8 @@ returns-in_default-type_in c =
 pub returns-in_default-into_in : goal.returns-in_default-into_in
 returns-in_default-into_in c =
     kept_none_into Read c.args.bytes.now _ c.in-Some.rest.now
-    (typed_answer c.args.bytes.now (integer_type c.in-Some-type_in.to) c.in-Some.word.now c.in-Some.name.now c.in-Some.rest.now _ (sym c.in-Some.ensures) c.in-Some-type_in.ensures refl)
+    (typed_answer c.args.bytes.now (integer_type c.in-Some-type_in.to) c.in-Some.word.now c.in-Some.name.now c.in-Some.rest.now _ (sym c.in-Some.ensures)
+    c.in-Some-type_in.ensures refl)
     (sym c.in_default-into_in.ensures)
 
 pub name_text-requires : goal.name_text-requires
@@ -33,7 +34,8 @@ into_text-requires c =
 pub returns : goal.returns
 returns c =
     kept_answer Read c.args.bytes.now _ c.in-Some.rest.now
-    (typed_answer c.args.bytes.now (integer_type c.in-Some-type_in.to) c.in-Some.word.now c.in-Some.name.now c.in-Some.rest.now _ (sym c.in-Some.ensures) c.in-Some-type_in.ensures
+    (typed_answer c.args.bytes.now (integer_type c.in-Some-type_in.to) c.in-Some.word.now c.in-Some.name.now c.in-Some.rest.now _ (sym c.in-Some.ensures)
+    c.in-Some-type_in.ensures
     (ap (λ name. find (Search.read (integer_type c.in-Some-type_in.to) name)) c.in_ok-of.ensures))
     (option_map (λ name. name.now) c.in-Some-into_in.into) _ (sym c.in-Some-into_in.ensures)
     (λ i. record {

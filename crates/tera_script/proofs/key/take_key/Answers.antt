@@ -11,18 +11,22 @@ use Rattle.tera_script.proofs.key.take_key.Goals as goal
 
 pub returns-in_default : goal.returns-in_default
 returns-in_default c =
-    let quote = rw (c.in_default.is) at (strip_prefix_is Decides-eqb c.args.bytes.now c.as_slice.result.now c.strip_prefix.result c.strip_prefix.ensures.cases) in
-    plain_key_found c.args.bytes.now (option_map key_rest c.take_plain_key.result) (λ ys e. quote ys (e ∙ ap (λ p. p ++ ys) (sym c.as_slice.ensures))) c.take_plain_key.ensures
+    let quote = rw (c.in_default.is) at (strip_prefix_is Decides-eqb c.args.bytes.now c.as_slice.result.now c.strip_prefix.result c.strip_prefix.ensures.cases)
+    in
+    plain_key_found c.args.bytes.now (option_map key_rest c.take_plain_key.result) (λ ys e. quote ys (e ∙ ap (λ p. p ++ ys) (sym c.as_slice.ensures)))
+    c.take_plain_key.ensures
 
 pub returns-in_default-2 : goal.returns-in_default-2
 returns-in_default-2 c =
-    let stripped = rw (c.in-Some.is) at (strip_prefix_is Decides-eqb c.args.bytes.now c.as_slice.result.now c.strip_prefix.result c.strip_prefix.ensures.cases) in
+    let stripped = rw (c.in-Some.is) at (strip_prefix_is Decides-eqb c.args.bytes.now c.as_slice.result.now c.strip_prefix.result c.strip_prefix.ensures.cases)
+    in
     no_text_key c.args.bytes.now c.in-Some.behind.now (stripped ∙ ap (λ q. q ++ c.in-Some.behind.now) c.as_slice.ensures)
     (quoted_none false c.in-Some.behind.now (rw (c.in_default-2.is) at c.in_ok-taken.ensures))
 
 pub returns : goal.returns
 returns c =
-    let stripped = rw (c.in-Some.is) at (strip_prefix_is Decides-eqb c.args.bytes.now c.as_slice.result.now c.strip_prefix.result c.strip_prefix.ensures.cases) in
+    let stripped = rw (c.in-Some.is) at (strip_prefix_is Decides-eqb c.args.bytes.now c.as_slice.result.now c.strip_prefix.result c.strip_prefix.ensures.cases)
+    in
     let spelled = stripped ∙ ap (λ q. q ++ c.in-Some.behind.now) c.as_slice.ensures in
     let found = text_key_found c.args.bytes.now c.in-Some.behind.now (string_bytes c.in-Some-2.taken.text) c.split_at.result.1.now c.in-Some-2.taken.used
     spelled (rw (c.in-Some-2.is) at c.in_ok-taken.ensures) c.split_at.ensures.back in

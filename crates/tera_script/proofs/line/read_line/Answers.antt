@@ -6,13 +6,17 @@ use Rattle.tera_script.proofs.Lines.{is_skipped, bad_utf8, bad_command, line_say
 use Rattle.tera_script.proofs.line.read_line.Goals as goal
 
 pub returns-then-is_end_or_comment-clause-reading : goal.returns-then-is_end_or_comment-clause-reading
-returns-then-is_end_or_comment-clause-reading c = is_skipped c.args.line.now (ap is_end_or_comment (sym c.past_blanks-bytes.ensures) ∙ sym c.is_end_or_comment.ensures ∙ c.if-is_end_or_comment.true)
+returns-then-is_end_or_comment-clause-reading c = is_skipped c.args.line.now (ap is_end_or_comment (sym c.past_blanks-bytes.ensures)
+    ∙ sym c.is_end_or_comment.ensures ∙ c.if-is_end_or_comment.true)
 
 pub returns-then-not-is_utf8-clause-reading : goal.returns-then-not-is_utf8-clause-reading
-returns-then-not-is_utf8-clause-reading c = bad_utf8 c.args.line.now (ap is_end_or_comment (sym c.past_blanks-bytes.ensures) ∙ sym c.is_end_or_comment.ensures ∙ c.if-is_end_or_comment.false) c.if-not-is_utf8.ensures
+returns-then-not-is_utf8-clause-reading c = bad_utf8 c.args.line.now (ap is_end_or_comment (sym c.past_blanks-bytes.ensures) ∙ sym c.is_end_or_comment.ensures
+    ∙ c.if-is_end_or_comment.false) c.if-not-is_utf8.ensures
 
 pub returns-in_err-step-clause-free : goal.returns-in_err-step-clause-free
-returns-in_err-step-clause-free c = λ h. absurd (says_something c.args.line.now (ap is_end_or_comment (sym c.past_blanks-bytes.ensures) ∙ sym c.is_end_or_comment.ensures ∙ c.if-is_end_or_comment.false) c.if-not-is_utf8.ensures h)
+returns-in_err-step-clause-free c = λ h.
+    absurd (says_something c.args.line.now (ap is_end_or_comment (sym c.past_blanks-bytes.ensures) ∙ sym c.is_end_or_comment.ensures
+    ∙ c.if-is_end_or_comment.false) c.if-not-is_utf8.ensures h)
 
 pub returns-in-Some-clause-reading : goal.returns-in-Some-clause-reading
 returns-in-Some-clause-reading c =
@@ -23,4 +27,5 @@ returns-in-Some-clause-reading c =
 pub returns-in-None-clause-reading : goal.returns-in-None-clause-reading
 returns-in-None-clause-reading c =
     let read = subst (λ xs. IsCommandAt xs (option_map command_of c.in_ok-step.field-0)) c.past_blanks-bytes.ensures c.in_ok-step.ensures in
-    bad_command c.args.line.now (ap is_end_or_comment (sym c.past_blanks-bytes.ensures) ∙ sym c.is_end_or_comment.ensures ∙ c.if-is_end_or_comment.false) (rw (c.in-None.is) at read)
+    bad_command c.args.line.now (ap is_end_or_comment (sym c.past_blanks-bytes.ensures) ∙ sym c.is_end_or_comment.ensures ∙ c.if-is_end_or_comment.false)
+    (rw (c.in-None.is) at read)

@@ -12,7 +12,8 @@ loop-key-init c = record {
   texts = tt;
   so_far = subst (λ state. HoldsSoFar state []) (sym c.new-source.ensures) (λ name. get-empty _ name);
   whole = c.in-Some.ensures ∙ ap (λ es. Some (pairs_of (forms_of es))) (sym c.into_iter-key-iterator.ensures.into_iter_gives.0);
-  apart = subst (λ es. IsDistinct keys_tie (keys_of es)) (sym c.into_iter-key-iterator.ensures.into_iter_gives.0) c.into_iter-key-iterator.ensures.into_iter_gives.4;
+  apart = subst (λ es. IsDistinct keys_tie (keys_of es)) (sym c.into_iter-key-iterator.ensures.into_iter_gives.0)
+      c.into_iter-key-iterator.ensures.into_iter_gives.4;
 }
 
 pub returns-in_default-as_str : goal.returns-in_default-as_str
@@ -27,7 +28,8 @@ loop-key-preserved-in-Ok c =
     let was = ap (λ rest. c.loop-key.yielded ++ rest) c.in-Some-2.ensures.steps in
     let is = was ∙ sym (append_assoc c.loop-key.yielded ((c.in-Some-2.key, c.in-Some-2.held) ∷ []) c.next.new.self) in
     let apart = subst (λ es. IsDistinct keys_tie (keys_of es)) was c.loop-key.invariant.apart in
-    let held = holds_on c.loop-key.source c.loop-key.yielded c.next.new.self c.in-Some-2.key c.in-Some-2.held c.in-Some-as_str.name.now apart c.in-Some-as_str.ensures c.loop-key.invariant.so_far in
+    let held = holds_on c.loop-key.source c.loop-key.yielded c.next.new.self c.in-Some-2.key c.in-Some-2.held c.in-Some-as_str.name.now apart
+    c.in-Some-as_str.ensures c.loop-key.invariant.so_far in
     record {
       texts = texts_on c.loop-key.yielded c.in-Some-2.key c.in-Some-2.held c.in-Some-as_str.name.now c.in-Some-as_str.ensures c.loop-key.invariant.texts;
       so_far = subst (λ state. HoldsSoFar state (c.loop-key.yielded ++ (c.in-Some-2.key, c.in-Some-2.held) ∷ [])) (sym c.in-Ok.ensures.ok) held;
@@ -40,7 +42,8 @@ loop-key-preserved c =
     let was = ap (λ rest. c.loop-key.yielded ++ rest) c.in-Some-2.ensures.steps in
     let is = was ∙ sym (append_assoc c.loop-key.yielded ((c.in-Some-2.key, c.in-Some-2.held) ∷ []) c.next.new.self) in
     let apart = subst (λ es. IsDistinct keys_tie (keys_of es)) was c.loop-key.invariant.apart in
-    let held = holds_on c.loop-key.source c.loop-key.yielded c.next.new.self c.in-Some-2.key c.in-Some-2.held c.in-Some-as_str.name.now apart c.in-Some-as_str.ensures c.loop-key.invariant.so_far in
+    let held = holds_on c.loop-key.source c.loop-key.yielded c.next.new.self c.in-Some-2.key c.in-Some-2.held c.in-Some-as_str.name.now apart
+    c.in-Some-as_str.ensures c.loop-key.invariant.so_far in
     record {
       texts = texts_on c.loop-key.yielded c.in-Some-2.key c.in-Some-2.held c.in-Some-as_str.name.now c.in-Some-as_str.ensures c.loop-key.invariant.texts;
       so_far = subst (λ state. HoldsSoFar state (c.loop-key.yielded ++ (c.in-Some-2.key, c.in-Some-2.held) ∷ [])) (sym c.in-Ok.ensures.ok) held;

@@ -18,7 +18,8 @@ returns-in_err-put g c =
     let more = Some (last_words c.args.target.now) in
     let (rest, text) = some_text (printed_if_exact value ++? more) in
     let failed = g.met.S.Sink.failed_early _ (codes "Value `") _ rest c.in_err-put.ensures in
-    let bad = failed_of g.S.Sink.fails (IsText (range_text c.args.value.now c.args.target.now)) _ _ _ (texts_joined (Some (codes "Value `")) (printed_if_exact value ++? more) (codes "Value `") rest refl text) failed in
+    let bad = failed_of g.S.Sink.fails (IsText (range_text c.args.value.now c.args.target.now)) _ _ _
+    (texts_joined (Some (codes "Value `")) (printed_if_exact value ++? more) (codes "Value `") rest refl text) failed in
     search rules
 
 pub returns-in_err-put_value : goal.returns-in_err-put_value
@@ -28,7 +29,8 @@ returns-in_err-put_value g c =
     let (bytes, prints, refused) = c.in_err-put_value.ensures in
     let text = texts_joined (printed_if_exact value) (Some last) bytes last (printed_is_text value bytes prints) refl in
     let failed = g.met.S.Sink.failed_later _ (codes "Value `") _ (bytes ++ last) _ c.in_ok-put.ensures (g.met.S.Sink.failed_early _ _ _ last refused) in
-    let bad = failed_of g.S.Sink.fails (IsText (range_text c.args.value.now c.args.target.now)) _ _ _ (texts_joined (Some (codes "Value `")) (printed_if_exact value ++? Some last) (codes "Value `") (bytes ++ last) refl text) failed in
+    let bad = failed_of g.S.Sink.fails (IsText (range_text c.args.value.now c.args.target.now)) _ _ _
+    (texts_joined (Some (codes "Value `")) (printed_if_exact value ++? Some last) (codes "Value `") (bytes ++ last) refl text) failed in
     search rules
 
 pub returns : goal.returns

@@ -3,7 +3,7 @@ use Rattle.tera_meaning.specs.Decided.{decided}
 use Rattle.tera_meaning.specs.Meaning.{plain}
 use Rattle.tera_meaning.specs.Tree.{array, items}
 use Rattle.tera_values.proofs.DecidedParts.{decided_ended}
-use Rattle.tera_values.proofs.Parts.{depth_at, array_of_items}
+use Rattle.tera_values.proofs.PartsLaws.{depth_at, array_of_items}
 use Rattle.tera_values.proofs.decided.+partial_order.Goals as goal
 
 pub partial_array_order-returns-in-Some : goal.partial_array_order-returns-in-Some

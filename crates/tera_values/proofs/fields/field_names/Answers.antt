@@ -11,5 +11,11 @@ returns-clause-ok c =
     let printed = map string_bytes c.in_ok-names.names.items in
     let (rises, has) = c.sort_names.ensures in
     let among = c.in_ok-names.ensures.ok in
-    only_rising_texts shown (map string_bytes c.sort_names.new.names.items)
-    (rises, λ t. (λ h. Contains-permutation printed shown t among ((has t).0 h), λ h. (has t).1 (Contains-permutation shown printed t (IsPermutation-sym printed shown among) h)))
+    only_rising_texts shown (map string_bytes c.sort_names.new.names.items) (
+      rises,
+      λ t. (
+        λ h. Contains-permutation printed shown t among ((has t).0 h),
+        λ h.
+            (has t).1 (Contains-permutation shown printed t (IsPermutation-sym printed shown among) h),
+      ),
+    )

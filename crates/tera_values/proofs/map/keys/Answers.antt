@@ -9,4 +9,5 @@ use Rattle.tera_values.proofs.map.keys.Goals as goal
 pub returns : goal.returns
 returns g c =
     let entries = c.args.map.now.entries in
-    subst (λ l. IsPermutation (map (λ k. key_form k) l) (keys_of (pairs_in c.args.map.now))) (sym c.keys.ensures.rest) (keys_of_pairs entries c.keys.ensures.unique)
+    subst (λ l. IsPermutation (map (λ k. key_form k) l) (keys_of (pairs_in c.args.map.now))) (sym c.keys.ensures.rest)
+    (keys_of_pairs entries c.keys.ensures.unique)

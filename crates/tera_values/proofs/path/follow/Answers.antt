@@ -19,13 +19,16 @@ pub returns-in_err-here : goal.returns-in_err-here
 returns-in_err-here c =
     let lost = sym c.reach.ensures ∙ ap option_copied c.in_err-here.was in
     ap option_copied c.from_residual.ensures
-    ∙ sym (stops (split_steps FindsChar (λ a b. b ≡ a)) (followed c.args.value.now (elements_of c.args.to.now)) c.loop-element.element-iterator c.next.new.self c.in-Some.element c.loop-element.here.now c.loop-element.invariant c.in-Some.ensures.steps lost)
+    ∙ sym (stops (split_steps FindsChar (λ a b. b ≡ a)) (followed c.args.value.now (elements_of c.args.to.now)) c.loop-element.element-iterator c.next.new.self
+    c.in-Some.element c.loop-element.here.now c.loop-element.invariant c.in-Some.ensures.steps lost)
 
 pub loop-element-preserved : goal.loop-element-preserved
 loop-element-preserved c =
     let found = sym c.reach.ensures ∙ ap option_copied c.in_ok-here.was in
-    leads_on (split_steps FindsChar (λ a b. b ≡ a)) (followed c.args.value.now (elements_of c.args.to.now)) c.loop-element.element-iterator c.next.new.self c.in-Some.element c.loop-element.here.now c.in_ok-here.here.now c.loop-element.invariant c.in-Some.ensures.steps found
+    leads_on (split_steps FindsChar (λ a b. b ≡ a)) (followed c.args.value.now (elements_of c.args.to.now)) c.loop-element.element-iterator c.next.new.self
+    c.in-Some.element c.loop-element.here.now c.in_ok-here.here.now c.loop-element.invariant c.in-Some.ensures.steps found
 
 pub returns : goal.returns
 returns c =
-    sym (arrives (split_steps FindsChar (λ a b. b ≡ a)) (followed c.args.value.now (elements_of c.args.to.now)) c.loop-element.element-iterator c.next.new.self c.loop-element.here.now c.loop-element.invariant c.in-None.ensures.steps)
+    sym (arrives (split_steps FindsChar (λ a b. b ≡ a)) (followed c.args.value.now (elements_of c.args.to.now)) c.loop-element.element-iterator c.next.new.self
+    c.loop-element.here.now c.loop-element.invariant c.in-None.ensures.steps)

@@ -13,8 +13,9 @@ use Rattle.tera_values.specs.Depth.{member_le-depth}
 use Rattle.tera_values.specs.Key.{key_form}
 use Rattle.tera_values.specs.Map.{above, forms_of, pairs_in, is_above}
 use Rattle.tera_values.specs.Print.{plain_items, plain_pairs, PrintsItems, PrintsPairs, PrintsPair}
-use Rattle.tera_values.proofs.PrintPairs.{empty_pairs, first_in, from_least, from_next, pairs_sorted, first_pair_done, next_pair_done, rest_pairs_done, comma_pairs_done, later_pairs}
-use Rattle.tera_values.proofs.Parts.{depth_at}
+use Rattle.tera_values.proofs.PrintPairs.{empty_pairs, first_in, from_least, from_next, pairs_sorted, first_pair_done, next_pair_done, rest_pairs_done}
+use Rattle.tera_values.proofs.PrintPairs.{comma_pairs_done, later_pairs}
+use Rattle.tera_values.proofs.PartsLaws.{depth_at}
 use Rattle.tera_report.proofs.PutLaws.{failed_of}
 use Rattle.tera_values.proofs.PrintLemmas.{first_done, next_done, rest_done, comma_done, later, text_inside, other_inside}
 use Rattle.tera_values.proofs.print.+print.Goals as goal
@@ -29,7 +30,8 @@ pub put_array-returns-in_err-put_items : goal.put_array-returns-in_err-put_items
 put_array-returns-in_err-put_items g t c =
     let (bytes, prints, refused) = c.in_err-put_items.ensures in
     let failed = g.met.S.Sink.failed_early _ _ _ (codes "]") (g.met.S.Sink.failed_later _ (codes "[") _ bytes _ c.in_ok-put.ensures refused) in
-    let bad = failed_of g.S.Sink.fails (Prints (plain (array (items c.args.all.now)))) _ _ _ (λ exact. ap (λ l. (codes "[" ++ l) ++ codes "]") (prints exact)) failed in
+    let bad = failed_of g.S.Sink.fails (Prints (plain (array (items c.args.all.now)))) _ _ _ (λ exact. ap (λ l. (codes "[" ++ l) ++ codes "]") (prints exact))
+    failed in
     search rules
 
 pub put_array-returns : goal.put_array-returns
@@ -90,7 +92,8 @@ pub put_map-returns-in_err-put_pairs : goal.put_map-returns-in_err-put_pairs
 put_map-returns-in_err-put_pairs g t c =
     let (bytes, prints, refused) = c.in_err-put_pairs.ensures in
     let failed = g.met.S.Sink.failed_early _ _ _ (codes "}") (g.met.S.Sink.failed_later _ (codes "{") _ bytes _ c.in_ok-put.ensures refused) in
-    let bad = failed_of g.S.Sink.fails (Prints (plain (object (members (pairs_in c.args.map.now))))) _ _ _ (λ exact. ap (λ l. (codes "{" ++ l) ++ codes "}") (prints exact)) failed in
+    let bad = failed_of g.S.Sink.fails (Prints (plain (object (members (pairs_in c.args.map.now))))) _ _ _
+    (λ exact. ap (λ l. (codes "{" ++ l) ++ codes "}") (prints exact)) failed in
     search rules
 
 pub put_map-returns : goal.put_map-returns
@@ -141,7 +144,8 @@ put_pair-returns-in_err-put_key g t c =
 pub put_pair-returns-in_err-put : goal.put_pair-returns-in_err-put
 put_pair-returns-in_err-put g t c =
     let (bytes, prints, took) = c.in_ok-put_key.ensures in
-    let failed = g.met.S.Sink.failed_early _ _ _ (printed_with quoted (plain c.args.value.now)) (g.met.S.Sink.failed_later _ bytes _ (codes ": ") _ took c.in_err-put.ensures) in
+    let failed = g.met.S.Sink.failed_early _ _ _ (printed_with quoted (plain c.args.value.now))
+    (g.met.S.Sink.failed_later _ bytes _ (codes ": ") _ took c.in_err-put.ensures) in
     let bad = failed_of g.S.Sink.fails (PrintsPair (key_form c.args.key.now) c.args.value.now) _ _ _ (λ exact.
     let parts = and_parts (is_exact_key (key_meaning (key_form c.args.key.now))) (is_exact_inside (plain c.args.value.now)) exact in
     λ i. (prints parts.0 i ++ codes ": ") ++ printed_with quoted (plain c.args.value.now)) failed in
@@ -214,7 +218,8 @@ put_items-returns-in_err-put g t c =
     let after = drop (i + 1) c.in-Some.others.now in
     let left : drop i c.in-Some.others.now ≡ item ∷ after =
     drop_more c.in-Some.others.now i item c.loop-item-test.true ∙ ap (λ v. v ∷ after) (sym c.item-item.is) in
-    let failed = g.met.S.Sink.failed_later _ done _ _ _ took (g.met.S.Sink.failed_early _ (codes ", ") _ (printed_items (plain_items (item ∷ after))) c.in_err-put.ensures) in
+    let failed = g.met.S.Sink.failed_later _ done _ _ _ took (g.met.S.Sink.failed_early _ (codes ", ") _ (printed_items (plain_items (item ∷ after)))
+    c.in_err-put.ensures) in
     let bad = failed_of g.S.Sink.fails (PrintsItems all) _ _ _ (comma_done all _ after item done left before) failed in
     search rules
 
@@ -253,7 +258,8 @@ put_pairs-returns-in_err-put g t c =
     let ps = pairs_in c.args.map.now in
     let others = above (Some p.0) ps in
     let left = from_next (key_form c.pairs.last.now) p ps (pairs_sorted (forms_of c.args.map.now.entries)) (sym c.in-Some-next_pair.ensures) in
-    let failed = g.met.S.Sink.failed_later _ done _ _ _ took (g.met.S.Sink.failed_early _ (codes ", ") _ (printed_members (plain_pairs (p ∷ others))) c.in_err-put.ensures) in
+    let failed = g.met.S.Sink.failed_later _ done _ _ _ took (g.met.S.Sink.failed_early _ (codes ", ") _ (printed_members (plain_pairs (p ∷ others)))
+    c.in_err-put.ensures) in
     let bad = failed_of g.S.Sink.fails (PrintsPairs ps) _ _ _ (comma_pairs_done ps _ others p done left before) failed in
     search rules
 

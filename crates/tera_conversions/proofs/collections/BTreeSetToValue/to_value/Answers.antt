@@ -1,6 +1,6 @@
 use Rattle.std.proofs.Common.{rules, ap, sym, subst, ◌∙◌, ◌++◌, [], ◌∷◌}
 use Rattle.std.specs.List.{AllZip}
-use Rattle.tera_conversions.proofs.GivenLemmas.{zipped_on, first_refused, moved_on}
+use Rattle.tera_conversions.proofs.GivenLaws.{zipped_on, first_refused, moved_on}
 use Rattle.tera_conversions.proofs.collections.BTreeSetToValue.to_value.Goals as goal
 
 pub returns-in_err-to_value-clause-err : goal.returns-in_err-to_value-clause-err
@@ -11,6 +11,7 @@ returns-in_err-to_value-clause-err g c =
 
 pub loop-part-preserved : goal.loop-part-preserved
 loop-part-preserved g c = record {
-  so_far = subst (λ given. AllZip g.T.ToValue.gives (c.loop-part.yielded ++ (c.in-Some.part ∷ [])) given) (sym c.in_ok-push.ensures.items) (zipped_on g.T.ToValue.gives _ _ _ _ c.loop-part.invariant.so_far c.in_ok-to_value.ensures.ok);
+  so_far = subst (λ given. AllZip g.T.ToValue.gives (c.loop-part.yielded ++ (c.in-Some.part ∷ [])) given) (sym c.in_ok-push.ensures.items)
+      (zipped_on g.T.ToValue.gives _ _ _ _ c.loop-part.invariant.so_far c.in_ok-to_value.ensures.ok);
   whole = moved_on _ _ _ _ (ap (λ rest. c.loop-part.yielded ++ rest) (sym c.in-Some.ensures.steps) ∙ c.loop-part.invariant.whole);
 }

@@ -1,4 +1,4 @@
-use Rattle.tera_conversions.proofs.GivenLemmas.{refused_where}
+use Rattle.tera_conversions.proofs.GivenLaws.{refused_where}
 use Rattle.tera_conversions.proofs.to_value.KeyToValue.to_value.Goals as goal
 
 pub returns-clause-err : goal.returns-clause-err

@@ -26,7 +26,8 @@ returns-clause-ok g c =
     let (text, runs, sent) = c.in_ok-wanted.ensures.ok in
     let some : length feed.part.items ≡ 0 → ⊥ = λ none. eqb-false _ _ (sym c.if-is_empty.ensures) (omega (arith, feed.part.ok.0, none)) in
     let line = ap (λ l. l ∷ []) c.as_slice-line.ensures.value ∙ sym (last_some feed.part.items some) in
-    let wanted : c.if-self.result ≡ (feed.wanted_memory || c.in_ok-wanted.wanted) = elim c.if-self.branch [ then-self w ↦ search rules | else-self w ↦ search rules ] in (
+    let wanted : c.if-self.result ≡ (feed.wanted_memory || c.in_ok-wanted.wanted) = elim c.if-self.branch
+    [ then-self w ↦ search rules | else-self w ↦ search rules ] in (
       text,
       c.in_ok-wanted.wanted,
       subst (λ (lines : List (List ℕ)). Runs feed.number feed.context lines text c.in_ok-wanted.wanted c.answer_line.new.context) line runs,

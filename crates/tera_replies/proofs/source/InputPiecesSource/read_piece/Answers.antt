@@ -18,9 +18,24 @@ returns-then-self-first-clause-bytes c =
     let same : c.copy_from_slice.new.self ≡ c.split_at.result.0.now = copied.after in
     let room = c.loop-self.piece in
     let sizes = length-append c.copy_from_slice.new.self (drop count room) in (
-      sym c.loop-self.invariant.left ∙ given_more self.pieces.now self.at self.given count _ first rest c.split_at.result.0.now c.split_at.result.1.now c.copy_from_slice.new.self (drop count room)
+      sym c.loop-self.invariant.left ∙ given_more self.pieces.now self.at self.given count _ first rest c.split_at.result.0.now c.split_at.result.1.now
+          c.copy_from_slice.new.self (drop count room)
           within refl less (take_rest first self.given) cut.front cut.back (omega (arith, fits)) (ap length same ∙ cut.front_len) same,
-      (λ none some. absurd (omega (arith, none, some, fits, less, sizes, ap length same, cut.front_len, length-drop count room, length-take-le (length first - self.given) (drop self.given first) (omega (arith, length-drop self.given first)), length-drop self.given first))),
+      (λ none some.
+          absurd (omega (
+            arith,
+            none,
+            some,
+            fits,
+            less,
+            sizes,
+            ap length same,
+            cut.front_len,
+            length-drop count room,
+            length-take-le (length first - self.given)
+                (drop self.given first) (omega (arith, length-drop self.given first)),
+            length-drop self.given first,
+          ))),
     )
 
 pub returns-then-self-first-clause-told : goal.returns-then-self-first-clause-told

@@ -3,7 +3,7 @@ use Rattle.tera_meaning.specs.Meaning.{plain}
 use Rattle.tera_meaning.specs.Read.{truthy_in}
 use Rattle.tera_values.specs.Map.{pairs_in}
 use Rattle.tera_values.specs.View.{form_of}
-use Rattle.tera_values.proofs.Parts.{counted_pairs}
+use Rattle.tera_values.proofs.PartsLaws.{counted_pairs}
 use Rattle.tera_values.proofs.value.Value.is_truthy.Goals as goal
 
 pub returns-in-Map : goal.returns-in-Map

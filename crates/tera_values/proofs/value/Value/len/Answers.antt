@@ -4,7 +4,7 @@ use Rattle.tera_meaning.specs.Meaning.{plain}
 use Rattle.tera_meaning.specs.Read.{size_in}
 use Rattle.tera_values.specs.Map.{pairs_in}
 use Rattle.tera_values.specs.View.{form_of}
-use Rattle.tera_values.proofs.Parts.{plain_length, pairs_length}
+use Rattle.tera_values.proofs.PartsLaws.{plain_length, pairs_length}
 use Rattle.tera_values.proofs.value.Value.len.Goals as goal
 
 pub returns-in-Array : goal.returns-in-Array

@@ -3,7 +3,7 @@ use Rattle.std.specs.Prelude.{◌≡◌, ℕ, ◌+◌, ◌<◌, List, [], ◌∷
 use Rattle.std.specs.List.{AllZip}
 use Rattle.std.proofs.Common.{ap, sym, subst, ◌∙◌, get_or}
 use Rattle.std.proofs.lemmas.List.{take_more, take-append-drop, append_assoc}
-use Rattle.tera_conversions.proofs.GivenLemmas.{zipped_on}
+use Rattle.tera_conversions.proofs.GivenLaws.{zipped_on}
 
 module _ {X : Type 0} where
   -- those before an item, and it

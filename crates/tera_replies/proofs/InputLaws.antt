@@ -1,5 +1,6 @@
 -- The whole input, piece by piece.
-use Rattle.std.proofs.Common.{◌≡◌, ℕ, ◌+◌, ◌-◌, ◌^◌, ◌<◌, ◌≤◌, Bool, ◌||◌, inl, inr, List, [], ◌∷◌, ◌++◌, length, take, Option, None, Some, Result, Ok, Err, IfSome, IfOk, IfErr, cond, sym, ◌∙◌, ap, subst, refl, append_assoc, append-nil, length-append, arith}
+use Rattle.std.proofs.Common.{◌≡◌, ℕ, ◌+◌, ◌-◌, ◌^◌, ◌<◌, ◌≤◌, Bool, ◌||◌, inl, inr, List, [], ◌∷◌, ◌++◌, length, take, Option, None, Some, Result, Ok, Err}
+use Rattle.std.proofs.Common.{IfSome, IfOk, IfErr, cond, sym, ◌∙◌, ap, subst, refl, append_assoc, append-nil, length-append, arith}
 use Rattle.std.specs.Io.KnownBytes.{Consumes, IsAtEnd}
 use Rattle.std.proofs.lemmas.List.Concat.{flat_map-append}
 use Rattle.tera_meaning.specs.State.{State}
@@ -19,7 +20,8 @@ use Rattle.tera_replies.proofs.StretchLemmas.{Goes-append, Goes-none}
 use Rattle.tera_replies.proofs.EndLemmas.{at_end, at_bad, at_bad_end, at_memory, at_failure}
 
 -- Of the bytes that the source first had these are left, and those that it gave are answered, in this many turns.
-pub record Fed {R S : Type 0} (gave : R → List ℕ → Result ℕ ReadError → R → Type 0) (in_old in_now : R) (takes : S → List ℕ → S → Type 0) (flushes : S → S → Type 0) (first left : Option (List ℕ)) (turn : ℕ) (now : Place) (before after : S) : Type 0 where
+pub record Fed {R S : Type 0} (gave : R → List ℕ → Result ℕ ReadError → R → Type 0) (in_old in_now : R) (takes : S → List ℕ → S → Type 0)
+    (flushes : S → S → Type 0) (first left : Option (List ℕ)) (turn : ℕ) (now : Place) (before after : S) : Type 0 where
   pub given : List ℕ
   pub text : List ℕ
   pub consumed : Consumes first left given
@@ -47,7 +49,8 @@ pub reads_nothing : {R : Type 0} (gave : R → List ℕ → Result ℕ ReadError
 reads_nothing gave s = record { attempts = []; calls = refl; whole = refl }
 
 -- one read more
-pub reads_more : {R : Type 0} (gave : R → List ℕ → Result ℕ ReadError → R → Type 0) (s : R) (bytes : List ℕ) (t : R) (piece : List ℕ) (answer : Result ℕ ReadError) (u : R)
+pub reads_more : {R : Type 0} (gave : R → List ℕ → Result ℕ ReadError → R → Type 0) (s : R) (bytes : List ℕ) (t : R) (piece : List ℕ)
+    (answer : Result ℕ ReadError) (u : R)
     → Reads gave s bytes t → gave t piece answer u → Reads gave s (bytes ++ bytes_given answer piece) u
 reads_more gave s bytes t piece answer u f one =
     let a : Attempt = record { piece = piece; answer = answer } in
@@ -59,12 +62,14 @@ reads_more gave s bytes t piece answer u f one =
 
 -- what the end of the input gave
 abbrev pub LastAnswered : Place → State → (List ℕ → Type 0) → Bool → Type 0
-LastAnswered now new OutGets wanted = (text : List ℕ) × (last : Bool) × Runs now.number now.state (last_line now.part) text last new × (wanted ≡ (now.wanted || last)) × OutGets text
+LastAnswered now new OutGets wanted = (text : List ℕ) × (last : Bool) × Runs now.number now.state (last_line now.part) text last new
+    × (wanted ≡ (now.wanted || last)) × OutGets text
 
 abbrev pub LastStops : Place → Type 0 → Type 0 → Fault → Type 0
 LastStops now OutStays OutBroke fault = (last_line now.part ≡ now.part ∷ []) × LineStops now.number now.part OutStays OutBroke fault
 
-module _ {R S : Type 0} (gave : R → List ℕ → Result ℕ ReadError → R → Type 0) (in_old : R) (takes fails_on : S → List ℕ → S → Type 0) (flushes flush_fails : S → S → Type 0) where
+module _ {R S : Type 0} (gave : R → List ℕ → Result ℕ ReadError → R → Type 0) (in_old : R) (takes fails_on : S → List ℕ → S → Type 0)
+    (flushes flush_fails : S → S → Type 0) where
   -- how the whole went with an input that came so far
   abbrev Came : R → Option (List ℕ) → Option Bool → S → S → Result Bool Fault → Type 0
   Came in_new first fails before after result = EndsKnown first fails (λ given. Reads gave in_old given in_new) (λ given. ReadFails gave in_old given in_new)
@@ -89,7 +94,8 @@ module _ {R S : Type 0} (gave : R → List ℕ → Result ℕ ReadError → R �
   }
 
   -- the answers so far were flushed
-  pub Fed-flushed : (in_now : R) (first left : Option (List ℕ)) (turn : ℕ) (now : Place) (before mid after : S) → Fed gave in_old in_now takes flushes first left turn now before mid → flushes mid after → Fed gave in_old in_now takes flushes first left turn now before after
+  pub Fed-flushed : (in_now : R) (first left : Option (List ℕ)) (turn : ℕ) (now : Place) (before mid after : S) → Fed gave in_old in_now takes flushes first
+      left turn now before mid → flushes mid after → Fed gave in_old in_now takes flushes first left turn now before after
   Fed-flushed in_now first left turn now before mid after f h = record {
     given = f.given;
     text = f.text;
@@ -101,11 +107,14 @@ module _ {R S : Type 0} (gave : R → List ℕ → Result ℕ ReadError → R �
   }
 
   -- a read gave nothing
-  pub Fed-kept : (in_now in_new : R) (room : List ℕ) (first left later : Option (List ℕ)) (turn : ℕ) (now : Place) (before after : S) → Fed gave in_old in_now takes flushes first left turn now before after → gave in_now room (Ok 0) in_new → Consumes left later [] → Fed gave in_old in_new takes flushes first later turn now before after
+  pub Fed-kept : (in_now in_new : R) (room : List ℕ) (first left later : Option (List ℕ)) (turn : ℕ) (now : Place) (before after : S)
+      → Fed gave in_old in_now takes flushes first left turn now before after → gave in_now room (Ok 0) in_new → Consumes left later []
+      → Fed gave in_old in_new takes flushes first later turn now before after
   Fed-kept in_now in_new room first left later turn now before after f one h = record {
     given = f.given;
     text = f.text;
-    consumed = let P : List ℕ → Type 0 = λ zs. Consumes first later zs in subst P (append-nil f.given) (Consumes-append first left later f.given [] f.consumed h);
+    consumed = let P : List ℕ → Type 0 = λ zs. Consumes first later zs in
+        subst P (append-nil f.given) (Consumes-append first left later f.given [] f.consumed h);
     reads = subst (λ zs. Reads gave in_old zs in_new) (append-nil f.given) (reads_more gave in_old f.given in_now room (Ok 0) in_new f.reads one);
     goes = f.goes;
     sent = f.sent;
@@ -113,7 +122,10 @@ module _ {R S : Type 0} (gave : R → List ℕ → Result ℕ ReadError → R �
   }
 
   -- a read gave a piece, which was answered
-  pub Fed-more : (in_now in_new : R) (room : List ℕ) (count : ℕ) (first left later : Option (List ℕ)) (turn : ℕ) (now new : Place) (text : List ℕ) (before mid after : S) → Fed gave in_old in_now takes flushes first left turn now before mid → gave in_now room (Ok count) in_new → Consumes left later (take count room) → Goes now (take count room) text new → Sends takes flushes mid text after → 0 < length (take count room) → Fed gave in_old in_new takes flushes first later (turn + 1) new before after
+  pub Fed-more : (in_now in_new : R) (room : List ℕ) (count : ℕ) (first left later : Option (List ℕ)) (turn : ℕ) (now new : Place) (text : List ℕ)
+      (before mid after : S) → Fed gave in_old in_now takes flushes first left turn now before mid → gave in_now room (Ok count) in_new
+      → Consumes left later (take count room) → Goes now (take count room) text new → Sends takes flushes mid text after → 0 < length (take count room)
+      → Fed gave in_old in_new takes flushes first later (turn + 1) new before after
   Fed-more in_now in_new room count first left later turn now new text before mid after f one h goes sent some = record {
     given = f.given ++ take count room;
     text = f.text ++ text;
@@ -125,27 +137,37 @@ module _ {R S : Type 0} (gave : R → List ℕ → Result ℕ ReadError → R �
   }
 
   -- the flush before a read failed
-  pub Fed-unflushed : (in_now : R) (first left : Option (List ℕ)) (fails : Option Bool) (turn : ℕ) (now : Place) (before mid after : S) → Fed gave in_old in_now takes flushes first left turn now before mid → flush_fails mid after → Came in_now first fails before after (Err WriteFailed)
+  pub Fed-unflushed : (in_now : R) (first left : Option (List ℕ)) (fails : Option Bool) (turn : ℕ) (now : Place) (before mid after : S)
+      → Fed gave in_old in_now takes flushes first left turn now before mid → flush_fails mid after → Came in_now first fails before after (Err WriteFailed)
   Fed-unflushed in_now None left fails turn now before mid after f h = tt
   Fed-unflushed in_now (Some bytes) left fails turn now before mid after f h =
       broke_later takes flushes fails_on flush_fails before f.text mid after f.sent (broke_flush takes flushes fails_on flush_fails mid after h)
 
   -- a read failed
-  pub Fed-failed : (in_now in_new : R) (room : List ℕ) (fault : ReadError) (first left : Option (List ℕ)) (fails : Option Bool) (turn : ℕ) (now : Place) (before after : S) → Fed gave in_old in_now takes flushes first left turn now before after → gave in_now room (Err fault) in_new → MayErr fails left → Came in_new first fails before after (Err ReadFailed)
+  pub Fed-failed : (in_now in_new : R) (room : List ℕ) (fault : ReadError) (first left : Option (List ℕ)) (fails : Option Bool) (turn : ℕ) (now : Place)
+      (before after : S) → Fed gave in_old in_now takes flushes first left turn now before after → gave in_now room (Err fault) in_new → MayErr fails left
+      → Came in_new first fails before after (Err ReadFailed)
   Fed-failed in_now in_new room fault None left fails turn now before after f one may = tt
   Fed-failed in_now in_new room fault (Some bytes) None fails turn now before after f one may = absurd f.consumed
   Fed-failed in_now in_new room fault (Some bytes) (Some rest) fails turn now before after f one may =
       (f.text, at_failure bytes f.given rest f.text fails _ _ now f.consumed (inl (may, (in_now, room, fault, f.reads, one))) f.goes, f.sent)
 
   -- there were too many reads
-  pub Fed-too_long : (in_now : R) (first left : Option (List ℕ)) (fails : Option Bool) (turn : ℕ) (now : Place) (before after : S) → Fed gave in_old in_now takes flushes first left turn now before after → 2 ^ 64 - 1 ≤ turn → Came in_now first fails before after (Err ReadFailed)
+  pub Fed-too_long : (in_now : R) (first left : Option (List ℕ)) (fails : Option Bool) (turn : ℕ) (now : Place) (before after : S)
+      → Fed gave in_old in_now takes flushes first left turn now before after → 2 ^ 64 - 1 ≤ turn → Came in_now first fails before after (Err ReadFailed)
   Fed-too_long in_now None left fails turn now before after f long = tt
   Fed-too_long in_now (Some bytes) None fails turn now before after f long = absurd f.consumed
-  Fed-too_long in_now (Some bytes) (Some rest) fails turn now before after f long =
-      (f.text, at_failure bytes f.given rest f.text fails _ (λ given. ReadFails gave in_old given in_now) now f.consumed (inr (omega (arith, f.turns, long), f.reads)) f.goes, f.sent)
+  Fed-too_long in_now (Some bytes) (Some rest) fails turn now before after f long = (
+    f.text,
+    at_failure bytes f.given rest f.text fails _ (λ given. ReadFails gave in_old given in_now) now f.consumed
+        (inr (omega (arith, f.turns, long), f.reads)) f.goes,
+    f.sent,
+  )
 
   -- a fault in a piece
-  pub Fed-stops : (in_now in_new : R) (room : List ℕ) (count : ℕ) (first left later : Option (List ℕ)) (fails : Option Bool) (turn : ℕ) (now : Place) (before mid after : S) (fault : Fault) → Fed gave in_old in_now takes flushes first left turn now before mid → gave in_now room (Ok count) in_new → Consumes left later (take count room)
+  pub Fed-stops : (in_now in_new : R) (room : List ℕ) (count : ℕ) (first left later : Option (List ℕ)) (fails : Option Bool) (turn : ℕ) (now : Place)
+      (before mid after : S) (fault : Fault) → Fed gave in_old in_now takes flushes first left turn now before mid → gave in_now room (Ok count) in_new
+      → Consumes left later (take count room)
       → Stops now (take count room) (Sent mid after) (IsBroken mid after) fault → Came in_new first fails before after (Err fault)
   Fed-stops in_now in_new room count None left later fails turn now before mid after fault f one h stops = tt
   Fed-stops in_now in_new room count (Some bytes) None later fails turn now before mid after fault f one h stops = absurd f.consumed
@@ -157,7 +179,8 @@ module _ {R S : Type 0} (gave : R → List ℕ → Result ℕ ReadError → R �
         read = f.given ++ s.read;
         unread = s.unread ++ later;
         place = s.place;
-        bytes_are = f.consumed ∙ ap (λ (zs : List ℕ). f.given ++ zs) (h ∙ ap (λ (zs : List ℕ). zs ++ later) s.bytes_are ∙ append_assoc s.read (line_feed ∷ s.unread) later) ∙ sym (append_assoc f.given s.read (line_feed ∷ s.unread ++ later));
+        bytes_are = f.consumed ∙ ap (λ (zs : List ℕ). f.given ++ zs) (h ∙ ap (λ (zs : List ℕ). zs ++ later) s.bytes_are
+            ∙ append_assoc s.read (line_feed ∷ s.unread) later) ∙ sym (append_assoc f.given s.read (line_feed ∷ s.unread ++ later));
         goes = Goes-append start now s.place f.given s.read f.text stops.0 f.goes s.goes;
         bad = s.bad;
         report_is = s.report_is;
@@ -178,21 +201,29 @@ module _ {R S : Type 0} (gave : R → List ℕ → Result ℕ ReadError → R �
         goes = Goes-append start now s.place f.given s.read f.text stops.0 f.goes s.goes;
       } in
       let whole : bytes ≡ given ++ later = f.consumed ∙ ap (λ (zs : List ℕ). f.given ++ zs) h ∙ sym (append_assoc f.given (take count room) later) in
-      let reads = reads_more gave in_old f.given in_now room (Ok count) in_new f.reads one in
-      (text, at_memory bytes given later text (λ zs. Reads gave in_old zs in_new) whole reads begins, sends_joined takes flushes before f.text mid stops.0 after f.sent stops.2)
+      let reads = reads_more gave in_old f.given in_now room (Ok count) in_new f.reads one in (
+        text,
+        at_memory bytes given later text (λ zs. Reads gave in_old zs in_new) whole reads begins,
+        sends_joined takes flushes before f.text mid stops.0 after
+            f.sent stops.2,
+      )
 
   -- the source has given all that it had
-  all_given : (in_now : R) (bytes rest : List ℕ) (turn : ℕ) (now : Place) (before after : S) (f : Fed gave in_old in_now takes flushes (Some bytes) (Some rest) turn now before after) → rest ≡ [] → Goes start bytes f.text now
+  all_given : (in_now : R) (bytes rest : List ℕ) (turn : ℕ) (now : Place) (before after : S) (f : Fed gave in_old in_now takes flushes (Some bytes) (Some rest)
+      turn now before after) → rest ≡ [] → Goes start bytes f.text now
   all_given in_now bytes rest turn now before after f e =
       let P : List ℕ → Type 0 = λ zs. Goes start zs f.text now in
       subst P (sym (f.consumed ∙ ap (λ (zs : List ℕ). f.given ++ zs) e ∙ append-nil f.given)) f.goes
 
   -- nothing more was sent
-  sent_still : (text : List ℕ) (before mid after : S) → Sends takes flushes before text mid → Sends takes flushes mid [] after → Sends takes flushes before text after
+  sent_still : (text : List ℕ) (before mid after : S) → Sends takes flushes before text mid → Sends takes flushes mid [] after → Sends takes flushes before text
+      after
   sent_still text before mid after p q = subst (Sent before after) (append-nil text) (sends_joined takes flushes before text mid [] after p q)
 
-  pub Fed-all : (in_now : R) (first left : Option (List ℕ)) (fails : Option Bool) (turn : ℕ) (now : Place) (new : State) (before mid after : S) (result : Result Bool Fault) → Fed gave in_old in_now takes flushes first left turn now before mid → IsAtEnd left → EndIsTold fails
-      → IfOk result (LastAnswered now new (Sent mid after)) → IfErr result (LastStops now (Sent mid after []) (IsBroken mid after)) → Came in_now first fails before after result
+  pub Fed-all : (in_now : R) (first left : Option (List ℕ)) (fails : Option Bool) (turn : ℕ) (now : Place) (new : State) (before mid after : S)
+      (result : Result Bool Fault) → Fed gave in_old in_now takes flushes first left turn now before mid → IsAtEnd left → EndIsTold fails
+      → IfOk result (LastAnswered now new (Sent mid after)) → IfErr result (LastStops now (Sent mid after []) (IsBroken mid after))
+      → Came in_now first fails before after result
   Fed-all in_now None left fails turn now new before mid after result f end told ok err = tt
   Fed-all in_now (Some bytes) None fails turn now new before mid after result f end told ok err = absurd f.consumed
   Fed-all in_now (Some bytes) (Some rest) fails turn now new before mid after (Ok wanted) f end told ok err =
@@ -207,5 +238,9 @@ module _ {R S : Type 0} (gave : R → List ℕ → Result ℕ ReadError → R �
   Fed-all in_now (Some bytes) (Some rest) fails turn now new before mid after (Err WriteFailed) f end told ok err =
       broke_later takes flushes fails_on flush_fails before f.text mid after f.sent err.1
   Fed-all in_now (Some bytes) (Some rest) fails turn now new before mid after (Err OutOfMemory) f end told ok err =
-      let begins : Begins start f.given f.text = record { read = f.given; unread = []; place = now; bytes_are = sym (append-nil f.given); goes = f.goes } in
-      (f.text, at_memory bytes f.given rest f.text (λ zs. Reads gave in_old zs in_now) f.consumed f.reads begins, sent_still f.text before mid after f.sent err.1)
+      let begins : Begins start f.given f.text = record { read = f.given; unread = []; place = now; bytes_are = sym (append-nil f.given); goes = f.goes } in (
+        f.text,
+        at_memory bytes f.given rest f.text (λ zs. Reads gave in_old zs in_now) f.consumed f.reads begins,
+        sent_still f.text before mid after f.sent
+            err.1,
+      )
