@@ -92,7 +92,8 @@ module _ {K V : Type 0} (order : K → K → Ordering) (total : IsTotalOrder ord
           let tie : order k q.0 ≡ Equal = least_is (p ∷ ps) (q ∷ qs) k q.0 least (λ i. option_eq (eq_by_cmp values) (there i) (here i))
           (λ l. neither (p ∷ ps) (q ∷ qs) k (missed k p ps (total.trans k q.0 p.0 l less) h.0) (missed k q qs l g.0)) in
           let under : order k p.0 ≡ Less = total.congr k q.0 p.0 tie ∙ less in
-          sym (decides (p ∷ ps) (q ∷ qs) k None (Some q.1) true (goes_on order (q ∷ qs) k) (missed k p ps under h.0) (hit k q qs tie) (more_at k p ps under)
+          sym (decides (p ∷ ps) (q ∷ qs) k None (Some q.1) true (goes_on order (q ∷ qs) k) (missed k p ps under h.0) (hit k q qs tie)
+          (more_at k p ps under)
           refl)
 
       under_both : order p.0 q.0 ≡ Equal → order k p.0 ≡ Less → agree_at order values (p ∷ ps) (q ∷ qs) k ≡ true
@@ -114,7 +115,8 @@ module _ {K V : Type 0} (order : K → K → Ordering) (total : IsTotalOrder ord
       above e same =
           elim (order k p.0) as (λ r. order k p.0 ≡ r → r ≡ Greater) [
             | Less ↦ λ l. absurd (true_false (sym (under_both e l) ∙ least.0))
-            | Equal ↦ λ t. absurd (true_false (sym ((λ i. option_eq (eq_by_cmp values) (hit k p ps t i) (hit k q qs (total.congr k p.0 q.0 t ∙ e) i)) ∙ same)
+            | Equal ↦ λ t.
+                absurd (true_false (sym ((λ i. option_eq (eq_by_cmp values) (hit k p ps t i) (hit k q qs (total.congr k p.0 q.0 t ∙ e) i)) ∙ same)
                 ∙ least.0))
             | Greater ↦ λ l. refl
           ] refl
@@ -183,7 +185,8 @@ module _ {K V : Type 0} (order : K → K → Ordering) (total : IsTotalOrder ord
         (agree : AgreeEverywhere order values (p ∷ ps) (q ∷ qs)) where
       left_alone : order p.0 q.0 ≡ Less → ⊥
       unfolding IsStrictlySortedBy
-      left_alone e = false_true ((λ i. option_eq (eq_by_cmp values) (sym (hit p.0 p ps (tied_itself total p.0)) i) (sym (missed p.0 q qs e g.0) i)) ∙ agree p.0)
+      left_alone e = false_true ((λ i. option_eq (eq_by_cmp values) (sym (hit p.0 p ps (tied_itself total p.0)) i) (sym (missed p.0 q qs e g.0) i))
+          ∙ agree p.0)
 
       right_alone : order p.0 q.0 ≡ Greater → ⊥
       unfolding IsStrictlySortedBy
@@ -191,7 +194,8 @@ module _ {K V : Type 0} (order : K → K → Ordering) (total : IsTotalOrder ord
           (sym (hit q.0 q qs (tied_itself total q.0)) i)) ∙ agree q.0)
 
       heads_tie : order p.0 q.0 ≡ Equal → values p.1 q.1 ≡ Equal
-      heads_tie e = (Equal-is (values p.1 q.1)).0 ((λ i. option_eq (eq_by_cmp values) (sym (hit p.0 p ps (tied_itself total p.0)) i) (sym (hit p.0 q qs e) i))
+      heads_tie e = (Equal-is (values p.1 q.1)).0
+          ((λ i. option_eq (eq_by_cmp values) (sym (hit p.0 p ps (tied_itself total p.0)) i) (sym (hit p.0 q qs e) i))
           ∙ agree p.0)
 
       tails_agree : order p.0 q.0 ≡ Equal → AgreeEverywhere order values ps qs
@@ -202,7 +206,8 @@ module _ {K V : Type 0} (order : K → K → Ordering) (total : IsTotalOrder ord
                 (below_none l qs (below_less order total l q.0 qs (sym (alike_right total p.0 q.0 l e) ∙ n) g.0))
             | Equal ↦ λ n. neither ps qs l (below_none l ps (below_tied order total l p.0 ps n h.0))
                 (below_none l qs (below_tied order total l q.0 qs (total.congr l p.0 q.0 n ∙ e) g.0))
-            | Greater ↦ λ n. (λ i. option_eq (eq_by_cmp values) (sym (skipped l p ps n) i) (sym (skipped l q qs (sym (alike_right total p.0 q.0 l e) ∙ n)) i))
+            | Greater ↦ λ n.
+                (λ i. option_eq (eq_by_cmp values) (sym (skipped l p ps n) i) (sym (skipped l q qs (sym (alike_right total p.0 q.0 l e) ∙ n)) i))
                 ∙ agree l
           ] refl
 
@@ -210,11 +215,13 @@ module _ {K V : Type 0} (order : K → K → Ordering) (total : IsTotalOrder ord
         → slice_cmp (entry_order order values) ps qs ≡ Equal
     unfolding IsStrictlySortedBy
     agreeing_tie [] [] h g agree = refl
-    agreeing_tie [] (q ∷ qs) h g agree = absurd (false_true (ap (option_eq (eq_by_cmp values) None) (sym (hit q.0 q qs (tied_itself total q.0))) ∙ agree q.0))
+    agreeing_tie [] (q ∷ qs) h g agree =
+        absurd (false_true (ap (option_eq (eq_by_cmp values) None) (sym (hit q.0 q qs (tied_itself total q.0))) ∙ agree q.0))
     agreeing_tie (p ∷ ps) [] h g agree =
         absurd (false_true (ap (λ o. option_eq (eq_by_cmp values) o None) (sym (hit p.0 p ps (tied_itself total p.0))) ∙ agree p.0))
     agreeing_tie (p ∷ ps) (q ∷ qs) h g agree =
-        elim (order p.0 q.0) as (λ r. order p.0 q.0 ≡ r → ordering_then (ordering_then r (values p.1 q.1)) (slice_cmp (entry_order order values) ps qs) ≡ Equal) [
+        elim (order p.0 q.0) as (λ r. order p.0 q.0 ≡ r → ordering_then (ordering_then r (values p.1 q.1)) (slice_cmp (entry_order order values) ps qs)
+        ≡ Equal) [
           | Less ↦ λ e. absurd (left_alone p q ps qs h g agree e)
           | Equal ↦ λ e. ap (λ r. ordering_then r (slice_cmp (entry_order order values) ps qs)) (heads_tie p q ps qs h g agree e)
               ∙ agreeing_tie ps qs h.1 g.1 (tails_agree p q ps qs h g agree e)
@@ -235,7 +242,8 @@ module _ {K V : Type 0} (order : K → K → Ordering) (total : IsTotalOrder ord
         (second_equal (entry_order order values p q) (slice_cmp (entry_order order values) ps qs) e) k in
         (λ i. option_eq (eq_by_cmp values) (value_at order (p ∷ ps) k) (cond (is_eq (sym (alike_right total p.0 q.0 k keys) i)) (Some q.1)
         (value_at order qs k)))
-        ∙ elim (is_eq (order k p.0)) as (λ b. option_eq (eq_by_cmp values) (cond b (Some p.1) (value_at order ps k)) (cond b (Some q.1) (value_at order qs k))
+        ∙ elim (is_eq (order k p.0)) as (λ b. option_eq (eq_by_cmp values) (cond b (Some p.1) (value_at order ps k))
+        (cond b (Some q.1) (value_at order qs k))
         ≡ true) [
           | true ↦ ap is_eq tie
           | false ↦ tails
@@ -321,7 +329,8 @@ module _ {K V : Type 0} (order : K → K → Ordering) (total : IsTotalOrder ord
     least_or_none [] (q ∷ qs) h g =
         least_at [] (q ∷ qs) q.0 (ap (option_eq (eq_by_cmp values) None) (hit q.0 q qs (tied_itself total q.0))) (λ l m. (refl, missed l q qs m g.0))
     least_or_none (p ∷ ps) [] h g =
-        least_at (p ∷ ps) [] p.0 (ap (λ o. option_eq (eq_by_cmp values) o None) (hit p.0 p ps (tied_itself total p.0))) (λ l m. (missed l p ps m h.0, refl))
+        least_at (p ∷ ps) [] p.0 (ap (λ o. option_eq (eq_by_cmp values) o None) (hit p.0 p ps (tied_itself total p.0)))
+        (λ l m. (missed l p ps m h.0, refl))
     least_or_none (p ∷ ps) (q ∷ qs) h g =
         elim (order p.0 q.0) as (λ r. order p.0 q.0 ≡ r → LeastOrNone (p ∷ ps) (q ∷ qs)) [
           | Less ↦ λ e. least_left p q ps qs h g e
@@ -338,7 +347,8 @@ module _ {K V : Type 0} (order : K → K → Ordering) (total : IsTotalOrder ord
     agree_rising es fs k = λ i. option_eq (eq_by_cmp values) (found_rising order total es k i) (found_rising order total fs k i)
 
     order_rising : (es fs : List (K × V)) (k : K) → order_at order values (rising order es) (rising order fs) k ≡ order_at order values es fs k
-    order_rising es fs k = decides (rising order es) (rising order fs) k (value_at order es k) (value_at order fs k) (goes_on order es k) (goes_on order fs k)
+    order_rising es fs k = decides (rising order es) (rising order fs) k (value_at order es k) (value_at order fs k) (goes_on order es k)
+        (goes_on order fs k)
         (found_rising order total es k) (found_rising order total fs k) (more_rising order total es k) (more_rising order total fs k)
 
     pub entries_decide : (es fs : List (K × V)) (k : K) → IsLeastDifference order values es fs k
@@ -360,7 +370,8 @@ module _ {K V : Type 0} (order : K → K → Ordering) (total : IsTotalOrder ord
 
     module _ (es fs : List (K × V)) where
       -- what the keys of a list that are less than k agree on, any lesser key does that it has
-      walked : (k : K) (xs : List (K × V)) → AllByRecursion (λ e. order e.0 k ≡ Less → agree_at order values es fs e.0 ≡ true) xs → (l : K) → order l k ≡ Less
+      walked : (k : K) (xs : List (K × V)) → AllByRecursion (λ e. order e.0 k ≡ Less → agree_at order values es fs e.0 ≡ true) xs → (l : K) → order l k
+          ≡ Less
           → (value_at order xs l ≡ None) ⊎ (agree_at order values es fs l ≡ true)
       walked k [] h l m = inl refl
       walked k (x ∷ xs) h l m =

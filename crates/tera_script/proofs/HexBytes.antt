@@ -1,5 +1,6 @@
 -- Byte strings: what the reader of digits gives is spelled so, and what is spelled so is read.
-use Rattle.std.proofs.Common.{◌≡◌, ◌<◌, ◌+◌, ◌*◌, ℕ, true, false, cond, ◌&&◌, eqb, ltb, List, [], ◌∷◌, ◌++◌, Option, Some, None, refl, ap, sym, ◌∙◌, inl, inr}
+use Rattle.std.proofs.Common.{◌≡◌, ◌<◌, ◌+◌, ◌*◌, ℕ, true, false, cond, ◌&&◌, eqb, ltb, List, [], ◌∷◌, ◌++◌, Option, Some, None, refl, ap, sym, ◌∙◌, inl}
+use Rattle.std.proofs.Common.{inr}
 use Rattle.std.proofs.Common.{arith, eqb-true, append_assoc, lt-ltb, ltb-true, subst}
 use Rattle.std.specs.Char.{digit_value}
 use Rattle.std.specs.Option.{option_map}
@@ -23,7 +24,8 @@ after_one xs high low (Some found) = ap (λ ys. Some (ys, found.1)) (sym (append
 digit_no_quote : (b : ℕ) → digit_value b < 16 → eqb b 34 ≡ false
 digit_no_quote b h = grind (arith, nat_tests)
 
-two_digits : (high low : ℕ) (rest : List ℕ) → digit_value high < 16 → digit_value low < 16 → hex_at (high ∷ low ∷ rest) ≡ byte_before high low (hex_at rest)
+two_digits : (high low : ℕ) (rest : List ℕ) → digit_value high < 16 → digit_value low < 16 → hex_at (high ∷ low ∷ rest)
+    ≡ byte_before high low (hex_at rest)
 unfolding hex_at
 two_digits high low rest h l = rw (digit_no_quote high h, lt-ltb (digit_value high) 16 h, lt-ltb (digit_value low) 16 l) refl
 
@@ -54,7 +56,8 @@ quoted_end b ys bs rest q e =
     record { digits = []; spells = subst (SpellsBytes []) parts.0 refl; spelled = λ i. q i ∷ parts.1 i }
 
 pair_before : (high low : ℕ) (xs bs rest : List ℕ) (read : Option (List ℕ × List ℕ)) → digit_value high < 16 → digit_value low < 16
-    → ((cs behind : List ℕ) → read ≡ Some (cs, behind) → HasBytes xs cs behind) → byte_before high low read ≡ Some (bs, rest) → HasBytes (high ∷ low ∷ xs) bs
+    → ((cs behind : List ℕ) → read ≡ Some (cs, behind) → HasBytes xs cs behind) → byte_before high low read ≡ Some (bs, rest) → HasBytes (high ∷ low ∷ xs)
+    bs
     rest
 pair_before high low xs bs rest None h l more e = cc
 pair_before high low xs bs rest (Some found) h l more e =
@@ -75,13 +78,16 @@ hex_found (b ∷ []) bs rest e = elim (chosen {A = Option (List ℕ × List ℕ)
 ]
 hex_found (high ∷ low ∷ xs) bs rest e =
     elim (chosen {A = Option (List ℕ × List ℕ)} (eqb high 34) (Some ([], low ∷ xs))
-    (cond {A = Option (List ℕ × List ℕ)} (ltb (digit_value high) 16 && ltb (digit_value low) 16) (byte_before high low (hex_at xs)) None) (Some (bs, rest)) e) [
+    (cond {A = Option (List ℕ × List ℕ)} (ltb (digit_value high) 16 && ltb (digit_value low) 16) (byte_before high low (hex_at xs)) None)
+    (Some (bs, rest)) e) [
       | inl h ↦ quoted_end high (low ∷ xs) bs rest (eqb-true high 34 h.0) h.1
-      | inr g ↦ elim (chosen {A = Option (List ℕ × List ℕ)} (ltb (digit_value high) 16 && ltb (digit_value low) 16) (byte_before high low (hex_at xs)) None
+      | inr g ↦ elim (chosen {A = Option (List ℕ × List ℕ)} (ltb (digit_value high) 16 && ltb (digit_value low) 16) (byte_before high low (hex_at xs))
+          None
           (Some (bs, rest)) g.1) [
             | inl h ↦
                 let digits = both_pass (λ b. true) (ltb (digit_value high) 16) (ltb (digit_value low) 16) h.0 in
-                pair_before high low xs bs rest (hex_at xs) (ltb-true (digit_value high) 16 digits.0) (ltb-true (digit_value low) 16 digits.1) (hex_found xs) h.1
+                pair_before high low xs bs rest (hex_at xs) (ltb-true (digit_value high) 16 digits.0) (ltb-true (digit_value low) 16 digits.1)
+                (hex_found xs) h.1
             | inr h ↦ let none = h.1 in cc
           ]
     ]

@@ -1,5 +1,6 @@
 -- The pairs of a map: one pair, and the loop over them.
-use Rattle.std.proofs.Common.{◌≡◌, ◌≢◌, ◌<◌, ◌≤◌, ℕ, suc, max, List, [], ◌∷◌, ◌++◌, length, length-append, map, reverse, Some, None, refl, ap, sym, ◌∙◌, arith}
+use Rattle.std.proofs.Common.{◌≡◌, ◌≢◌, ◌<◌, ◌≤◌, ℕ, suc, max, List, [], ◌∷◌, ◌++◌, length, length-append, map, reverse, Some, None, refl, ap, sym, ◌∙◌}
+use Rattle.std.proofs.Common.{arith}
 use Rattle.std.proofs.Common.{subst}
 use Rattle.std.proofs.lemmas.List.{map-append, reverse-append}
 use Rattle.std.specs.BTreeMap.{insert_entry}
@@ -100,7 +101,8 @@ no_pairs_yet deep inside pairs rest e r opened = record {
 nowhere : (levels : ℕ) (inside : List ℕ) → IsNowhere BeginsWithPair EndsPair 125 pair_depth levels inside → IsMapAt levels inside None
 nowhere levels inside n = λ utf8 all rest h d. n utf8 (members_list all) rest h (subst (λ m. suc m ≤ levels) (sym (deepest_pair all)) d)
 
-whole : (levels : ℕ) (inside : List ℕ) (trees pairs : List (KeyForm × Form)) (value : Form) (end : List ℕ) → IsWhole BeginsWithPair EndsPair 125 pair_depth
+whole : (levels : ℕ) (inside : List ℕ) (trees pairs : List (KeyForm × Form)) (value : Form) (end : List ℕ) → IsWhole BeginsWithPair EndsPair 125
+    pair_depth
     levels inside trees end
     → pairs ≡ in_places (map pair_value trees) → value ≡ object (members pairs) → IsMapAt levels inside (Some (value, end))
 whole levels inside trees pairs value end w pairs_are is =
@@ -111,19 +113,23 @@ whole levels inside trees pairs value end w pairs_are is =
       subst (λ m. suc m ≤ levels) (deepest_pair (members trees)) (subst (λ l. suc (deepest pair_depth l) ≤ levels) (sym listed) w.1),
     )
 
-module _ (deep : ℕ) (inside : List ℕ) (pairs : List (KeyForm × Form)) (rest : List ℕ) (h : HasPairs deep inside pairs rest) (levels : ℕ) (l : levels ≡ suc deep)
+module _ (deep : ℕ) (inside : List ℕ) (pairs : List (KeyForm × Form)) (rest : List ℕ) (h : HasPairs deep inside pairs rest) (levels : ℕ)
+    (l : levels ≡ suc deep)
   where
     -- where no pair stands
     pub no_more_pair : IsPairAt deep rest None → IsMapAt levels inside None
     no_more_pair n = nowhere levels inside (no_part BeginsWithPair EndsPair 125 pair_depth pair_parts deep inside h.trees rest h.so_far levels l n)
 
     module _ (k : KeyForm) (v : Form) (behind : List ℕ) (read : IsPairAt deep rest (Some (k, v, behind))) where
-      pub no_pair_mark : ((end : List ℕ) → past is_blank behind ≢ 125 ∷ end) → ((end : List ℕ) → past is_blank behind ≢ 44 ∷ end) → IsMapAt levels inside None
-      no_pair_mark closed comma = nowhere levels inside (no_mark BeginsWithPair EndsPair 125 pair_depth pair_parts deep inside h.trees rest h.so_far levels l
+      pub no_pair_mark : ((end : List ℕ) → past is_blank behind ≢ 125 ∷ end) → ((end : List ℕ) → past is_blank behind ≢ 44 ∷ end)
+          → IsMapAt levels inside None
+      no_pair_mark closed comma = nowhere levels inside (no_mark BeginsWithPair EndsPair 125 pair_depth pair_parts deep inside h.trees rest h.so_far
+          levels l
           (k, read.0) behind read.2 read.3 closed comma)
 
       pub no_pair_end : length (past is_blank behind) ≡ 0 → IsMapAt levels inside None
-      no_pair_end z = nowhere levels inside (no_end BeginsWithPair EndsPair 125 pair_depth pair_parts deep inside h.trees rest h.so_far levels l (k, read.0)
+      no_pair_end z = nowhere levels inside (no_end BeginsWithPair EndsPair 125 pair_depth pair_parts deep inside h.trees rest h.so_far levels l
+          (k, read.0)
           behind read.2 read.3 z)
 
       pub shorter_pair : (b : ℕ) (next after : List ℕ) → past is_blank behind ≡ b ∷ next → after ≡ past is_blank next → length after < length rest
@@ -139,14 +145,17 @@ module _ (deep : ℕ) (inside : List ℕ) (pairs : List (KeyForm × Form)) (rest
       pub last_pair : (longer : List (KeyForm × Form)) (value : Form) (end : List ℕ) → longer ≡ insert_entry key_form_order pairs k v → value
           ≡ object (members longer) → past is_blank behind ≡ 125 ∷ end → IsMapAt levels inside (Some (value, end))
       last_pair longer value end u is m =
-          whole levels inside (h.trees ++ (k, read.0) ∷ []) longer value end (last_part BeginsWithPair EndsPair 125 pair_depth pair_parts deep inside h.trees rest
+          whole levels inside (h.trees ++ (k, read.0) ∷ []) longer value end (last_part BeginsWithPair EndsPair 125 pair_depth pair_parts deep inside
+          h.trees rest
           h.so_far levels l (k, read.0) behind read.2 read.3 end read.4 m) (more_pairs longer u) is
 
-      pub next_pair : (longer : List (KeyForm × Form)) (next after : List ℕ) → longer ≡ insert_entry key_form_order pairs k v → past is_blank behind ≡ 44 ∷ next
+      pub next_pair : (longer : List (KeyForm × Form)) (next after : List ℕ) → longer ≡ insert_entry key_form_order pairs k v → past is_blank behind ≡ 44
+          ∷ next
           → after ≡ past is_blank next → HasPairs deep inside longer after
       next_pair longer next after u m a = record {
         trees = h.trees ++ (k, read.0) ∷ [];
         pairs_are = more_pairs longer u;
-        so_far = one_more BeginsWithPair EndsPair 125 pair_depth pair_parts deep inside h.trees rest h.so_far levels l (k, read.0) behind read.2 read.3 next after
+        so_far = one_more BeginsWithPair EndsPair 125 pair_depth pair_parts deep inside h.trees rest h.so_far levels l (k, read.0) behind read.2 read.3
+            next after
             read.4 m a;
       }

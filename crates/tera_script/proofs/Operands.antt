@@ -43,10 +43,17 @@ HasOne bytes name = Before (λ operands. SpellsOperand operands name) bytes
 
 pub one_found : (bytes name : List ℕ) → one_in bytes ≡ Some name → HasOne bytes name
 unfolding one_in
-one_found bytes name e = option_and_then_some (λ (n : List ℕ × List ℕ). cond (list_all is_blank n.1) (Some n.0) None) (operand_at bytes) name e (λ n at_n e'.
+one_found bytes name e = option_and_then_some (λ (n : List ℕ × List ℕ). cond (list_all is_blank n.1) (Some n.0) None) (operand_at bytes) name e
+    (λ n at_n e'.
     let h = cond_some (list_all is_blank n.1) n.0 name e' in
     let operand = operand_found bytes n.0 n.1 at_n in
-    record { part = operand.operand; after = n.1; spells = subst (SpellsOperand operand.operand) h.1 operand.spells; blanks = h.0; spelled = operand.spelled })
+    record {
+      part = operand.operand;
+      after = n.1;
+      spells = subst (SpellsOperand operand.operand) h.1 operand.spells;
+      blanks = h.0;
+      spelled = operand.spelled;
+    })
 
 pub one_only : (bytes name : List ℕ) → HasOne bytes name → one_in bytes ≡ Some name
 unfolding one_in
@@ -79,7 +86,8 @@ names_found bytes left right rest e = option_and_then_some (λ (l : List ℕ × 
       stops = second.stops;
     })))
 
-pub names_only : (part left right rest : List ℕ) → SpellsTwo part left right → Stops is_name_byte rest → names_at (part ++ rest) ≡ Some ((left, right), rest)
+pub names_only : (part left right rest : List ℕ) → SpellsTwo part left right → Stops is_name_byte rest → names_at (part ++ rest)
+    ≡ Some ((left, right), rest)
 unfolding names_at
 names_only part left right rest h s =
     let at_left : operand_at (part ++ rest) ≡ Some (left, h.1 ++ rest) = rw (h.4, append_assoc h.0 h.1 rest)
@@ -144,7 +152,8 @@ unfolding into_in
 into_found bytes into e =
     elim (chosen {A = Option (Option (List ℕ))} (list_all is_blank bytes) (Some None)
     (option_map Some (option_and_then one_in (option_and_then arrow_at (gap_at bytes)))) (Some into) e) [
-      | inl h ↦ let nothing : None ≡ into = cc in subst (HasInto bytes) nothing (record { part = []; after = bytes; spells = refl; blanks = h.0; spelled = refl })
+      | inl h ↦ let nothing : None ≡ into = cc in
+          subst (HasInto bytes) nothing (record { part = []; after = bytes; spells = refl; blanks = h.0; spelled = refl })
       | inr h ↦ let name = some_mapped (option_and_then one_in (option_and_then arrow_at (gap_at bytes))) into h.1 in
           subst (HasInto bytes) (sym name.2) (named_into bytes name.0 name.1)
     ]
