@@ -233,7 +233,7 @@ def is_there(code):
     parts = code.removeprefix("./").rstrip("/").split("/")
     if parts[0] not in TOPS and "." not in parts[-1] or "out" in parts:
         return True
-    pattern = "/".join("[^/]*" if re.fullmatch(r"[A-Z]+", it) else re.escape(it).replace(re.escape("*"), "[^/]*") for it in parts)
+    pattern = re.sub(r"\b[A-Z]{3,}\b", "[^/]*", "/".join(re.escape(it).replace(re.escape("*"), "[^/]*") for it in parts))
     return any(re.match(rf"(?:.*/)?{pattern}(?:\.\w+)?(?:/.*)?$", it) for it in FILES)
 
 
