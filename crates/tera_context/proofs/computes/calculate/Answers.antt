@@ -18,7 +18,7 @@ returns-in-Err c =
     let right : form_at state c.args.right.now ≡ c.value_at-second.result.now = search rules in
     number_not_found c.refused.result (refusal_told c.in-Err.why) state (Search.calculate op c.args.left.now c.args.right.now)
     (option_map string_bytes c.args.into) c.refused.ensures
-    ((λ i. one_found (calculated op (left i) (right i))) ∙ ap one_found (sym c.in-Err.ensures))
+    ((λ i. one_found (calculated op (left i) (right i))) ∙ ap one_found (sym c.in-Err.ensures.result))
 
 pub returns-in-Some : goal.returns-in-Some
 returns-in-Some c =
@@ -27,5 +27,5 @@ returns-in-Some c =
     let left : form_at state c.args.left.now ≡ c.value_at-first.result.now = search rules in
     let right : form_at state c.args.right.now ≡ c.value_at-second.result.now = search rules in
     let found : found_at state (Search.calculate op c.args.left.now c.args.right.now) ≡ Ok (Some (as_i128 c.in-Ok.number)) =
-    (λ i. one_found (calculated op (left i) (right i))) ∙ ap one_found (sym c.in-Ok.ensures) in
+    (λ i. one_found (calculated op (left i) (right i))) ∙ ap one_found (sym c.in-Ok.ensures.result) in
     rw c.in-Some.is (c.keep_number.ensures (Search.calculate op c.args.left.now c.args.right.now) (search rules))
