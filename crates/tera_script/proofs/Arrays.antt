@@ -1,5 +1,5 @@
 -- The loop over the items of an array.
-use Rattle.std.proofs.Common.{◌≡◌, ◌≢◌, ◌<◌, ◌≤◌, ℕ, suc, max, List, [], ◌∷◌, ◌++◌, length, length-append, map, Some, None, refl, ap, sym, ◌∙◌, arith, subst}
+use Rattle.std.proofs.Common.{◌≡◌, ◌≢◌, ◌≤◌, ℕ, suc, max, List, [], ◌∷◌, ◌++◌, length, map, Some, None, refl, ap, sym, ◌∙◌, arith, subst}
 use Rattle.std.proofs.lemmas.List.{map-append}
 use Rattle.tera_meaning.specs.Integer.{Integer}
 use Rattle.tera_meaning.specs.Form.{Form, MarkedText}
@@ -11,14 +11,12 @@ use Rattle.tera_script.specs.Literal.{tree_value, item_values}
 use Rattle.tera_script.specs.Readers.{past, AllIn, BeginsWithLiteral, Ends, IsLiteralAt, IsArrayAt}
 use Rattle.tera_script.proofs.Literals.{items_closed, only_at}
 use Rattle.tera_script.proofs.Openings.{literal_utf8}
-use Rattle.tera_script.proofs.Series.{ArePartsOf, deepest, IsSoFar, IsNowhere, IsWhole, none_so_far, no_part, no_mark, no_end, last_part, one_more}
-use Rattle.tera_script.proofs.Series.{shorter_rest}
+use Rattle.tera_script.proofs.Series.{ArePartsOf, deepest, IsSoFar, IsNowhere, IsWhole, none_so_far, no_part, no_mark, last_part, one_more}
 
 item_parts : ArePartsOf BeginsWithLiteral Ends 93
 item_parts = record {
   closed = items_closed;
   only = only_at;
-  shorter = λ xs e rest b. omega (arith, ap length b.spelled, length-append b.literal rest);
   utf8 = literal_utf8;
 }
 
@@ -36,9 +34,9 @@ pub record HasItems (deep : ℕ) (inside : List ℕ) (values : List Form) (rest 
   pub values_are : values ≡ map tree_value trees
   pub so_far : IsSoFar BeginsWithLiteral Ends 93 depth deep inside trees rest
 
-pub no_items_yet : (deep : ℕ) (inside : List ℕ) (values : List Form) (rest : List ℕ) → values ≡ [] → rest ≡ past is_blank inside
+pub no_items_yet : {deep : ℕ} {inside : List ℕ} {values : List Form} {rest : List ℕ} → values ≡ [] → rest ≡ past is_blank inside
     → ((end : List ℕ) → rest ≢ 93 ∷ end) → HasItems deep inside values rest
-no_items_yet deep inside values rest e r opened = record {
+no_items_yet {deep} {inside} {values} {rest} e r opened = record {
   trees = [];
   values_are = e;
   so_far = none_so_far BeginsWithLiteral Ends 93 depth deep inside rest r opened;
@@ -58,36 +56,30 @@ whole levels inside trees values value end w values_are is =
       subst (λ m. suc m ≤ levels) (deepest_item (items trees)) (subst (λ l. suc (deepest depth l) ≤ levels) (sym listed) w.1),
     )
 
-module _ (deep : ℕ) (inside : List ℕ) (values : List Form) (rest : List ℕ) (h : HasItems deep inside values rest) (levels : ℕ) (l : levels ≡ suc deep) where
+module _ {deep : ℕ} {inside : List ℕ} {values : List Form} {rest : List ℕ} (h : HasItems deep inside values rest) {levels : ℕ} (l : levels ≡ suc deep) where
   -- where no literal stands
   pub no_item : IsLiteralAt deep rest None → IsArrayAt levels inside None
-  no_item n = nowhere levels inside (no_part BeginsWithLiteral Ends 93 depth item_parts deep inside h.trees rest h.so_far levels l n)
+  no_item n = nowhere levels inside (no_part item_parts h.so_far l n)
 
-  module _ (v : Form) (behind : List ℕ) (read : IsLiteralAt deep rest (Some (v, behind))) where
+  module _ {v : Form} {behind : List ℕ} (read : IsLiteralAt deep rest (Some (v, behind))) where
     pub no_item_mark : ((end : List ℕ) → past is_blank behind ≢ 93 ∷ end) → ((end : List ℕ) → past is_blank behind ≢ 44 ∷ end) → IsArrayAt levels inside None
-    no_item_mark closed comma = nowhere levels inside (no_mark BeginsWithLiteral Ends 93 depth item_parts deep inside h.trees rest h.so_far levels l read.0
-        behind read.2 read.3 closed comma)
+    no_item_mark closed comma = nowhere levels inside (no_mark item_parts h.so_far l read.2 read.3 closed comma)
 
     pub no_item_end : length (past is_blank behind) ≡ 0 → IsArrayAt levels inside None
-    no_item_end z = nowhere levels inside (no_end BeginsWithLiteral Ends 93 depth item_parts deep inside h.trees rest h.so_far levels l read.0 behind read.2
-        read.3 z)
+    no_item_end z = no_item_mark (λ end e. omega (arith, z, ap length e)) (λ end e. omega (arith, z, ap length e))
 
-    pub shorter_item : (b : ℕ) (next after : List ℕ) → past is_blank behind ≡ b ∷ next → after ≡ past is_blank next → length after < length rest
-    shorter_item b next after m a = shorter_rest BeginsWithLiteral Ends 93 depth item_parts rest read.0 behind b next after read.2 m a
+    more_values : {longer : List Form} → longer ≡ values ++ v ∷ [] → longer ≡ map tree_value (h.trees ++ read.0 ∷ [])
+    more_values u = u ∙ (λ i. h.values_are i ++ read.1 i ∷ []) ∙ sym (map-append tree_value h.trees (read.0 ∷ []))
 
-    more_values : (longer : List Form) → longer ≡ values ++ v ∷ [] → longer ≡ map tree_value (h.trees ++ read.0 ∷ [])
-    more_values longer u = u ∙ (λ i. h.values_are i ++ read.1 i ∷ []) ∙ sym (map-append tree_value h.trees (read.0 ∷ []))
+    pub last_item : {longer : List Form} {value : Form} {end : List ℕ} → longer ≡ values ++ v ∷ [] → value ≡ array (items longer)
+        → past is_blank behind ≡ 93 ∷ end → IsArrayAt levels inside (Some (value, end))
+    last_item {longer} {value} {end} u is m =
+        whole levels inside (h.trees ++ read.0 ∷ []) longer value end (last_part item_parts h.so_far l read.2 read.3 read.4 m) (more_values u) is
 
-    pub last_item : (longer : List Form) (value : Form) (end : List ℕ) → longer ≡ values ++ v ∷ [] → value ≡ array (items longer) → past is_blank behind ≡ 93
-        ∷ end → IsArrayAt levels inside (Some (value, end))
-    last_item longer value end u is m =
-        whole levels inside (h.trees ++ read.0 ∷ []) longer value end (last_part BeginsWithLiteral Ends 93 depth item_parts deep inside h.trees rest h.so_far
-        levels l read.0 behind read.2 read.3 end read.4 m) (more_values longer u) is
-
-    pub next_item : (longer : List Form) (next after : List ℕ) → longer ≡ values ++ v ∷ [] → past is_blank behind ≡ 44 ∷ next → after ≡ past is_blank next
+    pub next_item : {longer : List Form} {next after : List ℕ} → longer ≡ values ++ v ∷ [] → past is_blank behind ≡ 44 ∷ next → after ≡ past is_blank next
         → HasItems deep inside longer after
-    next_item longer next after u m a = record {
+    next_item {longer} {next} {after} u m a = record {
       trees = h.trees ++ read.0 ∷ [];
-      values_are = more_values longer u;
-      so_far = one_more BeginsWithLiteral Ends 93 depth item_parts deep inside h.trees rest h.so_far levels l read.0 behind read.2 read.3 next after read.4 m a;
+      values_are = more_values u;
+      so_far = one_more item_parts h.so_far l read.2 read.3 read.4 m a;
     }

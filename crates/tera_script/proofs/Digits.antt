@@ -1,6 +1,5 @@
 -- The loop over the digits of a number.
-use Rattle.std.proofs.Common.{◌≡◌, ◌≢◌, ◌+◌, ◌*◌, ◌^◌, ◌<◌, ◌≤◌, ℕ, true, false, cond, ◌&&◌, ltb, List, [], ◌∷◌, length, Option, Some, None, refl, ap, sym, ◌∙◌}
-use Rattle.std.proofs.Common.{arith, length-append}
+use Rattle.std.proofs.Common.{◌≡◌, ◌≢◌, ◌+◌, ◌*◌, ◌^◌, ◌<◌, ◌≤◌, ℕ, List, [], ◌∷◌, length, Some, None, ap, sym, ◌∙◌, arith, length-append}
 use Rattle.std.specs.Char.{digit_value, is_ascii_digit}
 use Rattle.std.specs.Str.Parse.{digits_value, digits_value_after}
 use Rattle.std.proofs.lemmas.Bool.Decides.{nat_tests}
@@ -20,10 +19,7 @@ pub record IsSoFar (bytes : List ℕ) (m : ℕ) (rest : List ℕ) : Type 0 where
 
 too_large : (bytes : List ℕ) → 2 ^ 128 ≤ digits_value 10 (front is_ascii_digit bytes) → digits_at bytes ≡ None
 unfolding digits_at
-too_large bytes h =
-    let fails : ltb (digits_value 10 (front is_ascii_digit bytes)) (2 ^ 128) ≡ false = grind (arith, nat_tests, h) in
-    rw fails (elim (ltb 0 (length (front is_ascii_digit bytes))) as (λ b. cond {A = Option (ℕ × List ℕ)} (b && false)
-    (Some (digits_value 10 (front is_ascii_digit bytes), past is_ascii_digit bytes)) None ≡ None) [ true ↦ refl | false ↦ refl ])
+too_large bytes h = grind (arith, nat_tests)
 
 -- one more digit
 pub so_far_more : (bytes rest others : List ℕ) (m b : ℕ) → IsSoFar bytes m rest → BeginsWithDigit rest b others → m * 10 + digit_value b < 2 ^ 128
@@ -59,16 +55,10 @@ front_length bytes rest m s stops = omega (
 
 pub no_digits : (bytes rest : List ℕ) (m : ℕ) → IsSoFar bytes m rest → Stops is_ascii_digit rest → length rest ≡ length bytes → digits_at bytes ≡ None
 unfolding digits_at
-no_digits bytes rest m s stops same =
-    let none : ltb 0 (length (front is_ascii_digit bytes)) ≡ false = grind (arith, nat_tests, front_length bytes rest m s stops) in
-    rw none
+no_digits bytes rest m s stops same = grind (arith, nat_tests, front_length bytes rest m s stops)
 
 pub all_digits : (bytes rest : List ℕ) (m : ℕ) → IsSoFar bytes m rest → Stops is_ascii_digit rest → length rest ≢ length bytes → digits_at bytes
     ≡ Some (m, rest)
 unfolding digits_at
 all_digits bytes rest m s stops apart =
-    let some : ltb 0 (length (front is_ascii_digit bytes)) ≡ true = grind (arith, nat_tests, front_length bytes rest m s stops) in
-    let value : digits_value 10 (front is_ascii_digit bytes) ≡ m = sym s.number ∙ ap (digits_value_after 10 m) (front_at_stop is_ascii_digit rest stops) in
-    let behind : past is_ascii_digit bytes ≡ rest = sym s.behind ∙ past_at_stop is_ascii_digit rest stops in
-    let fits : ltb m (2 ^ 128) ≡ true = grind (arith, nat_tests, s.fits) in
-    rw (some, value, behind, fits)
+    grind (arith, nat_tests, front_length bytes rest m s stops, past_at_stop is_ascii_digit rest stops, front_at_stop is_ascii_digit rest stops)

@@ -1,21 +1,21 @@
 -- The escapes, by the byte behind the backslash.
-use Rattle.std.proofs.Common.{◌≡◌, ℕ, ◌<◌, List, [], ◌∷◌, ◌++◌, get_or, drop, refl, sym, ap, ◌∙◌, arith, append_assoc}
+use Rattle.std.proofs.Common.{◌≡◌, ℕ, ◌<◌, List, [], ◌∷◌, ◌++◌, drop, refl, sym, ap, ◌∙◌, arith, append_assoc}
 use Rattle.std.specs.Prelude.{encode_utf8, Option, None, Some, IfSome, IfNone}
 use Rattle.std.specs.Str.Parse.{digits_value}
 use Rattle.std.proofs.lemmas.Str.{encode_ascii}
-use Rattle.tera_script.specs.Text.{Token, itself, quote, backslash, line_feed, carriage_return, tab, null, character, spelling, decoding, IsToken}
+use Rattle.tera_script.specs.Text.{Token, character, spelling, decoding, IsToken}
 use Rattle.tera_script.specs.TextParts.{BeginsWithEscape, BeginsWithNumber}
 
 -- an escape of one letter
-pub letter_found : (token : Token) (bytes rest : List ℕ) (first letter c : ℕ) → IsToken token → spelling token ≡ 92 ∷ letter ∷ [] → decoding token ≡ c ∷ []
+pub letter_found : (token : Token) {bytes rest : List ℕ} {first letter c : ℕ} → IsToken token → spelling token ≡ 92 ∷ letter ∷ [] → decoding token ≡ c ∷ []
     → c < 128 → bytes ≡ first ∷ rest → first ≡ letter → BeginsWithEscape bytes c rest
-letter_found token bytes rest first letter c h spelled decoded small e is =
+letter_found token {bytes} {rest} {first} {letter} {c} h spelled decoded small e is =
     (token, h, decoded ∙ sym (encode_ascii c small), ap (λ bs. 92 ∷ bs) (e ∙ ap (λ b. b ∷ rest) is) ∙ ap (λ bs. bs ++ rest) (sym spelled))
 
 -- an escape of a number
-pub number_escape : (bytes rest next digits : List ℕ) (first c : ℕ) → bytes ≡ first ∷ rest → first ≡ 117 → BeginsWithNumber rest digits c next
+pub number_escape : (digits : List ℕ) {bytes rest next : List ℕ} {first c : ℕ} → bytes ≡ first ∷ rest → first ≡ 117 → BeginsWithNumber rest digits c next
     → BeginsWithEscape bytes c next
-number_escape bytes rest next digits first c e is p = (
+number_escape digits {bytes} {rest} {next} {first} {c} e is p = (
   character digits,
   p.0,
   ap encode_utf8 (sym p.1),
@@ -23,25 +23,17 @@ number_escape bytes rest next digits first c e is p = (
       ∙ (ap (λ bs. 92 ∷ 117 ∷ bs) p.2 ∙ ap (λ bs. 92 ∷ 117 ∷ 123 ∷ bs) (sym (append_assoc digits (125 ∷ []) next))),
 )
 
-other_letter : {P : Type 0} (letter : ℕ) → 117 ≡ letter → letter < 117 → P
-other_letter letter e small = absurd (omega arith)
-
 -- an escape by the letter u is one of a number
 number_of : (token : Token) (rest x : List ℕ) → IsToken token → 92 ∷ 117 ∷ rest ≡ spelling token ++ x → (digits : List ℕ) × (c : ℕ)
     × BeginsWithNumber rest digits c x
-number_of (itself b) rest x h e = absurd (h.1 (ap (λ (bs : List ℕ). get_or bs 0 0) (sym e)))
-number_of quote rest x h e = other_letter 34 (ap (λ (bs : List ℕ). get_or bs 1 0) e) (omega arith)
-number_of backslash rest x h e = other_letter 92 (ap (λ (bs : List ℕ). get_or bs 1 0) e) (omega arith)
-number_of line_feed rest x h e = other_letter 110 (ap (λ (bs : List ℕ). get_or bs 1 0) e) (omega arith)
-number_of carriage_return rest x h e = other_letter 114 (ap (λ (bs : List ℕ). get_or bs 1 0) e) (omega arith)
-number_of tab rest x h e = other_letter 116 (ap (λ (bs : List ℕ). get_or bs 1 0) e) (omega arith)
-number_of null rest x h e = other_letter 48 (ap (λ (bs : List ℕ). get_or bs 1 0) e) (omega arith)
 number_of (character digits) rest x h e = (digits, digits_value 16 digits, (h, refl, ap (drop 2) e ∙ ap (λ bs. 123 ∷ bs) (append_assoc digits (125 ∷ []) x)))
+number_of _ rest x h e = absurd (grind arith)
 
 -- without a number there is no escape
-pub no_number : (bytes rest x : List ℕ) (first : ℕ) (token : Token) → bytes ≡ first ∷ rest → first ≡ 117
-    → ((digits after : List ℕ) (c : ℕ) → BeginsWithNumber rest digits c after → ⊥) → IsToken token → 92 ∷ bytes ≡ spelling token ++ x → ⊥
-no_number bytes rest x first token e is none h f =
+pub no_number : {bytes rest : List ℕ} {first : ℕ} → bytes ≡ first ∷ rest → first ≡ 117
+    → ((digits after : List ℕ) (c : ℕ) → BeginsWithNumber rest digits c after → ⊥) → (token : Token) (x : List ℕ) → IsToken token → 92 ∷ bytes ≡ spelling token
+    ++ x → ⊥
+no_number {bytes} {rest} e is none token x h f =
     let number = number_of token rest x h (ap (λ bs. 92 ∷ bs) (sym (e ∙ ap (λ b. b ∷ rest) is)) ∙ f) in
     none number.0 x number.1 number.2
 

@@ -1,9 +1,13 @@
 -- The bytes at the front that pass a test, and those behind them.
-use Rattle.std.proofs.Common.{◌≡◌, ◌-◌, ◌≤◌, ℕ, Bool, true, false, cond, ◌&&◌, List, [], ◌∷◌, ◌++◌, length, take, drop, refl, ap, sym, ◌∙◌, arith, append_assoc}
-use Rattle.std.proofs.Common.{length-append, subst}
+use Rattle.std.proofs.Common.{◌≡◌, ◌≢◌, ◌+◌, Option, Some, None, ◌-◌, ◌≤◌, ℕ, Bool, true, false, ◌&&◌, List, [], ◌∷◌, ◌++◌, length, take, drop, refl, ap, sym}
+use Rattle.std.proofs.Common.{◌∙◌, arith, append_assoc, length-append}
 use Rattle.std.proofs.lemmas.List.{take_at, drop_at}
+use Rattle.std.specs.Borrow.{Bor}
 use Rattle.std.specs.List.{list_all}
-use Rattle.std.proofs.lemmas.Bool.Decides.{nat_tests}
+use Rattle.std.specs.Prelude.{◌==◌, MatchOption}
+use Rattle.std.specs.Cmp.Lexicographic.{pointwise}
+use Rattle.std.proofs.lemmas.Slice.Eq.{strip_prefix_is}
+use Rattle.std.proofs.lemmas.Bool.Decides.{nat_tests, Decides-eqb}
 use Rattle.tera_script.specs.Word.{is_blank}
 use Rattle.tera_script.specs.Readers.{Stops, front, past, is_word_byte}
 
@@ -15,41 +19,29 @@ abbrev pub tail : List ℕ → List ℕ
 tail [] = []
 tail (b ∷ xs) = xs
 
-module _ (p : ℕ → Bool) where
-  front_step : (b : ℕ) (xs : List ℕ) (t : Bool) → p b ≡ t → front p xs ++ past p xs ≡ xs → cond (p b) (b ∷ front p xs) [] ++ cond (p b) (past p xs) (b ∷ xs) ≡ b
-      ∷ xs
-  front_step b xs true e h = rw e (ap (λ ys. b ∷ ys) h)
-  front_step b xs false e h = rw e
+pub empty_list : (xs : List ℕ) → length xs ≡ 0 → xs ≡ []
+empty_list [] h = refl
+empty_list (b ∷ xs) h = absurd (omega arith)
 
+module _ (p : ℕ → Bool) where
   pub front-past : (xs : List ℕ) → front p xs ++ past p xs ≡ xs
   front-past [] = refl
-  front-past (b ∷ xs) = front_step b xs (p b) refl (front-past xs)
+  front-past (b ∷ xs) = grind (arith, front-past xs)
 
-  front_all_step : (b : ℕ) (xs : List ℕ) (t : Bool) → p b ≡ t → list_all p (front p xs) ≡ true → list_all p (cond (p b) (b ∷ front p xs) []) ≡ true
-  front_all_step b xs true e h = rw e (rw e h)
-  front_all_step b xs false e h = rw e
-
-  -- each byte of the front passes
+  -- each byte of the front passes, and the one behind it does not
   pub front_all : (xs : List ℕ) → list_all p (front p xs) ≡ true
   front_all [] = refl
-  front_all (b ∷ xs) = front_all_step b xs (p b) refl (front_all xs)
+  front_all (b ∷ xs) = grind (arith, front_all xs)
 
-  stops_step : (b : ℕ) (xs : List ℕ) (t : Bool) → p b ≡ t → Stops p (past p xs) → Stops p (cond (p b) (past p xs) (b ∷ xs))
-  stops_step b xs true e h = rw e h
-  stops_step b xs false e h = rw e e
-
-  -- and the one behind it does not
   pub past_stops : (xs : List ℕ) → Stops p (past p xs)
   past_stops [] = tt
-  past_stops (b ∷ xs) = stops_step b xs (p b) refl (past_stops xs)
+  past_stops (b ∷ xs) = grind (arith, past_stops xs)
 
   pub past_at_stop : (ys : List ℕ) → Stops p ys → past p ys ≡ ys
-  past_at_stop [] h = refl
-  past_at_stop (b ∷ ys) h = rw h
+  past_at_stop ys h = grind arith
 
   pub front_at_stop : (ys : List ℕ) → Stops p ys → front p ys ≡ []
-  front_at_stop [] h = refl
-  front_at_stop (b ∷ ys) h = rw h
+  front_at_stop ys h = grind arith
 
   pub both_pass : (a b : Bool) → (a && b) ≡ true → (a ≡ true) × (b ≡ true)
   both_pass true b e = (refl, e)
@@ -58,11 +50,11 @@ module _ (p : ℕ → Bool) where
   -- bytes that pass, before bytes that do not begin with one that does, are the front
   pub front_is : (xs ys : List ℕ) → list_all p xs ≡ true → Stops p ys → front p (xs ++ ys) ≡ xs
   front_is [] ys h s = front_at_stop ys s
-  front_is (b ∷ xs) ys h s = let e = both_pass (p b) (list_all p xs) h in rw e.0 (ap (λ zs. b ∷ zs) (front_is xs ys e.1 s))
+  front_is (b ∷ xs) ys h s = grind (arith, front_is xs ys)
 
   pub past_is : (xs ys : List ℕ) → list_all p xs ≡ true → Stops p ys → past p (xs ++ ys) ≡ ys
   past_is [] ys h s = past_at_stop ys s
-  past_is (b ∷ xs) ys h s = let e = both_pass (p b) (list_all p xs) h in rw e.0 (past_is xs ys e.1 s)
+  past_is (b ∷ xs) ys h s = grind (arith, past_is xs ys)
 
   -- where the bytes are cut that end in what stands behind the front
   pub length-past : (front' xs bytes : List ℕ) → bytes ≡ front' ++ xs → length (past p xs) ≤ length bytes
@@ -90,9 +82,16 @@ blank_ends_word b h = grind (arith, nat_tests)
 
 -- a byte of no word ends one, behind blanks too
 pub bracket_or_comma : (xs : List ℕ) (b : ℕ) (rest : List ℕ) → past is_blank xs ≡ b ∷ rest → is_word_byte b ≡ false → Stops is_word_byte xs
-bracket_or_comma [] b rest e n = tt
-bracket_or_comma (c ∷ xs) b rest e n = by_blank (is_blank c) refl
+bracket_or_comma xs b rest e n = grind (arith, nat_tests)
+
+-- the bytes behind a prefix, or that it is none
+module _ (s : List ℕ) {p q : List ℕ} {r : Option (Bor (List ℕ))}
+    (cases : MatchOption r (pointwise ◌==◌ (take (length p) s) p ≡ false)
+    (λ x. (pointwise ◌==◌ (take (length p) s) p ≡ true) × (x.now ≡ drop (length p) s) × (length x.now + length p ≡ length s)))
+    (e : p ≡ q)
   where
-    by_blank : (t : Bool) → is_blank c ≡ t → is_word_byte c ≡ false
-    by_blank true h = blank_ends_word c h
-    by_blank false h = subst (λ d. is_word_byte d ≡ false) (sym (ap head (rw h at e))) n
+    pub no_prefix : r ≡ None → (rest : List ℕ) → s ≢ q ++ rest
+    no_prefix n = rw (n, e) at (strip_prefix_is Decides-eqb s p r cases)
+
+    pub behind_prefix : {x : Bor (List ℕ)} → r ≡ Some x → s ≡ q ++ x.now
+    behind_prefix n = rw (n, e) at (strip_prefix_is Decides-eqb s p r cases)

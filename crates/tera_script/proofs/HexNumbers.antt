@@ -25,52 +25,43 @@ digits_past [] rest (suc place) f goes = absurd (omega (arith, f.0))
 digits_past (d ∷ ds) rest zero f goes = omega arith
 digits_past (d ∷ ds) rest (suc place) f goes = suc-le-suc (digits_past ds rest place f.1 goes)
 
-inside_of : (bytes ds digits rest : List ℕ) (brace c : ℕ) → bytes ≡ brace ∷ ds → BeginsWithNumber bytes digits c rest → ds ≡ digits ++ (125 ∷ rest)
-inside_of bytes ds digits rest brace c e p = ap (drop 1) (sym e ∙ p.2)
+-- where a number in braces stands, of whose bytes some are digits
+module _ {bytes ds : List ℕ} {brace : ℕ} (e : bytes ≡ brace ∷ ds) (place : ℕ) (f : AllDigits 16 (take place ds)) (digits rest : List ℕ) {c : ℕ}
+    (p : BeginsWithNumber bytes digits c rest)
+  where
+    inside : ds ≡ digits ++ (125 ∷ rest)
+    inside = ap (drop 1) (sym e ∙ p.2)
 
--- a number ends at the first byte that is no digit, which is the closing brace
-number_ends : (bytes ds digits rest : List ℕ) (brace c place : ℕ) → bytes ≡ brace ∷ ds → BeginsWithNumber bytes digits c rest → AllDigits 16 (take place ds)
-    → 16 ≤ digit_value (get_or ds place 0) → (digits ≡ take place ds) × (get_or ds place 0 ≡ 125) × (place < length ds) × (0 < place)
-number_ends bytes ds digits rest brace c place e p f stop =
-    let inside = inside_of bytes ds digits rest brace c e p in
-    let end : length digits ≡ place = digits_end digits rest place p.0.0 (rw inside at f) (rw inside at stop) in
-    let long : length ds ≡ length digits + suc (length rest) = ap length inside ∙ length-append digits (125 ∷ rest) in (
-      sym (ap (take place) inside ∙ take_at digits (125 ∷ rest) place end),
-      ap (λ (bs : List ℕ). get_or bs place 0) inside ∙ (ap (λ n. get_or (digits ++ (125 ∷ rest)) n 0) (sym end) ∙ byte_at digits rest 125),
-      omega arith,
-      omega (arith, p.0.1),
-    )
+    -- a number ends at the first byte that is no digit, which is the closing brace
+    number_ends : 16 ≤ digit_value (get_or ds place 0) → (digits ≡ take place ds) × (get_or ds place 0 ≡ 125) × (place < length ds) × (0 < place)
+    number_ends stop =
+        let end : length digits ≡ place = digits_end digits rest place p.0.0 (rw inside at f) (rw inside at stop) in
+        let long : length ds ≡ length digits + suc (length rest) = ap length inside ∙ length-append digits (125 ∷ rest) in (
+          sym (ap (take place) inside ∙ take_at digits (125 ∷ rest) place end),
+          ap (λ (bs : List ℕ). get_or bs place 0) inside ∙ (ap (λ n. get_or (digits ++ (125 ∷ rest)) n 0) (sym end) ∙ byte_at digits rest 125),
+          omega arith,
+          omega (arith, p.0.1),
+        )
 
--- the digits before a brace name no scalar value
-pub no_scalar : (bytes ds digits rest : List ℕ) (brace c place number : ℕ) → bytes ≡ brace ∷ ds → AllDigits 16 (take place ds) → get_or ds place 0 ≡ 125
-    → number ≡ digits_value 16 (take place ds) → ¬ IsScalar number → BeginsWithNumber bytes digits c rest → ⊥
-no_scalar bytes ds digits rest brace c place number e f brace_is is scalar p =
-    let ends = number_ends bytes ds digits rest brace c place e p f (rw brace_is (omega arith)) in
-    scalar (subst IsScalar (ap (digits_value 16) ends.0 ∙ sym is) p.0.3)
+    -- the digits before a brace name no scalar value
+    pub no_scalar : {number : ℕ} → get_or ds place 0 ≡ 125 → number ≡ digits_value 16 (take place ds) → ¬ IsScalar number → ⊥
+    no_scalar brace_is is scalar =
+        let ends = number_ends (rw brace_is (omega arith)) in
+        scalar (subst IsScalar (ap (digits_value 16) ends.0 ∙ sym is) p.0.3)
 
--- what stands in place of a digit is no closing brace, or no digit stands before it
-pub no_closing_brace : (bytes ds digits rest : List ℕ) (brace c place : ℕ) → bytes ≡ brace ∷ ds → AllDigits 16 (take place ds)
-    → 16 ≤ digit_value (get_or ds place 0) → (get_or ds place 0 ≡ 125 → place ≡ 0) → BeginsWithNumber bytes digits c rest → ⊥
-no_closing_brace bytes ds digits rest brace c place e f stop other p =
-    let ends = number_ends bytes ds digits rest brace c place e p f stop in
-    let first : place ≡ 0 = other ends.1 in
-    omega (arith, ends.3)
+    -- what stands in place of a digit is no closing brace, or no digit stands before it
+    pub no_closing_brace : 16 ≤ digit_value (get_or ds place 0) → (get_or ds place 0 ≡ 125 → place ≡ 0) → ⊥
+    no_closing_brace stop other = let ends = number_ends stop in omega (arith, other ends.1, ends.3)
 
--- no closing brace stands behind the digits
-pub no_end : (bytes ds digits rest : List ℕ) (brace c place : ℕ) → bytes ≡ brace ∷ ds → AllDigits 16 (take place ds) → length ds ≤ place
-    → BeginsWithNumber bytes digits c rest → ⊥
-no_end bytes ds digits rest brace c place e f past p =
-    let none : get_or ds place 0 ≡ 0 = grind (arith, common_steps) in
-    let ends = number_ends bytes ds digits rest brace c place e p f (rw none (omega arith)) in
-    omega (arith, ends.2)
+    -- no closing brace stands behind the digits
+    pub no_end : length ds ≤ place → ⊥
+    no_end past =
+        let none : get_or ds place 0 ≡ 0 = grind (arith, common_steps) in
+        omega (arith, (number_ends (rw none (omega arith))).2)
 
--- a seventh digit
-pub too_long : (bytes ds digits rest : List ℕ) (brace c place : ℕ) → bytes ≡ brace ∷ ds → AllDigits 16 (take place ds) → digit_value (get_or ds place 0) < 16
-    → 6 ≤ place → BeginsWithNumber bytes digits c rest → ⊥
-too_long bytes ds digits rest brace c place e f goes seventh p =
-    let inside = inside_of bytes ds digits rest brace c e p in
-    let past : place < length digits = digits_past digits rest place (rw inside at f) (rw inside at goes) in
-    omega (arith, p.0.2)
+    -- a seventh digit
+    pub too_long : digit_value (get_or ds place 0) < 16 → 6 ≤ place → ⊥
+    too_long goes seventh = omega (arith, p.0.2, digits_past digits rest place (rw inside at f) (rw inside at goes))
 
 pub number_fits : (ds : List ℕ) (place number digit : ℕ) → AllDigits 16 (take place ds) → number ≡ digits_value 16 (take place ds) → place < 6 → digit < 16
     → number * 16 + digit < 2 ^ 32

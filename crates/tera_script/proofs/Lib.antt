@@ -1,11 +1,11 @@
 mod Arrays
+mod Both
 mod Bounds
 mod Choices
 mod Commands
 mod Decoding
 mod Digits
 mod Escapes
-mod Found
 mod Fronts
 mod HexBytes
 mod HexNumbers
@@ -31,7 +31,4 @@ mod Utf8Texts
 mod Values
 mod Verbs
 mod Words
-mod WorkedFaults
-mod WorkedLines
-mod WorkedMaps
-mod WorkedTexts
+mod Rows

@@ -1,18 +1,18 @@
 -- Whole lines.
 use Rattle.std.proofs.Common.{◌≡◌, ◌⊎◌, ℕ, Bool, true, false, List, [], ◌∷◌, ◌++◌, None, refl, ap, sym, ◌∙◌, inl, inr, arith, append_assoc, append-nil, subst}
-use Rattle.std.specs.List.{list_all}
 use Rattle.std.specs.Str.{IsUtf8}
 use Rattle.std.proofs.lemmas.Bool.Decides.{nat_tests}
 use Rattle.tera_meaning.specs.Request.{Command}
 use Rattle.tera_script.specs.Word.{is_blank, AreBlanks, IsName}
 use Rattle.tera_script.specs.Verb.{word_of}
-use Rattle.tera_script.specs.Line.{Says, IsSkipped, IsBad}
-use Rattle.tera_script.specs.Readers.{Stops, front, past, EndsInCommand, IsCommandAt, is_end_or_comment}
-use Rattle.tera_script.proofs.Fronts.{both_pass, front-past, front_all, past_is}
+use Rattle.tera_script.specs.Line.{Says, IsSkipped, IsBad, SpellsCommand}
+use Rattle.tera_script.specs.Readers.{Stops, front, past, is_end_or_comment}
+use Rattle.tera_script.specs.inner.Command.{EndsIn, IsCommandAt}
+use Rattle.tera_script.proofs.Fronts.{both_pass, front-past, front_all, past_is, front_cut}
 use Rattle.tera_script.proofs.Names.{name_is_not_blank}
 use Rattle.tera_script.proofs.Verbs.{word_is_name}
 use Rattle.tera_script.proofs.Commands.{one_command_at}
-use Rattle.tera_script.proofs.Utf8Fronts.{utf8_past_blanks}
+use Rattle.tera_script.proofs.Series.{past_utf8}
 
 call_begins : (line : List ℕ) (command : Command) (h : Says line command) → h.call ++ h.after ≡ word_of h.spelled.0 ++ (h.spelled.1 ++ h.after)
 call_begins line command h = ap (λ c. c ++ h.after) h.spelled.3 ∙ append_assoc (word_of h.spelled.0) h.spelled.1 h.after
@@ -23,19 +23,8 @@ says_past line command h =
     (name_is_not_blank (word_of h.spelled.0) (h.spelled.1 ++ h.after) (word_is_name h.spelled.0)) in
     ap (past is_blank) (h.whole ∙ append_assoc h.before h.call h.after) ∙ past_is is_blank h.before (h.call ++ h.after) h.padded.0 stops
 
-pub says_command : (line : List ℕ) (command : Command) → Says line command → EndsInCommand (past is_blank line) command
+says_command : (line : List ℕ) (command : Command) → Says line command → EndsIn SpellsCommand (past is_blank line) command
 says_command line command h = record { part = h.call; after = h.after; spells = h.spelled; blanks = h.padded.1; spelled = says_past line command h }
-
-pub line_says : (line : List ℕ) (command : Command) → IsUtf8 line → EndsInCommand (past is_blank line) command → Says line command
-line_says line command u h = record {
-  utf8 = u;
-  before = front is_blank line;
-  call = h.part;
-  after = h.after;
-  padded = (front_all is_blank line, h.blanks);
-  spelled = h.spells;
-  whole = sym (front-past is_blank line) ∙ ap (λ xs. front is_blank line ++ xs) h.spelled ∙ sym (append_assoc (front is_blank line) h.part h.after);
-}
 
 pub one_command : (line : List ℕ) (a b : Command) → Says line a → Says line b → a ≡ b
 one_command line a b h g = one_command_at (past is_blank line) a b (says_command line a h) (says_command line b g)
@@ -43,7 +32,7 @@ one_command line a b h g = one_command_at (past is_blank line) a b (says_command
 -- lines that are skipped
 all_past : (xs : List ℕ) → AreBlanks xs → past is_blank xs ≡ []
 all_past [] h = refl
-all_past (b ∷ xs) h = let e = both_pass is_blank (is_blank b) (list_all is_blank xs) h in rw (e.0) (all_past xs e.1)
+all_past (b ∷ xs) h = grind (arith, all_past xs)
 
 skipped_past : (line : List ℕ) → IsSkipped line → is_end_or_comment (past is_blank line) ≡ true
 skipped_past line (inl h) = ap is_end_or_comment (all_past line h)
@@ -63,18 +52,8 @@ past_skipped line (b ∷ rest) e h =
           (e ∙ ap (λ c. c ∷ rest) hash),
     )
 
-pub is_skipped : (line : List ℕ) → is_end_or_comment (past is_blank line) ≡ true → IsSkipped line
-is_skipped line h = past_skipped line (past is_blank line) refl h
-
--- a line of UTF-8 whose first byte past the blanks begins no comment is neither skipped nor no UTF-8
-pub says_something : (line : List ℕ) → is_end_or_comment (past is_blank line) ≡ false → IsUtf8 line
-    → IsSkipped line ⊎ (¬ IsUtf8 line) → ⊥
-says_something line goes_on utf8 (inl skipped) = let ends = skipped_past line skipped in cc
-says_something line goes_on utf8 (inr not_utf8) = not_utf8 utf8
-
 name_is_no_comment : (name rest : List ℕ) → IsName name → is_end_or_comment (name ++ rest) ≡ false
-name_is_no_comment [] rest n = absurd n
-name_is_no_comment (b ∷ name) rest n = grind (arith, nat_tests, n.0)
+name_is_no_comment name rest n = grind (arith, nat_tests)
 
 pub skipped_says_nothing : (line : List ℕ) (command : Command) → IsSkipped line → ¬ Says line command
 skipped_says_nothing line command s h =
@@ -83,19 +62,36 @@ skipped_says_nothing line command s h =
     (word_is_name h.spelled.0) in
     cc
 
--- bad lines
-not_skipped : (line : List ℕ) → is_end_or_comment (past is_blank line) ≡ false → ¬ IsSkipped line
-not_skipped line e s = let yes = skipped_past line s in cc
+-- by the bytes past the blanks, and whether they are none or begin a comment
+module _ (line : List ℕ) {bytes : List ℕ} {ends : Bool} (b : bytes ≡ past is_blank line) (e : ends ≡ is_end_or_comment bytes) where
+  pub is_skipped : ends ≡ true → IsSkipped line
+  is_skipped h = past_skipped line bytes (sym b) (sym e ∙ h)
 
-pub bad_utf8 : (line : List ℕ) → is_end_or_comment (past is_blank line) ≡ false → ¬ IsUtf8 line → IsBad line
-bad_utf8 line e u = (not_skipped line e, λ command h. u h.utf8)
+  pub line_says : {command : Command} → IsUtf8 line → EndsIn SpellsCommand bytes command → Says line command
+  line_says u h = record {
+    utf8 = u;
+    before = front is_blank line;
+    call = h.part;
+    after = h.after;
+    padded = (front_all is_blank line, h.blanks);
+    spelled = h.spells;
+    whole = front_cut is_blank line bytes (sym b) ∙ ap (λ xs. front is_blank line ++ xs) h.spelled ∙ sym (append_assoc (front is_blank line) h.part h.after);
+  }
 
-pub bad_command : (line : List ℕ) → is_end_or_comment (past is_blank line) ≡ false → IsCommandAt (past is_blank line) None → IsBad line
-bad_command line e nothing = (
-  not_skipped line e,
-  λ command h. nothing (utf8_past_blanks (front is_blank line) (past is_blank line) (front_all is_blank line)
-      (subst IsUtf8 (sym (front-past is_blank line)) h.utf8)) command (says_command line command h),
-)
+  not_skipped : ends ≡ false → ¬ IsSkipped line
+  not_skipped h s = let yes = skipped_past line s in cc
 
-pub no_blanks : (xs : List ℕ) (r : Bool) → r ≡ list_all is_blank xs → r ≡ false → ¬ AreBlanks xs
-no_blanks xs r e f h = cc
+  -- a line of UTF-8 whose first byte past the blanks begins no comment is neither skipped nor no UTF-8
+  pub says_something : ends ≡ false → IsUtf8 line → IsSkipped line ⊎ (¬ IsUtf8 line) → ⊥
+  says_something h u (inl skipped) = not_skipped h skipped
+  says_something h u (inr not_utf8) = not_utf8 u
+
+  pub bad_utf8 : ends ≡ false → ¬ IsUtf8 line → IsBad line
+  bad_utf8 h u = (not_skipped h, λ command s. u s.utf8)
+
+  pub bad_command : ends ≡ false → IsCommandAt bytes None → IsBad line
+  bad_command h nothing = (
+    not_skipped h,
+    λ command s. (subst (λ xs. IsCommandAt xs None) b nothing) (past_utf8 line s.utf8) command
+        (says_command line command s),
+  )

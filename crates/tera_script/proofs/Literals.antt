@@ -3,24 +3,23 @@ use Rattle.std.proofs.Common.{◌≡◌, ◌≢◌, ◌<◌, ◌≤◌, ◌+◌,
 use Rattle.std.proofs.Common.{ap, sym, ◌∙◌, arith, append_assoc, append-nil, length-append, subst, lit<}
 use Rattle.std.specs.List.{AllByRecursion}
 use Rattle.std.specs.Str.{IsUtf8}
-use Rattle.std.specs.Option.{option_map}
 use Rattle.std.proofs.lemmas.List.{drop_at, append_cancel_left}
 use Rattle.std.proofs.lemmas.Option.{same_Some, some_pair_parts}
 use Rattle.tera_meaning.specs.Integer.{Integer}
 use Rattle.tera_meaning.specs.Form.{Form, MarkedText}
-use Rattle.tera_meaning.specs.KeyMeaning.{KeyForm, truth_key, number_key, text_key, owned, borrowed}
-use Rattle.tera_meaning.specs.Tree.{Items, Members, undefined, none, truth, number, text, bytes, array, object, no_items, item, no_members, member, items}
-use Rattle.tera_meaning.specs.Tree.{items_list, members, members_list, depth}
+use Rattle.tera_meaning.specs.KeyMeaning.{KeyForm, truth_key, number_key, text_key, owned}
+use Rattle.tera_meaning.specs.Tree.{Items, Members, truth, number, text, bytes, array, object, no_items, item, no_members, member, items, items_list, members}
+use Rattle.tera_meaning.specs.Tree.{members_list, depth}
 use Rattle.tera_meaning.proofs.TreeLaws.{items_of_list, members_of_list}
 use Rattle.tera_script.specs.Text.{BeginsWithText}
 use Rattle.tera_script.specs.Word.{is_blank}
 use Rattle.tera_script.specs.Literal.{mark_of, SpellsKey, SpellsTree, SpellsLiteral, tree_value}
 use Rattle.tera_script.specs.Readers.{Stops, front, past, is_word_byte, value_in, plain_at, hex_at, bytes_read, BeginsWithLiteral, BeginsWithKey}
-use Rattle.tera_script.specs.Readers.{BeginsWithPair, Ends, MoreAt, MorePairsAt, IsLiteralAt, IsQuotedAt, IsArrayAt, IsMapAt}
+use Rattle.tera_script.specs.Readers.{BeginsWithPair, Ends, IsLiteralAt, IsQuotedAt, IsArrayAt, IsMapAt}
 use Rattle.tera_script.proofs.Fronts.{head, tail, bracket_or_comma}
 use Rattle.tera_script.proofs.Openings.{Opening, plain, quoted, hex, bracket, brace, opened, IsOpening, opening_is, Stands, stands, stops_end, literal_of}
 use Rattle.tera_script.proofs.Openings.{quoted_utf8}
-use Rattle.tera_script.proofs.Parts.{AreClosedBy, IsOnlyPart, stops_behind, only_all}
+use Rattle.tera_script.proofs.Parts.{AreClosedBy, IsOnlyPart, only_all}
 use Rattle.tera_script.proofs.Shapes.{key_tree}
 use Rattle.tera_script.proofs.Texts.{one_reading, text_is_utf8}
 use Rattle.tera_script.proofs.Utf8Texts.{after_byte}
@@ -47,9 +46,6 @@ module _ (c : ℕ) (opens : (ys : List ℕ) → opened (c ∷ ys) ≡ plain) (wo
 pub no_literal : (xs : List ℕ) (v : Form) (rest ys : List ℕ) → BeginsWithLiteral xs v rest → xs ≡ 93 ∷ ys → Ends v rest → ⊥
 no_literal = no_first 93 (λ ys. refl) refl
 
-pub no_first_comma : (xs : List ℕ) (v : Form) (rest ys : List ℕ) → BeginsWithLiteral xs v rest → xs ≡ 44 ∷ ys → Ends v rest → ⊥
-no_first_comma = no_first 44 (λ ys. refl) refl
-
 -- and so no key does
 pub key_ends : (k : KeyForm) (after next : List ℕ) → past is_blank after ≡ 58 ∷ next → Ends (key_value k) after
 key_ends k after next e = stops_end (key_value k) after (bracket_or_comma after 58 next e refl)
@@ -68,13 +64,6 @@ items_closed = record { stops = stops_end; opens = no_literal; word = refl; comm
 
 pub pairs_closed : AreClosedBy BeginsWithPair EndsPair 125
 pairs_closed = record { stops = λ e. stops_end e.1; opens = λ xs e rest ys b is ends. no_pair xs e rest ys b is; word = refl; comma = less 125 44 (lit< tt) }
-
--- what stands behind an item or a pair ends it
-pub more_stops : (all : Items Integer MarkedText KeyForm) (xs rest : List ℕ) → MoreAt xs all rest → Stops is_word_byte xs
-more_stops all = stops_behind BeginsWithLiteral Ends 93 items_closed (items_list all)
-
-pub more_pairs_stop : (all : Members Integer MarkedText KeyForm) (xs rest : List ℕ) → MorePairsAt xs all rest → Stops is_word_byte xs
-more_pairs_stop all = stops_behind BeginsWithPair EndsPair 125 pairs_closed (members_list all)
 
 -- the literal, and the pair, is the only one where it stands; and so is each part of an array or a map
 abbrev pub IsOnly : Form → Type 0
@@ -108,11 +97,6 @@ only_if : (v : Form) → AreOnly v → IsOnly v
 only_if v parts xs x b s w y c t = only_by (opened xs) xs v w x y parts (stands xs v x b s) (stands xs w y c t)
 
 -- a key that is spelled is that of its value
-key_is_flat : (k : KeyForm) → AreOnly (key_value k)
-key_is_flat (truth_key b) = tt
-key_is_flat (number_key n) = tt
-key_is_flat (text_key t) = tt
-
 abbrev key_of : Form → KeyForm
 key_of (truth b) = truth_key b
 key_of (number n) = number_key n
@@ -120,15 +104,12 @@ key_of (text t) = text_key (owned t.spelled)
 key_of v = truth_key true
 
 key_again : (literal : List ℕ) (k : KeyForm) → SpellsKey literal k → key_of (key_value k) ≡ k
-key_again literal (truth_key b) h = refl
-key_again literal (number_key n) h = refl
-key_again literal (text_key (owned t)) h = refl
-key_again literal (text_key (borrowed t)) h = absurd h
+key_again literal k h = grind arith
 
 pub only_key : (xs : List ℕ) (k : KeyForm) (x : List ℕ) (l : KeyForm) (y : List ℕ) → BeginsWithKey xs k x → BeginsWithKey xs l y
     → Ends (key_value k) x → Ends (key_value l) y → (k ≡ l) × (x ≡ y)
 only_key xs k x l y b c s t =
-    let same = only_if (key_value k) (key_is_flat k) xs x (key_literal xs k x b) s (key_value l) y (key_literal xs l y c) t in
+    let same = only_if (key_value k) (grind arith) xs x (key_literal xs k x b) s (key_value l) y (key_literal xs l y c) t in
     (sym (key_again b.literal k b.spells) ∙ ap key_of same.0 ∙ key_again c.literal l c.spells, same.1)
 
 pub only_pair : (k : KeyForm) (v : Form) → IsOnly v → IsOnlyPair (k, v)
@@ -140,14 +121,9 @@ only_pair k v only xs x b s p y c ends =
 
 mutual
   parts_only : (v : Form) → AreOnly v
-  parts_only undefined = tt
-  parts_only none = tt
-  parts_only (truth b) = tt
-  parts_only (number n) = tt
-  parts_only (text t) = tt
-  parts_only (bytes bs) = tt
   parts_only (array all) = items_only all
   parts_only (object all) = pairs_only all
+  parts_only _ = tt
 
   items_only : (all : Items Integer MarkedText KeyForm) → AllByRecursion IsOnly (items_list all)
   items_only no_items = tt
@@ -189,12 +165,10 @@ module _ (levels : ℕ) (xs : List ℕ) where
       → ((w : Form) (rest : List ℕ) → BeginsWithLiteral xs w rest → Stops is_word_byte rest → Stands o xs w rest) → IsOpenedAt o levels xs answer
       → IsLiteralAt levels xs answer
   unfolding plain_at
-  opened_found plain answer i meant h = rw h (go (value_in (front is_word_byte xs)) refl)
-    where
-      go : (v : Option Form) → value_in (front is_word_byte xs) ≡ v → IsLiteralAt levels xs (option_map (λ v. (v, past is_word_byte xs)) v)
-      go (Some v) e = there plain v (past is_word_byte xs) tt (e, refl) (word_is_value (front is_word_byte xs) v e)
-          (value_is_flat levels (front is_word_byte xs) v e)
-      go None e = λ utf8 w rest b d stops. let found = (meant w rest b stops).0 in cc
+  opened_found plain (Some found) i meant h =
+      let e : (value_in (front is_word_byte xs) ≡ Some found.0) × (past is_word_byte xs ≡ found.1) = grind arith in
+      there plain found.0 found.1 tt e (word_is_value (front is_word_byte xs) found.0 e.0) (value_is_flat levels (front is_word_byte xs) found.0 e.0)
+  opened_found plain None i meant h = λ utf8 w rest b d stops. let e = (meant w rest b stops).0 in grind arith
   opened_found (quoted safe ys) (Some found) i meant h =
       let l = literal_of (quoted safe ys) xs (marked h.1 safe) found.1 i (h.0, h.1, h.2, refl, h.4) in
       (marked h.1 safe, h.3, l.0, l.1, omega arith)

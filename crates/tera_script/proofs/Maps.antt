@@ -1,7 +1,5 @@
 -- The pairs of a map: one pair, and the loop over them.
-use Rattle.std.proofs.Common.{◌≡◌, ◌≢◌, ◌<◌, ◌≤◌, ℕ, suc, max, List, [], ◌∷◌, ◌++◌, length, length-append, map, reverse, Some, None, refl, ap, sym, ◌∙◌}
-use Rattle.std.proofs.Common.{arith}
-use Rattle.std.proofs.Common.{subst}
+use Rattle.std.proofs.Common.{◌≡◌, ◌≢◌, ◌≤◌, ℕ, suc, max, List, [], ◌∷◌, ◌++◌, length, map, reverse, Some, None, refl, ap, sym, ◌∙◌, arith, subst}
 use Rattle.std.proofs.lemmas.List.{map-append, reverse-append}
 use Rattle.std.specs.BTreeMap.{insert_entry}
 use Rattle.std.specs.Str.{IsUtf8}
@@ -17,8 +15,7 @@ use Rattle.tera_script.specs.Readers.{past, AllIn, BeginsWithLiteral, BeginsWith
 use Rattle.tera_script.proofs.Fronts.{tail, bracket_or_comma}
 use Rattle.tera_script.proofs.Literals.{EndsPair, pairs_closed, only_at, only_pair, key_literal, key_ends, only_key}
 use Rattle.tera_script.proofs.Openings.{literal_utf8}
-use Rattle.tera_script.proofs.Series.{ArePartsOf, deepest, IsSoFar, IsNowhere, IsWhole, past_utf8, past_length, none_so_far, no_part, no_mark, no_end}
-use Rattle.tera_script.proofs.Series.{last_part, one_more, shorter_rest}
+use Rattle.tera_script.proofs.Series.{ArePartsOf, deepest, IsSoFar, IsNowhere, IsWhole, past_utf8, none_so_far, no_part, no_mark, last_part, one_more}
 use Rattle.tera_script.proofs.Utf8Texts.{after_byte}
 use Rattle.tera_values.specs.Key.{key_value}
 
@@ -38,35 +35,24 @@ pair_parts : ArePartsOf BeginsWithPair EndsPair 125
 pair_parts = record {
   closed = pairs_closed;
   only = λ e. only_pair e.0 e.1 (only_at e.1);
-  shorter = λ xs e rest b. omega (
-    arith,
-    ap length b.2.spelled,
-    length-append b.2.literal b.0,
-    past_length b.0,
-    ap length b.3,
-    past_length b.1,
-    ap length
-        b.4.spelled,
-    length-append b.4.literal rest,
-  );
   utf8 = λ xs e rest b ends u. literal_utf8 (past is_blank b.1) e.1 rest b.4 ends (at_value_utf8 xs e.0 b.0 b.1 b.2 b.3 u);
 }
 
 -- where no key stands
-pub no_pair_key : (levels : ℕ) (xs : List ℕ) → IsKeyAt xs None → IsPairAt levels xs None
-no_pair_key levels xs n = λ utf8 pair rest b d stops. n utf8 pair.0 b.0 b.2 (bracket_or_comma b.0 58 b.1 b.3 refl)
+pub no_pair_key : {levels : ℕ} {xs : List ℕ} → IsKeyAt xs None → IsPairAt levels xs None
+no_pair_key n = λ utf8 pair rest b d stops. n utf8 pair.0 b.0 b.2 (bracket_or_comma b.0 58 b.1 b.3 refl)
 
-module _ (levels : ℕ) (xs : List ℕ) (k : KeyForm) (after : List ℕ) (read : IsKeyAt xs (Some (k, after))) where
+module _ {xs : List ℕ} {k : KeyForm} {after : List ℕ} (read : IsKeyAt xs (Some (k, after))) where
   -- a pair that stands there has the key that was read
   same_after : (pair : KeyForm × Form) (rest : List ℕ) (b : BeginsWithPair xs pair rest) → (k ≡ pair.0) × (after ≡ b.0)
   same_after pair rest b = only_key xs k after pair.0 b.0 read.0 b.2 read.1 (key_ends pair.0 b.0 b.1 b.3)
 
   -- behind it stands a colon
-  pub no_colon : ((next : List ℕ) → past is_blank after ≢ 58 ∷ next) → IsPairAt levels xs None
+  pub no_colon : {levels : ℕ} → ((next : List ℕ) → past is_blank after ≢ 58 ∷ next) → IsPairAt levels xs None
   no_colon n = λ utf8 pair rest b d stops. n b.1 (ap (past is_blank) (same_after pair rest b).1 ∙ b.3)
 
-  module _ (next : List ℕ) (e : past is_blank after ≡ 58 ∷ next) where
-    pub no_pair_value : IsLiteralAt levels (past is_blank next) None → IsPairAt levels xs None
+  module _ {next : List ℕ} (e : past is_blank after ≡ 58 ∷ next) where
+    pub no_pair_value : {levels : ℕ} → IsLiteralAt levels (past is_blank next) None → IsPairAt levels xs None
     no_pair_value n = λ utf8 pair rest b d stops.
         let same : b.1 ≡ next = ap tail (sym b.3 ∙ ap (past is_blank) (sym (same_after pair rest b).1) ∙ e) in
         n (at_value_utf8 xs k after next read.0 e utf8) pair.1 rest (subst (λ ys. BeginsWithLiteral (past is_blank ys) pair.1 rest) same b.4) d stops
@@ -90,9 +76,9 @@ pub record HasPairs (deep : ℕ) (inside : List ℕ) (pairs : List (KeyForm × F
   pub pairs_are : pairs ≡ in_places (map pair_value trees)
   pub so_far : IsSoFar BeginsWithPair EndsPair 125 pair_depth deep inside trees rest
 
-pub no_pairs_yet : (deep : ℕ) (inside : List ℕ) (pairs : List (KeyForm × Form)) (rest : List ℕ) → pairs ≡ [] → rest ≡ past is_blank inside
+pub no_pairs_yet : {deep : ℕ} {inside : List ℕ} {pairs : List (KeyForm × Form)} {rest : List ℕ} → pairs ≡ [] → rest ≡ past is_blank inside
     → ((end : List ℕ) → rest ≢ 125 ∷ end) → HasPairs deep inside pairs rest
-no_pairs_yet deep inside pairs rest e r opened = record {
+no_pairs_yet {deep} {inside} {pairs} {rest} e r opened = record {
   trees = [];
   pairs_are = e;
   so_far = none_so_far BeginsWithPair EndsPair 125 pair_depth deep inside rest r opened;
@@ -113,49 +99,37 @@ whole levels inside trees pairs value end w pairs_are is =
       subst (λ m. suc m ≤ levels) (deepest_pair (members trees)) (subst (λ l. suc (deepest pair_depth l) ≤ levels) (sym listed) w.1),
     )
 
-module _ (deep : ℕ) (inside : List ℕ) (pairs : List (KeyForm × Form)) (rest : List ℕ) (h : HasPairs deep inside pairs rest) (levels : ℕ)
+module _ {deep : ℕ} {inside : List ℕ} {pairs : List (KeyForm × Form)} {rest : List ℕ} (h : HasPairs deep inside pairs rest) {levels : ℕ}
     (l : levels ≡ suc deep)
   where
     -- where no pair stands
     pub no_more_pair : IsPairAt deep rest None → IsMapAt levels inside None
-    no_more_pair n = nowhere levels inside (no_part BeginsWithPair EndsPair 125 pair_depth pair_parts deep inside h.trees rest h.so_far levels l n)
+    no_more_pair n = nowhere levels inside (no_part pair_parts h.so_far l n)
 
-    module _ (k : KeyForm) (v : Form) (behind : List ℕ) (read : IsPairAt deep rest (Some (k, v, behind))) where
+    module _ {k : KeyForm} {v : Form} {behind : List ℕ} (read : IsPairAt deep rest (Some (k, v, behind))) where
       pub no_pair_mark : ((end : List ℕ) → past is_blank behind ≢ 125 ∷ end) → ((end : List ℕ) → past is_blank behind ≢ 44 ∷ end)
           → IsMapAt levels inside None
-      no_pair_mark closed comma = nowhere levels inside (no_mark BeginsWithPair EndsPair 125 pair_depth pair_parts deep inside h.trees rest h.so_far
-          levels l
-          (k, read.0) behind read.2 read.3 closed comma)
+      no_pair_mark closed comma = nowhere levels inside (no_mark pair_parts h.so_far l read.2 read.3 closed comma)
 
       pub no_pair_end : length (past is_blank behind) ≡ 0 → IsMapAt levels inside None
-      no_pair_end z = nowhere levels inside (no_end BeginsWithPair EndsPair 125 pair_depth pair_parts deep inside h.trees rest h.so_far levels l
-          (k, read.0)
-          behind read.2 read.3 z)
+      no_pair_end z = no_pair_mark (λ end e. omega (arith, z, ap length e)) (λ end e. omega (arith, z, ap length e))
 
-      pub shorter_pair : (b : ℕ) (next after : List ℕ) → past is_blank behind ≡ b ∷ next → after ≡ past is_blank next → length after < length rest
-      shorter_pair b next after m a = shorter_rest BeginsWithPair EndsPair 125 pair_depth pair_parts rest (k, read.0) behind b next after read.2 m a
-
-      more_pairs : (longer : List (KeyForm × Form)) → longer ≡ insert_entry key_form_order pairs k v → longer
-          ≡ in_places (map pair_value (h.trees ++ (k, read.0) ∷ []))
-      more_pairs longer u =
+      more_pairs : {longer : List (KeyForm × Form)} → longer ≡ insert_entry key_form_order pairs k v
+          → longer ≡ in_places (map pair_value (h.trees ++ (k, read.0) ∷ []))
+      more_pairs u =
           let last = map-append pair_value h.trees ((k, read.0) ∷ []) in
           u ∙ (λ i. insert_entry key_form_order (h.pairs_are i) k (read.1 i))
           ∙ ap pairs_of (sym (ap reverse last ∙ reverse-append (map pair_value h.trees) (pair_value (k, read.0) ∷ [])))
 
-      pub last_pair : (longer : List (KeyForm × Form)) (value : Form) (end : List ℕ) → longer ≡ insert_entry key_form_order pairs k v → value
-          ≡ object (members longer) → past is_blank behind ≡ 125 ∷ end → IsMapAt levels inside (Some (value, end))
-      last_pair longer value end u is m =
-          whole levels inside (h.trees ++ (k, read.0) ∷ []) longer value end (last_part BeginsWithPair EndsPair 125 pair_depth pair_parts deep inside
-          h.trees rest
-          h.so_far levels l (k, read.0) behind read.2 read.3 end read.4 m) (more_pairs longer u) is
+      pub last_pair : {longer : List (KeyForm × Form)} {value : Form} {end : List ℕ} → longer ≡ insert_entry key_form_order pairs k v
+          → value ≡ object (members longer) → past is_blank behind ≡ 125 ∷ end → IsMapAt levels inside (Some (value, end))
+      last_pair {longer} {value} {end} u is m =
+          whole levels inside (h.trees ++ (k, read.0) ∷ []) longer value end (last_part pair_parts h.so_far l read.2 read.3 read.4 m) (more_pairs u) is
 
-      pub next_pair : (longer : List (KeyForm × Form)) (next after : List ℕ) → longer ≡ insert_entry key_form_order pairs k v → past is_blank behind ≡ 44
-          ∷ next
-          → after ≡ past is_blank next → HasPairs deep inside longer after
-      next_pair longer next after u m a = record {
+      pub next_pair : {longer : List (KeyForm × Form)} {next after : List ℕ} → longer ≡ insert_entry key_form_order pairs k v
+          → past is_blank behind ≡ 44 ∷ next → after ≡ past is_blank next → HasPairs deep inside longer after
+      next_pair {longer} {next} {after} u m a = record {
         trees = h.trees ++ (k, read.0) ∷ [];
-        pairs_are = more_pairs longer u;
-        so_far = one_more BeginsWithPair EndsPair 125 pair_depth pair_parts deep inside h.trees rest h.so_far levels l (k, read.0) behind read.2 read.3
-            next after
-            read.4 m a;
+        pairs_are = more_pairs u;
+        so_far = one_more pair_parts h.so_far l read.2 read.3 read.4 m a;
       }

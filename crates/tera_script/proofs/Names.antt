@@ -1,11 +1,14 @@
 -- Gaps, names and operands: what the readers give is spelled so, and what is spelled so is read.
 use Rattle.std.proofs.Common.{◌≡◌, ℕ, Bool, true, false, cond, List, [], ◌∷◌, ◌++◌, Option, Some, None, refl, ap, sym, ◌∙◌, arith, append_assoc}
+use Rattle.std.specs.Borrow.{Bor}
 use Rattle.std.specs.List.{list_all}
+use Rattle.std.specs.Option.{option_map}
+use Rattle.std.specs.Prelude.{IfSome}
 use Rattle.std.proofs.lemmas.Option.{cond_some, option_and_then_some, some_pair_parts}
 use Rattle.std.proofs.lemmas.Bool.Decides.{nat_tests}
 use Rattle.tera_script.specs.Word.{is_blank, IsGap, is_name_start, is_name_byte, IsName}
 use Rattle.tera_script.specs.Line.{SpellsOperand}
-use Rattle.tera_script.specs.Readers.{Stops, front, past, gap_at, name_at, operand_at}
+use Rattle.tera_script.specs.Readers.{Stops, front, past, gap_at, name_at, operand_at, named_rest}
 use Rattle.tera_script.proofs.Fronts.{front-past, front_all, past_stops, front_is, past_is, both_pass}
 
 -- a gap stands before the rest
@@ -27,15 +30,10 @@ gap_found (b ∷ bytes) rest e =
       stops = rw (← h.1) (past_stops is_blank bytes);
     }
 
-blank_not_empty : (b : ℕ) (xs : List ℕ) → list_all is_blank (b ∷ xs) ≡ true → (is_blank b ≡ true) × (list_all is_blank xs ≡ true)
-blank_not_empty b xs h = both_pass is_blank (is_blank b) (list_all is_blank xs) h
-
 pub gap_only : (gap rest : List ℕ) → IsGap gap → Stops is_blank rest → gap_at (gap ++ rest) ≡ Some rest
 unfolding gap_at
 gap_only [] rest g s = absurd (omega (arith, g.0))
-gap_only (b ∷ gap) rest g s =
-    let h = blank_not_empty b gap g.1 in
-    rw (h.0) (ap Some (past_is is_blank gap rest h.1 s))
+gap_only (b ∷ gap) rest g s = grind (arith, past_is)
 
 -- a name stands before the rest
 pub record HasName (bytes name rest : List ℕ) : Type 0 where
@@ -43,26 +41,26 @@ pub record HasName (bytes name rest : List ℕ) : Type 0 where
   pub spelled : bytes ≡ name ++ rest
   pub stops : Stops is_name_byte rest
 
-some_pair_of_cond : {A B : Type 0} (b : Bool) (x y : A) (u v : B) → cond {A = Option (A × B)} b (Some (x, u)) None ≡ Some (y, v) → (b ≡ true) × (x ≡ y)
-    × (u ≡ v)
-some_pair_of_cond true x y u v e = (refl, (some_pair_parts x y u v e).0, (some_pair_parts x y u v e).1)
-some_pair_of_cond false x y u v e = cc
-
 pub name_found : (bytes name rest : List ℕ) → name_at bytes ≡ Some (name, rest) → HasName bytes name rest
 unfolding name_at
 name_found [] name rest e = cc
 name_found (b ∷ bytes) name rest e =
-    let h = some_pair_of_cond (is_name_start b) (b ∷ front is_name_byte bytes) name (past is_name_byte bytes) rest e in
+    let h : (is_name_start b ≡ true) × (b ∷ front is_name_byte bytes ≡ name) × (past is_name_byte bytes ≡ rest) = grind arith in
     record {
       named = rw (← h.1) (h.0, front_all is_name_byte bytes);
       spelled = rw (← h.1, ← h.2) (ap (λ xs. b ∷ xs) (sym (front-past is_name_byte bytes)));
       stops = rw (← h.2) (past_stops is_name_byte bytes);
     }
 
+-- what a reader of names gives is a name
+pub name_named : (bytes : List ℕ) (found : Option (Bor (List ℕ) × Bor (List ℕ))) → option_map named_rest found ≡ name_at bytes
+    → IfSome found (λ pair. IsName pair.0.now)
+name_named bytes None e = tt
+name_named bytes (Some pair) e = (name_found bytes pair.0.now pair.1.now (sym e)).named
+
 pub name_only : (name rest : List ℕ) → IsName name → Stops is_name_byte rest → name_at (name ++ rest) ≡ Some (name, rest)
 unfolding name_at
-name_only [] rest n s = absurd n
-name_only (b ∷ name) rest n s = rw (n.0) (ap Some (λ i. (b ∷ front_is is_name_byte name rest n.1 s i, past_is is_name_byte name rest n.1 s i)))
+name_only name rest n s = grind (arith, front_is, past_is)
 
 -- an operand stands before the rest
 pub record HasOperand (bytes name rest : List ℕ) : Type 0 where
@@ -73,20 +71,20 @@ pub record HasOperand (bytes name rest : List ℕ) : Type 0 where
 
 pub operand_found : (bytes name rest : List ℕ) → operand_at bytes ≡ Some (name, rest) → HasOperand bytes name rest
 unfolding operand_at
-operand_found bytes name rest e = option_and_then_some name_at (gap_at bytes) (name, rest) e (λ between g n.
-    let gap = gap_found bytes between g in
-    let name' = name_found between name rest n in
+operand_found bytes name rest e =
+    let h : (word : List ℕ) × (gap_at bytes ≡ Some word) × (name_at word ≡ Some (name, rest)) = grind arith in
+    let gap = gap_found bytes h.0 h.1 in
+    let named = name_found h.0 name rest h.2 in
     record {
       operand = gap.gap ++ name;
-      spells = (gap.gap, gap.blanks, name'.named, refl);
-      spelled = gap.spelled ∙ ap (λ xs. gap.gap ++ xs) name'.spelled ∙ sym (append_assoc gap.gap name rest);
-      stops = name'.stops;
-    })
+      spells = (gap.gap, gap.blanks, named.named, refl);
+      spelled = gap.spelled ∙ ap (λ xs. gap.gap ++ xs) named.spelled ∙ sym (append_assoc gap.gap name rest);
+      stops = named.stops;
+    }
 
 -- no byte that begins a name is blank
 pub name_is_not_blank : (name rest : List ℕ) → IsName name → Stops is_blank (name ++ rest)
-name_is_not_blank [] rest n = absurd n
-name_is_not_blank (b ∷ name) rest n = grind (arith, nat_tests, n.0)
+name_is_not_blank name rest n = grind (arith, nat_tests)
 
 pub operand_only : (operand name rest : List ℕ) → SpellsOperand operand name → Stops is_name_byte rest → operand_at (operand ++ rest) ≡ Some (name, rest)
 unfolding operand_at

@@ -1,8 +1,10 @@
 -- The loop over the parts between brackets or braces, each behind a comma but the first.
-use Rattle.std.proofs.Common.{◌≡◌, ◌≢◌, ◌<◌, ◌≤◌, ℕ, suc, max, List, [], ◌∷◌, ◌++◌, length, refl, ap, sym, ◌∙◌, arith, append_assoc, subst}
+use Rattle.std.proofs.Common.{◌≡◌, ◌≢◌, ◌<◌, ◌≤◌, ℕ, suc, max, List, [], ◌∷◌, ◌++◌, length, length-append, refl, ap, sym, ◌∙◌, arith, append_assoc, subst}
 use Rattle.std.specs.Str.{IsUtf8}
 use Rattle.tera_script.specs.Word.{is_blank}
-use Rattle.tera_script.specs.Readers.{Stops, front, past, is_word_byte, AllIn, MoreIn}
+use Rattle.tera_script.specs.Readers.{Stops, front, past, is_word_byte, AllIn, MoreIn, BeginsWithLiteral, BeginsWithPair}
+use Rattle.tera_meaning.specs.Form.{Form}
+use Rattle.tera_meaning.specs.KeyMeaning.{KeyForm}
 use Rattle.tera_script.proofs.Fronts.{head, tail, front-past, front_all, length-past}
 use Rattle.tera_script.proofs.Parts.{AreClosedBy, IsOnlyPart, stops_behind}
 use Rattle.tera_script.proofs.Utf8Fronts.{utf8_past_blanks}
@@ -13,18 +15,37 @@ abbrev pub deepest : {E : Type 0} → (E → ℕ) → List E → ℕ
 deepest deep [] = 0
 deepest deep (e ∷ es) = max (deep e) (deepest deep es)
 
--- what else is needed of the parts: one alone stands at the front, what stands behind it is no longer, and UTF-8 goes on there
+-- what else is needed of the parts: one alone stands at the front, and UTF-8 goes on behind it
 pub record ArePartsOf {E : Type 0} (Begins : List ℕ → E → List ℕ → Type 0) (EndsPart : E → List ℕ → Type 0) (close : ℕ) : Type 0 where
   pub closed : AreClosedBy Begins EndsPart close
   pub only : (e : E) → IsOnlyPart Begins EndsPart e
-  pub shorter : (xs : List ℕ) (e : E) (rest : List ℕ) → Begins xs e rest → length rest ≤ length xs
   pub utf8 : (xs : List ℕ) (e : E) (rest : List ℕ) → Begins xs e rest → EndsPart e rest → IsUtf8 xs → IsUtf8 rest
 
 pub past_utf8 : (xs : List ℕ) → IsUtf8 xs → IsUtf8 (past is_blank xs)
 past_utf8 xs u = utf8_past_blanks (front is_blank xs) (past is_blank xs) (front_all is_blank xs) (subst IsUtf8 (sym (front-past is_blank xs)) u)
 
-pub past_length : (xs : List ℕ) → length (past is_blank xs) ≤ length xs
+past_length : (xs : List ℕ) → length (past is_blank xs) ≤ length xs
 past_length xs = length-past is_blank [] xs xs refl
+
+-- what stands behind a literal, a pair, and a mark behind these is shorter
+pub literal_length : {xs rest : List ℕ} {v : Form} → BeginsWithLiteral xs v rest → length rest ≤ length xs
+literal_length {xs} {rest} b = omega (arith, ap length b.spelled, length-append b.literal rest)
+
+pub pair_length : {xs rest : List ℕ} {pair : KeyForm × Form} → BeginsWithPair xs pair rest → length rest ≤ length xs
+pair_length (after, next, key, colon, value) = omega (
+  arith,
+  ap length key.spelled,
+  length-append key.literal after,
+  past_length after,
+  ap length colon,
+  past_length next,
+  literal_length value,
+)
+
+pub shorter_rest : (rest behind : List ℕ) {next after : List ℕ} {b : ℕ} → length behind ≤ length rest → past is_blank behind ≡ b ∷ next → after ≡ past is_blank
+    next
+    → length after < length rest
+shorter_rest rest behind {next} h m a = omega (arith, ap length a, past_length next, ap length m, past_length behind)
 
 module _ {E : Type 0} (Begins : List ℕ → E → List ℕ → Type 0) (EndsPart : E → List ℕ → Type 0) (close : ℕ) (deep : E → ℕ) where
   deepest_last : (es : List E) (e : E) (n : ℕ) → deepest deep es ≤ n → deep e ≤ n → deepest deep (es ++ e ∷ []) ≤ n
@@ -72,69 +93,71 @@ module _ {E : Type 0} (Begins : List ℕ → E → List ℕ → Type 0) (EndsPar
       first [] end h = absurd (opened end (r ∙ h))
       first (e ∷ others) end h = record { part = e; others = others; behind = h.0; begins = h.1; next = h.2; is = refl }
 
-  module _ (parts : ArePartsOf Begins EndsPart close) where
+module _ {E : Type 0} {Begins : List ℕ → E → List ℕ → Type 0} {EndsPart : E → List ℕ → Type 0} {close : ℕ} {deep : E → ℕ}
+    (parts : ArePartsOf Begins EndsPart close) {depth : ℕ} {inside : List ℕ} {es : List E} {rest : List ℕ}
+    (so_far : IsSoFar Begins EndsPart close deep depth inside es rest) {levels : ℕ} (l : levels ≡ suc depth)
+  where
     behind_stops : (others : List E) (xs end : List ℕ) → MoreIn Begins close xs others end → Stops is_word_byte xs
     behind_stops = stops_behind Begins EndsPart close parts.closed
 
-    pub shorter_rest : (rest : List ℕ) (e : E) (behind : List ℕ) (b : ℕ) (next after : List ℕ) → Begins rest e behind → past is_blank behind ≡ b ∷ next → after
-        ≡ past is_blank next → length after < length rest
-    shorter_rest rest e behind b next after l m a =
-        omega (arith, ap length a, past_length next, ap length m, past_length behind, parts.shorter rest e behind l)
+    -- where no part stands
+    pub no_part : (IsUtf8 rest → (e : E) (behind : List ℕ) → Begins rest e behind → deep e ≤ depth → ¬ Stops is_word_byte behind) → IsNowhere Begins EndsPart
+        close deep levels inside
+    no_part n = λ utf8 all end h d.
+        let i = so_far.backward all end h in
+        let shallow : deep i.part ≤ depth = omega (
+          arith,
+          deepest_inside Begins EndsPart close deep es i.part i.others,
+          subst
+              (λ a. suc (deepest deep a) ≤ levels) i.is d,
+          l,
+        ) in
+        n (so_far.utf8 utf8) i.part i.behind i.begins shallow (behind_stops i.others i.behind end i.next)
 
-    module _ (depth : ℕ) (inside : List ℕ) (es : List E) (rest : List ℕ) (so_far : IsSoFar depth inside es rest) (levels : ℕ) (l : levels ≡ suc depth) where
-      -- where no part stands
-      pub no_part : (IsUtf8 rest → (e : E) (behind : List ℕ) → Begins rest e behind → deep e ≤ depth → ¬ Stops is_word_byte behind) → IsNowhere levels inside
-      no_part n = λ utf8 all end h d.
+    module _ {e : E} {behind : List ℕ} (b : Begins rest e behind) (ends : EndsPart e behind) where
+      -- the part that stands there is the one that was read
+      follows : (all : List E) (end : List ℕ) → AllIn Begins close inside all end → (others : List E) × MoreIn Begins close behind others end
+          × (all ≡ es ++ e ∷ others)
+      follows all end h =
           let i = so_far.backward all end h in
-          let shallow : deep i.part ≤ depth = omega (arith, deepest_inside es i.part i.others, subst (λ a. suc (deepest deep a) ≤ levels) i.is d, l) in
-          n (so_far.utf8 utf8) i.part i.behind i.begins shallow (behind_stops i.others i.behind end i.next)
+          let same = parts.only e rest behind b ends i.part i.behind i.begins (parts.closed.stops i.part i.behind (behind_stops i.others i.behind end i.next))
+          in
+          (i.others, subst (λ ys. MoreIn Begins close ys i.others end) (sym same.1) i.next, i.is ∙ ap (λ f. es ++ f ∷ i.others) (sym same.0))
 
-      module _ (e : E) (behind : List ℕ) (b : Begins rest e behind) (ends : EndsPart e behind) where
-        -- the part that stands there is the one that was read
-        follows : (all : List E) (end : List ℕ) → AllIn Begins close inside all end → (others : List E) × MoreIn Begins close behind others end
-            × (all ≡ es ++ e ∷ others)
-        follows all end h =
-            let i = so_far.backward all end h in
-            let same = parts.only e rest behind b ends i.part i.behind i.begins (parts.closed.stops i.part i.behind (behind_stops i.others i.behind end i.next))
-            in
-            (i.others, subst (λ ys. MoreIn Begins close ys i.others end) (sym same.1) i.next, i.is ∙ ap (λ f. es ++ f ∷ i.others) (sym same.0))
+      -- behind it stands the closing byte or a comma
+      pub no_mark : ((end : List ℕ) → past is_blank behind ≢ close ∷ end) → ((end : List ℕ) → past is_blank behind ≢ 44 ∷ end) → IsNowhere Begins EndsPart close
+          deep levels inside
+      no_mark closed comma = λ utf8 all end h d. let f = follows all end h in marked f.0 end f.1
+        where
+          marked : (others : List E) (end : List ℕ) → MoreIn Begins close behind others end → ⊥
+          marked [] end m = closed end m
+          marked (f ∷ others) end m = comma m.0 m.2
 
-        -- behind it stands the closing byte or a comma
-        pub no_mark : ((end : List ℕ) → past is_blank behind ≢ close ∷ end) → ((end : List ℕ) → past is_blank behind ≢ 44 ∷ end) → IsNowhere levels inside
-        no_mark closed comma = λ utf8 all end h d. let f = follows all end h in marked f.0 end f.1
-          where
-            marked : (others : List E) (end : List ℕ) → MoreIn Begins close behind others end → ⊥
-            marked [] end m = closed end m
-            marked (f ∷ others) end m = comma m.0 m.2
+      pub last_part : {end : List ℕ} → deep e ≤ depth → past is_blank behind ≡ close ∷ end → IsWhole Begins EndsPart close deep levels inside (es ++ e ∷ []) end
+      last_part {end} d h = (so_far.forward e [] behind end b h, omega (arith, deepest_last Begins EndsPart close deep es e depth so_far.shallow d, l))
 
-        -- and not the end
-        pub no_end : length (past is_blank behind) ≡ 0 → IsNowhere levels inside
-        no_end z = no_mark (λ end h. omega (arith, z, ap length h)) (λ end h. omega (arith, z, ap length h))
-
-        pub last_part : (end : List ℕ) → deep e ≤ depth → past is_blank behind ≡ close ∷ end → IsWhole levels inside (es ++ e ∷ []) end
-        last_part end d h = (so_far.forward e [] behind end b h, omega (arith, deepest_last es e depth so_far.shallow d, l))
-
-        pub one_more : (next after : List ℕ) → deep e ≤ depth → past is_blank behind ≡ 44 ∷ next → after ≡ past is_blank next
-            → IsSoFar depth inside (es ++ e ∷ []) after
-        one_more next after d m a = rw a (record {
-          shallow = deepest_last es e depth so_far.shallow d;
-          utf8 = λ utf8.
-              past_utf8 next (after_byte next 44 (omega arith) (subst IsUtf8 m (past_utf8 behind (parts.utf8 rest e behind b ends (so_far.utf8 utf8)))));
-          forward = λ f others after end c n. subst (λ all. AllIn Begins close inside all end) (sym (append_assoc es (e ∷ []) (f ∷ others)))
-              (so_far.forward e (f ∷ others) behind end b (next, after, m, c, n));
-          backward = λ all end h. let f = follows all end h in at_next all f.0 end f.1 f.2;
-        })
-          where
-            at_next : (all others : List E) (end : List ℕ) → MoreIn Begins close behind others end → all ≡ es ++ e ∷ others → HasPart (past is_blank next) all
-                (es ++ e ∷ []) end
-            at_next all [] end n is = absurd (parts.closed.comma (ap head (sym n ∙ m)))
-            at_next all (f ∷ others) end n is =
-                let same : n.0 ≡ next = ap tail (sym n.2 ∙ m) in
-                record {
-                  part = f;
-                  others = others;
-                  behind = n.1;
-                  begins = subst (λ ys. Begins (past is_blank ys) f n.1) same n.3;
-                  next = n.4;
-                  is = is ∙ sym (append_assoc es (e ∷ []) (f ∷ others));
-                }
+      pub one_more : {next after : List ℕ} → deep e ≤ depth → past is_blank behind ≡ 44 ∷ next → after ≡ past is_blank next
+          → IsSoFar Begins EndsPart close deep depth inside (es ++ e ∷ []) after
+      one_more {next} {after} d m a = rw a (record {
+        shallow = deepest_last Begins EndsPart close deep es e depth so_far.shallow d;
+        utf8 = λ utf8.
+            past_utf8 next (after_byte next 44 (omega arith) (subst IsUtf8 m (past_utf8 behind (parts.utf8 rest e behind b ends (so_far.utf8 utf8)))));
+        forward = λ f others after end c n. subst (λ all. AllIn Begins close inside all end) (sym (append_assoc es (e ∷ []) (f ∷ others)))
+            (so_far.forward e (f ∷ others) behind end b (next, after, m, c, n));
+        backward = λ all end h. let f = follows all end h in at_next all f.0 end f.1 f.2;
+      })
+        where
+          at_next : (all others : List E) (end : List ℕ) → MoreIn Begins close behind others end → all ≡ es ++ e ∷ others → HasPart Begins EndsPart close deep
+              (past is_blank next) all
+              (es ++ e ∷ []) end
+          at_next all [] end n is = absurd (parts.closed.comma (ap head (sym n ∙ m)))
+          at_next all (f ∷ others) end n is =
+              let same : n.0 ≡ next = ap tail (sym n.2 ∙ m) in
+              record {
+                part = f;
+                others = others;
+                behind = n.1;
+                begins = subst (λ ys. Begins (past is_blank ys) f n.1) same n.3;
+                next = n.4;
+                is = is ∙ sym (append_assoc es (e ∷ []) (f ∷ others));
+              }

@@ -1,5 +1,6 @@
 -- The state of a map whose keys are all texts.
-use Rattle.std.proofs.Common.{◌≡◌, ℕ, Bool, true, false, cond, List, [], ◌∷◌, ◌++◌, Option, Some, None, IsSome, refl, ap, sym, ◌∙◌, subst, inl, inr}
+use Rattle.std.proofs.Common.{◌≡◌, ℕ, true, false, cond, List, [], ◌∷◌, ◌++◌, Some, None, IsSome, refl, ap, sym, ◌∙◌, subst, inl, inr, arith, append_assoc}
+use Rattle.std.proofs.Common.{append-nil}
 use Rattle.std.specs.Cmp.Lexicographic.{slice_cmp, nat_list_cmp_total}
 use Rattle.std.specs.FinMap.{get, insert, get-insert}
 use Rattle.std.specs.List.{AllByRecursion, IsDistinct}
@@ -7,15 +8,14 @@ use Rattle.std.specs.Map.{keys_of}
 use Rattle.std.specs.Ordering.{nat_cmp, eq_by_cmp}
 use Rattle.tera_meaning.specs.Form.{Form}
 use Rattle.tera_meaning.proofs.KeyLaws.{key_is}
-use Rattle.tera_meaning.specs.KeyMeaning.{KeyForm, truth_key, number_key, text_key, owned, key_meaning, key_order}
+use Rattle.tera_meaning.specs.KeyMeaning.{KeyForm, text_key, owned, key_meaning, key_order}
 use Rattle.tera_meaning.specs.Pairs.{key_form_order, pairs_of, value_at}
 use Rattle.tera_meaning.specs.Read.{members_in}
 use Rattle.tera_meaning.specs.State.{State}
 use Rattle.tera_meaning.proofs.StateLaws.{same_state}
-use Rattle.tera_meaning.specs.Tree.{object, members}
 use Rattle.tera_meaning.proofs.TreeLaws.{list_of_members}
 use Rattle.tera_script.specs.Line.{AreNamed}
-use Rattle.tera_script.specs.Readers.{IsSourceOf}
+use Rattle.tera_script.specs.inner.Command.{IsSourceOf}
 use Rattle.tera_values.proofs.PartsLaws.{map_of_members}
 use Rattle.tera_values.specs.Key.{key_form, text_in_key}
 use Rattle.tera_values.specs.Map.{forms_of, keys_tie}
@@ -43,9 +43,7 @@ are_all [] h = tt
 are_all (q ∷ ps) h = (h q (inl refl), are_all ps (λ p i. h p (inr i)))
 
 meant_text : (k : KeyForm) (t : List ℕ) → text_in_key k ≡ Some t → key_meaning k ≡ text_key t
-meant_text (text_key u) t e = ap text_key (some_same _ _ e)
-meant_text (truth_key b) t e = cc
-meant_text (number_key n) t e = cc
+meant_text k t e = grind arith
 
 -- whether a name is the text of a key
 name_ties : (k : KeyForm) (t name : List ℕ) → text_in_key k ≡ Some t
@@ -66,10 +64,6 @@ apart_later : (y k : Key) (v : Form) (ys rest : List (Key × Form))
 apart_later y k v [] rest h = h.0
 apart_later y k v (e ∷ ys) rest h = apart_later y k v ys rest h.1
 
-untied : (b : Bool) → (b ≡ true → ⊥) → b ≡ false
-untied true n = absurd (n refl)
-untied false n = refl
-
 -- what ties with a key that stands later has no value before it
 none_before : (ys rest : List (Key × Form)) (k : Key) (v : Form) (q : KeyForm)
     → IsDistinct keys_tie (keys_of (ys ++ (k, v) ∷ rest)) → eq_by_cmp key_form_order q (key_form k) ≡ true
@@ -78,32 +72,21 @@ unfolding IsDistinct
 none_before [] rest k v q h e = refl
 none_before (y ∷ ys) rest k v q h e =
     let apart = apart_later y.0 k v ys rest h.0 in
-    let first = untied (eq_by_cmp key_form_order q (key_form y.0)) (λ t. let tie = ties_both q y.0 k t e in cc) in
-    ap (λ b. cond b (Some y.1) (value_at key_form_order (forms_of ys) q)) first ∙ none_before ys rest k v q h.1 e
-
-some_or : (b : Bool) (v w : Form) → (b ≡ true → Some w ≡ None) → Some w ≡ cond b (Some v) (Some w)
-some_or true v w n = absurd (let e = n refl in cc)
-some_or false v w n = refl
-
-value_first : (a : Bool) (w v : Form) (b : Bool) (o p : Option Form) → (b ≡ true → cond a (Some w) o ≡ None)
-    → ((b ≡ true → o ≡ None) → p ≡ cond b (Some v) o) → cond a (Some w) p ≡ cond b (Some v) (cond a (Some w) o)
-value_first true w v b o p n rest = some_or b v w n
-value_first false w v b o p n rest = rest n
+    let behind = none_before ys rest k v q h.1 e in
+    grind (arith, ties_both q y.0 k)
 
 value_on : (ys : List (Key × Form)) (k : Key) (v : Form) (q : KeyForm)
     → (eq_by_cmp key_form_order q (key_form k) ≡ true → value_at key_form_order (forms_of ys) q ≡ None)
     → value_at key_form_order (forms_of (ys ++ (k, v) ∷ [])) q
     ≡ cond (eq_by_cmp key_form_order q (key_form k)) (Some v) (value_at key_form_order (forms_of ys) q)
 value_on [] k v q n = refl
-value_on (y ∷ ys) k v q n =
-    value_first (eq_by_cmp key_form_order q (key_form y.0)) y.1 v (eq_by_cmp key_form_order q (key_form k)) (value_at key_form_order (forms_of ys) q) _ n
-    (value_on ys k v q)
+value_on (y ∷ ys) k v q n = grind (arith, value_on ys k v q)
 
 -- the names so far hold what the entries so far have under them
 abbrev pub HoldsSoFar : State → List (Key × Form) → Type 0
 HoldsSoFar state done = (name : List ℕ) → get state name ≡ value_at key_form_order (forms_of done) (text_key (owned name))
 
-pub holds_on : (state : State) (done rest : List (Key × Form)) (k : Key) (v : Form) (t : List ℕ)
+holds_on : (state : State) (done rest : List (Key × Form)) (k : Key) (v : Form) (t : List ℕ)
     → IsDistinct keys_tie (keys_of (done ++ (k, v) ∷ rest)) → text_in_key (key_form k) ≡ Some t → HoldsSoFar state done
     → HoldsSoFar (insert state t v) (done ++ (k, v) ∷ [])
 holds_on state done rest k v t apart is h name =
@@ -111,14 +94,14 @@ holds_on state done rest k v t apart is h name =
     ∙ (λ i. cond (name_ties (key_form k) t name is i) (Some v) (h name i))
     ∙ sym (value_on done k v (text_key (owned name)) (none_before done rest k v (text_key (owned name)) apart))
 
-pub texts_on : (done : List (Key × Form)) (k : Key) (v : Form) (t : List ℕ) → text_in_key (key_form k) ≡ Some t
+texts_on : (done : List (Key × Form)) (k : Key) (v : Form) (t : List ℕ) → text_in_key (key_form k) ≡ Some t
     → AllByRecursion IsTextPair (forms_of done) → AllByRecursion IsTextPair (forms_of (done ++ (k, v) ∷ []))
 texts_on [] k v t is h = (subst IsSome (sym is) refl, tt)
 texts_on (d ∷ done) k v t is h = (h.0, texts_on done k v t is h.1)
 
 -- ---- the whole map
 
-pub named_whole : (value : Form) (state : State) (es : List (Key × Form)) → IsDistinct keys_tie (keys_of es)
+named_whole : (value : Form) (state : State) (es : List (Key × Form)) → IsDistinct keys_tie (keys_of es)
     → members_in value ≡ Some (pairs_of (forms_of es)) → AllByRecursion IsTextPair (forms_of es) → HoldsSoFar state es
     → IsSourceOf value (Some state)
 named_whole value state es apart is texts holds = (
@@ -130,20 +113,48 @@ named_whole value state es apart is texts holds = (
   ),
 )
 
-members_are : (value : Form) (ps : List (KeyForm × Form)) → value ≡ object (members ps) → members_in value ≡ Some ps
-members_are value ps e = ap members_in e ∙ ap Some (list_of_members ps)
-
 in_middle : (ys rest : List (Key × Form)) (e : Key × Form) → In (key_form e.0, e.1) (forms_of (ys ++ e ∷ rest))
 in_middle [] rest e = inl refl
 in_middle (y ∷ ys) rest e = inr (in_middle ys rest e)
 
-pub no_text_named : (value : Form) (done rest : List (Key × Form)) (k : Key) (v : Form)
+no_text_named : (value : Form) (done rest : List (Key × Form)) (k : Key) (v : Form)
     → IsDistinct keys_tie (keys_of (done ++ (k, v) ∷ rest))
     → members_in value ≡ Some (pairs_of (forms_of (done ++ (k, v) ∷ rest))) → text_in_key (key_form k) ≡ None
     → IsSourceOf value None
 no_text_named value done rest k v apart is none = λ pairs state map named.
     let es : List (Key × Form) = done ++ (k, v) ∷ rest in
-    let same : pairs ≡ pairs_of (forms_of es) = some_same _ _ (sym (members_are value pairs map) ∙ is) in
+    let same : pairs ≡ pairs_of (forms_of es) = some_same _ _ (sym (ap members_in map ∙ ap Some (list_of_members pairs)) ∙ is) in
     let there : In (key_form k, v) (pairs_of (forms_of es)) = in_pairs es apart (key_form k, v) (in_middle done rest (k, v)) in
     let text : IsSome (text_in_key (key_form k)) = all_are (pairs_of (forms_of es)) (subst (AllByRecursion IsTextPair) same named.0) (key_form k, v) there in
     let nothing : IsSome {T = List ℕ} None = subst IsSome none text in cc
+
+-- the keys so far are texts, and what they have is held under them; with those that are left they are the map's
+pub record IsSoFar (value : Form) (state : State) (done left : List (Key × Form)) : Type 0 where
+  pub texts : AllByRecursion IsTextPair (forms_of done)
+  pub so_far : HoldsSoFar state done
+  pub whole : members_in value ≡ Some (pairs_of (forms_of (done ++ left)))
+  pub apart : IsDistinct keys_tie (keys_of (done ++ left))
+
+module _ {value : Form} {state : State} {done left : List (Key × Form)} (h : IsSoFar value state done left) where
+  pub all_named : left ≡ [] → IsSourceOf value (Some state)
+  all_named e =
+      let all = ap (λ rest. done ++ rest) e ∙ append-nil done in
+      named_whole value state done (subst (λ es. IsDistinct keys_tie (keys_of es)) all h.apart)
+      (h.whole ∙ ap (λ es. Some (pairs_of (forms_of es))) all) h.texts h.so_far
+
+  module _ {rest : List (Key × Form)} {k : Key} {v : Form} (was : left ≡ (k, v) ∷ rest) where
+    here : IsSoFar value state done ((k, v) ∷ rest)
+    here = subst (IsSoFar value state done) was h
+
+    pub none_named : text_in_key (key_form k) ≡ None → IsSourceOf value None
+    none_named none = no_text_named value done rest k v here.apart here.whole none
+
+    pub one_more : {t : List ℕ} {after : State} → text_in_key (key_form k) ≡ Some t → after ≡ insert state t v → IsSoFar value after (done ++ (k, v) ∷ []) rest
+    one_more {t} {after} is e =
+        let moved = sym (append_assoc done ((k, v) ∷ []) rest) in
+        record {
+          texts = texts_on done k v t is here.texts;
+          so_far = subst (λ s. HoldsSoFar s (done ++ (k, v) ∷ [])) (sym e) (holds_on state done rest k v t here.apart is here.so_far);
+          whole = here.whole ∙ ap (λ es. Some (pairs_of (forms_of es))) moved;
+          apart = subst (λ es. IsDistinct keys_tie (keys_of es)) moved here.apart;
+        }

@@ -1,5 +1,6 @@
 -- Tokens are told apart by the bytes that they begin with, so bytes have one reading.
-use Rattle.std.proofs.Common.{◌≡◌, ℕ, List, [], ◌∷◌, ◌++◌, drop, refl, sym, ap, ◌∙◌, arith, lt-ltb, ne_eqb, append_assoc, append-nil}
+use Rattle.std.proofs.Common.{◌≡◌, ℕ, List, [], ◌∷◌, ◌++◌, drop, refl, sym, ap, ◌∙◌, arith, append_assoc, append-nil}
+use Rattle.std.proofs.lemmas.Bool.Decides.{nat_tests}
 use Rattle.std.specs.Prelude.{if◌then◌else◌, ◌==◌, nat_lt, flat_map}
 use Rattle.std.specs.Char.{digit_value}
 use Rattle.std.specs.List.{AllByRecursion}
@@ -27,19 +28,12 @@ abbrev pub token_at : List ℕ → Token × List ℕ
 token_at [] = (null, [])
 token_at (b ∷ bs) = if b == 92 then escape_at bs else (itself b, bs)
 
-pub digits_first : (digits rest : List ℕ) → AllDigits 16 digits → digits_at (digits ++ (125 ∷ rest)) ≡ (digits, 125 ∷ rest)
+digits_first : (digits rest : List ℕ) → AllDigits 16 digits → digits_at (digits ++ (125 ∷ rest)) ≡ (digits, 125 ∷ rest)
 digits_first [] rest h = refl
-digits_first (d ∷ ds) rest h = rw (lt-ltb (digit_value d) 16 h.0, digits_first ds rest h.1) refl
+digits_first (d ∷ ds) rest h = grind (arith, nat_tests, digits_first ds rest)
 
 pub token_first : (p : Token) (rest : List ℕ) → IsToken p → token_at (spelling p ++ rest) ≡ (p, rest)
-token_first (itself b) rest h = rw (ne_eqb b 92 h.1) refl
-token_first quote rest h = refl
-token_first backslash rest h = refl
-token_first line_feed rest h = refl
-token_first carriage_return rest h = refl
-token_first tab rest h = refl
-token_first null rest h = refl
-token_first (character digits) rest h = rw (append_assoc digits (125 ∷ []) rest, digits_first digits rest h.0) refl
+token_first p rest h = grind (arith, nat_tests, digits_first, append_assoc)
 
 -- no token begins another, so bytes begin with one token alone
 pub one_token : (p q : Token) (x y : List ℕ) → IsToken p → IsToken q → spelling p ++ x ≡ spelling q ++ y → (p ≡ q) × (x ≡ y)
@@ -47,23 +41,9 @@ one_token p q x y hp hq e =
     let pairs : (p, x) ≡ (q, y) = sym (token_first p x hp) ∙ (ap token_at e ∙ token_first q y hq) in
     (ap (λ (pair : Token × List ℕ). pair.0) pairs, ap (λ (pair : Token × List ℕ). pair.1) pairs)
 
-abbrev head_of : List ℕ → ℕ
-head_of [] = 0
-head_of (b ∷ bs) = b
-
-other_byte : (b : ℕ) → b ≡ 34 → b ≡ 92 → ⊥
-other_byte b e f = omega arith
-
 -- no token begins with the quote that ends a text
-pub no_closing : (p : Token) (x rest : List ℕ) → IsToken p → spelling p ++ x ≡ 34 ∷ rest → ⊥
-no_closing (itself b) x rest h e = h.0 (ap head_of e)
-no_closing quote x rest h e = other_byte 92 (ap head_of e) refl
-no_closing backslash x rest h e = other_byte 92 (ap head_of e) refl
-no_closing line_feed x rest h e = other_byte 92 (ap head_of e) refl
-no_closing carriage_return x rest h e = other_byte 92 (ap head_of e) refl
-no_closing tab x rest h e = other_byte 92 (ap head_of e) refl
-no_closing null x rest h e = other_byte 92 (ap head_of e) refl
-no_closing (character digits) x rest h e = other_byte 92 (ap head_of e) refl
+no_closing : (p : Token) (x rest : List ℕ) → IsToken p → spelling p ++ x ≡ 34 ∷ rest → ⊥
+no_closing p x rest h e = grind arith
 
 -- where some tokens stand before x, and a whole text before its closing quote, the text's tokens begin with those, and x goes on with the rest
 pub text_goes_on : (ps qs : List Token) (x rest : List ℕ) → AllByRecursion IsToken ps → AllByRecursion IsToken qs → flat_map spelling ps ++ x

@@ -1,12 +1,12 @@
 -- A text that UTF-8 spells is UTF-8.
 use Rattle.std.proofs.Common.{◌≡◌, ℕ, ◌+◌, ◌<◌, List, [], ◌∷◌, ◌++◌, length, get_or, drop, refl, sym, ap, ◌∙◌, arith, append_assoc, length-append, add-zero}
-use Rattle.std.proofs.Common.{zero, suc, get_or-append-add, take_at, drop_at}
+use Rattle.std.proofs.Common.{get_or-append-add, take_at, drop_at}
 use Rattle.std.specs.Prelude.{flat_map, encode_utf8, IsUtf8}
-use Rattle.std.specs.Char.{digit_value}
 use Rattle.std.specs.List.{AllByRecursion}
 use Rattle.std.specs.Str.Parse.{AllDigits, digits_value}
 use Rattle.std.proofs.lemmas.Str.{IsUtf8-append, IsUtf8-encode, IsUtf8-take, IsUtf8-drop, IsUtf8-from_ascii, IsCharBoundary-before_ascii}
 use Rattle.std.proofs.lemmas.Str.{IsCharBoundary-after_ascii}
+use Rattle.std.proofs.lemmas.Str.Ascii.{IsAscii-nil, IsAscii-cons}
 use Rattle.std.proofs.lemmas.Grind.{common_steps}
 use Rattle.tera_script.specs.Text.{Token, itself, quote, backslash, line_feed, carriage_return, tab, null, character, spelling, decoding, IsToken}
 
@@ -28,19 +28,12 @@ around_byte xs zs b ascii u =
 pub after_byte : (zs : List ℕ) (b : ℕ) → b < 128 → IsUtf8 (b ∷ zs) → IsUtf8 zs
 after_byte zs b ascii u = (around_byte [] zs b ascii u).1
 
-digit_is_ascii : (d : ℕ) → digit_value d < 16 → d < 128
-digit_is_ascii d h = grind arith
-
 after_digits : (digits zs : List ℕ) → AllDigits 16 digits → IsUtf8 (digits ++ zs) → IsUtf8 zs
 after_digits [] zs h u = u
-after_digits (d ∷ ds) zs h u = after_digits ds zs h.1 (after_byte (ds ++ zs) d (digit_is_ascii d h.0) u)
-
-single : (b i : ℕ) → b < 128 → get_or (b ∷ []) i 0 < 128
-single b zero h = h
-single b (suc i) h = omega arith
+after_digits (d ∷ ds) zs h u = after_digits ds zs h.1 (after_byte (ds ++ zs) d (grind (arith, h.0)) u)
 
 ascii_text : (b : ℕ) → b < 128 → IsUtf8 (b ∷ [])
-ascii_text b h = IsUtf8-from_ascii (b ∷ []) (λ i. single b i h)
+ascii_text b h = IsUtf8-from_ascii (b ∷ []) (IsAscii-cons b [] h IsAscii-nil)
 
 -- an escape's bytes may be cut off, and what it stands for is UTF-8
 escaped : (xs zs ts : List ℕ) (letter b : ℕ) → letter < 128 → b < 128 → (IsUtf8 zs → IsUtf8 ts) → IsUtf8 (xs ++ (92 ∷ letter ∷ zs)) → IsUtf8 (xs ++ (b ∷ ts))

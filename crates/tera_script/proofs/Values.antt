@@ -1,92 +1,262 @@
--- A value behind a gap, and no more than blanks behind it.
-use Rattle.std.proofs.Common.{◌≡◌, ◌≤◌, ℕ, List, ◌++◌, Some, None, refl, ap, sym, ◌∙◌, append_assoc, subst}
+-- Values, texts, bounds and maps that stand behind a gap.
+use Rattle.std.proofs.Common.{◌≡◌, ℕ, false, List, [], ◌∷◌, ◌++◌, Option, Some, None, refl, ap, sym, ◌∙◌, append_assoc, subst}
+use Rattle.std.proofs.lemmas.Option.{same_Some, some_pair_parts}
+use Rattle.std.specs.Option.{option_map, option_and_then}
 use Rattle.std.specs.Str.{IsUtf8}
+use Rattle.tera_meaning.specs.Conversion.{IntegerType, type_name}
 use Rattle.tera_meaning.specs.Form.{Form}
-use Rattle.tera_meaning.specs.Tree.{depth}
-use Rattle.tera_script.specs.Word.{AreBlanks}
+use Rattle.tera_meaning.specs.KeyMeaning.{KeyForm}
+use Rattle.tera_meaning.specs.Read.{members_in, text_in}
+use Rattle.tera_meaning.specs.State.{State}
+use Rattle.tera_meaning.specs.Tree.{undefined, object, members, text}
+use Rattle.tera_meaning.proofs.TreeLaws.{list_of_members}
+use Rattle.tera_values.specs.Placing.{some_same}
+use Rattle.tera_script.specs.declared.bound.Bounds.{Bounds}
+use Rattle.tera_script.specs.declared.verb.Shape.{Shape}
+use Rattle.tera_script.specs.declared.verb.Shape.TheVariants as shape
+use Rattle.tera_script.specs.Text.{SpellsText}
 use Rattle.tera_script.specs.Literal.{tree_value}
-use Rattle.tera_script.specs.Line.{levels}
-use Rattle.tera_script.specs.Readers.{gap_at, BeginsWithLiteral, Ends, IsLiteralAt, EndsInValue, IsValueAt}
-use Rattle.tera_script.proofs.Names.{gap_found, gap_only}
+use Rattle.tera_script.specs.Line.{levels, AreNamed, SpellsOperand, SpellsValue, SpellsSource, SpellsQuoted, SpellsBounds, SpellsGiven}
+use Rattle.tera_script.specs.Readers.{Stops, is_word_byte, gap_at, operand_at, names_at, bounds_at, BeginsWithLiteral, Ends, IsLiteralAt, IsQuotedAt}
+use Rattle.tera_script.specs.inner.Command.{Begins, IsPartAt, IsTextAt, IsValueAt, IsSourceOf, IsTypeOf, EndsWord, EndsItself, EndsName, EndsGiven, IsGivenAt}
+use Rattle.tera_script.proofs.Both.{AreParts, name_part, name_parts, no_name, both_at, both_parts}
+use Rattle.tera_script.proofs.Bounds.{bounds_found, bounds_only, bound_ends_word}
+use Rattle.tera_script.proofs.Fronts.{tail}
 use Rattle.tera_script.proofs.Literals.{only_at}
-use Rattle.tera_script.proofs.Openings.{stops_end}
-use Rattle.tera_script.proofs.Operands.{blanks_end_word}
+use Rattle.tera_script.proofs.Names.{gap_found, gap_only}
+use Rattle.tera_script.proofs.Openings.{stops_end, quoted_utf8}
+use Rattle.tera_script.proofs.Operands.{behind_gap, stops_name}
 use Rattle.tera_script.proofs.Shapes.{literal_stops_blanks}
+use Rattle.tera_script.proofs.Sources.{one_state}
+use Rattle.tera_script.proofs.TypeNames.{same_type}
 use Rattle.tera_script.proofs.Utf8Fronts.{utf8_past_blanks}
 
--- the literal of a value, and where it stands
-record ValueParts (bytes : List ℕ) (value : Form) : Type 0 where
-  at_value : List ℕ
-  after : List ℕ
-  gap : gap_at bytes ≡ Some at_value
-  tree : Form
-  literal : BeginsWithLiteral at_value tree after
-  shallow : depth tree ≤ levels
-  is : value ≡ tree_value tree
-  blanks : AreBlanks after
+gap_utf8 : (bytes rest : List ℕ) → gap_at bytes ≡ Some rest → IsUtf8 bytes → IsUtf8 rest
+gap_utf8 bytes rest g u = let gap = gap_found bytes rest g in utf8_past_blanks gap.gap rest gap.blanks.1 (subst IsUtf8 gap.spelled u)
 
-value_parts : (bytes : List ℕ) (value : Form) → EndsInValue bytes value → ValueParts bytes value
-value_parts bytes value h =
+-- ---- values
+
+-- a value ends where the tree does by which it is written
+ends_tree : (tree : Form) (rest : List ℕ) → Ends (tree_value tree) rest → Ends tree rest
+ends_tree undefined rest h = h
+ends_tree tree rest h = h
+
+tree_ends : (tree : Form) (rest : List ℕ) → Ends tree rest → Ends (tree_value tree) rest
+tree_ends undefined rest h = h
+tree_ends tree rest h = h
+
+-- the literal of a value
+at_literal : (bytes : List ℕ) (value : Form) (rest : List ℕ) (h : Begins SpellsValue bytes value rest) → gap_at bytes ≡ Some (h.spells.1 ++ rest)
+at_literal bytes value rest h =
     let v = h.spells in
-    record {
-      at_value = v.1 ++ h.after;
-      after = h.after;
-      gap = rw (h.spelled, v.7, append_assoc v.0 v.1 h.after) (gap_only v.0 (v.1 ++ h.after) v.3 (literal_stops_blanks v.1 h.after v.2 v.4));
-      tree = v.2;
-      literal = record { literal = v.1; spells = v.4; spelled = refl };
-      shallow = v.5;
-      is = v.6;
-      blanks = h.blanks;
-    }
+    rw (h.spelled, v.7, append_assoc v.0 v.1 rest) (gap_only v.0 (v.1 ++ rest) v.3 (literal_stops_blanks v.1 rest v.2 v.4))
 
-ends_so : (value : Form) (bytes : List ℕ) (p : ValueParts bytes value) → Ends p.tree p.after
-ends_so value bytes p = stops_end p.tree p.after (blanks_end_word p.after p.blanks)
+literal_of : (bytes at_value : List ℕ) (g : gap_at bytes ≡ Some at_value) (value : Form) (rest : List ℕ) (h : Begins SpellsValue bytes value rest)
+    → BeginsWithLiteral at_value h.spells.2 rest
+literal_of bytes at_value g value rest h =
+    record { literal = h.spells.1; spells = h.spells.4; spelled = same_Some _ _ (sym g ∙ at_literal bytes value rest h) }
 
--- one value stands there
-pub one_value_at : (bytes : List ℕ) (v w : Form) → EndsInValue bytes v → EndsInValue bytes w → v ≡ w
-one_value_at bytes v w h g =
-    let p = value_parts bytes v h in
-    let q = value_parts bytes w g in
-    let gaps = sym p.gap ∙ q.gap in
-    let at_values : p.at_value ≡ q.at_value = cc in
-    let literal = subst (λ xs. BeginsWithLiteral xs q.tree q.after) (sym at_values) q.literal in
-    let trees = only_at p.tree p.at_value p.after p.literal (ends_so v bytes p) q.tree q.after literal (ends_so w bytes q) in
-    p.is ∙ ap tree_value trees.0 ∙ sym q.is
+pub value_parts : AreParts SpellsValue Ends
+value_parts = record {
+  one = λ bytes v w x y h s g t.
+      let at = at_literal bytes v x h in
+      let same = only_at h.spells.2 (h.spells.1 ++ x) x (literal_of bytes (h.spells.1 ++ x) at v x h)
+      (ends_tree h.spells.2 x (subst (λ u. Ends u x) h.spells.6 s)) g.spells.2 y (literal_of bytes (h.spells.1 ++ x) at w y g)
+      (ends_tree g.spells.2 y (subst (λ u. Ends u y) g.spells.6 t)) in
+      (h.spells.6 ∙ ap tree_value same.0 ∙ sym g.spells.6, same.1);
+  ends = λ v rest s. stops_end v rest s;
+  opens = λ part rest v h. stops_name (part ++ rest) (behind_gap part h.0 h.1 rest h.3 h.7);
+}
 
-pub no_value_gap : (bytes : List ℕ) → gap_at bytes ≡ None → IsValueAt bytes None
-no_value_gap bytes e = λ utf8 value h. let p = (value_parts bytes value h).gap in cc
+pub no_gap : (bytes : List ℕ) → gap_at bytes ≡ None → IsValueAt bytes None
+no_gap bytes e = λ utf8 value rest h s. let found = at_literal bytes value rest h in cc
 
-module _ (bytes at_value : List ℕ) (g : gap_at bytes ≡ Some at_value) where
-  at_value_same : (value : Form) (p : ValueParts bytes value) → at_value ≡ p.at_value
-  at_value_same value p = let found = sym g ∙ p.gap in cc
+pub value_at : (bytes at_value : List ℕ) → gap_at bytes ≡ Some at_value → (answer : Option (Form × List ℕ)) → IsLiteralAt levels at_value answer
+    → IsValueAt bytes answer
+value_at bytes at_value g None nothing = λ utf8 value rest h s.
+    nothing (gap_utf8 bytes at_value g utf8) h.spells.2 rest (literal_of bytes at_value g value rest h) h.spells.5 s
+value_at bytes at_value g (Some (value, rest)) found =
+    let gap = gap_found bytes at_value g in
+    let l = found.2 in (
+      record {
+        part = gap.gap ++ l.literal;
+        spells = (gap.gap, l.literal, found.0, gap.blanks, l.spells, found.4, found.1, refl);
+        spelled = gap.spelled ∙ ap (λ xs. gap.gap ++ xs) l.spelled ∙ sym (append_assoc gap.gap l.literal rest);
+      },
+      subst (λ v. Ends v rest) (sym found.1) (tree_ends found.0 rest found.3),
+    )
 
-  at_value_utf8 : IsUtf8 bytes → IsUtf8 at_value
-  at_value_utf8 u =
-      let gap = gap_found bytes at_value g in
-      utf8_past_blanks gap.gap at_value gap.blanks.1 (subst IsUtf8 gap.spelled u)
+-- ---- texts in quotes
 
-  pub no_value_literal : IsLiteralAt levels at_value None → IsValueAt bytes None
-  no_value_literal nothing = λ utf8 value h.
-      let p = value_parts bytes value h in
-      let literal = subst (λ xs. BeginsWithLiteral xs p.tree p.after) (sym (at_value_same value p)) p.literal in
-      nothing (at_value_utf8 utf8) p.tree p.after literal p.shallow (blanks_end_word p.after p.blanks)
+abbrev spelled_text : List ℕ → Form
+spelled_text t = text (record { spelled = t; safe = false })
 
-  module _ (tree : Form) (after : List ℕ) (l : BeginsWithLiteral at_value tree after) where
-    pub no_value_end : Ends tree after → ¬ AreBlanks after → IsValueAt bytes None
-    no_value_end ends more = λ utf8 value h.
-        let p = value_parts bytes value h in
-        let literal = subst (λ xs. BeginsWithLiteral xs p.tree p.after) (sym (at_value_same value p)) p.literal in
-        let same = only_at tree at_value after l ends p.tree p.after literal (ends_so value bytes p) in
-        more (subst AreBlanks (sym same.1) p.blanks)
+quoted_at : (bytes t rest : List ℕ) (h : Begins SpellsQuoted bytes t rest) → gap_at bytes ≡ Some (h.spells.1 ++ rest)
+quoted_at bytes t rest h = rw (h.spelled, h.spells.4, append_assoc h.spells.0 h.spells.1 rest)
+    (gap_only h.spells.0 (h.spells.1 ++ rest) h.spells.2 (literal_stops_blanks h.spells.1 rest (spelled_text t) h.spells.3))
 
-    pub value_found : (value : Form) → value ≡ tree_value tree → depth tree ≤ levels → AreBlanks after
-        → IsValueAt bytes (Some value)
-    value_found value same shallow blanks =
-        let gap = gap_found bytes at_value g in
-        record {
-          part = gap.gap ++ l.literal;
-          after = after;
-          spells = (gap.gap, l.literal, tree, gap.blanks, l.spells, shallow, same, refl);
-          blanks = blanks;
-          spelled = gap.spelled ∙ ap (λ xs. gap.gap ++ xs) l.spelled ∙ sym (append_assoc gap.gap l.literal after);
-        }
+quoted_literal : (bytes literal : List ℕ) (g : gap_at bytes ≡ Some literal) (t rest : List ℕ) (h : Begins SpellsQuoted bytes t rest)
+    → BeginsWithLiteral literal (spelled_text t) rest
+quoted_literal bytes literal g t rest h =
+    record { literal = h.spells.1; spells = h.spells.3; spelled = same_Some _ _ (sym g ∙ quoted_at bytes t rest h) }
+
+pub quoted_parts : AreParts SpellsQuoted EndsItself
+quoted_parts = record {
+  one = λ bytes t u x y h s g r.
+      let at = quoted_at bytes t x h in
+      let same = only_at (spelled_text t) (h.spells.1 ++ x) x (quoted_literal bytes (h.spells.1 ++ x) at t x h) tt (spelled_text u) y
+      (quoted_literal bytes (h.spells.1 ++ x) at u y g) tt in
+      (same_Some t u (ap text_in same.0), same.1);
+  ends = λ t rest s. tt;
+  opens = λ part rest t h. stops_name (part ++ rest) (behind_gap part h.0 h.1 rest h.2 h.4);
+}
+
+pub text_none_gap : (bytes : List ℕ) → gap_at bytes ≡ None → IsTextAt bytes None
+text_none_gap bytes e = λ utf8 t rest h s. let found = quoted_at bytes t rest h in cc
+
+module _ (bytes literal : List ℕ) (g : gap_at bytes ≡ Some literal) where
+  literal_is : (t rest : List ℕ) (h : Begins SpellsQuoted bytes t rest) → literal ≡ 34 ∷ (h.spells.3.0 ++ 34 ∷ rest)
+  literal_is t rest h =
+      same_Some literal (h.spells.1 ++ rest) (sym g ∙ quoted_at bytes t rest h) ∙ ap (λ xs. xs ++ rest) h.spells.3.2
+      ∙ ap (λ xs. 34 ∷ xs) (append_assoc h.spells.3.0 (34 ∷ []) rest)
+
+  pub text_none_quote : ((quoted : List ℕ) → literal ≡ 34 ∷ quoted → ⊥) → IsTextAt bytes None
+  text_none_quote no_quote = λ utf8 t rest h s. no_quote (h.spells.3.0 ++ 34 ∷ rest) (literal_is t rest h)
+
+  module _ (quoted : List ℕ) (q : literal ≡ 34 ∷ quoted) where
+    pub text_none : IsQuotedAt false quoted None → IsTextAt bytes None
+    text_none none = λ utf8 t rest h s.
+        let whole : IsUtf8 (34 ∷ (h.spells.3.0 ++ 34 ∷ rest)) = subst IsUtf8 (literal_is t rest h) (gap_utf8 bytes literal g utf8) in
+        none t h.spells.3.0 rest (quoted_utf8 false h.spells.3.0 rest whole) h.spells.3.1 (ap tail (sym q ∙ literal_is t rest h))
+
+    pub text_found : (t rest : List ℕ) → IsQuotedAt false quoted (Some (spelled_text t, rest)) → IsTextAt bytes (Some (t, rest))
+    text_found t rest found =
+        let gap = gap_found bytes literal g in
+        let texts = same_Some t found.1 (ap text_in found.3) in (
+          record {
+            part = gap.gap ++ (34 ∷ (found.0 ++ 34 ∷ []));
+            spells = (gap.gap, 34 ∷ (found.0 ++ 34 ∷ []), gap.blanks, (found.0, subst (SpellsText found.0) (sym texts) found.2, refl), refl);
+            spelled = gap.spelled ∙ ap (λ xs. gap.gap ++ xs) (q ∙ ap (λ xs. 34 ∷ xs) (found.4 ∙ sym (append_assoc found.0 (34 ∷ []) rest)))
+                ∙ sym (append_assoc gap.gap (34 ∷ (found.0 ++ 34 ∷ [])) rest);
+          },
+          tt,
+        )
+
+-- ---- bounds
+
+bounds_front : (bytes : List ℕ) (bounds : Bounds) (rest : List ℕ) → Begins SpellsBounds bytes bounds rest → Stops is_word_byte rest
+    → bounds_at bytes ≡ Some (bounds, rest)
+bounds_front bytes bounds rest h s = rw (h.spelled) (bounds_only h.part bounds rest h.spells s)
+
+pub bounds_parts : AreParts SpellsBounds EndsWord
+bounds_parts = record {
+  one = λ bytes a b x y h s g t. some_pair_parts a b x y (sym (bounds_front bytes a x h s) ∙ bounds_front bytes b y g t);
+  ends = λ a rest s. s;
+  opens = λ part rest a h. stops_name (part ++ rest) (subst (Stops is_word_byte) (sym (ap (λ xs. xs ++ rest) h.6 ∙ append_assoc h.0 (h.1 ++ h.2) rest))
+      (bound_ends_word h.0 a.start ((h.1 ++ h.2) ++ rest) h.3));
+}
+
+pub bounds_part : (bytes : List ℕ) {answer : Option (Bounds × List ℕ)} → answer ≡ bounds_at bytes → IsPartAt SpellsBounds EndsWord bytes answer
+bounds_part bytes {answer = None} e = λ utf8 bounds rest h s. let found = bounds_front bytes bounds rest h s in cc
+bounds_part bytes {answer = Some (bounds, rest)} e =
+    let h = bounds_found bytes bounds rest (sym e) in
+    (record { part = h.part; spells = h.spells; spelled = h.spelled }, h.stops)
+
+-- ---- maps whose keys are all texts
+
+pairs_same : (ps qs : List (KeyForm × Form)) → object (members ps) ≡ object (members qs) → ps ≡ qs
+pairs_same ps qs e = some_same ps qs (sym (ap Some (list_of_members ps)) ∙ ap members_in e ∙ ap Some (list_of_members qs))
+
+source_value : (bytes : List ℕ) (source : State) (rest : List ℕ) (h : Begins SpellsSource bytes source rest)
+    → Begins SpellsValue bytes (object (members h.spells.0)) rest
+source_value bytes source rest h = record { part = h.part; spells = h.spells.1; spelled = h.spelled }
+
+pub source_parts : AreParts SpellsSource EndsItself
+source_parts = record {
+  one = λ bytes a b x y h s g t.
+      let same = value_parts.one bytes (object (members h.spells.0)) (object (members g.spells.0)) x y (source_value bytes a x h) tt
+      (source_value bytes b y g) tt in
+      let pairs = pairs_same h.spells.0 g.spells.0 same.0 in
+      (one_state g.spells.0 a b (subst (λ ps. AreNamed ps a) pairs h.spells.2) g.spells.2, same.1);
+  ends = λ source rest s. tt;
+  opens = λ part rest source h. value_parts.opens part rest (object (members h.0)) h.1;
+}
+
+pub source_none : (bytes : List ℕ) → IsValueAt bytes None → IsGivenAt shape.Map bytes None
+source_none bytes nothing = λ utf8 source rest h s. nothing utf8 (object (members h.spells.0)) rest (source_value bytes source rest h) s
+
+pub source_at : (bytes : List ℕ) (value : Form) (rest : List ℕ) → IsValueAt bytes (Some (value, rest)) → IsSourceOf value None
+    → IsGivenAt shape.Map bytes None
+source_at bytes value rest found nothing = λ utf8 source other h s.
+    nothing h.spells.0 source (value_parts.one bytes value (object (members h.spells.0)) rest other found.0 found.1 (source_value bytes source other h) tt).0
+    h.spells.2
+
+pub source_found : (bytes : List ℕ) (value : Form) (source : State) (rest : List ℕ) → IsValueAt bytes (Some (value, rest)) → IsSourceOf value (Some source)
+    → IsGivenAt shape.Map bytes (Some (source, rest))
+source_found bytes value source rest found named =
+    (record { part = found.0.part; spells = (named.0, subst (SpellsValue found.0.part) named.1 found.0.spells, named.2); spelled = found.0.spelled }, tt)
+
+-- ---- an integer type and a name
+
+pub names_parts : AreParts (SpellsGiven shape.Names) (EndsGiven shape.Names)
+names_parts = both_parts name_parts
+
+-- the name behind a name
+abbrev behind_of : List ℕ → List ℕ × List ℕ → Option ((List ℕ × List ℕ) × List ℕ)
+behind_of left right = Some ((left, right.0), right.1)
+
+as_map : (left : List ℕ) (right : Option (List ℕ × List ℕ)) → option_map (λ found. ((left, found.0), found.1)) right ≡ option_and_then (behind_of left) right
+as_map left None = refl
+as_map left (Some right) = refl
+
+names_by : (bytes : List ℕ) (left : Option (List ℕ × List ℕ)) → left ≡ operand_at bytes
+    → IsGivenAt shape.Names bytes (option_and_then (λ l. option_and_then (behind_of l.0) (operand_at l.1)) left)
+names_by bytes None l = no_name name_parts bytes l
+names_by bytes (Some (left, behind)) l =
+    subst (IsGivenAt shape.Names bytes) (as_map left (operand_at behind)) (both_at name_parts bytes l (operand_at behind) (name_part behind refl))
+
+pub names_part : (bytes : List ℕ) {answer : Option ((List ℕ × List ℕ) × List ℕ)} → answer ≡ names_at bytes → IsGivenAt shape.Names bytes answer
+unfolding names_at
+names_part bytes e = subst (IsGivenAt shape.Names bytes) (sym e) (names_by bytes (operand_at bytes) refl)
+
+typed_names : (bytes : List ℕ) (given : IntegerType × List ℕ) (rest : List ℕ) → Begins (SpellsGiven shape.Type) bytes given rest
+    → Begins (SpellsGiven shape.Names) bytes (type_name given.0, given.1) rest
+typed_names bytes given rest h = record { part = h.part; spells = h.spells; spelled = h.spelled }
+
+pub type_parts : AreParts (SpellsGiven shape.Type) (EndsGiven shape.Type)
+type_parts = record {
+  one = λ bytes a b x y h s g t.
+      let same = names_parts.one bytes (type_name a.0, a.1) (type_name b.0, b.1) x y (typed_names bytes a x h) s (typed_names bytes b y g) t in
+      let types = same_type a.0 b.0 (λ i. (same.0 i).0) in
+      ((λ i. (types i, (same.0 i).1)), same.1);
+  ends = λ given rest s. stops_name rest s;
+  opens = λ part rest given h. names_parts.opens part rest (type_name given.0, given.1) h;
+}
+
+module _ (bytes : List ℕ) where
+  pub type_none : IsGivenAt shape.Names bytes None → IsGivenAt shape.Type bytes None
+  type_none nothing = λ utf8 given rest h s. nothing utf8 (type_name given.0, given.1) rest (typed_names bytes given rest h) s
+
+  module _ (word name rest : List ℕ) (found : IsGivenAt shape.Names bytes (Some ((word, name), rest))) where
+    pub type_unknown : IsTypeOf word None → IsGivenAt shape.Type bytes None
+    type_unknown none = λ utf8 given other h s.
+        let same = names_parts.one bytes (word, name) (type_name given.0, given.1) rest other found.0 found.1 (typed_names bytes given other h)
+        (stops_name other s) in
+        none given.0 (sym (λ i. (same.0 i).0))
+
+    pub type_found : (type : IntegerType) → type_name type ≡ word → IsGivenAt shape.Type bytes (Some ((type, name), rest))
+    type_found type is = (
+      record { part = found.0.part; spells = subst (λ w. SpellsGiven shape.Names found.0.part (w, name)) (sym is) found.0.spells; spelled = found.0.spelled },
+      found.1,
+    )
+
+-- ---- every shape
+
+pub parts_of : (s : Shape) → AreParts (SpellsGiven s) (EndsGiven s)
+parts_of shape.Name = name_parts
+parts_of shape.Names = names_parts
+parts_of shape.Text = both_parts quoted_parts
+parts_of shape.Bounds = both_parts bounds_parts
+parts_of shape.Type = type_parts
+parts_of shape.Literal = both_parts value_parts
+parts_of shape.Map = source_parts

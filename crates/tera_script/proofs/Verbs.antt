@@ -1,68 +1,46 @@
 -- The look-up of words, tried on the word of each verb.
-use Rattle.std.proofs.Common.{◌≡◌, ℕ, List, [], ◌∷◌, length, Option, Some, None, refl, ap, sym, ◌∙◌, arith}
-use Rattle.std.specs.Prelude.{◌≢◌}
-use Rattle.tera_scalars.specs.declared.operation.BinaryOp.TheVariants as op
+use Rattle.std.proofs.Common.{◌≡◌, ◌<◌, ℕ, List, ◌∷◌, length, refl, ap, sym, ◌∙◌, arith, subst}
 use Rattle.tera_script.specs.declared.verb.Verb.{Verb}
 use Rattle.tera_script.specs.declared.verb.Verb.TheVariants as verb
-use Rattle.tera_script.specs.declared.verb.OneName.TheVariants as one
-use Rattle.tera_script.specs.declared.verb.TwoNames.TheVariants as two
-use Rattle.tera_script.specs.declared.verb.Keeping.TheVariants as kept
-use Rattle.tera_script.specs.declared.verb.KeepingName.TheVariants as keeping
-use Rattle.tera_script.specs.declared.verb.KeepingNames.TheVariants as names
-use Rattle.tera_script.specs.declared.verb.KeepingPart.TheVariants as part
 use Rattle.tera_script.specs.Word.{IsName}
-use Rattle.tera_script.specs.Verb.{likely_verb, word_of}
-use Rattle.tera_script.specs.Readers.{IsVerbOf}
-
--- the one verb whose word a word may be
-abbrev pub likely_of : List ℕ → Option Verb
-likely_of [] = None
-likely_of (b ∷ []) = None
-likely_of (b ∷ c ∷ bytes) = likely_verb (length (b ∷ c ∷ bytes)) b c
-
-likely_is : (v : Verb) → likely_of (word_of v) ≡ Some v
-unfolding likely_verb
-likely_is verb.Set = refl
-likely_is (verb.One one.Remove) = refl
-likely_is (verb.Two two.Equal) = refl
-likely_is (verb.Keeping (kept.Name keeping.Get)) = refl
-likely_is (verb.Keeping (kept.Names names.Item)) = refl
-likely_is (verb.Keeping (kept.Names (names.Binary op.Add))) = refl
-likely_is (verb.Keeping (kept.Part part.Path)) = refl
-likely_is (verb.Keeping kept.Slice) = refl
-likely_is v = refl
-
-verb_same : (v w : Verb) → ◌≡◌ {A = Option Verb} (Some v) (Some w) → v ≡ w
-verb_same v w e = cc
-
-pub likely_at : (word behind others : List ℕ) (b c : ℕ) → word ≡ b ∷ behind → behind ≡ c ∷ others
-    → likely_verb (length word) b c ≡ likely_of word
-likely_at word behind others b c e f = rw (e, f) refl
-
-pub no_short_verb : (word behind : List ℕ) (b : ℕ) → word ≡ b ∷ behind → length behind ≡ 0 → likely_of word ≡ None
-no_short_verb word [] b e h = rw e refl
-no_short_verb word (c ∷ others) b e h = absurd (omega (arith, h))
-
--- no two verbs have one word
-pub same_verb : (v w : Verb) → word_of v ≡ word_of w → v ≡ w
-same_verb v w e = verb_same v w (sym (likely_is v) ∙ ap likely_of e ∙ likely_is w)
-
--- a word that is likely to be no verb's is none's, and one that is likely to be a verb's is no other's
-pub no_verb : (word : List ℕ) → likely_of word ≡ None → IsVerbOf word None
-no_verb word e v is = let some = sym (likely_is v) ∙ ap likely_of is in cc
-
-pub no_other_verb : (word spelled : List ℕ) (likely : Verb) → likely_of word ≡ Some likely → word_of likely ≡ spelled
-    → spelled ≢ word → IsVerbOf word None
-no_other_verb word spelled likely e s n v is =
-    n (sym s ∙ ap word_of (sym (verb_same v likely (sym (likely_is v) ∙ ap likely_of is ∙ e))) ∙ is)
+use Rattle.tera_script.specs.Verb.{word_of}
+use Rattle.tera_script.specs.inner.Call.{IsLike}
 
 pub word_is_name : (v : Verb) → IsName (word_of v)
 word_is_name verb.Set = (refl, refl)
-word_is_name (verb.One one.Remove) = (refl, refl)
-word_is_name (verb.Two two.Equal) = (refl, refl)
-word_is_name (verb.Keeping (kept.Name keeping.Get)) = (refl, refl)
-word_is_name (verb.Keeping (kept.Names names.Item)) = (refl, refl)
-word_is_name (verb.Keeping (kept.Names (names.Binary op.Add))) = (refl, refl)
-word_is_name (verb.Keeping (kept.Part part.Path)) = (refl, refl)
-word_is_name (verb.Keeping kept.Slice) = (refl, refl)
 word_is_name v = (refl, refl)
+
+-- every word has two bytes
+pub no_short_verb : (word : List ℕ) → length word < 2 → (v : Verb) → ¬ (word_of v ≡ word)
+no_short_verb word h verb.Set e = omega (arith, ap length e)
+no_short_verb word h v e = omega (arith, ap length e)
+
+-- a verb's word is like itself
+is_like : (word behind others : List ℕ) (b c : ℕ) → word ≡ b ∷ behind → behind ≡ c ∷ others → IsLike word (length word) b c
+is_like word behind others b c e f = rw (e, f) (refl, refl, refl)
+
+-- no two verbs' words are like one another
+one_like : (v w : Verb) (len b c : ℕ) → IsLike (word_of v) len b c → IsLike (word_of w) len b c → v ≡ w
+one_like verb.Set verb.Set len b c h g = refl
+one_like verb.Set w len b c h g = absurd (omega arith)
+one_like v verb.Set len b c h g = absurd (omega arith)
+one_like v w len b c h g = grind arith
+
+like_itself : (v : Verb) → (len : ℕ) × (b : ℕ) × (c : ℕ) × IsLike (word_of v) len b c
+like_itself verb.Set = (_, _, _, (refl, refl, refl))
+like_itself v = (_, _, _, (refl, refl, refl))
+
+-- no two verbs have one word
+pub same_verb : (v w : Verb) → word_of v ≡ word_of w → v ≡ w
+same_verb v w e = let like = like_itself v in one_like v w like.0 like.1 like.2 like.3 (subst (λ word. IsLike word like.0 like.1 like.2) e like.3)
+
+module _ (word behind others : List ℕ) (b c : ℕ) (e : word ≡ b ∷ behind) (f : behind ≡ c ∷ others) where
+  -- a word like which no verb's is is none's
+  pub no_verb : ((v : Verb) → IsLike (word_of v) (length word) b c → ⊥) → (v : Verb) → ¬ (word_of v ≡ word)
+  no_verb none v is = none v (subst (λ w. IsLike w (length word) b c) (sym is) (is_like word behind others b c e f))
+
+  -- one like which another verb's is is that verb's or none's
+  pub no_other_verb : (likely : Verb) → IsLike (word_of likely) (length word) b c → ¬ (word_of likely ≡ word) → (v : Verb)
+      → ¬ (word_of v ≡ word)
+  no_other_verb likely like n v is = n
+      (ap word_of (one_like likely v (length word) b c like (subst (λ w. IsLike w (length word) b c) (sym is) (is_like word behind others b c e f))) ∙ is)

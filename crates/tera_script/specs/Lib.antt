@@ -8,3 +8,4 @@ pub mod Line
 pub mod Readers
 pub mod Nested
 pub mod Said
+pub mod inner

@@ -1,27 +1,25 @@
 -- What a line of a script says.
-use Rattle.std.specs.Prelude.{◌≡◌, ◌≤◌, ℕ, ℤ, ◌⊎◌, Bool, false, List, [], ◌∷◌, ◌++◌, Option, Some}
-use Rattle.std.specs.Prelude.{None, IsSome, codes}
+use Rattle.std.specs.Prelude.{◌≡◌, ◌≤◌, ℕ, ℤ, ◌⊎◌, Bool, true, false, List, [], ◌∷◌, ◌++◌, Option}
+use Rattle.std.specs.Prelude.{Some, None, IsSome, codes}
 use Rattle.std.specs.FinMap.{get}
 use Rattle.std.specs.List.{AllByRecursion}
 use Rattle.std.specs.Str.{IsUtf8}
 use Rattle.std.specs.Str.Parse.{IsNumeral, digits_value}
-use Rattle.tera_meaning.specs.Conversion.{IntegerType, type_name}
+use Rattle.tera_meaning.specs.Conversion.{type_name}
 use Rattle.tera_meaning.specs.Form.{Form}
 use Rattle.tera_meaning.specs.Integer.{i128, IsOfKind}
 use Rattle.tera_meaning.specs.KeyMeaning.{KeyForm, text_key, owned}
 use Rattle.tera_meaning.specs.Pairs.{key_form_order, value_at}
-use Rattle.tera_meaning.specs.Request.{Request, Command, set, extend, find, asking}
-use Rattle.tera_meaning.specs.Search
+use Rattle.tera_meaning.specs.Request.{Command}
 use Rattle.tera_meaning.specs.State.{State}
 use Rattle.tera_meaning.specs.Tree.{depth, text, object, members}
 use Rattle.tera_script.specs.declared.bound.Bounds.{Bounds}
-use Rattle.tera_script.specs.declared.verb.Keeping.{Keeping}
-use Rattle.tera_script.specs.declared.verb.Keeping.TheVariants as kept
+use Rattle.tera_script.specs.declared.verb.Shape.{Shape}
+use Rattle.tera_script.specs.declared.verb.Shape.TheVariants as shape
 use Rattle.tera_script.specs.declared.verb.Verb.{Verb}
-use Rattle.tera_script.specs.declared.verb.Verb.TheVariants as verb
 use Rattle.tera_script.specs.Literal.{SpellsTree, tree_value}
 use Rattle.tera_script.specs.Number.{sign_of, signed}
-use Rattle.tera_script.specs.Verb.{of_one, of_two, of_keeping, of_names, of_part, word_of}
+use Rattle.tera_script.specs.Verb.{Given, shape_of, requested, Row, row_of, word_of}
 use Rattle.tera_script.specs.Word.{AreBlanks, IsGap, IsName}
 use Rattle.tera_values.specs.Key.{text_in_key}
 
@@ -53,24 +51,23 @@ SpellsSource bytes source =
     (pairs : List (KeyForm × Form)) × SpellsValue bytes (object (members pairs))
     × AreNamed pairs source
 
--- an operand and a value
-abbrev pub SpellsNamed : List ℕ → List ℕ → Form → Type 0
-SpellsNamed bytes name value =
-    (first : List ℕ) × (second : List ℕ) × SpellsOperand first name × SpellsValue second value
+-- an operand, and behind it what spells something else
+abbrev pub SpellsBoth : {E : Type 0} → (List ℕ → E → Type 0) → List ℕ → List ℕ × E → Type 0
+SpellsBoth Spells bytes both =
+    (first : List ℕ) × (second : List ℕ) × SpellsOperand first both.0 × Spells second both.1
     × (bytes ≡ first ++ second)
 
--- two operands, one behind the other
-abbrev pub SpellsTwo : List ℕ → List ℕ → List ℕ → Type 0
-SpellsTwo bytes left right =
-    (first : List ℕ) × (second : List ℕ) × SpellsOperand first left × SpellsOperand second right
-    × (bytes ≡ first ++ second)
-
--- nothing; or a gap, an arrow, a gap and the name under which is kept what is found
-abbrev pub SpellsInto : List ℕ → Option (List ℕ) → Type 0
-SpellsInto bytes None = bytes ≡ []
-SpellsInto bytes (Some into) =
+-- a gap, an arrow, a gap and the name under which is kept what is found
+abbrev pub SpellsArrow : List ℕ → List ℕ → Type 0
+SpellsArrow bytes into =
     (gap : List ℕ) × (operand : List ℕ) × IsGap gap × SpellsOperand operand into
     × (bytes ≡ gap ++ (codes "->" ++ operand))
+
+-- nothing; or, if it may be there, that
+abbrev pub SpellsInto : Bool → List ℕ → Option (List ℕ) → Type 0
+SpellsInto keeps bytes None = bytes ≡ []
+SpellsInto true bytes (Some into) = SpellsArrow bytes into
+SpellsInto false bytes (Some into) = ⊥
 
 -- a gap and a text in quotes with no mark
 abbrev pub SpellsQuoted : List ℕ → List ℕ → Type 0
@@ -98,52 +95,32 @@ SpellsBounds bytes bounds =
     × SpellsBound second bounds.end
     × SpellsBound third bounds.step × (bytes ≡ first ++ (second ++ third))
 
--- what stands before the name for what is found, and the request that it makes
-abbrev pub SpellsFound : Keeping → List ℕ → Request → Type 0
-SpellsFound (kept.Name o) bytes request =
-    (name : List ℕ) × SpellsOperand bytes name × (request ≡ (of_keeping o).1 name)
-SpellsFound (kept.Names o) bytes request =
-    (left : List ℕ) × (right : List ℕ) × SpellsTwo bytes left right
-    × (request ≡ (of_names o).1 left right)
-SpellsFound (kept.Part o) bytes request =
-    (name : List ℕ) × (t : List ℕ) × (first : List ℕ) × (second : List ℕ) × SpellsOperand first name
-    × SpellsQuoted second t × (bytes ≡ first ++ second) × (request ≡ (of_part o).1 name t)
-SpellsFound kept.Slice bytes request =
-    (name : List ℕ) × (bounds : Bounds) × (first : List ℕ) × (second : List ℕ)
-    × SpellsOperand first name
-    × SpellsBounds second bounds × (bytes ≡ first ++ second)
-    × (request ≡ find (Search.slice name bounds.start bounds.end bounds.step))
-SpellsFound kept.Read bytes request =
-    (type : IntegerType) × (name : List ℕ) × SpellsTwo bytes (type_name type) name
-    × (request ≡ find (Search.read type name))
+-- operands of a shape, and what they give
+abbrev pub SpellsGiven : (shape : Shape) → List ℕ → Given shape → Type 0
+SpellsGiven shape.Name = SpellsOperand
+SpellsGiven shape.Names = SpellsBoth SpellsOperand
+SpellsGiven shape.Text = SpellsBoth SpellsQuoted
+SpellsGiven shape.Bounds = SpellsBoth SpellsBounds
+SpellsGiven shape.Type =
+    λ bytes given. SpellsBoth SpellsOperand bytes (type_name given.0, given.1)
+SpellsGiven shape.Literal = SpellsBoth SpellsValue
+SpellsGiven shape.Map = SpellsSource
 
--- this, and then the name for what is found, if one is given
-pub record SpellsKeeping (verb : Keeping) (bytes : List ℕ) (command : Command) : Type 0 where
+-- what stands behind the word of a call, and the command that it gives: operands of the call's
+-- shape, and then the name for what is found, if one is given
+pub record SpellsOperands (row : Row) (bytes : List ℕ) (command : Command) : Type 0 where
+  pub given : Given (shape_of row.making)
   pub first : List ℕ
   pub second : List ℕ
-  pub found : SpellsFound verb first command.request
-  pub into : SpellsInto second command.into
+  pub spells : SpellsGiven (shape_of row.making) first given
+  pub request : command.request ≡ requested row.making given
+  pub into : SpellsInto row.keeps second command.into
   pub whole : bytes ≡ first ++ second
-
--- what stands behind the word of a call, and the command that it gives. Only some may have a name
--- for what they find
-abbrev pub SpellsOperands : Verb → List ℕ → Command → Type 0
-SpellsOperands verb.Set bytes command =
-    (name : List ℕ) × (value : Form) × SpellsNamed bytes name value
-    × (command ≡ asking (set name value))
-SpellsOperands verb.Extend bytes command =
-    (source : State) × SpellsSource bytes source × (command ≡ asking (extend source))
-SpellsOperands (verb.One o) bytes command =
-    (name : List ℕ) × SpellsOperand bytes name × (command ≡ asking ((of_one o).1 name))
-SpellsOperands (verb.Two o) bytes command =
-    (left : List ℕ) × (right : List ℕ) × SpellsTwo bytes left right
-    × (command ≡ asking ((of_two o).1 left right))
-SpellsOperands (verb.Keeping o) bytes command = SpellsKeeping o bytes command
 
 -- the word of a call and its operands
 abbrev pub SpellsCommand : List ℕ → Command → Type 0
 SpellsCommand bytes command =
-    (verb : Verb) × (operands : List ℕ) × SpellsOperands verb operands command
+    (verb : Verb) × (operands : List ℕ) × SpellsOperands (row_of verb) operands command
     × (bytes ≡ word_of verb ++ operands)
 
 -- a command with blanks before and after it, or with none, all of it UTF-8

@@ -9,16 +9,12 @@ use Rattle.std.specs.List.{list_all}
 use Rattle.std.specs.Str.{bytes_eq, IsUtf8}
 use Rattle.std.specs.Str.Parse.{digits_value}
 use Rattle.tera_meaning.specs.Integer.{IntegerKind, u64, i64, u128, i128, Integer}
-use Rattle.tera_meaning.specs.Conversion.{IntegerType, type_name}
 use Rattle.tera_meaning.specs.Form.{Form, MarkedText}
 use Rattle.tera_meaning.specs.Kind.{integer_kind_name}
 use Rattle.tera_meaning.specs.KeyMeaning.{KeyForm, truth_key, number_key}
 use Rattle.tera_meaning.specs.Tree.{Items, Members, undefined, none, truth, number}
 use Rattle.tera_meaning.specs.Tree.{text as text_value, bytes as bytes_value, array, object}
-use Rattle.tera_meaning.specs.Tree.{items_list, members_list, members, depth}
-use Rattle.tera_meaning.specs.Request.{Request, Command}
-use Rattle.tera_values.specs.Converted.{integer_type}
-use Rattle.tera_values.specs.declared.integers.IntType.{IntType}
+use Rattle.tera_meaning.specs.Tree.{items_list, members_list, depth}
 use Rattle.tera_script.specs.Number.{signed}
 use Rattle.tera_script.specs.declared.number.Integer.{Integer as Held}
 use Rattle.tera_script.specs.declared.number.Integer.TheVariants as held
@@ -26,17 +22,8 @@ use Rattle.tera_script.specs.declared.number.Suffix.{Suffix}
 use Rattle.tera_script.specs.declared.number.Suffix.TheVariants.{U64, I64, U128, I128}
 use Rattle.tera_script.specs.declared.word.Class.{Class}
 use Rattle.tera_script.specs.declared.word.Class.TheVariants.{Blank, Name, Word}
-use Rattle.tera_script.specs.declared.verb.Verb.{Verb}
-use Rattle.tera_script.specs.Verb.{word_of}
-use Rattle.tera_script.specs.Word.{is_blank, AreBlanks, is_name_start, is_name_byte}
-use Rattle.tera_meaning.specs.State.{State}
-use Rattle.tera_script.specs.Line.{SpellsValue, AreNamed, SpellsOperands, SpellsCommand}
-use Rattle.tera_script.specs.Line.{SpellsQuoted, SpellsFound}
+use Rattle.tera_script.specs.Word.{is_blank, is_name_start, is_name_byte}
 use Rattle.tera_script.specs.declared.bound.Bounds.{Bounds}
-use Rattle.tera_script.specs.declared.verb.Keeping.{Keeping}
-use Rattle.tera_script.specs.declared.verb.Keeping.TheVariants as kept
-use Rattle.std.specs.Prelude.{String}
-use Rattle.std.specs.String.{string_bytes}
 use Rattle.tera_script.specs.Literal.{SpellsTree, SpellsKey, tree_value}
 use Rattle.tera_script.specs.Text.{SpellsText}
 use Rattle.tera_values.specs.Key.{key_form, key_value}
@@ -338,12 +325,6 @@ names_at bytes = do
   right ← operand_at left.1
   Some ((left.0, right.0), right.1)
 
--- the same, and no more than blanks behind them
-unfoldable pub two_in : List ℕ → Option (List ℕ × List ℕ)
-two_in bytes = do
-  names ← names_at bytes
-  cond (list_all is_blank names.1) (Some names.0) None
-
 -- two names and the bytes behind them, by what they hold
 abbrev pub names_rest : (Bor (List ℕ) × Bor (List ℕ)) × Bor (List ℕ) → (List ℕ × List ℕ) × List ℕ
 names_rest found = (named_rest found.0, found.1.now)
@@ -359,10 +340,10 @@ arrow_at [] = None
 arrow_at (b ∷ []) = None
 arrow_at (b ∷ c ∷ rest) = cond ((b == 45) && (c == 62)) (Some rest) None
 
--- the name for what is found, if there are more than blanks
-unfoldable pub into_in : List ℕ → Option (Option (List ℕ))
-into_in bytes = cond (list_all is_blank bytes) (Some None)
-    (option_map Some (gap_at bytes >>= arrow_at >>= one_in))
+-- the name for what is found, where one may be and there are more than blanks
+unfoldable pub into_in : Bool → List ℕ → Option (Option (List ℕ))
+into_in keeps bytes = cond (list_all is_blank bytes) (Some None)
+    (cond keeps (option_map Some (gap_at bytes >>= arrow_at >>= one_in)) None)
 
 -- the number that a sign and digits spell, if nothing else stands there and i128 holds it
 unfoldable pub small_in : Bool → List ℕ → Option ℤ
@@ -393,100 +374,6 @@ bounds_at bytes = do
   end ← bound_at start.1
   step ← bound_at end.1
   Some (record { start = start.0; end = end.0; step = step.0 }, step.1)
-
--- what a reader of texts in quotes answers behind a name: the text and what stands behind it, or
--- nothing where no text in quotes stands there
-pub record BeginsWithQuoted (bytes t rest : List ℕ) : Type 0 where
-  pub part : List ℕ
-  pub spells : SpellsQuoted part t
-  pub spelled : bytes ≡ part ++ rest
-
-abbrev pub IsTextAt : List ℕ → Option (List ℕ × List ℕ) → Type 0
-IsTextAt bytes (Some found) = BeginsWithQuoted bytes found.0 found.1
-IsTextAt bytes None = IsUtf8 bytes → (t rest : List ℕ) → ¬ BeginsWithQuoted bytes t rest
-
-abbrev pub text_rest : {A : Type 0} → String A × Bor (List ℕ) → List ℕ × List ℕ
-text_rest pair = (string_bytes pair.0, pair.1.now)
-
--- what stands before the name for what is found, before the rest, and ends there as a name or a
--- bound does
-pub record BeginsWithFound (verb : Keeping) (bytes : List ℕ) (request : Request)
-    (rest : List ℕ) : Type 0 where
-  pub part : List ℕ
-  pub spells : SpellsFound verb part request
-  pub spelled : bytes ≡ part ++ rest
-
-abbrev pub EndsFound : Keeping → List ℕ → Type 0
-EndsFound (kept.Name o) rest = Stops is_name_byte rest
-EndsFound (kept.Names o) rest = Stops is_name_byte rest
-EndsFound (kept.Part o) rest = Unit {0}
-EndsFound kept.Slice rest = Stops is_word_byte rest
-EndsFound kept.Read rest = Stops is_name_byte rest
-
--- what a reader of this answers: a request and the rest, or nothing, and then none that ends as a
--- word does stands there
-abbrev pub IsFoundAt : Keeping → List ℕ → Option (Request × List ℕ) → Type 0
-IsFoundAt verb bytes (Some found) = BeginsWithFound verb bytes found.0 found.1
-    × EndsFound verb found.1
-IsFoundAt verb bytes None =
-    IsUtf8 bytes → (request : Request) (rest : List ℕ) → BeginsWithFound verb bytes request rest
-    → ¬ Stops is_word_byte rest
-
--- what a look-up of a type's name answers: the type of that name, or nothing where it is no type's
-abbrev pub IsTypeOf : List ℕ → Option IntType → Type 0
-IsTypeOf name (Some type) = type_name (integer_type type) ≡ name
-IsTypeOf name None = (type : IntegerType) → type_name type ≢ name
-
--- what a look-up of a word answers: the verb of that word, or nothing where it is no verb's
-abbrev pub IsVerbOf : List ℕ → Option Verb → Type 0
-IsVerbOf word (Some verb) = word_of verb ≡ word
-IsVerbOf word None = (verb : Verb) → word_of verb ≢ word
-
--- a part of which this holds stands before blanks
-pub record Before (P : List ℕ → Type 0) (bytes : List ℕ) : Type 0 where
-  pub part : List ℕ
-  pub after : List ℕ
-  pub spells : P part
-  pub blanks : AreBlanks after
-  pub spelled : bytes ≡ part ++ after
-
--- a gap and a value stand before blanks
-abbrev pub EndsInValue : List ℕ → Form → Type 0
-EndsInValue bytes value = Before (λ part. SpellsValue part value) bytes
-
--- what a reader of this answers: the one value that stands there, or nothing where none does
-abbrev pub IsValueAt : List ℕ → Option Form → Type 0
-IsValueAt bytes (Some value) = EndsInValue bytes value
-IsValueAt bytes None = IsUtf8 bytes → (value : Form) → ¬ EndsInValue bytes value
-
--- what is answered of a value: the state of its pairs, or nothing where it is no map whose keys are
--- all texts
-abbrev pub IsSourceOf : Form → Option State → Type 0
-IsSourceOf value (Some state) = (pairs : List (KeyForm × Form)) × (value ≡ object (members pairs))
-    × AreNamed pairs state
-IsSourceOf value None =
-    (pairs : List (KeyForm × Form)) (state : State) → value ≡ object (members pairs)
-    → ¬ AreNamed pairs state
-
--- the operands of a verb that give the command stand before blanks
-abbrev pub EndsInOperands : Verb → List ℕ → Command → Type 0
-EndsInOperands verb bytes command = Before (λ operands. SpellsOperands verb operands command) bytes
-
--- what a reader of operands answers behind a call's word: the one command that stands there, or
--- nothing where none does
-abbrev pub AreOperandsOf : Verb → List ℕ → Option Command → Type 0
-AreOperandsOf verb bytes (Some command) = EndsInOperands verb bytes command
-AreOperandsOf verb bytes None = IsUtf8 bytes → (command : Command) → ¬ EndsInOperands verb bytes
-    command
-
--- a command stands before blanks
-abbrev pub EndsInCommand : List ℕ → Command → Type 0
-EndsInCommand bytes command = Before (λ call. SpellsCommand call command) bytes
-
--- what a reader of commands answers: the command that stands there, or nothing where none does
-abbrev pub IsCommandAt : List ℕ → Option Command → Type 0
-IsCommandAt bytes (Some command) = EndsInCommand bytes command
-IsCommandAt bytes None = IsUtf8 bytes → (command : Command) → ¬ EndsInCommand bytes command
 
 -- whether there are no bytes, or a # (35) is the first
 abbrev pub is_end_or_comment : List ℕ → Bool

@@ -1,19 +1,24 @@
 //! The operands of calls, and the name for what is found.
-ghost use Rattle.std.specs.Prelude.{◌≡◌, IfOk};
+ghost use Rattle.std.specs.Prelude.{◌≡◌, IfOk, IfSome};
 ghost use Rattle.std.specs.List.{list_all};
 ghost use Rattle.std.specs.Option.{option_map};
-ghost use Rattle.tera_script.specs.Readers.{two_in, one_in, arrow_at, into_in, named_rest};
-ghost use Rattle.tera_script.specs.Readers.{names_at, names_rest, IsTextAt, text_rest};
-ghost use Rattle.tera_script.specs.Word.{is_blank};
+ghost use Rattle.tera_script.specs.Readers.{one_in, arrow_at, into_in, names_at, names_rest};
+ghost use Rattle.tera_script.specs.Readers.{with_rest};
+ghost use Rattle.tera_script.specs.Word.{is_blank, IsName};
+ghost use Rattle.tera_script.specs.inner.Command.{IsTextAt, IsValueAt, text_rest};
 
+use crate::literal::{LEVELS, take_literal};
 use crate::text::take_text;
 use crate::word::{are_blanks, past_gap, take_operand};
 use std::alloc::{AllocError, Global};
+use tera_values::Value;
 
 /// Two names behind one another, and the bytes behind them. Takes no memory.
 #[tactic(auto, unfolding(crate::specs::Readers::names_at))]
 pub(crate) fn take_names(bytes: &[u8]) -> Option<((&[u8], &[u8]), &[u8])>
-    ensures { option_map names_rest result ≡ names_at bytes.now }
+    ensures names { option_map names_rest result ≡ names_at bytes.now }
+    ensures left { IfSome result (λ found. IsName found.0.0.now) }
+    ensures right { IfSome result (λ found. IsName found.0.1.now) }
 {
     let (left, behind) = take_operand(bytes)?;
     let (right, rest) = take_operand(behind)?;
@@ -40,32 +45,28 @@ pub(crate) fn take_text_operand(
     Ok(Some((taken.text, rest)))
 }
 
-/// Two names behind one another, and no more than blanks behind them.
-#[tactic(auto, unfolding(crate::specs::Readers::two_in))]
-pub(crate) fn two_in(bytes: &[u8]) -> Option<(&[u8], &[u8])>
-    ensures { option_map named_rest result ≡ two_in bytes.now }
+/// The value behind a gap, and the bytes behind it.
+pub(crate) fn take_value(alloc: Global, bytes: &[u8]) -> Result<Option<(Value, &[u8])>, AllocError>
+    ensures { IfOk result (λ answer. IsValueAt bytes.now (option_map with_rest answer)) }
 {
-    let (names, rest) = take_names(bytes)?;
-    if are_blanks(rest) { Some(names) } else { None }
+    let Some(literal) = past_gap(bytes) else {
+        return Ok(None);
+    };
+    take_literal(alloc, literal, LEVELS)
 }
 
-/// One name, and no more than blanks behind it.
-#[tactic(auto, unfolding(crate::specs::Readers::one_in))]
-pub(crate) fn one_in(bytes: &[u8]) -> Option<&[u8]>
-    ensures { option_map (λ name. name.now) result ≡ one_in bytes.now }
-{
-    let (name, rest) = take_operand(bytes)?;
-    if are_blanks(rest) { Some(name) } else { None }
-}
-
-/// The name behind a gap and an arrow, or none where no more than blanks stand there. `None` where
-/// anything else does. Takes no memory.
+/// The name behind a gap and an arrow, where one may be, or none where no more than blanks stand
+/// there. `None` where anything else does. Takes no memory.
 #[tactic(auto, unfolding(crate::specs::Readers::into_in))]
-pub(crate) fn into_in(bytes: &[u8]) -> Option<Option<&[u8]>>
-    ensures { option_map (option_map (λ name. name.now)) result ≡ into_in bytes.now }
+pub(crate) fn into_in(keeps: bool, bytes: &[u8]) -> Option<Option<&[u8]>>
+    ensures into { option_map (option_map (λ name. name.now)) result ≡ into_in keeps bytes.now }
+    ensures named { IfSome result (λ into. IfSome into (λ name. IsName name.now)) }
 {
     if are_blanks(bytes) {
         return Some(None);
+    }
+    if !keeps {
+        return None;
     }
     let arrow = past_gap(bytes)?;
     let behind = past_arrow(arrow)?;
@@ -82,4 +83,14 @@ fn past_arrow(bytes: &[u8]) -> Option<&[u8]>
         [b'-', b'>', rest @ ..] => Some(rest),
         _ => None,
     }
+}
+
+// One name, and no more than blanks behind it.
+#[tactic(auto, unfolding(crate::specs::Readers::one_in))]
+fn one_in(bytes: &[u8]) -> Option<&[u8]>
+    ensures one { option_map (λ name. name.now) result ≡ one_in bytes.now }
+    ensures named { IfSome result (λ name. IsName name.now) }
+{
+    let (name, rest) = take_operand(bytes)?;
+    if are_blanks(rest) { Some(name) } else { None }
 }

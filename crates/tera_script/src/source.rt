@@ -1,6 +1,6 @@
 //! What a map holds under the texts of its keys.
 ghost use Rattle.std.specs.Prelude.{IfOk};
-ghost use Rattle.tera_script.specs.Readers.{IsSourceOf};
+ghost use Rattle.tera_script.specs.inner.Command.{IsSourceOf};
 
 use std::alloc::{AllocError, Global};
 use tera_context::Context;

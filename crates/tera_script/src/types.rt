@@ -1,5 +1,5 @@
 //! The names of the integer types.
-ghost use Rattle.tera_script.specs.Readers.{IsTypeOf};
+ghost use Rattle.tera_script.specs.inner.Command.{IsTypeOf};
 
 use tera_context::IntType;
 

@@ -1,221 +1,238 @@
-//! The words of the calls.
-ghost use Rattle.std.specs.Prelude.{◌≡◌, IfSome, option_map};
-ghost use Rattle.std.specs.String.{string_bytes};
+//! The words of the calls, and the call that each makes of its operands.
+ghost use Rattle.std.specs.Prelude.{◌≡◌, true, false, IfSome, IsSome};
+ghost use Rattle.std.specs.Option.{option_map};
 ghost use Rattle.tera_context.specs.Call.{request_of};
-ghost use Rattle.tera_script.specs.Readers.{IsVerbOf};
-ghost use Rattle.tera_script.specs.Verb.{likely_verb, of_one, of_two, word_of};
-ghost use Rattle.tera_script.specs.Verb.{of_keeping, of_names, of_part};
-ghost use Rattle.tera_script.specs.declared.verb.Verb.TheVariants.{Keeping as keeping};
-ghost use Rattle.tera_script.specs.declared.verb.Keeping.TheVariants.{Names as two_names};
-ghost use Rattle.tera_script.specs.declared.verb.KeepingNames.TheVariants.{Binary as operator};
+ghost use Rattle.tera_context.specs.declared.call.Call.TheVariants.{Binary as binary};
+ghost use Rattle.tera_script.specs.inner.Call.{IsKnown, IsLike, IsVerbOf, request_in};
+ghost use Rattle.tera_script.specs.Verb.{row_of, word_of};
+ghost use Rattle.tera_script.specs.declared.verb.Verb.{Verb as VerbOf};
 
-use tera_context::{BinaryOp, Call};
+use crate::bound::Bounds;
+use tera_context::{BinaryOp, Call, Context, IntType};
+use tera_values::Value;
 
-// A call's word, by what stands behind it.
+// A call, by its word.
 #[derive(Clone, Copy)]
 pub(crate) enum Verb {
-    // A name and a literal.
     Set,
-    // A map whose keys are all texts.
     Extend,
-    One(OneName),
-    Two(TwoNames),
-    Keeping(Keeping),
-}
-
-// A call that finds something, by what stands behind its word before the name for what is found.
-#[derive(Clone, Copy)]
-pub(crate) enum Keeping {
-    Name(KeepingName),
-    Names(KeepingNames),
-    // A name and a text.
-    Part(KeepingPart),
-    // A name and three bounds.
-    Slice,
-    // An integer type and a name.
-    Read,
-}
-
-// A name.
-#[derive(Clone, Copy)]
-pub(crate) enum OneName {
     Remove,
     Has,
+    Get,
+    Path,
+    Attr,
+    Item,
+    Slice,
+    Reverse,
+    Add,
+    Sub,
+    Mul,
+    Rem,
+    FloorDiv,
+    Pow,
+    Negate,
+    Read,
     Len,
     Truthy,
     Kind,
     IsSafe,
+    MarkSafe,
+    Equal,
+    Compare,
+    TryCompare,
+    Contains,
     Print,
     Escape,
     Fields,
 }
 
-// Two names.
+// What stands behind the word of a call.
 #[derive(Clone, Copy)]
-pub(crate) enum TwoNames {
-    Equal,
-    Compare,
-    TryCompare,
-    Contains,
+pub(crate) enum Shape {
+    Name,
+    Names,
+    // A name and a text.
+    Text,
+    // A name and three bounds.
+    Bounds,
+    // An integer type and a name.
+    Type,
+    // A name and a literal.
+    Literal,
+    // A map whose keys are all texts.
+    Map,
 }
 
-// A name.
+// A verb, what stands behind its word, and whether a name for what is found may follow that.
 #[derive(Clone, Copy)]
-pub(crate) enum KeepingName {
-    Get,
-    Reverse,
-    Negate,
-    MarkSafe,
+pub(crate) struct Known {
+    pub(crate) verb: Verb,
+    pub(crate) shape: Shape,
+    pub(crate) keeps: bool,
 }
 
-// Two names.
-#[derive(Clone, Copy)]
-pub(crate) enum KeepingNames {
-    Item,
-    Binary(BinaryOp),
+// Operands, by their shape.
+#[derive(Drop)]
+pub(crate) enum Operands {
+    Name(String),
+    Names(String, String),
+    Text(String, String),
+    Bounds(String, Bounds),
+    Type(IntType, String),
+    Literal(String, Value),
+    Map(Context),
 }
 
-// A name and a text.
-#[derive(Clone, Copy)]
-pub(crate) enum KeepingPart {
-    Path,
-    Attr,
-}
-
-/// The verb of a word. `None` for any other word. Takes no memory.
-pub(crate) fn verb_in(word: &[u8]) -> Option<Verb>
+/// What is known of the verb of a word. `None` where it is no verb's. Takes no memory.
+pub(crate) fn verb_in(word: &[u8]) -> Option<Known>
     ensures { IsVerbOf word.now result }
 {
     let (first, others) = word.split_first()?;
     let (second, _) = others.split_first()?;
-    let (verb, spelled) = likely_verb(word.len(), *first, *second)?;
-    if spelled == word { Some(verb) } else { None }
+    let (known, spelled) = likely_verb(word.len(), *first, *second)?;
+    if spelled == word { Some(known) } else { None }
 }
 
-// The one verb whose word may have that length and begin with those two bytes, and its word. The
-// first byte mostly tells it from all others of its length.
-#[tactic(auto, unfolding(crate::specs::Verb::likely_verb))]
-fn likely_verb(len: usize, first: u8, second: u8) -> Option<(Verb, &'static [u8])>
-    ensures verb { option_map (λ likely. likely.0) result ≡ likely_verb len first second }
-    ensures word { IfSome result (λ likely. word_of likely.0 ≡ likely.1.now) }
+// The one verb whose word has that length and begins with those two bytes, and its word.
+fn likely_verb(len: usize, first: u8, second: u8) -> Option<(Known, &'static [u8])>
+    ensures known { IfSome result (λ likely. IsKnown likely.0) }
+    ensures word { IfSome result (λ likely. word_of likely.0.verb ≡ likely.1.now) }
+    ensures like { IfSome result (λ likely. IsLike (word_of likely.0.verb) len first second) }
+    ensures found { (verb : VerbOf) → IsLike (word_of verb) len first second → IsSome result }
 {
     match (len, first, second) {
-        (2, b'e', _) => Some((Verb::Two(TwoNames::Equal), b"eq")),
-        (3, b'a', _) => Some((binary(BinaryOp::Add), b"add")),
-        (3, b'c', _) => Some((Verb::Two(TwoNames::Compare), b"cmp")),
-        (3, b'g', _) => Some((Verb::Keeping(Keeping::Name(KeepingName::Get)), b"get")),
-        (3, b'h', _) => Some((Verb::One(OneName::Has), b"has")),
-        (3, b'l', _) => Some((Verb::One(OneName::Len), b"len")),
-        (3, b'm', _) => Some((binary(BinaryOp::Mul), b"mul")),
-        (3, b'p', _) => Some((binary(BinaryOp::Pow), b"pow")),
-        (3, b'r', _) => Some((binary(BinaryOp::Rem), b"rem")),
-        (3, b's', b'e') => Some((Verb::Set, b"set")),
-        (3, b's', b'u') => Some((binary(BinaryOp::Sub), b"sub")),
-        (4, b'a', _) => Some((Verb::Keeping(Keeping::Part(KeepingPart::Attr)), b"attr")),
-        (4, b'i', _) => Some((Verb::Keeping(Keeping::Names(KeepingNames::Item)), b"item")),
-        (4, b'k', _) => Some((Verb::One(OneName::Kind), b"kind")),
-        (4, b'p', _) => Some((Verb::Keeping(Keeping::Part(KeepingPart::Path)), b"path")),
-        (4, b'r', _) => Some((Verb::Keeping(Keeping::Read), b"read")),
-        (5, b'p', _) => Some((Verb::One(OneName::Print), b"print")),
-        (5, b's', _) => Some((Verb::Keeping(Keeping::Slice), b"slice")),
-        (6, b'e', b's') => Some((Verb::One(OneName::Escape), b"escape")),
-        (6, b'e', b'x') => Some((Verb::Extend, b"extend")),
-        (6, b'f', _) => Some((Verb::One(OneName::Fields), b"fields")),
-        (6, b'n', _) => Some((Verb::Keeping(Keeping::Name(KeepingName::Negate)), b"negate")),
-        (6, b'r', _) => Some((Verb::One(OneName::Remove), b"remove")),
-        (6, b't', _) => Some((Verb::One(OneName::Truthy), b"truthy")),
-        (7, b'r', _) => Some((
-            Verb::Keeping(Keeping::Name(KeepingName::Reverse)),
-            b"reverse",
-        )),
-        (7, b't', _) => Some((Verb::Two(TwoNames::TryCompare), b"try_cmp")),
-        (7, b'i', _) => Some((Verb::One(OneName::IsSafe), b"is_safe")),
-        (8, b'c', _) => Some((Verb::Two(TwoNames::Contains), b"contains")),
-        (9, b'f', _) => Some((binary(BinaryOp::FloorDiv), b"floor_div")),
-        (9, b'm', _) => Some((
-            Verb::Keeping(Keeping::Name(KeepingName::MarkSafe)),
-            b"mark_safe",
-        )),
+        (2, b'e', b'q') => Some((plain(Verb::Equal, Shape::Names), b"eq")),
+        (3, b'a', b'd') => Some((keeping(Verb::Add, Shape::Names), b"add")),
+        (3, b'c', b'm') => Some((plain(Verb::Compare, Shape::Names), b"cmp")),
+        (3, b'g', b'e') => Some((keeping(Verb::Get, Shape::Name), b"get")),
+        (3, b'h', b'a') => Some((plain(Verb::Has, Shape::Name), b"has")),
+        (3, b'l', b'e') => Some((plain(Verb::Len, Shape::Name), b"len")),
+        (3, b'm', b'u') => Some((keeping(Verb::Mul, Shape::Names), b"mul")),
+        (3, b'p', b'o') => Some((keeping(Verb::Pow, Shape::Names), b"pow")),
+        (3, b'r', b'e') => Some((keeping(Verb::Rem, Shape::Names), b"rem")),
+        (3, b's', b'e') => Some((plain(Verb::Set, Shape::Literal), b"set")),
+        (3, b's', b'u') => Some((keeping(Verb::Sub, Shape::Names), b"sub")),
+        (4, b'a', b't') => Some((keeping(Verb::Attr, Shape::Text), b"attr")),
+        (4, b'i', b't') => Some((keeping(Verb::Item, Shape::Names), b"item")),
+        (4, b'k', b'i') => Some((plain(Verb::Kind, Shape::Name), b"kind")),
+        (4, b'p', b'a') => Some((keeping(Verb::Path, Shape::Text), b"path")),
+        (4, b'r', b'e') => Some((keeping(Verb::Read, Shape::Type), b"read")),
+        (5, b'p', b'r') => Some((plain(Verb::Print, Shape::Name), b"print")),
+        (5, b's', b'l') => Some((keeping(Verb::Slice, Shape::Bounds), b"slice")),
+        (6, b'e', b's') => Some((plain(Verb::Escape, Shape::Name), b"escape")),
+        (6, b'e', b'x') => Some((plain(Verb::Extend, Shape::Map), b"extend")),
+        (6, b'f', b'i') => Some((plain(Verb::Fields, Shape::Name), b"fields")),
+        (6, b'n', b'e') => Some((keeping(Verb::Negate, Shape::Name), b"negate")),
+        (6, b'r', b'e') => Some((plain(Verb::Remove, Shape::Name), b"remove")),
+        (6, b't', b'r') => Some((plain(Verb::Truthy, Shape::Name), b"truthy")),
+        (7, b'r', b'e') => Some((keeping(Verb::Reverse, Shape::Name), b"reverse")),
+        (7, b't', b'r') => Some((plain(Verb::TryCompare, Shape::Names), b"try_cmp")),
+        (7, b'i', b's') => Some((plain(Verb::IsSafe, Shape::Name), b"is_safe")),
+        (8, b'c', b'o') => Some((plain(Verb::Contains, Shape::Names), b"contains")),
+        (9, b'f', b'l') => Some((keeping(Verb::FloorDiv, Shape::Names), b"floor_div")),
+        (9, b'm', b'a') => Some((keeping(Verb::MarkSafe, Shape::Name), b"mark_safe")),
         _ => None,
     }
 }
 
-// The verb of an operator.
-fn binary(op: BinaryOp) -> Verb
-    ensures { result ≡ keeping (two_names (operator op)) }
+// A verb behind which no name for what is found may stand.
+fn plain(verb: Verb, shape: Shape) -> Known
+    ensures { result ≡ record { verb = verb; shape = shape; keeps = false } }
 {
-    Verb::Keeping(Keeping::Names(KeepingNames::Binary(op)))
-}
-
-/// The call of one name. Takes no memory.
-pub(crate) fn one_call(verb: OneName, name: String) -> Call
-    ensures { request_of result ≡ (of_one verb).1 (string_bytes name) }
-{
-    match verb {
-        OneName::Remove => Call::Remove { name },
-        OneName::Has => Call::Has { name },
-        OneName::Len => Call::Len { of: name },
-        OneName::Truthy => Call::Truthy { of: name },
-        OneName::Kind => Call::Kind { of: name },
-        OneName::IsSafe => Call::IsSafe { of: name },
-        OneName::Print => Call::Print { of: name },
-        OneName::Escape => Call::Escape { of: name },
-        OneName::Fields => Call::Fields { of: name },
+    Known {
+        verb,
+        shape,
+        keeps: false,
     }
 }
 
-/// The call of two names. Takes no memory.
-pub(crate) fn two_call(verb: TwoNames, left: String, right: String) -> Call
-    ensures { request_of result ≡ (of_two verb).1 (string_bytes left) (string_bytes right) }
+// A verb behind which a name for what is found may stand.
+fn keeping(verb: Verb, shape: Shape) -> Known
+    ensures { result ≡ record { verb = verb; shape = shape; keeps = true } }
 {
-    match verb {
-        TwoNames::Equal => Call::Equal { left, right },
-        TwoNames::Compare => Call::Compare { left, right },
-        TwoNames::TryCompare => Call::TryCompare { left, right },
-        TwoNames::Contains => Call::Contains {
-            of: left,
-            needle: right,
+    Known {
+        verb,
+        shape,
+        keeps: true,
+    }
+}
+
+/// The call that a verb makes of its operands. `None` where they are of another shape. Takes no
+/// memory.
+#[inline(always)]
+pub(crate) fn call_of(verb: Verb, operands: Operands) -> Option<Call>
+    ensures { option_map request_of result ≡ request_in (row_of verb).making operands }
+{
+    match operands {
+        Operands::Name(name) => match verb {
+            Verb::Remove => Some(Call::Remove { name }),
+            Verb::Has => Some(Call::Has { name }),
+            Verb::Get => Some(Call::Get { name }),
+            Verb::Reverse => Some(Call::Reverse { of: name }),
+            Verb::Negate => Some(Call::Negate { of: name }),
+            Verb::Len => Some(Call::Len { of: name }),
+            Verb::Truthy => Some(Call::Truthy { of: name }),
+            Verb::Kind => Some(Call::Kind { of: name }),
+            Verb::IsSafe => Some(Call::IsSafe { of: name }),
+            Verb::MarkSafe => Some(Call::MarkSafe { of: name }),
+            Verb::Print => Some(Call::Print { of: name }),
+            Verb::Escape => Some(Call::Escape { of: name }),
+            Verb::Fields => Some(Call::Fields { of: name }),
+            _ => None,
+        },
+        Operands::Names(left, right) => match verb {
+            Verb::Equal => Some(Call::Equal { left, right }),
+            Verb::Compare => Some(Call::Compare { left, right }),
+            Verb::TryCompare => Some(Call::TryCompare { left, right }),
+            Verb::Contains => Some(Call::Contains {
+                of: left,
+                needle: right,
+            }),
+            Verb::Item => Some(Call::Item {
+                of: left,
+                item: right,
+            }),
+            Verb::Add => Some(binary(BinaryOp::Add, left, right)),
+            Verb::Sub => Some(binary(BinaryOp::Sub, left, right)),
+            Verb::Mul => Some(binary(BinaryOp::Mul, left, right)),
+            Verb::Rem => Some(binary(BinaryOp::Rem, left, right)),
+            Verb::FloorDiv => Some(binary(BinaryOp::FloorDiv, left, right)),
+            Verb::Pow => Some(binary(BinaryOp::Pow, left, right)),
+            _ => None,
+        },
+        Operands::Text(of, text) => match verb {
+            Verb::Path => Some(Call::Path { of, path: text }),
+            Verb::Attr => Some(Call::Attr { of, attr: text }),
+            _ => None,
+        },
+        Operands::Bounds(of, bounds) => match verb {
+            Verb::Slice => Some(Call::Slice {
+                of,
+                start: bounds.start,
+                end: bounds.end,
+                step: bounds.step,
+            }),
+            _ => None,
+        },
+        Operands::Type(to, of) => match verb {
+            Verb::Read => Some(Call::Read { of, to }),
+            _ => None,
+        },
+        Operands::Literal(name, value) => match verb {
+            Verb::Set => Some(Call::Set { name, value }),
+            _ => None,
+        },
+        Operands::Map(source) => match verb {
+            Verb::Extend => Some(Call::Extend { source }),
+            _ => None,
         },
     }
 }
 
-/// The call of one name that may keep what it finds. Takes no memory.
-pub(crate) fn keeping_call(verb: KeepingName, name: String) -> Call
-    ensures { request_of result ≡ (of_keeping verb).1 (string_bytes name) }
+// What an operator computes of two numbers.
+#[inline(always)]
+fn binary(op: BinaryOp, left: String, right: String) -> Call
+    ensures { result ≡ binary op left right }
 {
-    match verb {
-        KeepingName::Get => Call::Get { name },
-        KeepingName::Reverse => Call::Reverse { of: name },
-        KeepingName::Negate => Call::Negate { of: name },
-        KeepingName::MarkSafe => Call::MarkSafe { of: name },
-    }
-}
-
-/// The call of two names that may keep what it finds. Takes no memory.
-pub(crate) fn names_call(verb: KeepingNames, left: String, right: String) -> Call
-    ensures { request_of result ≡ (of_names verb).1 (string_bytes left) (string_bytes right) }
-{
-    match verb {
-        KeepingNames::Item => Call::Item {
-            of: left,
-            item: right,
-        },
-        KeepingNames::Binary(op) => Call::Binary { op, left, right },
-    }
-}
-
-/// The call of a name and a text that may keep what it finds. Takes no memory.
-pub(crate) fn part_call(verb: KeepingPart, name: String, text: String) -> Call
-    ensures { request_of result ≡ (of_part verb).1 (string_bytes name) (string_bytes text) }
-{
-    match verb {
-        KeepingPart::Path => Call::Path {
-            of: name,
-            path: text,
-        },
-        KeepingPart::Attr => Call::Attr {
-            of: name,
-            attr: text,
-        },
-    }
+    Call::Binary { op, left, right }
 }

@@ -1,8 +1,8 @@
 //! Blanks, names and operands: the parts of a line that stand one behind another.
-ghost use Rattle.std.specs.Prelude.{◌≡◌, ℕ, List};
+ghost use Rattle.std.specs.Prelude.{◌≡◌, ℕ, List, IfSome};
 ghost use Rattle.std.specs.List.{list_all};
 ghost use Rattle.std.specs.Option.{option_map};
-ghost use Rattle.tera_script.specs.Word.{is_blank, is_name_start, is_name_byte};
+ghost use Rattle.tera_script.specs.Word.{is_blank, is_name_start, is_name_byte, IsName};
 ghost use Rattle.tera_script.specs.Readers.{past, gap_at, name_at, operand_at, named_rest};
 ghost use Rattle.tera_script.specs.Readers.{is_word_byte, is_of};
 
@@ -114,7 +114,8 @@ pub(crate) fn take_name(bytes: &[u8]) -> Option<(&[u8], &[u8])>
 // The name behind a gap, and the bytes behind that name.
 #[tactic(auto, unfolding(crate::specs::Readers::operand_at))]
 pub(crate) fn take_operand(bytes: &[u8]) -> Option<(&[u8], &[u8])>
-    ensures { option_map named_rest result ≡ operand_at bytes.now }
+    ensures operand { option_map named_rest result ≡ operand_at bytes.now }
+    ensures named { IfSome result (λ found. IsName found.0.now) }
 {
     take_name(past_gap(bytes)?)
 }

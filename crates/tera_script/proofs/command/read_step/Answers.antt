@@ -13,4 +13,4 @@ returns-in_default-verb_in c = command_none_verb c.args.bytes.now c.in-Some.word
 
 pub returns : goal.returns
 returns c = on_answer _ _ c.read_operands.result (λ answer h. command_answer c.args.bytes.now c.in-Some.word.now c.in-Some.operands.now (sym c.in-Some.ensures)
-    c.in-Some-verb_in.verb c.in-Some-verb_in.ensures (option_map command_of answer) h) c.read_operands.ensures
+    c.in-Some-verb_in.known.verb c.in-Some-verb_in.ensures.0 (option_map command_of answer) h) c.read_operands.ensures

@@ -4,7 +4,7 @@ use Rattle.std.proofs.lemmas.Bool.Decides.{Decides-eqb}
 use Rattle.std.proofs.lemmas.Slice.Eq.{strip_prefix_is}
 use Rattle.tera_values.specs.View.{marked}
 use Rattle.tera_script.proofs.Literals.{quoted_none, quoted_some}
-use Rattle.tera_script.proofs.Found.{text_none_gap, text_none_quote, text_none, text_found}
+use Rattle.tera_script.proofs.Values.{text_none_gap, text_none_quote, text_none, text_found}
 use Rattle.tera_script.proofs.operand.take_text_operand.Goals as goal
 
 pub returns-in_default : goal.returns-in_default

@@ -1,23 +1,18 @@
-use Rattle.tera_script.proofs.WorkedTexts.{escaped_quote, two_bytes, four_bytes, surrogate, no_digit, seven_digits, unknown_escape}
+use Rattle.std.proofs.Common.{[], ◌∷◌, refl, sym, arith, true≢false}
+use lib.Utf8.{encode}
+use Rattle.std.specs.Prelude.{codes}
+use Rattle.tera_script.specs.Text.{itself, quote, character}
+use Rattle.tera_script.proofs.Rows.{first_token}
 use Rattle.tera_script.proofs.text_laws.worked_texts.Goals as goal
 
-pub returns-clause-escaped_quote : goal.returns-clause-escaped_quote
-returns-clause-escaped_quote c = escaped_quote
-
-pub returns-clause-two_bytes : goal.returns-clause-two_bytes
-returns-clause-two_bytes c = two_bytes
-
-pub returns-clause-four_bytes : goal.returns-clause-four_bytes
-returns-clause-four_bytes c = four_bytes
-
-pub returns-clause-surrogate : goal.returns-clause-surrogate
-returns-clause-surrogate c = surrogate
-
-pub returns-clause-no_digit : goal.returns-clause-no_digit
-returns-clause-no_digit c = no_digit
-
-pub returns-clause-seven_digits : goal.returns-clause-seven_digits
-returns-clause-seven_digits c = seven_digits
-
-pub returns-clause-unknown_escape : goal.returns-clause-unknown_escape
-returns-clause-unknown_escape c = unknown_escape
+pub returns : goal.returns
+unfolding encode
+returns c = record {
+  escaped_quote = (itself 97 ∷ quote ∷ itself 98 ∷ [], search arith, refl, refl);
+  two_bytes = (character (codes "e9") ∷ [], search arith, refl, refl);
+  four_bytes = (character (codes "1F600") ∷ [], search arith, refl, refl);
+  surrogate = λ text p. let h = first_token 92 (codes "u{d800}") text p in true≢false (sym h.3);
+  no_digit = λ text p. let h = first_token 92 (codes "u{}") text p in omega (arith, h.1);
+  seven_digits = λ text p. let h = first_token 92 (codes "u{1234567}") text p in omega (arith, h.2);
+  unknown_escape = λ text p. let h = first_token 92 (codes "x") text p in omega (arith, h.1);
+}

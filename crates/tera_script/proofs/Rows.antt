@@ -1,0 +1,166 @@
+-- Worked lines: each part of a line is what its reader answers, and that is computed.
+use Rattle.std.proofs.Common.{◌≡◌, ◌≢◌, ◌≤◌, ℕ, zero, suc, pos, true, false, cond, eqb, List, [], ◌∷◌, ◌++◌, Option, Some, None, refl, sym, ap, ◌∙◌, arith}
+use Rattle.std.proofs.Common.{append-nil, append_assoc, subst, lit<, lit≤}
+use borrow.Author.Tests.{eqb_apart}
+use Rattle.std.specs.Prelude.{flat_map, codes}
+use Rattle.tera_meaning.specs.Form.{Form}
+use Rattle.tera_meaning.specs.Integer.{i64, Integer, IntegerKind}
+use Rattle.tera_meaning.specs.KeyMeaning.{KeyForm, truth_key, text_key, owned}
+use Rattle.tera_meaning.specs.Request.{Command, set, asking}
+use Rattle.tera_meaning.specs.Tree.{none, number, object, no_members, member, depth}
+use Rattle.tera_script.specs.declared.verb.Verb.{Verb}
+use Rattle.tera_script.specs.declared.verb.Verb.TheVariants.{Set}
+use Rattle.tera_script.specs.declared.verb.Shape.TheVariants as shape
+use Rattle.tera_script.specs.Line.{levels, Says, IsBad}
+use Rattle.tera_script.specs.Literal.{IsPair, SpellsKey, SpellsTree}
+use Rattle.tera_script.specs.Nested.{in_brackets, in_arrays, in_turns, in_both}
+use Rattle.tera_script.specs.Number.{SpellsNumber}
+use Rattle.tera_script.specs.Readers.{past, gap_at, name_at, operand_at, names_at, into_in, BeginsWithKey, BeginsWithPair, BeginsWithLiteral, IsPairAt}
+use Rattle.tera_script.specs.Readers.{Ends, Stops, is_word_byte, IsLiteralAt, IsMapAt, is_end_or_comment}
+use Rattle.tera_script.specs.Text.{Token, itself, spelling, IsToken, SpellsText}
+use Rattle.tera_script.specs.Verb.{Given, Making, of_name, of_names, shape_of, requested, row_of, word_of}
+use Rattle.tera_script.specs.Word.{is_blank, AreBlanks}
+use Rattle.tera_script.proofs.Commands.{no_given, no_into, answered, command_answer}
+use Rattle.tera_script.proofs.Both.{name_part, both_at}
+use Rattle.tera_script.proofs.Fronts.{head}
+use Rattle.tera_script.proofs.Lines.{bad_command, line_says}
+use Rattle.tera_script.proofs.Literals.{IsOpenedAt, literal_found, only_at}
+use Rattle.tera_script.proofs.Maps.{no_pairs_yet, no_more_pair}
+use Rattle.tera_script.proofs.Openings.{opened, stops_end}
+use Rattle.tera_script.proofs.Tokens.{token_at, token_first}
+use Rattle.tera_script.proofs.Utf8Fronts.{all_ascii, ascii_utf8}
+use Rattle.tera_script.proofs.Values.{value_parts, value_at, names_part}
+use Rattle.tera_script.specs.inner.Command.{IsGivenAt, AreOperandsOf}
+use Rattle.std.specs.Option.{option_map}
+
+-- a call's word and what stands behind it
+module _ (verb : Verb) {line behind : List ℕ} (n : name_at (past is_blank line) ≡ Some (word_of verb, behind)) where
+  says : {command : Command} → all_ascii line ≡ true → AreOperandsOf (row_of verb) behind (Some command) → Says line command
+  says {command} u h = line_says line refl refl (ascii_utf8 line u) (command_answer (past is_blank line) (word_of verb) behind n verb refl (Some command) h)
+
+  pub bad_call : is_end_or_comment (past is_blank line) ≡ false → AreOperandsOf (row_of verb) behind None → IsBad line
+  bad_call e h = bad_command line refl refl e (command_answer (past is_blank line) (word_of verb) behind n verb refl None h)
+
+-- one name and two
+abbrev pub names_in : (making : Making) → List ℕ → Option (Given (shape_of making) × List ℕ)
+names_in (of_name f) bytes = operand_at bytes
+names_in (of_names f) bytes = names_at bytes
+names_in making bytes = None
+
+names_given : (making : Making) (bytes : List ℕ) (given : Given (shape_of making)) (rest : List ℕ) → names_in making bytes ≡ Some (given, rest)
+    → IsGivenAt (shape_of making) bytes (Some (given, rest))
+unfolding operand_at names_at
+names_given (of_name f) bytes given rest e = name_part bytes (sym e)
+names_given (of_names f) bytes given rest e = names_part bytes (sym e)
+names_given making bytes given rest e = absurd (cc)
+
+module _ (verb : Verb) {line behind rest : List ℕ} {given : Given (shape_of (row_of verb).making)}
+    (n : name_at (past is_blank line) ≡ Some (word_of verb, behind)) (e : names_in (row_of verb).making behind ≡ Some (given, rest))
+  where
+    pub says_named : {into : Option (List ℕ)} → all_ascii line ≡ true → into_in (row_of verb).keeps rest ≡ Some into
+        → Says line (record { request = requested (row_of verb).making given; into = into })
+    says_named {into} u i = says verb n u (answered (row_of verb) behind given rest (names_given (row_of verb).making behind given rest e) into i)
+
+    pub bad_into : is_end_or_comment (past is_blank line) ≡ false → into_in (row_of verb).keeps rest ≡ None → IsBad line
+    bad_into c i = bad_call verb n c (no_into (row_of verb) behind given rest (names_given (row_of verb).making behind given rest e) i)
+
+-- a name and a value
+pub value_given : (behind : List ℕ) {name at_value literal : List ℕ} → operand_at behind ≡ Some (name, at_value) → gap_at at_value ≡ Some literal
+    → (answer : Option (Form × List ℕ)) → IsLiteralAt levels literal answer
+    → IsGivenAt shape.Literal behind (option_map (λ found. ((name, found.0), found.1)) answer)
+value_given behind {name} {at_value} {literal} o g answer h = both_at value_parts behind (sym o) answer (value_at at_value literal g answer h)
+
+blanks_only : (after : List ℕ) → AreBlanks after → into_in false after ≡ Some None
+unfolding into_in
+blanks_only after b = ap (λ blank. cond blank (Some None) None) b
+
+pub says_literal : (after : List ℕ) {line behind name at_value literal : List ℕ} {value : Form} → name_at (past is_blank line) ≡ Some (codes "set", behind)
+    → all_ascii line ≡ true → operand_at behind ≡ Some (name, at_value) → gap_at at_value ≡ Some literal → IsLiteralAt levels literal (Some (value, after))
+    → AreBlanks after → Says line (asking (set name value))
+says_literal after {line} {behind} {name} {at_value} {literal} {value} n u o g h b =
+    says Set n u (answered (row_of Set) behind (name, value) after (value_given behind o g (Some (value, after)) h) None (blanks_only after b))
+
+pub says_set : (after : List ℕ) {line behind name at_value literal : List ℕ} {value : Form} → name_at (past is_blank line) ≡ Some (codes "set", behind)
+    → all_ascii line ≡ true → operand_at behind ≡ Some (name, at_value) → gap_at at_value ≡ Some literal
+    → IsOpenedAt (opened literal) levels literal (Some (value, after)) → AreBlanks after → Says line (asking (set name value))
+says_set after {line} {behind} {name} {at_value} {literal} {value} n u o g h b = says_literal after n u o g
+    (literal_found levels literal (Some (value, after)) h) b
+
+pub bad_literal : {literal : List ℕ} → gap_at (32 ∷ literal) ≡ Some literal → IsLiteralAt levels literal None → IsBad (codes "set a " ++ literal)
+unfolding name_at operand_at gap_at
+bad_literal {literal} g h =
+    bad_call Set refl refl (no_given (row_of Set) (codes " a " ++ literal) (value_given _ {name = codes "a"} {at_value = 32 ∷ literal} refl g None h))
+
+pub bad_value : {literal : List ℕ} → gap_at (32 ∷ literal) ≡ Some literal → IsOpenedAt (opened literal) levels literal None → IsBad (codes "set a " ++ literal)
+bad_value {literal} g h = bad_literal g (literal_found levels literal None h)
+
+-- a literal that nests too deep
+pub too_deep : (xs : List ℕ) (tree : Form) → SpellsTree xs tree → Ends tree [] → suc levels ≤ depth tree → IsLiteralAt levels xs None
+too_deep xs tree s ends h = λ utf8 w rest b d stops.
+    let at : BeginsWithLiteral xs tree [] = record { literal = xs; spells = s; spelled = sym (append-nil xs) } in
+    let same = only_at tree xs [] at ends w rest b (stops_end w rest stops) in
+    omega (arith, ap depth same.0, d, h)
+
+pub nested_spelled : (n : ℕ) (literal : List ℕ) (value : Form) → SpellsTree literal value → SpellsTree (in_brackets n literal) (in_arrays n value)
+nested_spelled zero literal value s = s
+nested_spelled (suc n) literal value s =
+    let inner = in_brackets n literal in
+    (inner, (inner, [], ([], inner, [], refl, nested_spelled n literal value s, refl, sym (append-nil inner)), refl, sym (append-nil inner)), refl)
+
+pub turns_spelled : (n : ℕ) (literal : List ℕ) (value : Form) → SpellsTree literal value → SpellsTree (in_turns n literal) (in_both n value)
+turns_spelled zero literal value s = s
+turns_spelled (suc n) literal value s =
+    let inner = in_turns n literal in
+    let pair = codes "true:" ++ inner in
+    let braces = 123 ∷ (pair ++ 125 ∷ []) in
+    let value_is = turns_spelled n literal value s in
+    let paired : IsPair (λ l. SpellsKey l (truth_key true)) (λ l. SpellsTree l (in_both n value)) pair =
+    (codes "true", inner, ([], codes "true", [], refl, refl, refl, refl), ([], inner, [], refl, value_is, refl, sym (append-nil inner)), refl) in
+    let map : SpellsTree braces (object (member (truth_key true) (in_both n value) no_members)) = (pair, (pair, [], paired, refl, sym (append-nil pair)), refl)
+    in (
+      braces,
+      (braces, [], ([], braces, [], refl, map, refl, sym (append-nil braces)), refl, sym (append-nil braces)),
+      ap (λ xs. codes "[{true:" ++ xs) (sym (append_assoc inner (125 ∷ []) (93 ∷ []))),
+    )
+
+-- a tree and a key by their literals, and a pair of a map by these
+pub tree_at : (literal : List ℕ) {xs rest : List ℕ} {tree : Form} → SpellsTree literal tree → xs ≡ literal ++ rest → BeginsWithLiteral xs tree rest
+tree_at literal s e = record { literal = literal; spells = s; spelled = e }
+
+pub key_at : (literal : List ℕ) {xs rest : List ℕ} {key : KeyForm} → SpellsKey literal key → xs ≡ literal ++ rest → BeginsWithKey xs key rest
+key_at literal s e = record { literal = literal; spells = s; spelled = e }
+
+pub pair_at : {xs after next rest : List ℕ} {key : KeyForm} {tree : Form} → BeginsWithKey xs key after → past is_blank after ≡ 58 ∷ next
+    → BeginsWithLiteral (past is_blank next) tree rest → BeginsWithPair xs (key, tree) rest
+pair_at {xs} {after} {next} k e t = (after, next, k, e, t)
+
+-- an item that is read, and the first pair of a map
+pub none_read : (rest : List ℕ) → Stops is_word_byte rest → IsLiteralAt 63 (codes "none" ++ rest) (Some (none, rest))
+none_read rest s = (none, refl, tree_at (codes "none") refl refl, s, lit≤ tt)
+
+pub no_first_pair : {inside : List ℕ} → ((end : List ℕ) → past is_blank inside ≢ 125 ∷ end) → IsPairAt 63 (past is_blank inside) None → IsMapAt 64 inside None
+no_first_pair opens = no_more_pair (no_pairs_yet refl refl opens) refl
+
+abbrev pub one : IntegerKind → Integer
+one kind = record { kind = kind; value = pos 1 }
+
+pub one_spelled : SpellsNumber (codes "1") (one i64)
+one_spelled = record { minus = false; digits = codes "1"; suffix = None; numeral = (lit< tt, (lit< tt, tt)); spelled = refl; value = refl; kind = lit< tt }
+
+pub key_a : (after : List ℕ) → BeginsWithKey (codes "\"a\"" ++ after) (text_key (owned (codes "a"))) after
+key_a after = key_at (codes "\"a\"") (codes "a", (itself 97 ∷ [], search arith, refl, refl), refl) refl
+
+pub a_is_one : (rest : List ℕ) → Ends (number (one i64)) rest
+    → IsPairAt 63 (codes "\"a\": 1" ++ rest) (Some (text_key (owned (codes "a")), number (one i64), rest))
+a_is_one rest s = (number (one i64), refl, pair_at (key_a (codes ": 1" ++ rest)) refl (tree_at (codes "1") one_spelled refl), s, lit≤ tt)
+
+-- bytes that begin with a token begin with the one that their first bytes name, and so do those that spell something
+pub token_there : (bs x : List ℕ) (p : Token) → IsToken p → bs ≡ spelling p ++ x → IsToken (token_at bs).0
+token_there bs x p h e = subst IsToken (sym (ap (λ (pair : Token × List ℕ). pair.0) (ap token_at e ∙ token_first p x h))) h
+
+pub first_token : (b : ℕ) (bs text : List ℕ) → SpellsText (b ∷ bs) text → IsToken (token_at (b ∷ bs)).0
+first_token b bs text ([], h, e, is) = absurd (cc)
+first_token b bs text (p ∷ ps, h, e, is) = token_there (b ∷ bs) (flat_map spelling ps) p h.0 e
+
+pub apart : {b c : ℕ} {xs ys : List ℕ} → eqb b c ≡ false → b ∷ xs ≢ c ∷ ys
+apart {b} {c} n e = eqb_apart b c n (ap head e)
