@@ -10,7 +10,7 @@ use Rattle.tera_replies.specs.Replay.{Replays}
 use Rattle.tera_replies.specs.Script.{HasNoLineFeed, line_feed}
 
 -- the first of no lines are answered, and this is told
-pub nothing_read : (first : Option (List ℕ)) (fails : Option Bool) (InGave InFailed OutGets : List ℕ → Type 0) (OutBroke : Type 0) (ErrGets : List ℕ → Type 0)
+pub nothing_read : (first : Option (List ℕ)) (fails : Option Bool) (InGave InFailed OutGets OutBroke ErrGets : List ℕ → Type 0)
     → InGave [] → OutGets [] → ErrGets (codes "error: Out of memory\n") → IfSome first (λ bytes. Replays bytes fails InGave InFailed OutGets OutBroke ErrGets 1)
 nothing_read None fails InGave InFailed OutGets OutBroke ErrGets gave none told = tt
 nothing_read (Some bytes) fails InGave InFailed OutGets OutBroke ErrGets gave none told = inl (

@@ -14,35 +14,34 @@ use tera_report::watch::{Watched, Writer};
 
 fn main(rt: HostRuntime) -> ExitCode {
     let mut err = rt.stderr();
-    let (status, _buffer) = replay_buffered(rt.alloc(), rt.stdin(), rt.stdout(), &mut err);
+    let out = BufWriter::new(rt.alloc(), rt.stdout()).ok();
+    let (status, _buffer) = replay_buffered(rt.alloc(), rt.stdin(), out, &mut err);
     ExitCode::from(status)
 }
 
-/// Replays a script, as `replay` does, with a buffer before `out`, and gives the status and the
-/// buffer as the replay left it. Where no memory is found for the buffer, no line is read, `err`
+/// Replays a script to a buffer, as `replay` does, and gives the status and the buffer as the
+/// replay left it. Where no memory was found for one, so that there is none, no line is read, `err`
 /// gets `error: Out of memory`, and the status is 1.
-fn replay_buffered<S: Source + Drop, W: Write + Drop, E: Writer>(
+fn replay_buffered<S: Source + Drop, B: Writer + Drop, E: Writer>(
     alloc: Global,
     input: S,
-    out: W,
+    out: Option<B>,
     err: &mut E,
-) -> (u8, Option<BufWriter<W>>)
+) -> (u8, Option<B>)
     ensures known { IfSome (S.left input) (λ bytes. Replays bytes (S.fails input)
         (Gave S.gave input) (Failed S.gave input)
-        (BufferGets ⟦<BufWriter<W> as Writer>⟧.contents ⟦<BufWriter<W> as Writer>⟧.wrote
-        ⟦<BufWriter<W> as Writer>⟧.flushed out result.1)
-        (BufferBroke ⟦<BufWriter<W> as Writer>⟧.wrote ⟦<BufWriter<W> as Writer>⟧.flushed
-        out result.1)
+        (BufferGets B.contents B.wrote B.flushed out result.1)
+        (BufferBroke B.wrote B.flushed out result.1)
         (λ text. WriterTakesOrFails E.contents E.wrote err.old text err.new) result.0) }
     ensures status { result.0 ≤ 2 }
     ensures silent { result.0 ≡ 0 → err.new ≡ err.old }
 {
-    match BufWriter::new(alloc, out) {
-        Ok(mut buffered) => {
+    match out {
+        Some(mut buffered) => {
             let status = replay(alloc, input, &mut buffered, err);
             (status, Some(buffered))
         }
-        Err(_) => {
+        None => {
             let _ = Watched::new(err).write_all(b"error: Out of memory\n");
             (1, None)
         }

@@ -12,6 +12,7 @@ use Rattle.tera_replies.specs.Script.{Script, without_return, last_line, ended, 
 use Rattle.tera_replies.specs.Replay.{lines_given, AllAnswered, ReadingFailed, MemoryFailed, AreAnswered, report}
 use Rattle.tera_replies.specs.Source.{EndIsTold, MayErr}
 use Rattle.tera_replies.specs.Stretch.{bad_at, Runs, Place, Goes, StopsAtBad, Begins, start}
+use Rattle.tera_replies.proofs.BrokenLemmas.{first_given}
 use Rattle.tera_replies.proofs.RunLemmas.{Runs-append, Script-append}
 use Rattle.tera_replies.proofs.SplitLemmas.{Splits-more, splits, split_line}
 
@@ -26,25 +27,6 @@ all_given None lines part told = refl
 
 not_failing : (fails : Option Bool) → EndIsTold fails → fails ≡ Some true → ⊥
 not_failing fails told is = subst EndIsTold is told
-
--- the first of the lines are among those given
-first_given : (fails : Option Bool) (xs ys : List (List ℕ)) (part : List ℕ) → (more : List (List ℕ))
-    × (lines_given fails (xs ++ ys) part ≡ map without_return xs ++ (map without_return ys ++ more))
-first_given (Some true) xs ys part = (
-  [],
-  map-append without_return xs ys ∙ ap (λ (zs : List (List ℕ)). map without_return xs ++ zs)
-      (sym (append-nil (map without_return ys))),
-)
-first_given (Some false) xs ys part = (
-  last_line part,
-  ap (λ (zs : List (List ℕ)). zs ++ last_line part) (map-append without_return xs ys)
-      ∙ append_assoc (map without_return xs) (map without_return ys) (last_line part),
-)
-first_given None xs ys part = (
-  last_line part,
-  ap (λ (zs : List (List ℕ)). zs ++ last_line part) (map-append without_return xs ys)
-      ∙ append_assoc (map without_return xs) (map without_return ys) (last_line part),
-)
 
 -- a script ends at its first bad line
 Script-bad : (n m : ℕ) (xs : List (List ℕ)) (line : List ℕ) (ys : List (List ℕ)) (cs : List Command) → Script n xs cs None → m ≡ n + length xs → IsBad line

@@ -1,21 +1,23 @@
 -- The whole input, piece by piece.
 use Rattle.std.proofs.Common.{◌≡◌, ℕ, ◌+◌, ◌-◌, ◌^◌, ◌<◌, ◌≤◌, Bool, ◌||◌, inl, inr, List, [], ◌∷◌, ◌++◌, length, take, Option, None, Some, Result, Ok, Err}
-use Rattle.std.proofs.Common.{IfSome, IfOk, IfErr, cond, sym, ◌∙◌, ap, subst, refl, append_assoc, append-nil, length-append, arith}
+use Rattle.std.proofs.Common.{codes, IfSome, IfOk, IfErr, cond, sym, ◌∙◌, ap, subst, refl, append_assoc, append-nil, length-append, arith}
 use Rattle.std.specs.Io.KnownBytes.{Consumes, IsAtEnd}
 use Rattle.std.proofs.lemmas.List.Concat.{flat_map-append}
 use Rattle.tera_meaning.specs.State.{State}
 use Rattle.tera_report.specs.Errors.{report_of}
 use Rattle.tera_report.specs.Report.{Report, report_text}
-use Rattle.tera_report.specs.Sink.{Sends, Broke}
-use Rattle.tera_report.proofs.SentLaws.{sends_nothing, sends_joined, sends_flush, broke_later, broke_flush}
+use Rattle.tera_report.specs.Sink.{Sends}
+use Rattle.tera_report.proofs.SentLaws.{sends_nothing, sends_joined, sends_flush}
 use Rattle.tera_replies.specs.declared.fault.Fault.{Fault}
 use Rattle.tera_replies.specs.declared.fault.Fault.TheVariants.{BadLine, ReadFailed, WriteFailed, OutOfMemory}
+use Rattle.tera_replies.specs.Output.{BrokeOn}
 use Rattle.tera_replies.specs.Script.{ended, last_line, line_feed}
-use Rattle.tera_replies.specs.Replay.{AllAnswered}
+use Rattle.tera_replies.specs.Replay.{AllAnswered, MemoryFailed}
 use Rattle.tera_report.specs.inner.WriterLaws.{folds_joined}
 use Rattle.tera_replies.specs.declared.source.ReadError.{ReadError}
 use Rattle.tera_replies.specs.Source.{EndIsTold, MayErr, Attempt, bytes_given, given_by, Reads, ReadFails}
 use Rattle.tera_replies.specs.Stretch.{Place, Goes, Runs, StopsAtBad, Begins, Stops, LineStops, Ends, start}
+use Rattle.tera_replies.proofs.BrokenLemmas.{broke_on_flush, broke_on_later, broke_at_end, broke_at_memory}
 use Rattle.tera_replies.proofs.StretchLemmas.{Goes-append, Goes-none}
 use Rattle.tera_replies.proofs.EndLemmas.{at_end, at_bad, at_bad_end, at_memory, at_failure}
 
@@ -41,7 +43,8 @@ Consumes-append (Some hs) (Some bs) None xs ys g h = absurd h
 Consumes-append (Some hs) (Some bs) (Some cs) xs ys g h = g ∙ ap (λ (zs : List ℕ). xs ++ zs) h ∙ sym (append_assoc xs ys cs)
 
 -- how the whole went, where it is known what the source had
-abbrev pub EndsKnown : Option (List ℕ) → Option Bool → (List ℕ → Type 0) → (List ℕ → Type 0) → (List ℕ → Type 0) → Type 0 → Result Bool Fault → Type 0
+abbrev pub EndsKnown : Option (List ℕ) → Option Bool → (List ℕ → Type 0) → (List ℕ → Type 0) → (List ℕ → Type 0) → (List ℕ → Type 0)
+    → Result Bool Fault → Type 0
 EndsKnown first fails InGave InFailed OutGets OutBroke result = IfSome first (λ bytes. Ends bytes fails InGave InFailed OutGets OutBroke result)
 
 -- no read
@@ -60,27 +63,31 @@ reads_more gave s bytes t piece answer u f one =
       whole = flat_map-append given_by f.attempts (a ∷ []) ∙ (λ i. f.whole i ++ append-nil (bytes_given answer piece) i);
     }
 
+-- all of some bytes are a beginning of them
+all_read : (bytes text : List ℕ) (now : Place) → Goes start bytes text now → Begins start bytes text
+all_read bytes text now goes = record { read = bytes; unread = []; place = now; bytes_are = sym (append-nil bytes); goes = goes }
+
 -- what the end of the input gave
 abbrev pub LastAnswered : Place → State → (List ℕ → Type 0) → Bool → Type 0
 LastAnswered now new OutGets wanted = (text : List ℕ) × (last : Bool) × Runs now.number now.state (last_line now.part) text last new
     × (wanted ≡ (now.wanted || last)) × OutGets text
 
-abbrev pub LastStops : Place → Type 0 → Type 0 → Fault → Type 0
-LastStops now OutStays OutBroke fault = (last_line now.part ≡ now.part ∷ []) × LineStops now.number now.part OutStays OutBroke fault
+abbrev pub LastStops : Place → Type 0 → (List ℕ → Type 0) → Fault → Type 0
+LastStops now OutStays OutBroke fault = (last_line now.part ≡ now.part ∷ []) × LineStops now.number now.state now.part OutStays OutBroke fault
 
 module _ {R S : Type 0} (gave : R → List ℕ → Result ℕ ReadError → R → Type 0) (in_old : R) (takes fails_on : S → List ℕ → S → Type 0)
     (flushes flush_fails : S → S → Type 0) where
   -- how the whole went with an input that came so far
   abbrev Came : R → Option (List ℕ) → Option Bool → S → S → Result Bool Fault → Type 0
   Came in_new first fails before after result = EndsKnown first fails (λ given. Reads gave in_old given in_new) (λ given. ReadFails gave in_old given in_new)
-      (λ text. Sends takes flushes before text after) (Broke takes fails_on flushes flush_fails before after) result
+      (λ text. Sends takes flushes before text after) (λ text. BrokeOn takes fails_on flushes flush_fails before text after) result
 
   -- the bytes were sent
   abbrev Sent : S → S → List ℕ → Type 0
   Sent before after text = Sends takes flushes before text after
 
-  abbrev IsBroken : S → S → Type 0
-  IsBroken before after = Broke takes fails_on flushes flush_fails before after
+  abbrev IsBroken : S → S → List ℕ → Type 0
+  IsBroken before after text = BrokeOn takes fails_on flushes flush_fails before text after
 
   pub Fed-none : (known : Option (List ℕ)) (before : S) → Fed gave in_old in_old takes flushes known known 0 start before before
   Fed-none known before = record {
@@ -140,8 +147,13 @@ module _ {R S : Type 0} (gave : R → List ℕ → Result ℕ ReadError → R �
   pub Fed-unflushed : (in_now : R) (first left : Option (List ℕ)) (fails : Option Bool) (turn : ℕ) (now : Place) (before mid after : S)
       → Fed gave in_old in_now takes flushes first left turn now before mid → flush_fails mid after → Came in_now first fails before after (Err WriteFailed)
   Fed-unflushed in_now None left fails turn now before mid after f h = tt
-  Fed-unflushed in_now (Some bytes) left fails turn now before mid after f h =
-      broke_later takes flushes fails_on flush_fails before f.text mid after f.sent (broke_flush takes flushes fails_on flush_fails mid after h)
+  Fed-unflushed in_now (Some bytes) None fails turn now before mid after f h = absurd f.consumed
+  Fed-unflushed in_now (Some bytes) (Some rest) fails turn now before mid after f h = (
+    f.text,
+    broke_at_memory bytes f.text _ fails _ _
+        (at_memory bytes f.given rest f.text (λ given. Reads gave in_old given in_now) f.consumed f.reads (all_read f.given f.text now f.goes)),
+    broke_on_flush takes fails_on flushes flush_fails before f.text mid after f.sent h,
+  )
 
   -- a read failed
   pub Fed-failed : (in_now in_new : R) (room : List ℕ) (fault : ReadError) (first left : Option (List ℕ)) (fails : Option Bool) (turn : ℕ) (now : Place)
@@ -163,6 +175,24 @@ module _ {R S : Type 0} (gave : R → List ℕ → Result ℕ ReadError → R �
         (inr (omega (arith, f.turns, long), f.reads)) f.goes,
     f.sent,
   )
+
+  -- a beginning of a piece was answered
+  Fed-begins : (in_now in_new : R) (room : List ℕ) (count : ℕ) (bytes left later : List ℕ) (turn : ℕ) (now : Place) (before mid : S)
+      (f : Fed gave in_old in_now takes flushes (Some bytes) (Some left) turn now before mid) → gave in_now room (Ok count) in_new
+      → Consumes (Some left) (Some later) (take count room) → (more : List ℕ) → Begins now (take count room) more
+      → MemoryFailed bytes (λ given. Reads gave in_old given in_new) (f.text ++ more) (codes "error: Out of memory\n") 1
+  Fed-begins in_now in_new room count bytes left later turn now before mid f one h more s =
+      let given = f.given ++ take count room in
+      let begins : Begins start given (f.text ++ more) = record {
+        read = f.given ++ s.read;
+        unread = s.unread;
+        place = s.place;
+        bytes_are = ap (λ (zs : List ℕ). f.given ++ zs) s.bytes_are ∙ sym (append_assoc f.given s.read s.unread);
+        goes = Goes-append start now s.place f.given s.read f.text more f.goes s.goes;
+      } in
+      let whole : bytes ≡ given ++ later = f.consumed ∙ ap (λ (zs : List ℕ). f.given ++ zs) h ∙ sym (append_assoc f.given (take count room) later) in
+      at_memory bytes given later (f.text ++ more) (λ zs. Reads gave in_old zs in_new) whole
+      (reads_more gave in_old f.given in_now room (Ok count) in_new f.reads one) begins
 
   -- a fault in a piece
   pub Fed-stops : (in_now in_new : R) (room : List ℕ) (count : ℕ) (first left later : Option (List ℕ)) (fails : Option Bool) (turn : ℕ) (now : Place)
@@ -187,26 +217,14 @@ module _ {R S : Type 0} (gave : R → List ℕ → Result ℕ ReadError → R �
       } in
       (text, at_bad bytes text fails (report_of e.value) at, sends_joined takes flushes before f.text mid stops.0 after f.sent stops.2)
   Fed-stops in_now in_new room count (Some bytes) (Some left) (Some later) fails turn now before mid after ReadFailed f one h stops = absurd stops
-  Fed-stops in_now in_new room count (Some bytes) (Some left) (Some later) fails turn now before mid after WriteFailed f one h stops =
-      broke_later takes flushes fails_on flush_fails before f.text mid after f.sent stops
-  Fed-stops in_now in_new room count (Some bytes) (Some left) (Some later) fails turn now before mid after OutOfMemory f one h stops =
-      let s = stops.1 in
-      let text = f.text ++ stops.0 in
-      let given = f.given ++ take count room in
-      let begins : Begins start given text = record {
-        read = f.given ++ s.read;
-        unread = s.unread;
-        place = s.place;
-        bytes_are = ap (λ (zs : List ℕ). f.given ++ zs) s.bytes_are ∙ sym (append_assoc f.given s.read s.unread);
-        goes = Goes-append start now s.place f.given s.read f.text stops.0 f.goes s.goes;
-      } in
-      let whole : bytes ≡ given ++ later = f.consumed ∙ ap (λ (zs : List ℕ). f.given ++ zs) h ∙ sym (append_assoc f.given (take count room) later) in
-      let reads = reads_more gave in_old f.given in_now room (Ok count) in_new f.reads one in (
-        text,
-        at_memory bytes given later text (λ zs. Reads gave in_old zs in_new) whole reads begins,
-        sends_joined takes flushes before f.text mid stops.0 after
-            f.sent stops.2,
-      )
+  Fed-stops in_now in_new room count (Some bytes) (Some left) (Some later) fails turn now before mid after WriteFailed f one h (more, begun, broke) =
+      let at = Fed-begins in_now in_new room count bytes left later turn now before mid f one h more begun in
+      (f.text ++ more, broke_at_memory bytes _ _ fails _ _ at, broke_on_later takes fails_on flushes flush_fails before f.text mid more after f.sent broke)
+  Fed-stops in_now in_new room count (Some bytes) (Some left) (Some later) fails turn now before mid after OutOfMemory f one h (more, begun, sent) = (
+    f.text ++ more,
+    Fed-begins in_now in_new room count bytes left later turn now before mid f one h more begun,
+    sends_joined takes flushes before f.text mid more after f.sent sent,
+  )
 
   -- the source has given all that it had
   all_given : (in_now : R) (bytes rest : List ℕ) (turn : ℕ) (now : Place) (before after : S) (f : Fed gave in_old in_now takes flushes (Some bytes) (Some rest)
@@ -235,12 +253,12 @@ module _ {R S : Type 0} (gave : R → List ℕ → Result ℕ ReadError → R �
       let all = at_bad_end bytes f.text fails now told (all_given in_now bytes rest turn now before mid f end) err.0 err.1.1 in
       (f.text, subst P (sym err.1.0) all, sent_still f.text before mid after f.sent err.1.2)
   Fed-all in_now (Some bytes) (Some rest) fails turn now new before mid after (Err ReadFailed) f end told ok err = absurd err.1
-  Fed-all in_now (Some bytes) (Some rest) fails turn now new before mid after (Err WriteFailed) f end told ok err =
-      broke_later takes flushes fails_on flush_fails before f.text mid after f.sent err.1
-  Fed-all in_now (Some bytes) (Some rest) fails turn now new before mid after (Err OutOfMemory) f end told ok err =
-      let begins : Begins start f.given f.text = record { read = f.given; unread = []; place = now; bytes_are = sym (append-nil f.given); goes = f.goes } in (
-        f.text,
-        at_memory bytes f.given rest f.text (λ zs. Reads gave in_old zs in_now) f.consumed f.reads begins,
-        sent_still f.text before mid after f.sent
-            err.1,
-      )
+  Fed-all in_now (Some bytes) (Some rest) fails turn now new before mid after (Err WriteFailed) f end told ok (last, (text, wanted, state, runs, broke)) =
+      let run = subst (λ (lines : List (List ℕ)). Runs now.number now.state lines text wanted state) (sym last) runs in
+      let all = at_end bytes f.text text fails now wanted state told (all_given in_now bytes rest turn now before mid f end) run in
+      (f.text ++ text, broke_at_end bytes _ _ fails _ all, broke_on_later takes fails_on flushes flush_fails before f.text mid text after f.sent broke)
+  Fed-all in_now (Some bytes) (Some rest) fails turn now new before mid after (Err OutOfMemory) f end told ok err = (
+    f.text,
+    at_memory bytes f.given rest f.text (λ given. Reads gave in_old given in_now) f.consumed f.reads (all_read f.given f.text now f.goes),
+    sent_still f.text before mid after f.sent err.1,
+  )

@@ -1,3 +1,4 @@
+mod BrokenLemmas
 mod EndLemmas
 pub mod InputLaws
 mod LineLemmas

@@ -1,8 +1,8 @@
 -- What is read from gave to a replay, and what is written to got from it.
-use Rattle.std.specs.Prelude.{ℕ, ◌⊎◌, List, Option, Result}
+use Rattle.std.specs.Prelude.{◌≡◌, ℕ, ◌⊎◌, List, ◌++◌, Option, Result}
 use Rattle.std.specs.declared.io.Error.{Error}
 use Rattle.std.specs.Io.KnownBytes.{Appends}
-use Rattle.tera_report.specs.Sink.{Delivers, Broke}
+use Rattle.tera_report.specs.Sink.{Delivers, Sends}
 use Rattle.tera_report.specs.Writer.{Passes, Breaks, Flushes, FlushFails}
 use Rattle.tera_replies.specs.declared.source.ReadError.{ReadError}
 use Rattle.tera_replies.specs.Source.{Reads, ReadFails}
@@ -31,11 +31,20 @@ WriterGets contents wrote flushed old bytes new =
     Appends (contents old) (contents new) bytes
     × Delivers (Passes wrote) (Flushes flushed) old bytes new
 
--- a write of the writer was a fault, or a flush of it failed
+-- a sink was to take just these bytes: a put of the last of them failed, or a flush behind them
+pub record BrokeOn {S : Type 0} (takes fails : S → List ℕ → S → Type 0)
+    (flushes flush_fails : S → S → Type 0) (old : S) (bytes : List ℕ) (new : S) : Type 0 where
+  pub front : List ℕ
+  pub sent : S
+  pub sends : Sends takes flushes old front sent
+  pub fault : ((rest : List ℕ) × (front ++ rest ≡ bytes) × fails sent rest new)
+      ⊎ ((front ≡ bytes) × flush_fails sent new)
+
+-- a writer was to be given just these bytes, and a write of it was a fault, or a flush of it failed
 abbrev pub WriterBroke : {W : Type 0} → (W → List ℕ → Result ℕ Error → W → Type 0)
-    → (W → Result (Unit {0}) Error → W → Type 0) → W → W → Type 0
-WriterBroke wrote flushed old new =
-    Broke (Passes wrote) (Breaks wrote) (Flushes flushed) (FlushFails flushed) old new
+    → (W → Result (Unit {0}) Error → W → Type 0) → W → List ℕ → W → Type 0
+WriterBroke wrote flushed old bytes new =
+    BrokeOn (Passes wrote) (Breaks wrote) (Flushes flushed) (FlushFails flushed) old bytes new
 
 -- a writer was given these bytes by its writes, and what it holds grew by them; or one of these
 -- writes was a fault

@@ -121,6 +121,19 @@ pub record MemoryFailed (bytes : List ℕ) (InGave : List ℕ → Type 0) (out e
   pub err_is : err ≡ codes "error: Out of memory\n"
   pub status_is : status ≡ 1
 
+-- The output was to get these replies, to the first of the lines, and broke.
+pub record WritingFailed (bytes : List ℕ) (fails : Option Bool) (out : List ℕ) : Type 0 where
+  pub lines : List (List ℕ)
+  pub part : List ℕ
+  pub first : List (List ℕ)
+  pub later : List (List ℕ)
+  pub bad : Option BadLine
+  pub outcomes : List Outcome
+  pub split : Splits bytes lines part
+  pub lines_are : lines_given fails lines part ≡ first ++ later
+  pub answers : AreAnswered first bad outcomes
+  pub replied : AreReplies outcomes out
+
 -- From a source with these bytes, which then fails or ends (or that isn't known), the program
 -- writes out and err. What its reads gave is named where it did not come to the end, and that a
 -- read failed where it says so.
@@ -131,11 +144,12 @@ Writes bytes fails InGave InFailed out err status =
     ⊎ (ReadingFailed bytes fails InGave InFailed out err status
     ⊎ MemoryFailed bytes InGave out err status)
 
--- The same of what is written to: `out` got its bytes and `err` its own; or `out` broke, and `err`
--- got the text for that.
+-- The same of what is written to: `out` got its bytes and `err` its own; or `out` broke on what it
+-- was to get, and `err` got the text for that.
 abbrev pub Replays : List ℕ → Option Bool → (List ℕ → Type 0) → (List ℕ → Type 0)
-    → (List ℕ → Type 0) → Type 0 → (List ℕ → Type 0) → ℕ → Type 0
+    → (List ℕ → Type 0) → (List ℕ → Type 0) → (List ℕ → Type 0) → ℕ → Type 0
 Replays bytes fails InGave InFailed OutGets OutBroke ErrGets status =
     ((out : List ℕ) × (err : List ℕ) × Writes bytes fails InGave InFailed out err status
     × OutGets out × ErrGets err)
-    ⊎ (OutBroke × (status ≡ 1) × ErrGets (codes "error: writing failed\n"))
+    ⊎ ((out : List ℕ) × WritingFailed bytes fails out × OutBroke out × (status ≡ 1)
+    × ErrGets (codes "error: writing failed\n"))

@@ -18,7 +18,7 @@ use Rattle.tera_replies.specs.Script.{BadLine as Bad, Script, HasNoLineFeed, wit
 use Rattle.tera_replies.specs.Script.{line_feed}
 use Rattle.tera_replies.specs.Reply.{AreReplies}
 use Rattle.tera_replies.specs.Replay.{wants_memory, line_report, AllAnswered, ReadingFailed}
-use Rattle.tera_replies.specs.Replay.{MemoryFailed}
+use Rattle.tera_replies.specs.Replay.{MemoryFailed, WritingFailed}
 
 -- the bad line of that number
 abbrev pub bad_at : ℕ → List ℕ → Bad
@@ -76,32 +76,35 @@ pub record Begins (old : Place) (bytes : List ℕ) (text : List ℕ) : Type 0 wh
   pub goes : Goes old read text place
 
 -- what stands where a fault ended the stretch
-abbrev pub Stops : Place → List ℕ → (List ℕ → Type 0) → Type 0 → Fault → Type 0
+abbrev pub Stops : Place → List ℕ → (List ℕ → Type 0) → (List ℕ → Type 0) → Fault → Type 0
 Stops old bytes OutGets OutBroke (BadLine report) =
     (text : List ℕ) × StopsAtBad old bytes (report_of report.value) text × OutGets text
 Stops old bytes OutGets OutBroke ReadFailed = ⊥
-Stops old bytes OutGets OutBroke WriteFailed = OutBroke
+Stops old bytes OutGets OutBroke WriteFailed =
+    (text : List ℕ) × Begins old bytes text × OutBroke text
 Stops old bytes OutGets OutBroke OutOfMemory =
     (text : List ℕ) × Begins old bytes text × OutGets text
 
 -- what stands where a fault ended one line, numbered n
-abbrev pub LineStops : ℕ → List ℕ → Type 0 → Type 0 → Fault → Type 0
-LineStops n line OutStays OutBroke (BadLine report) =
+abbrev pub LineStops : ℕ → State → List ℕ → Type 0 → (List ℕ → Type 0) → Fault → Type 0
+LineStops n old line OutStays OutBroke (BadLine report) =
     (report_of report.value ≡ line_report (bad_at n line)) × IsBad line × OutStays
-LineStops n line OutStays OutBroke ReadFailed = ⊥
-LineStops n line OutStays OutBroke WriteFailed = OutBroke
-LineStops n line OutStays OutBroke OutOfMemory = OutStays
+LineStops n old line OutStays OutBroke ReadFailed = ⊥
+LineStops n old line OutStays OutBroke WriteFailed =
+    (text : List ℕ) × (wanted : Bool) × (new : State) × Runs n old (line ∷ []) text wanted new
+    × OutBroke text
+LineStops n old line OutStays OutBroke OutOfMemory = OutStays
 
 -- what stands where a fault ended the writing of a reply: a failed write alone does
-abbrev pub ReplyStops : Type 0 → Fault → Type 0
-ReplyStops OutBroke (BadLine report) = ⊥
-ReplyStops OutBroke ReadFailed = ⊥
-ReplyStops OutBroke WriteFailed = OutBroke
-ReplyStops OutBroke OutOfMemory = ⊥
+abbrev pub ReplyStops : (List ℕ → Type 0) → (List ℕ → Type 0) → Fault → Type 0
+ReplyStops Replies OutBroke (BadLine report) = ⊥
+ReplyStops Replies OutBroke ReadFailed = ⊥
+ReplyStops Replies OutBroke WriteFailed = (line : List ℕ) × Replies line × OutBroke line
+ReplyStops Replies OutBroke OutOfMemory = ⊥
 
 -- how answering all of the input went: whether memory was wanted by an answer, or a fault
 abbrev pub Ends : List ℕ → Option Bool → (List ℕ → Type 0) → (List ℕ → Type 0)
-    → (List ℕ → Type 0) → Type 0 → Result Bool Fault → Type 0
+    → (List ℕ → Type 0) → (List ℕ → Type 0) → Result Bool Fault → Type 0
 Ends bytes fails InGave InFailed OutGets OutBroke (Ok wanted) =
     (out : List ℕ) × AllAnswered bytes fails out [] (if wanted then 1 else 0) × OutGets out
 Ends bytes fails InGave InFailed OutGets OutBroke (Err (BadLine report)) =
@@ -111,7 +114,8 @@ Ends bytes fails InGave InFailed OutGets OutBroke (Err ReadFailed) =
     (out : List ℕ)
     × ReadingFailed bytes fails InGave InFailed out (codes "error: reading failed\n") 1
     × OutGets out
-Ends bytes fails InGave InFailed OutGets OutBroke (Err WriteFailed) = OutBroke
+Ends bytes fails InGave InFailed OutGets OutBroke (Err WriteFailed) =
+    (out : List ℕ) × WritingFailed bytes fails out × OutBroke out
 Ends bytes fails InGave InFailed OutGets OutBroke (Err OutOfMemory) =
     (out : List ℕ) × MemoryFailed bytes InGave out (codes "error: Out of memory\n") 1
     × OutGets out

@@ -5,10 +5,11 @@ ghost use Rattle.std.specs.String.{string_bytes};
 ghost use Rattle.tera_report.specs.Errors.{kind_of, refusal_of};
 ghost use Rattle.tera_report.specs.Quoted.{QuotesList};
 ghost use Rattle.tera_report.specs.Refusal.{Tells};
-ghost use Rattle.tera_report.specs.Sink.{Broke, Puts, PutsThese, Sends};
+ghost use Rattle.tera_report.specs.Sink.{Puts, PutsThese, Sends};
 ghost use Rattle.tera_meaning.specs.Answer.{found, texts};
 ghost use Rattle.tera_meaning.specs.Outcome.{is_want};
 ghost use Rattle.tera_context.specs.Call.{answer_of};
+ghost use Rattle.tera_replies.specs.Output.{BrokeOn};
 ghost use Rattle.tera_replies.specs.Reply.{IsFormOf, IsReplyLine, order_name};
 ghost use Rattle.tera_replies.specs.Script.{ended};
 ghost use Rattle.tera_replies.specs.Stated.{outcome_stated};
@@ -31,8 +32,8 @@ pub fn write_answer<W: Sink>(answer: TeraResult<Answer>, out: &mut W) -> Result<
         × IsReplyLine (outcome_stated answer) line
         × Sends W.takes W.flushes out.old line out.new
         × (wanted ≡ is_want (outcome_stated answer))) }
-    ensures err { IfErr result (ReplyStops
-        (Broke W.takes W.fails W.flushes W.flush_fails out.old out.new)) }
+    ensures err { IfErr result (ReplyStops (IsReplyLine (outcome_stated answer))
+        (λ text. BrokeOn W.takes W.fails W.flushes W.flush_fails out.old text out.new)) }
 {
     match answer {
         Ok(answer) => {

@@ -1,9 +1,10 @@
 //! From pieces of a script to its lines, each answered once it is whole.
 ghost use Rattle.std.specs.Prelude.{◌≡◌, ◌+◌, ◌^◌, ◌<◌, ◌≤◌, ℕ, Bool, ◌||◌, List, [], ◌∷◌, ◌++◌};
 ghost use Rattle.std.specs.Prelude.{IfOk, OnOk, IfErr, IfSome, IfNone, length};
-ghost use Rattle.tera_report.specs.Sink.{Broke, Sends};
+ghost use Rattle.tera_report.specs.Sink.{Sends};
 ghost use Rattle.tera_report.specs.Errors.{report_of};
 ghost use Rattle.tera_replies.specs.declared.fault.Fault.TheVariants.{OutOfMemory};
+ghost use Rattle.tera_replies.specs.Output.{BrokeOn};
 ghost use Rattle.tera_replies.specs.Replay.{line_report, source_of, whole_line};
 ghost use Rattle.tera_replies.specs.Script.{HasNoLineFeed, without_return, last_line, ended};
 ghost use Rattle.tera_replies.specs.Stretch.{bad_at, Goes, Runs, Stops, LineStops, start};
@@ -63,7 +64,7 @@ impl Feed {
         ensures err { IfErr result
             (Stops (place_of self.old) piece.now
             (λ text. Sends W.takes W.flushes out.old text out.new)
-            (Broke W.takes W.fails W.flushes W.flush_fails out.old out.new)) }
+            (λ text. BrokeOn W.takes W.fails W.flushes W.flush_fails out.old text out.new)) }
     {
         let mut rest = piece;
         'lines: while let Some((line, later)) = split_line(rest) {
@@ -84,9 +85,10 @@ impl Feed {
             × Sends W.takes W.flushes out.old text out.new) }
         ensures number { OnOk result (self.new.number ≡ self.old.number + 1) }
         ensures err { IfErr result
-            (LineStops self.old.number (without_return (self.old.part.items ++ rest.now))
+            (LineStops self.old.number self.old.context
+            (without_return (self.old.part.items ++ rest.now))
             (Sends W.takes W.flushes out.old [] out.new)
-            (Broke W.takes W.fails W.flushes W.flush_fails out.old out.new)) }
+            (λ text. BrokeOn W.takes W.fails W.flushes W.flush_fails out.old text out.new)) }
     {
         let wanted = self.answer_at_hand(alloc, rest, out)?;
         self.part.clear();
@@ -107,9 +109,10 @@ impl Feed {
             (without_return (self.old.part.items ++ rest.now) ∷ []) text wanted self.new.context
             × Sends W.takes W.flushes out.old text out.new) }
         ensures err { IfErr result
-            (LineStops self.old.number (without_return (self.old.part.items ++ rest.now))
+            (LineStops self.old.number self.old.context
+            (without_return (self.old.part.items ++ rest.now))
             (Sends W.takes W.flushes out.old [] out.new)
-            (Broke W.takes W.fails W.flushes W.flush_fails out.old out.new)) }
+            (λ text. BrokeOn W.takes W.fails W.flushes W.flush_fails out.old text out.new)) }
         ensures number { self.new.number ≡ self.old.number }
         ensures wanted { self.new.wanted_memory ≡ self.old.wanted_memory }
     {
@@ -132,9 +135,9 @@ impl Feed {
             × Sends W.takes W.flushes out.old text out.new) }
         ensures err { IfErr result
             (λ fault. (last_line self.old.part.items ≡ self.old.part.items ∷ [])
-            × LineStops self.old.number self.old.part.items
+            × LineStops self.old.number self.old.context self.old.part.items
             (Sends W.takes W.flushes out.old [] out.new)
-            (Broke W.takes W.fails W.flushes W.flush_fails out.old out.new) fault) }
+            (λ text. BrokeOn W.takes W.fails W.flushes W.flush_fails out.old text out.new) fault) }
         ensures number { self.new.number ≡ self.old.number }
         ensures wanted { self.new.wanted_memory ≡ self.old.wanted_memory }
     {
@@ -158,9 +161,9 @@ fn answer_line<W: Sink>(
     ensures ok { IfOk result (λ wanted. (text : List ℕ)
         × Runs number context.old (line.now ∷ []) text wanted context.new
         × Sends W.takes W.flushes out.old text out.new) }
-    ensures err { IfErr result (LineStops number line.now
+    ensures err { IfErr result (LineStops number context.old line.now
         (Sends W.takes W.flushes out.old [] out.new)
-        (Broke W.takes W.fails W.flushes W.flush_fails out.old out.new)) }
+        (λ text. BrokeOn W.takes W.fails W.flushes W.flush_fails out.old text out.new)) }
 {
     match read_line(alloc, line)? {
         Reading::Skipped => Ok(false),

@@ -1,10 +1,15 @@
 //! Laws of the definitions.
 ghost use Rattle.std.specs.Prelude.{◌≡◌, ◌↔◌, ℕ, List, [], ◌∷◌, ◌++◌, Option, None, Err, codes};
+ghost use Rattle.std.specs.Prelude.{length};
 ghost use Rattle.std.specs.declared.io.ErrorKind.{ErrorKind};
 ghost use Rattle.tera_report.specs.Refusal.{divided_by_zero, not_utf8, writing_failed};
+ghost use Rattle.tera_report.specs.Room.{HasRoomFor, RoomFails, RoomTakes};
+ghost use Rattle.tera_report.specs.Sink.{Delivers};
+ghost use Rattle.tera_report.specs.declared.room.Room.{Room};
 ghost use Rattle.tera_meaning.specs.Outcome.{Outcome, out_of_memory};
 ghost use Rattle.tera_meaning.specs.Request.{Command};
 ghost use Rattle.tera_meaning.specs.Run.{NoneWantsMemory};
+ghost use Rattle.tera_replies.specs.Output.{BrokeOn};
 ghost use Rattle.tera_replies.specs.Replay.{status_of};
 ghost use Rattle.tera_replies.specs.Reply.{IsFixedReply, IsReply};
 ghost use Rattle.tera_replies.specs.Script.{BadLine, Script, Splits, without_return, last_line};
@@ -69,4 +74,14 @@ pub fn want_of_memory_alone_makes_status_one()
     ensures wanted { status_of None (out_of_memory ∷ Err not_utf8 ∷ []) ≡ 1 }
     ensures every { (outcomes : List Outcome)
         → (status_of None outcomes ≡ 0) ↔ NoneWantsMemory outcomes }
+{}
+
+/// A room to which bytes were delivered took them, and one that broke had no place for what it was
+/// to get: so a room with place for all of it does not break.
+pub fn rooms_break_where_they_are_full()
+    ensures takes { (old : Room) (bytes : List ℕ) (new : Room)
+        → Delivers RoomTakes (λ (s t : Room). t ≡ s) old bytes new → RoomTakes old bytes new }
+    ensures breaks { (old : Room) (bytes : List ℕ) (new : Room)
+        → BrokeOn RoomTakes RoomFails (λ (s t : Room). t ≡ s) (λ (s t : Room). ⊥) old bytes new
+        → ¬ HasRoomFor old (length bytes) }
 {}

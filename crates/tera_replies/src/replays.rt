@@ -1,9 +1,9 @@
 //! From a script's bytes to the bytes of its answers.
 ghost use Rattle.std.specs.Prelude.{◌≡◌, ◌≤◌, IfSome, IfErr, IsOk, OnOk, Some};
-ghost use Rattle.tera_report.specs.Sink.{Broke, Delivers, PutsThese, Sends};
+ghost use Rattle.tera_report.specs.Sink.{Delivers, PutsThese, Sends};
 ghost use Rattle.tera_replies.specs.declared.fault.Fault.TheVariants.{WriteFailed};
-ghost use Rattle.tera_replies.specs.Output.{Failed, Gave, TakesOrFails, WriterBroke, WriterGets};
-ghost use Rattle.tera_replies.specs.Output.{WriterTakesOrFails};
+ghost use Rattle.tera_replies.specs.Output.{BrokeOn, Failed, Gave, TakesOrFails, WriterBroke};
+ghost use Rattle.tera_replies.specs.Output.{WriterGets, WriterTakesOrFails};
 ghost use Rattle.tera_report.specs.Errors.{report_of};
 ghost use Rattle.tera_report.specs.Report.{report_text};
 ghost use Rattle.tera_replies.specs.Replay.{Replays};
@@ -40,7 +40,7 @@ pub fn replay<S: Source + Drop, W: Writer, E: Writer>(
     ensures known { IfSome (S.left input) (λ bytes. Replays bytes (S.fails input)
         (Gave S.gave input) (Failed S.gave input)
         (λ text. WriterGets W.contents W.wrote W.flushed out.old text out.new)
-        (WriterBroke W.wrote W.flushed out.old out.new)
+        (λ text. WriterBroke W.wrote W.flushed out.old text out.new)
         (λ text. WriterTakesOrFails E.contents E.wrote err.old text err.new) result) }
     ensures status { result ≤ 2 }
     ensures silent { result ≡ 0 → err.new ≡ err.old }
@@ -61,7 +61,7 @@ pub fn replay_from<S: Source, W: Sink, E: Sink>(
         (λ given. Reads S.gave input.old given input.new)
         (λ given. ReadFails S.gave input.old given input.new)
         (λ text. Delivers W.takes W.flushes out.old text out.new)
-        (Broke W.takes W.fails W.flushes W.flush_fails out.old out.new)
+        (λ text. BrokeOn W.takes W.fails W.flushes W.flush_fails out.old text out.new)
         (λ text. TakesOrFails E.takes E.fails err.old text err.new) result) }
     ensures status { result ≤ 2 }
     ensures silent { result ≡ 0 → err.new ≡ err.old }
@@ -78,7 +78,7 @@ fn answer_all<S: Source, W: Sink>(alloc: Global, input: &mut S, out: &mut W) -> 
         (λ given. Reads S.gave input.old given input.new)
         (λ given. ReadFails S.gave input.old given input.new)
         (λ text. Sends W.takes W.flushes out.old text out.new)
-        (Broke W.takes W.fails W.flushes W.flush_fails out.old out.new) result) }
+        (λ text. BrokeOn W.takes W.fails W.flushes W.flush_fails out.old text out.new) result) }
 {
     let mut feed = Feed::new(alloc);
     let mut piece = [0; PIECE];

@@ -1,14 +1,22 @@
 -- A line that is skipped says nothing, and one that says a call is answered by one reply.
-use Rattle.std.proofs.Common.{ℕ, Bool, List, [], ◌∷◌, sym, ◌∙◌, subst}
-use Rattle.tera_meaning.specs.Outcome.{Outcome}
+use Rattle.std.proofs.Common.{ℕ, Bool, List, [], ◌∷◌, Result, sym, subst}
+use Rattle.tera_meaning.specs.Outcome.{Outcome, is_want}
+use Rattle.tera_meaning.specs.Request.{Command}
+use Rattle.tera_meaning.specs.State.{State}
 use Rattle.tera_meaning.specs.Step.{IsStep}
 use Rattle.tera_context.specs.Call.{command_of}
+use Rattle.tera_context.specs.Steps.{ShowsOneOf}
+use Rattle.tera_context.specs.declared.call.Answer.{Answer}
 use Rattle.tera_context.proofs.ShownLaws.{shown_outcome}
 use Rattle.tera_report.proofs.SentLaws.{sends_nothing}
+use Rattle.tera_report.specs.declared.errors.Error.{Error}
+use Rattle.tera_script.specs.Line.{Says}
+use Rattle.tera_replies.specs.Reply.{IsReplyLine}
 use Rattle.tera_replies.specs.Script.{ended}
+use Rattle.tera_replies.specs.Stated.{outcome_stated}
 use Rattle.tera_replies.specs.Stretch.{Runs}
 use Rattle.tera_replies.proofs.LineLemmas.{Runs-skipped, Runs-says}
-use Rattle.tera_replies.proofs.PutLemmas.{answered}
+use Rattle.tera_replies.proofs.PutLemmas.{answered, line_stops}
 use Rattle.tera_replies.proofs.StatedLemmas.{reply_shown, want_shown}
 use Rattle.tera_replies.proofs.feed.answer_line.Goals as goal
 
@@ -16,17 +24,32 @@ pub returns-in-Skipped-clause-ok : goal.returns-in-Skipped-clause-ok
 returns-in-Skipped-clause-ok g c =
     ([], Runs-skipped _ _ _ (rw c.in-Skipped.is at c.in_ok-read_line.ensures.reading), sends_nothing _ _ _)
 
+-- the reply to what was stated, and a run of the line
+says_stated : (n : ℕ) (old new : State) (line : List ℕ) (command : Command) (answer : Result Answer Error) → Says line command
+    → ShowsOneOf answer (λ outcome. IsStep old command outcome new) → (reply : List ℕ) → IsReplyLine (outcome_stated answer) reply
+    → Runs n old (line ∷ []) reply (is_want (outcome_stated answer)) new
+says_stated n old new line command answer says steps reply (text, is_reply, ended_is) =
+    let P : List ℕ → Bool → Type 0 = λ written w. Runs n old (line ∷ []) written w new in
+    let shown = shown_outcome answer (λ (outcome : Outcome). IsStep old command outcome new) steps in
+    let replied = reply_shown answer shown.0 text shown.1 is_reply in
+    let runs = Runs-says n old new line text command shown.0 says shown.2 replied in
+    subst (λ written. P written (is_want (outcome_stated answer))) (sym ended_is)
+    (subst (P (ended text)) (sym (want_shown answer shown.0 shown.1)) runs)
+
 pub returns-in-Says-clause-ok : goal.returns-in-Says-clause-ok
 returns-in-Says-clause-ok g c =
-    let old = c.args.context.now in
-    let new = c.step.new.context in
-    let answer = c.step.result in
-    let command = command_of c.in-Says.call in
-    let shown = shown_outcome answer (λ (outcome : Outcome). IsStep old command outcome new) c.step.ensures in
     let says = rw c.in-Says.is at c.in_ok-read_line.ensures.reading in
-    let P : List ℕ → Bool → Type 0 = λ line w. Runs c.args.number old (c.args.line.now ∷ []) line w new in
-    answered c.write_answer.result _ _ (λ wanted (line, (text, reply, ended_is), sent, is).
-    let replied = reply_shown answer shown.0 text shown.1 reply in
-    let runs = Runs-says c.args.number old new c.args.line.now text command shown.0 says shown.2 replied in
-    let stated : P (ended text) wanted = subst (P (ended text)) (sym (want_shown answer shown.0 shown.1) ∙ sym is) runs in
-    (line, subst (λ (l : List ℕ). P l wanted) (sym ended_is) stated, sent)) c.write_answer.ensures.ok
+    answered c.write_answer.result _ _ (λ wanted (line, reply, sent, is).
+    let runs = says_stated c.args.number _ c.step.new.context c.args.line.now (command_of c.in-Says.call) c.step.result says c.step.ensures line reply in
+    (line, subst (λ (w : Bool). Runs c.args.number c.args.context.now (c.args.line.now ∷ []) line w c.step.new.context) (sym is) runs, sent))
+    c.write_answer.ensures.ok
+
+pub returns-in-Says-clause-err : goal.returns-in-Says-clause-err
+returns-in-Says-clause-err g c =
+    let says = rw c.in-Says.is at c.in_ok-read_line.ensures.reading in
+    line_stops c.write_answer.result _ _ _ _ _ _ (λ reply replies. (
+      _,
+      _,
+      says_stated c.args.number _ c.step.new.context c.args.line.now
+          (command_of c.in-Says.call) c.step.result says c.step.ensures reply replies,
+    )) c.write_answer.ensures.err

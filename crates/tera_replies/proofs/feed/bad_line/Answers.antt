@@ -11,5 +11,5 @@ returns-in-Ok-clause-same c =
     let message : string_bytes c.in_ok-message.message ≡ codes "bad line" = search rules in
     let file : c.as_str.result.now ≡ codes "line " ++ decimal c.args.number =
     c.as_str.ensures.value ∙ c.in_ok-filename.ensures.ok ∙ ap (λ l. codes "line " ++ l) (append-nil c.format.result.now ∙ c.format.ensures.text) in
-    ap report_of c.in_ok-new-in-Ok.ensures.ok ∙ c.in-Ok.ensures.same
+    ap report_of c.in_ok-new-in-Ok.ensures.ok ∙ c.in-Ok.ensures.ok
     ∙ (λ i. record { message = message i; file = file i; source = source i; span = span i; notes = [] })
