@@ -7,7 +7,7 @@ use Rattle.tera_meaning.specs.Arithmetic.{as_i128, calculated, computed}
 use Rattle.tera_meaning.specs.Form.{Form}
 use Rattle.tera_meaning.specs.Integer.{is_small}
 use Rattle.tera_meaning.specs.Read.{number_in}
-use Rattle.tera_meaning.specs.RefusalLaws.{given_by_both}
+use Rattle.tera_meaning.proofs.RefusalLaws.{given_by_both}
 use Rattle.tera_report.specs.Refusal.{Operator, plus}
 use Rattle.uses.specs.Sums.{AreNumbersOf, added_up, nothing_yet, sum_of}
 

@@ -1,5 +1,5 @@
+mod Ample
 mod Joined
 mod Pages
-mod Steps
 mod Added
 mod Replayed
