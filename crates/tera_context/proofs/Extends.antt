@@ -2,6 +2,7 @@
 use Rattle.std.specs.Prelude.{◌≡◌, ◌↔◌, ◌≢◌, ℕ, IsTrue, length, nat_eq, Bool, true, false, ◌&&◌, T, List, [], ◌∷◌, ◌++◌}
 use Rattle.std.specs.Prelude.{Result, Ok, Err, OnErr, String, refl}
 use Rattle.std.proofs.Common.{sym, ◌∙◌, ap, subst, arith}
+use Rattle.std.proofs.Math.Facts.{yes_and}
 use Rattle.std.proofs.lemmas.Bool.Decides.{nat_tests}
 use Rattle.std.proofs.lemmas.List.{map-append}
 use Rattle.std.specs.Cmp.Lexicographic.{slice_cmp, pointwise, unequal, nat_list_cmp_total}
@@ -28,23 +29,19 @@ use Rattle.tera_context.specs.Context.{named, state_of}
 abbrev pub AreOrdered : {A : Type 0} → List (String A × Form) → Type 0
 AreOrdered pairs = IsStrictlySortedBy string_cmp (keys_of pairs)
 
-both : (a b : Bool) → T a → T b → T (a && b)
-both true b p q = q
-both false b p q = absurd p
-
 below_named : {A : Type 0} (name : String A) (pairs : List (String A × Form))
     → AllByRecursion (λ k. string_cmp name k ≡ Less) (keys_of pairs)
     → T (below_all (slice_cmp nat_cmp) (string_bytes name) (named pairs))
 below_named name [] h = tt
 below_named name (p ∷ pairs) h =
-    both _ _ (subst (λ r. T (is_lt r)) (sym h.0) tt) (below_named name pairs h.1)
+    yes_and _ _ (subst (λ r. T (is_lt r)) (sym h.0) tt) (below_named name pairs h.1)
 
 -- the names of a map rise
 pub rising_named : {A : Type 0} (pairs : List (String A × Form)) → AreOrdered pairs
     → T (is_rising (named pairs))
 unfolding IsStrictlySortedBy
 rising_named [] h = tt
-rising_named (p ∷ pairs) h = both _ _ (below_named p.0 pairs h.0) (rising_named pairs h.1)
+rising_named (p ∷ pairs) h = yes_and _ _ (below_named p.0 pairs h.0) (rising_named pairs h.1)
 
 pub entries_of_state : {A : Type 0} (pairs : List (String A × Form)) → AreOrdered pairs
     → entries (state_of pairs) ≡ named pairs

@@ -51,12 +51,9 @@ kept_shape : (into : Option (List ℕ)) (found also : Found) → found_shape fou
 kept_shape None (Ok o) (Ok p) e = λ i. Ok (Answer.found (same_found o p e i))
 kept_shape (Some into) (Ok None) (Ok None) e = refl
 kept_shape (Some into) (Ok (Some v)) (Ok (Some w)) e = refl
-kept_shape (Some into) (Ok None) (Ok (Some w)) e = cc
-kept_shape (Some into) (Ok (Some v)) (Ok None) e = cc
 kept_shape None (Err r) (Err q) e = let same : refusal_shape r ≡ refusal_shape q = cc in λ i. Err (same i)
 kept_shape (Some into) (Err r) (Err q) e = let same : refusal_shape r ≡ refusal_shape q = cc in λ i. Err (same i)
-kept_shape into (Ok o) (Err q) e = cc
-kept_shape into (Err r) (Ok p) e = cc
+kept_shape into found also e = cc
 
 text_alike : (x y : Meaning) (s t : List ℕ) → x ≡ y → Prints x s → Prints y t → IsExact x → s ≡ t
 text_alike x y s t e p q exact = p exact ∙ ap printed e ∙ sym (q (subst IsExact e exact))
@@ -103,10 +100,7 @@ weighed_alike weighing v w x y e d = rw (e, d) refl
 module _ (f g : State) (h : MeanTheSame f g) where
   outcomes_same : (request : Request) (into : Option (List ℕ)) (o p : Outcome) → ComesTo f request into o
       → ComesTo g request into p → IsSettled f request → shape o ≡ shape p
-  outcomes_same (set name value) into o p e d s = both e d refl
-  outcomes_same (extend source) into o p e d s = both e d refl
   outcomes_same (remove name) into o p e d s = both e d (λ i. Ok (Answer.found (h name i)))
-  outcomes_same (mark_safe name) into o p e d s = both e d refl
   outcomes_same (ask question name) into o p e d s =
       asked_alike question (held_at f name) (held_at g name) o p (h name) e d s
   outcomes_same (weigh weighing left right) into o p e d s =
@@ -114,6 +108,7 @@ module _ (f g : State) (h : MeanTheSame f g) where
       (meaning_alike f g h right))
   outcomes_same (find search) into o p e d s =
       both e d (kept_shape into (found_at f search) (found_at g search) ((owed search).by_meaning f g h))
+  outcomes_same v into o p e d s = both e d refl
 
   outcomes_alike : (q r : Request) (into : Option (List ℕ)) (o p : Outcome) → RequestTheSame q r → ComesTo f q into o
       → ComesTo g r into p → IsSettled f q → shape o ≡ shape p
@@ -145,20 +140,16 @@ module _ (f g : State) (h : MeanTheSame f g) where
   kept_alike None (Ok o) (Ok p) e = h
   kept_alike (Some into) (Ok None) (Ok None) e = h
   kept_alike (Some into) (Ok (Some v)) (Ok (Some w)) e = set_alike f g into v w h (some_one v w (same_found (Some v) (Some w) e))
-  kept_alike (Some into) (Ok None) (Ok (Some w)) e = cc
-  kept_alike (Some into) (Ok (Some v)) (Ok None) e = cc
   kept_alike None (Err r) (Err q) e = h
   kept_alike (Some into) (Err r) (Err q) e = h
-  kept_alike into (Ok o) (Err q) e = cc
-  kept_alike into (Err r) (Ok p) e = cc
+  kept_alike into found also e = cc
 
   marked_held_alike : (name : List ℕ) (o p : Option Form) → option_map plain o ≡ option_map plain p
       → MeanTheSame (marking f name o) (marking g name p)
   marked_held_alike name None None e = h
   marked_held_alike name (Some v) (Some w) e =
       set_alike f g name (marked_safe v) (marked_safe w) h (plain_marked v ∙ some_one v w e ∙ sym (plain_marked w))
-  marked_held_alike name None (Some w) e = cc
-  marked_held_alike name (Some v) None e = cc
+  marked_held_alike name o p e = cc
 
   marked_alike : (name : List ℕ) (into : Option (List ℕ))
       → MeanTheSame (marking_into f name into) (marking_into g name into)
@@ -172,9 +163,8 @@ module _ (f g : State) (h : MeanTheSame f g) where
   states_same (extend source) into = extended_alike f g source source h (λ name. refl)
   states_same (remove name) into = removed_alike f g name h
   states_same (mark_safe name) into = marked_alike name into
-  states_same (ask question name) into = h
-  states_same (weigh weighing left right) into = h
   states_same (find search) into = kept_alike into (found_at f search) (found_at g search) ((owed search).by_meaning f g h)
+  states_same v into = h
 
   states_left_alike : (q r : Request) (into : Option (List ℕ)) → RequestTheSame q r
       → MeanTheSame (leaves f q into) (leaves g r into)

@@ -8,6 +8,7 @@ use Rattle.std.specs.Cmp.{Equal-is}
 use Rattle.std.specs.Cmp.Lexicographic.{slice_cmp}
 use Rattle.std.specs.FinMap.{get as held_at, insert, keys, contains_key-keys}
 use Rattle.std.specs.Str.{IsUtf8}
+use Rattle.std.proofs.lemmas.Bool.{true≢false}
 use Rattle.std.proofs.lemmas.Str.{IsUtf8-append, IsUtf8-from_ascii}
 use Rattle.std.proofs.lemmas.Str.Ascii.{IsAscii-nil, IsAscii-cons}
 use Rattle.tera_meaning.specs.Form.{Form}
@@ -40,8 +41,7 @@ held_one : (o p : Option Form) → is_some o ≡ is_some p → plain (unwrap_or 
     → option_map plain o ≡ option_map plain p
 held_one None None s e = refl
 held_one (Some v) (Some w) s e = λ i. Some (e i)
-held_one None (Some w) s e = cc
-held_one (Some v) None s e = cc
+held_one o p s e = cc
 
 not_longer : (name : List ℕ) → name ≢ 0 ∷ name
 not_longer name e = let one : length name ≡ suc (length name) = ap length e in omega arith
@@ -134,13 +134,10 @@ probe_brings f g name h k n =
     let other : IsUtf8 (0 ∷ name) = IsUtf8-append (0 ∷ []) name (IsUtf8-from_ascii (0 ∷ []) (IsAscii-cons 0 [] (omega arith) IsAscii-nil)) utf8 in
     (utf8, ((tt, tt), (((other, form_at_well f h name), tt), ((tt, tt), tt))))
 
-yes_no : true ≡ false → ⊥
-yes_no e = cc
-
 decided : (b : Bool) (v w : Form) → same (plain v) (plain w) ≡ b
     → (option_map plain (Some v) ≡ option_map plain (Some w)) ⊎ (option_map plain (Some v) ≢ option_map plain (Some w))
 decided true v w e = inl (λ i. Some ((same_is (plain v) (plain w)).0 e i))
-decided false v w e = inr (λ h. yes_no (sym ((same_is (plain v) (plain w)).1 (some_one v w h)) ∙ e))
+decided false v w e = inr (λ h. true≢false (sym ((same_is (plain v) (plain w)).1 (some_one v w h)) ∙ e))
 
 held_decided : (o p : Option Form)
     → (option_map plain o ≡ option_map plain p) ⊎ (option_map plain o ≢ option_map plain p)

@@ -11,7 +11,7 @@ use Rattle.tera_meaning.specs.Form.{Form}
 use Rattle.tera_meaning.specs.Integer.{is_small}
 use Rattle.tera_meaning.specs.Lookup.{name_of}
 use Rattle.tera_meaning.specs.Read.{number_in}
-use Rattle.tera_meaning.specs.RefusalLaws.{given_by_both}
+use Rattle.tera_meaning.proofs.RefusalLaws.{given_by_both}
 
 -- ---- a number that an i128 holds
 

@@ -1,5 +1,5 @@
 -- One answer and then another, in the laws of an order.
-use Rattle.std.specs.Prelude.{◌≡◌, ℕ, ◌<◌, ◌≤◌, refl}
+use Rattle.std.specs.Prelude.{◌≡◌, ℕ, ◌<◌, refl}
 use Rattle.std.proofs.Common.{◌∙◌, ap, subst, arith}
 use Rattle.std.specs.Ordering.{ordering_then, ordering_reverse, MatchOrdering, nat_cmp}
 use Rattle.std.specs.declared.cmp.Ordering.{Ordering}
@@ -41,6 +41,9 @@ chain_then Equal Greater t r' s' t' chain left right rest p q = cc
 pub equal_less : Equal ≡ Less → ⊥
 equal_less e = cc
 
+pub less_equal : Less ≡ Equal → ⊥
+less_equal e = cc
+
 pub greater_less : Greater ≡ Less → ⊥
 greater_less e = cc
 
@@ -54,9 +57,3 @@ by_less m n Greater f h = absurd (omega arith)
 
 pub less_nat : (m n : ℕ) → m < n → nat_cmp m n ≡ Less
 less_nat m n h = by_less m n (nat_cmp m n) (ranks m n) h
-
-pub at_most : (m n : ℕ) → m < n → m ≤ n
-at_most m n h = omega arith
-
-pub below : (l m n : ℕ) → l < m → m ≤ n → l < n
-below l m n h k = omega arith

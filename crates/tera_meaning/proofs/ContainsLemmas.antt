@@ -12,7 +12,7 @@ use Rattle.tera_meaning.specs.Meaning.{plain, Meaning}
 use Rattle.tera_meaning.specs.Order.{same}
 use Rattle.tera_meaning.specs.Outcome.{out_of_memory}
 use Rattle.tera_meaning.specs.Pairs.{value_at}
-use Rattle.tera_meaning.specs.Tree.{Items, undefined, none, truth, number, text, bytes, array, object, no_items, items_list, members_list, Members}
+use Rattle.tera_meaning.specs.Tree.{Items, text, array, object, no_items, items_list, members_list, Members}
 use Rattle.tera_meaning.specs.Tree.{item as an_item}
 use Rattle.tera_meaning.specs.Weighing.{truth_told}
 use Rattle.tera_report.specs.Refusal.{Refusal, not_a_container}
@@ -34,14 +34,10 @@ paired_plain ps None = refl
 paired_plain ps (Some k) = found_pair ps (key_meaning k)
 
 holds_meant : Meaning → Meaning → Result Bool Refusal
-holds_meant undefined x = Err (not_a_container [])
-holds_meant none x = Err (not_a_container [])
-holds_meant (truth b) x = Err (not_a_container [])
-holds_meant (number z) x = Err (not_a_container [])
 holds_meant (text s) x = Ok (text_holds s (text_meant x))
-holds_meant (bytes bs) x = Err (not_a_container [])
 holds_meant (array xs) x = Ok (list_any (λ y. same y x) (items_list xs))
 holds_meant (object ps) x = Ok (is_some (paired_meant ps (key_meant x)))
+holds_meant y x = Err (not_a_container [])
 
 holds_plain : (v x : Form) → seen_by (λ b. b) (holds v x) ≡ holds_meant (plain v) (plain x)
 unfolding holds_meant

@@ -46,10 +46,10 @@ module _ {J K U V : Type 0} (f : J → K) (g : U → V) (order : K → K → Ord
   slice_read : (values : V → V → Ordering) (xs ys : List (J × U))
       → slice_cmp (entry_order order values) (map (λ p. (f p.0, g p.1)) xs) (map (λ p. (f p.0, g p.1)) ys)
       ≡ slice_cmp (entry_order (on f order) (on g values)) xs ys
+  slice_read values (x ∷ xs) (y ∷ ys) = ap (ordering_then (entry_order (on f order) (on g values) x y)) (slice_read values xs ys)
   slice_read values [] [] = refl
   slice_read values [] (y ∷ ys) = refl
   slice_read values (x ∷ xs) [] = refl
-  slice_read values (x ∷ xs) (y ∷ ys) = ap (ordering_then (entry_order (on f order) (on g values) x y)) (slice_read values xs ys)
 
 -- ---- what maps mean
 
@@ -98,7 +98,7 @@ pub maps_differ : (ps qs : List (KeyMeaning × Meaning)) → Rises key_order ps 
     → (k : KeyMeaning) × IsLeastDifference key_order compare ps qs k
 maps_differ ps qs h g n =
     the_other (λ agree. n ((compare_tie (object (members ps)) (object (members qs))).0
-    (members_by_first_difference ps qs ∙ agreeing_tie key_order key_total compare ps qs h g agree)))
+    (members_by_first_difference ps qs ∙ (agreeing_tie key_order key_total compare ps qs h g).0 agree)))
     (least_or_none key_order key_total compare ps qs h g)
 
 pub forms_differ : (es fs : List (KeyForm × Form)) → map_meaning es ≢ map_meaning fs → (k : KeyForm)
@@ -107,8 +107,8 @@ forms_differ es fs n =
     let total : IsTotalOrder key_form_order = on_total key_meaning key_total in
     let found : (k : KeyForm) × IsLeastDifference key_form_order (on plain compare) (pairs_of es) (pairs_of fs) k =
     the_other (λ agree. n ((compare_tie (map_meaning es) (map_meaning fs)).0
-    (compare_forms (pairs_of es) (pairs_of fs) ∙ agreeing_tie key_form_order total (on plain compare) (pairs_of es) (pairs_of fs)
-    (rising_rises key_form_order total es) (rising_rises key_form_order total fs) agree)))
+    (compare_forms (pairs_of es) (pairs_of fs) ∙ (agreeing_tie key_form_order total (on plain compare) (pairs_of es) (pairs_of fs)
+    (rising_rises key_form_order total es) (rising_rises key_form_order total fs)).0 agree)))
     (least_or_none key_form_order total (on plain compare) (pairs_of es) (pairs_of fs) (rising_rises key_form_order total es)
     (rising_rises key_form_order total fs)) in (
       found.0,
@@ -131,5 +131,5 @@ one_pair_list ps qs h g same =
     let agree : AgreeEverywhere key_order compare ps qs = (λ k. ap (λ o. option_eq (eq_by_cmp compare) o (value_at key_order qs k)) (same k)
     ∙ alike (value_at key_order qs k)) in
     let tie : compare (object (members ps)) (object (members qs)) ≡ Equal = members_by_first_difference ps qs
-    ∙ agreeing_tie key_order key_total compare ps qs h g agree in
+    ∙ (agreeing_tie key_order key_total compare ps qs h g).0 agree in
     sym (list_of_members ps) ∙ ap members_list (members_exact (members ps) (members qs) tie) ∙ list_of_members qs

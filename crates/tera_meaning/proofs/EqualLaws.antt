@@ -1,6 +1,6 @@
 -- States are equal where they mean the same.
 use Rattle.std.proofs.lemmas.Bool.{and_parts, and_from}
-use Rattle.std.specs.Prelude.{◌≡◌, ◌↔◌, ℕ, Bool, true, false, cond, ◌&&◌, T, IsTrue, List, [], ◌∷◌, map, Option, Some, refl}
+use Rattle.std.specs.Prelude.{◌≡◌, ◌↔◌, ℕ, Bool, cond, ◌&&◌, T, IsTrue, List, [], ◌∷◌, map, Some, refl}
 use Rattle.std.proofs.Common.{sym, ◌∙◌, ap, subst}
 use Rattle.std.specs.Option.{option_map}
 use Rattle.std.specs.Ordering.{nat_cmp, eq_by_cmp, is_lt}
@@ -14,6 +14,7 @@ use Rattle.tera_meaning.specs.Form.{Form}
 use Rattle.tera_meaning.specs.Meaning.{Meaning, plain}
 use Rattle.tera_meaning.specs.Order.{same}
 use Rattle.tera_meaning.proofs.OrderLaws.{same_is, same_partial_equivalence}
+use Rattle.tera_meaning.proofs.PlainLemmas.{picked}
 use Rattle.tera_meaning.specs.State.{State, states_equal}
 use Rattle.tera_meaning.proofs.StateLaws.{name_exact}
 
@@ -59,16 +60,12 @@ meant_same (p ∷ ps) (q ∷ qs) e =
 meant_same [] (q ∷ qs) e = cc
 meant_same (p ∷ ps) [] e = cc
 
-chosen_meant : (b : Bool) (v : Form) (o : Option Form) → option_map plain (cond b (Some v) o) ≡ cond b (Some (plain v)) (option_map plain o)
-chosen_meant true v o = refl
-chosen_meant false v o = refl
-
 find_meant : (name : List ℕ) (ps : List Pair)
     → find (slice_cmp nat_cmp) name (meant ps) ≡ option_map plain (find (slice_cmp nat_cmp) name ps)
 find_meant name [] = refl
 find_meant name (p ∷ ps) =
     ap (cond (eq_by_cmp (slice_cmp nat_cmp) name p.0) (Some (plain p.1))) (find_meant name ps)
-    ∙ sym (chosen_meant (eq_by_cmp (slice_cmp nat_cmp) name p.0) p.1 (find (slice_cmp nat_cmp) name ps))
+    ∙ sym (picked plain (eq_by_cmp (slice_cmp nat_cmp) name p.0) p.1 (find (slice_cmp nat_cmp) name ps))
 
 below_meant : (name : List ℕ) (ps : List Pair) → below_all (slice_cmp nat_cmp) name (meant ps) ≡ below_all (slice_cmp nat_cmp) name ps
 below_meant name [] = refl

@@ -1,8 +1,8 @@
 -- What a state holds after it takes over what a source holds.
-use Rattle.std.proofs.Math.Facts.{and_yes}
-use Rattle.std.specs.Prelude.{◌≡◌, ◌≢◌, ◌<◌, ℕ, zero, suc, Bool, true, false, cond, ◌&&◌, T, IsSome, List, [], ◌∷◌, ◌++◌, length, take, drop, Option, Some}
+use Rattle.std.proofs.Math.Facts.{and_yes, yes_and}
+use Rattle.std.specs.Prelude.{◌≡◌, ◌≢◌, ◌<◌, ℕ, Bool, true, false, cond, T, IsSome, List, [], ◌∷◌, ◌++◌, length, take, drop, Option, Some}
 use Rattle.std.specs.Prelude.{None, refl}
-use Rattle.std.proofs.Common.{sym, ◌∙◌, ap, subst, arith}
+use Rattle.std.proofs.Common.{sym, ◌∙◌, ap, subst, arith, take-append-drop, length-drop, length-take-le}
 use Rattle.std.specs.Option.{option_map, option_or}
 use Rattle.std.specs.Ordering.{nat_cmp, eq_by_cmp, is_eq, is_lt, ordering_reverse}
 use Rattle.std.specs.Cmp.Lexicographic.{slice_cmp, nat_list_cmp_total}
@@ -122,23 +122,19 @@ extended_on state pairs name value new =
     ap (extended state) (from_entries_push nat_list_cmp_total name_exact pairs name value new)
     ∙ extended_insert state (from_entries pairs) name value
 
-both : (a b : Bool) → T a → T b → T (a && b)
-both true b p q = q
-both false b p q = absurd p
-
 above_first : (name : List ℕ) (pairs later : List (List ℕ × Form))
     → T (below_all (slice_cmp nat_cmp) name (pairs ++ later)) → T (below_all (slice_cmp nat_cmp) name pairs)
 above_first name [] later h = tt
 above_first name (p ∷ pairs) later h =
     let step = is_lt (slice_cmp nat_cmp name p.0) in
-    both step _ ((and_yes step _ h).0) (above_first name pairs later ((and_yes step _ h).1))
+    yes_and step _ ((and_yes step _ h).0) (above_first name pairs later ((and_yes step _ h).1))
 
 -- the first of pairs that rise rise
 pub rising_first : (pairs later : List (List ℕ × Form)) → T (is_rising (pairs ++ later)) → T (is_rising pairs)
 rising_first [] later h = tt
 rising_first (p ∷ pairs) later h =
     let above = below_all (slice_cmp nat_cmp) p.0 (pairs ++ later) in
-    both _ _ (above_first p.0 pairs later ((and_yes above _ h).0)) (rising_first pairs later ((and_yes above _ h).1))
+    yes_and _ _ (above_first p.0 pairs later ((and_yes above _ h).0)) (rising_first pairs later ((and_yes above _ h).1))
 
 reversed_less : (r : Ordering) → T (is_lt r) → is_eq (ordering_reverse r) ≡ false
 reversed_less Less h = refl
@@ -174,44 +170,26 @@ begins pairs later h more = (
   entries_of_rising (pairs ++ later) h ∙ ap (λ es. es ++ later) (sym (entries_of_rising pairs (rising_first pairs later h))),
 )
 
-pair_there : (p : List ℕ × Form) (pairs : List (List ℕ × Form)) → p ∷ pairs ≢ []
-pair_there p pairs e = cc
-
-not_none : (n : ℕ) (pairs : List (List ℕ × Form)) → n < length pairs → drop n pairs ≢ []
-not_none zero [] h = absurd (omega (arith, h))
-not_none zero (p ∷ pairs) h = pair_there p pairs
-not_none (suc n) [] h = absurd (omega (arith, h))
-not_none (suc n) (p ∷ pairs) h = let less : n < length pairs = omega (arith, h) in not_none n pairs less
-
-split : (n : ℕ) (pairs : List (List ℕ × Form)) → take n pairs ++ drop n pairs ≡ pairs
-split zero pairs = refl
-split (suc n) [] = refl
-split (suc n) (p ∷ pairs) = ap (λ es. p ∷ es) (split n pairs)
-
-taken_first : (n : ℕ) (pairs : List (List ℕ × Form)) → n < length pairs → length (take n pairs) ≡ n
-taken_first zero pairs h = refl
-taken_first (suc n) [] h = absurd (omega (arith, h))
-taken_first (suc n) (p ∷ pairs) h = let less : n < length pairs = omega (arith, h) in ap suc (taken_first n pairs less)
-
 -- of a state there is a beginning of each length below its own
 module _ (whole : State) (n : ℕ) (fewer : n < len whole) where
   some_later : n < length (entries whole)
   some_later = let e = len-entries whole in omega (arith, fewer, e)
 
-  rising : T (is_rising (take n (entries whole) ++ drop n (entries whole)))
-  rising = subst (λ es. T (is_rising es)) (sym (split n (entries whole))) (entries_sorted whole)
+  split : take n (entries whole) ++ drop n (entries whole) ≡ entries whole
+  split = take-append-drop n (entries whole)
+
+  rising : entries (from_entries {R = slice_cmp nat_cmp} (take n (entries whole))) ≡ take n (entries whole)
+  rising = entries_of_rising (take n (entries whole)) (rising_first (take n (entries whole)) (drop n (entries whole))
+      (subst (λ es. T (is_rising es)) (sym split) (entries_sorted whole)))
 
   pub beginning_of : (part : State) × IsProperBeginning part whole × (len part ≡ n)
   beginning_of = (
     from_entries (take n (entries whole)),
     (
       drop n (entries whole),
-      not_none n (entries whole) some_later,
-      sym (split n (entries whole))
-          ∙ ap (λ es. es ++ drop n (entries whole)) (sym (entries_of_rising (take n (entries whole))
-          (rising_first (take n (entries whole)) (drop n (entries whole)) rising))),
+      λ e. let left = length-drop n (entries whole) in let none = ap length e in omega (arith, some_later, left, none),
+      sym split ∙ ap (λ es. es ++ drop n (entries whole)) (sym rising),
     ),
-    len-entries (from_entries (take n (entries whole)))
-        ∙ ap length (entries_of_rising (take n (entries whole)) (rising_first (take n (entries whole)) (drop n (entries whole)) rising))
-        ∙ taken_first n (entries whole) some_later,
+    len-entries (from_entries (take n (entries whole))) ∙ ap length rising
+        ∙ length-take-le n (entries whole) (let less = some_later in omega (arith, less)),
   )

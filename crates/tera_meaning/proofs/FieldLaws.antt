@@ -2,31 +2,20 @@
 use Rattle.std.specs.Prelude.{◌≡◌, ◌⊎◌, ℕ, List, [], ◌∷◌, refl}
 use Rattle.std.proofs.Common.{sym, ◌∙◌, ap, inl, inr}
 use Rattle.std.specs.BTreeSet.{insert_key}
-use Rattle.std.specs.Cmp.{IsTotalOrder, tied_itself}
+use Rattle.std.specs.Cmp.{tied_itself}
 use Rattle.std.specs.Cmp.Lexicographic.{slice_cmp, nat_list_cmp_total}
-use Rattle.std.specs.FinMap.{nat_cmp-IsAntisymmetric, slice_cmp-IsAntisymmetric}
 use Rattle.std.specs.List.{AllByRecursion}
 use Rattle.std.specs.List.Sorted.{IsStrictlySortedBy}
 use Rattle.std.specs.Ordering.{nat_cmp, ordering_reverse, match_ordering}
 use Rattle.std.specs.declared.cmp.Ordering.{Ordering}
 use Rattle.std.specs.declared.cmp.Ordering.TheVariants.{Less, Equal, Greater}
 use Rattle.tera_meaning.proofs.Among.{Among, among, contained}
+use Rattle.tera_meaning.proofs.ChainedLaws.{less_equal, greater_less}
+use Rattle.tera_meaning.proofs.StateLaws.{name_exact}
 use Rattle.tera_meaning.specs.Fields.{AreRisingOf, rising_texts}
-
-less_equal : Less ≡ Equal → ⊥
-less_equal e = cc
-
-greater_less : Greater ≡ Less → ⊥
-greater_less e = cc
 
 abbrev order : List ℕ → List ℕ → Ordering
 order = slice_cmp nat_cmp
-
-total : IsTotalOrder order
-total = nat_list_cmp_total
-
-exact : (s t : List ℕ) → order s t ≡ Equal → s ≡ t
-exact s t e = slice_cmp-IsAntisymmetric nat_cmp-IsAntisymmetric s t e
 
 -- a text is less than each of a list
 abbrev Below : List ℕ → List (List ℕ) → Type 0
@@ -34,7 +23,7 @@ Below s ts = AllByRecursion (λ t. order s t ≡ Less) ts
 
 below_less : (s t : List ℕ) (us : List (List ℕ)) → order s t ≡ Less → Below t us → Below s us
 below_less s t [] p h = tt
-below_less s t (u ∷ us) p h = (total.trans s t u p h.0, below_less s t us p h.1)
+below_less s t (u ∷ us) p h = (nat_list_cmp_total.trans s t u p h.0, below_less s t us p h.1)
 
 below_put : (s t : List ℕ) (us : List (List ℕ)) → order s t ≡ Less → Below s us → Below s (insert_key order us t)
 below_put s t [] p h = (p, tt)
@@ -51,7 +40,7 @@ put_rises t (u ∷ us) h = elim (order t u) as (λ r. order t u ≡ r
     → IsStrictlySortedBy order (match_ordering r (t ∷ u ∷ us) (u ∷ us) (u ∷ insert_key order us t))) [
       | Less ↦ λ p. ((p, below_less t u us p h.0), h)
       | Equal ↦ λ p. h
-      | Greater ↦ λ p. (below_put u t us (total.antisymm u t ∙ ap ordering_reverse p) h.0, put_rises t us h.1)
+      | Greater ↦ λ p. (below_put u t us (nat_list_cmp_total.antisymm u t ∙ ap ordering_reverse p) h.0, put_rises t us h.1)
     ] refl
 
 rising_rises : (ts : List (List ℕ)) → IsStrictlySortedBy order (rising_texts ts)
@@ -64,7 +53,7 @@ put_has : (t : List ℕ) (us : List (List ℕ)) (x : List ℕ) → (x ≡ t) ⊎
 put_has t [] x a = a
 put_has t (u ∷ us) x a = elim (order t u) as (λ r. order t u ≡ r → Among (match_ordering r (t ∷ u ∷ us) (u ∷ us) (u ∷ insert_key order us t)) x) [
   | Less ↦ λ p. a
-  | Equal ↦ λ p. elim a as (λ _. Among (u ∷ us) x) [ inl is ↦ inl (is ∙ exact t u p) | inr old ↦ old ]
+  | Equal ↦ λ p. elim a as (λ _. Among (u ∷ us) x) [ inl is ↦ inl (is ∙ name_exact t u p) | inr old ↦ old ]
   | Greater ↦ λ p. elim a as (λ _. Among (u ∷ insert_key order us t) x) [
     | inl is ↦ inr (put_has t us x (inl is))
     | inr old ↦ elim old as (λ _. Among (u ∷ insert_key order us t) x) [ inl first ↦ inl first | inr later ↦ inr (put_has t us x (inr later)) ]
@@ -102,10 +91,10 @@ one_head : (s t : List ℕ) (ss ts : List (List ℕ)) → Below s ss → Below t
 one_head s t ss ts h g (inl is) b = is
 one_head s t ss ts h g (inr a) (inl is) = sym is
 one_head s t ss ts h g (inr a) (inr b) =
-    absurd (greater_less (ap ordering_reverse (sym (below_among t ts s g a)) ∙ sym (total.antisymm s t) ∙ below_among s ss t h b))
+    absurd (greater_less (ap ordering_reverse (sym (below_among t ts s g a)) ∙ sym (nat_list_cmp_total.antisymm s t) ∙ below_among s ss t h b))
 
 later : (s t x : List ℕ) (ts : List (List ℕ)) → order s x ≡ Less → s ≡ t → (x ≡ t) ⊎ Among ts x → Among ts x
-later s t x ts m is (inl b) = absurd (less_equal (sym m ∙ ap (order s) (b ∙ sym is) ∙ tied_itself total s))
+later s t x ts m is (inl b) = absurd (less_equal (sym m ∙ ap (order s) (b ∙ sym is) ∙ tied_itself nat_list_cmp_total s))
 later s t x ts m is (inr a) = a
 
 one_list : (ss ts : List (List ℕ)) → IsStrictlySortedBy order ss → IsStrictlySortedBy order ts → ((x : List ℕ) → Among ss x → Among ts x)

@@ -8,7 +8,7 @@ use Rattle.std.specs.Cmp.{tied_itself}
 use Rattle.std.specs.Cmp.Lexicographic.{nat_list_cmp_total}
 use Rattle.std.specs.FinMap.{nat_cmp-IsAntisymmetric, int_cmp-IsAntisymmetric, slice_cmp-IsAntisymmetric}
 use Rattle.tera_meaning.specs.KeyMeaning.{KeyMeaning, truth_key, number_key, text_key, key_rank, key_order}
-use Rattle.tera_meaning.proofs.ChainedLaws.{nat_less, less_nat, at_most, below}
+use Rattle.tera_meaning.proofs.ChainedLaws.{nat_less, less_nat}
 
 pub truth_exact : (a b : Bool) → bool_cmp a b ≡ Equal → a ≡ b
 truth_exact true true e = refl
@@ -39,7 +39,7 @@ key_upto : (k l : KeyMeaning) → key_order k l ≡ Less → key_rank k ≤ key_
 key_upto (truth_key a) (truth_key b) e = omega arith
 key_upto (number_key y) (number_key z) e = omega arith
 key_upto (text_key s) (text_key t) e = omega arith
-key_upto k l e = at_most (key_rank k) (key_rank l) (nat_less (key_rank k) (key_rank l) e)
+key_upto k l e = let less = nat_less (key_rank k) (key_rank l) e in omega arith
 
 key_chain : (k l m : KeyMeaning) → key_order k l ≡ Less → key_order l m ≡ Less → key_order k m ≡ Less
 key_chain (truth_key a) (truth_key b) (truth_key c) p q = bool_cmp_total.trans a b c p q
@@ -48,7 +48,7 @@ key_chain (text_key r) (text_key s) (text_key t) p q = nat_list_cmp_total.trans 
 key_chain (truth_key a) (truth_key b) m p q = q
 key_chain (number_key x) (number_key y) m p q = q
 key_chain (text_key r) (text_key s) m p q = q
-key_chain k l m p q = key_lower k m (below (key_rank k) (key_rank l) (key_rank m) (nat_less (key_rank k) (key_rank l) p) (key_upto l m q))
+key_chain k l m p q = key_lower k m (let less = nat_less (key_rank k) (key_rank l) p in let most = key_upto l m q in omega arith)
 
 pub key_total : IsTotalOrder key_order
 key_total = record {

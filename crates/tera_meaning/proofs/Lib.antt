@@ -22,6 +22,7 @@ mod PathLemmas
 mod PlainLemmas
 pub mod PowerLaws
 mod PrintedLemmas
+pub mod RefusalLaws
 mod RunLemmas
 pub mod SliceLaws
 mod SoundLemmas

@@ -2,7 +2,6 @@
 use Rattle.std.specs.Prelude.{◌≡◌, ℕ, ◌<◌, ◌≤◌, ◌↔◌, IsTrue, List, [], ◌∷◌, ℤ, refl}
 use Rattle.std.proofs.Common.{sym, ◌∙◌, ap, arith}
 use Rattle.std.specs.Ordering.{ordering_then, ordering_reverse, is_eq, as_partial_cmp}
-use Rattle.std.specs.declared.cmp.Ordering.{Ordering}
 use Rattle.std.specs.declared.cmp.Ordering.TheVariants.{Less, Equal}
 use Rattle.std.specs.Cmp.{IsPartialEquivalence, IsEquivalence, IsTotalOrder, IsPartialOrder, partial_order_from_total, int_cmp_total, bool_cmp_total}
 use Rattle.std.specs.Cmp.{tied_itself, eq_by_cmp_equiv, partial_equiv_from_equiv, Equal-is}
@@ -11,7 +10,6 @@ use Rattle.std.specs.FinMap.{nat_cmp-IsAntisymmetric, int_cmp-IsAntisymmetric, s
 use Rattle.tera_meaning.specs.KeyMeaning.{KeyMeaning, key_order}
 use Rattle.tera_meaning.proofs.KeyLaws.{truth_exact, key_exact, key_total}
 use Rattle.tera_meaning.proofs.ChainedLaws.{first_equal, second_equal, reverse_then, chain_then, then_nested, equal_less, greater_less, nat_less, less_nat}
-use Rattle.tera_meaning.proofs.ChainedLaws.{at_most, below}
 use Rattle.tera_meaning.specs.Meaning.{Meaning}
 use Rattle.tera_meaning.specs.Order.{pair_order, rank, compare, compare_items, compare_members, same}
 use Rattle.tera_meaning.specs.Tree.{Items, Members, undefined, none, truth, number, text, bytes, array, object, no_items, item, no_members, member, items}
@@ -91,7 +89,7 @@ upto (text s) (text t) e = omega arith
 upto (bytes s) (bytes t) e = omega arith
 upto (array xs) (array ys) e = omega arith
 upto (object ps) (object qs) e = omega arith
-upto x y e = at_most (rank x) (rank y) (nat_less (rank x) (rank y) e)
+upto x y e = let less = nat_less (rank x) (rank y) e in omega arith
 
 mutual
   compare_chain : (x y z : Meaning) → compare x y ≡ Less → compare y z ≡ Less → compare x z ≡ Less
@@ -107,7 +105,7 @@ mutual
   compare_chain (bytes r) (bytes s) z p q = q
   compare_chain (array xs) (array ys) z p q = q
   compare_chain (object ps) (object qs) z p q = q
-  compare_chain x y z p q = lower x z (below (rank x) (rank y) (rank z) (nat_less (rank x) (rank y) p) (upto y z q))
+  compare_chain x y z p q = lower x z (let less = nat_less (rank x) (rank y) p in let most = upto y z q in omega arith)
 
   items_chain : (xs ys zs : Items ℤ (List ℕ) KeyMeaning) → compare_items xs ys ≡ Less → compare_items ys zs ≡ Less → compare_items xs zs ≡ Less
   items_chain no_items no_items no_items p q = absurd (equal_less p)

@@ -38,7 +38,7 @@ array_means ys zs e =
     ap (λ (ws : Items ℤ (List ℕ) KeyMeaning). Ok (array ws)) (items_relabeled (λ (n : Integer). n.value) (λ (t : MarkedText). t.spelled) key_meaning ys)
     ∙ ap (λ (ws : List Meaning). Ok (array (items ws))) e
 
-picked : {X Y : Type 0} (f : X → Y) (b : Bool) (x : X) (o : Option X) → option_map f (cond b (Some x) o) ≡ cond b (Some (f x)) (option_map f o)
+pub picked : {X Y : Type 0} (f : X → Y) (b : Bool) (x : X) (o : Option X) → option_map f (cond b (Some x) o) ≡ cond b (Some (f x)) (option_map f o)
 picked f true x o = refl
 picked f false x o = refl
 

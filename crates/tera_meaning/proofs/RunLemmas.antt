@@ -11,7 +11,7 @@ use Rattle.tera_meaning.specs.Meaning.{plain}
 use Rattle.tera_meaning.specs.Outcome.{Outcome, out_of_memory, is_want}
 use Rattle.tera_meaning.specs.Printed.{printed}
 use Rattle.tera_meaning.specs.Question.{Question, IsAnswered, IsFixedAnswer}
-use Rattle.tera_meaning.specs.Request.{Request, set, extend, remove, mark_safe, ask, weigh, find, Command, asking}
+use Rattle.tera_meaning.specs.Request.{Request, extend, ask, weigh, find, Command, asking}
 use Rattle.tera_meaning.specs.State.{State, read, form_at}
 use Rattle.tera_meaning.specs.Step.{found_or_kept, ComesTo, IsOutcome, IsFixed, LeavesInWant, IsStep, state_after}
 use Rattle.tera_meaning.specs.Run.{IsRun, AreOutcomes, AreFixed, state_after_all, WasDoneInWant, IsDoneOf, NoneWantsMemory, IsAmpleRun}
@@ -136,13 +136,7 @@ done_in_want old mid (extend source) next others new (part, is, left) run = (
   (part, is, refl, refl),
   ((mid, inl (refl, left), run.0), ((λ e. cc), run.1)),
 )
-done_in_want old mid (set name value) next others new left run = (next, others, (refl, refl), subst (λ state. IsAmpleRun state next others new) left run)
-done_in_want old mid (remove name) next others new left run = (next, others, (refl, refl), subst (λ state. IsAmpleRun state next others new) left run)
-done_in_want old mid (mark_safe name) next others new left run = (next, others, (refl, refl), subst (λ state. IsAmpleRun state next others new) left run)
-done_in_want old mid (ask question name) next others new left run = (next, others, (refl, refl), subst (λ state. IsAmpleRun state next others new) left run)
-done_in_want old mid (weigh weighing left right) next others new same run =
-    (next, others, (refl, refl), subst (λ state. IsAmpleRun state next others new) same run)
-done_in_want old mid (find search) next others new left run = (next, others, (refl, refl), subst (λ state. IsAmpleRun state next others new) left run)
+done_in_want old mid v next others new left run = (next, others, (refl, refl), subst (λ state. IsAmpleRun state next others new) left run)
 
 done_first : (old : State) (command : Command) (commands : List Command) (outcome : Outcome) (outcomes : List Outcome)
     (mid new : State) (b : Bool) → is_want outcome ≡ b → IsStep old command outcome mid
@@ -161,8 +155,7 @@ pub done_of_run : (old : State) (commands : List Command) (outcomes : List Outco
 done_of_run old [] [] new run = ([], [], (refl, refl), (run, tt))
 done_of_run old (command ∷ commands) (outcome ∷ outcomes) new (mid, step, run) =
     done_first old command commands outcome outcomes mid new (is_want outcome) refl step (done_of_run mid commands outcomes new run)
-done_of_run old [] (outcome ∷ outcomes) new run = absurd run
-done_of_run old (command ∷ commands) [] new run = absurd run
+done_of_run old commands outcomes new run = absurd run
 
 -- a run in which no step wants memory gives outcomes of its commands, and the state that they leave
 pub ample_outcomes : (old : State) (commands : List Command) (outcomes : List Outcome) (new : State)
@@ -171,8 +164,7 @@ ample_outcomes old [] [] new ample = tt
 ample_outcomes old (command ∷ commands) (outcome ∷ outcomes) new ((mid, step, run), none) =
     let given = given_step old command outcome mid step none.0 in
     (given.0, subst (λ state. AreOutcomes state commands outcomes) given.1 (ample_outcomes mid commands outcomes new (run, none.1)))
-ample_outcomes old [] (outcome ∷ outcomes) new ample = absurd ample.0
-ample_outcomes old (command ∷ commands) [] new ample = absurd ample.0
+ample_outcomes old commands outcomes new ample = absurd ample.0
 
 pub ample_state : (old : State) (commands : List Command) (outcomes : List Outcome) (new : State)
     → IsAmpleRun old commands outcomes new → new ≡ state_after_all old commands
@@ -180,16 +172,14 @@ ample_state old [] [] new ample = ample.0
 ample_state old (command ∷ commands) (outcome ∷ outcomes) new ((mid, step, run), none) =
     let given = given_step old command outcome mid step none.0 in
     ample_state mid commands outcomes new (run, none.1) ∙ ap (λ state. state_after_all state commands) given.1
-ample_state old [] (outcome ∷ outcomes) new ample = absurd ample.0
-ample_state old (command ∷ commands) [] new ample = absurd ample.0
+ample_state old commands outcomes new ample = absurd ample.0
 
 outcomes_run : (old : State) (commands : List Command) (outcomes : List Outcome) → AreOutcomes old commands outcomes
     → IsRun old commands outcomes (state_after_all old commands)
 outcomes_run old [] [] are = refl
 outcomes_run old (command ∷ commands) (outcome ∷ outcomes) are =
     (state_after old command, inl (are.0, refl), outcomes_run (state_after old command) commands outcomes are.1)
-outcomes_run old [] (outcome ∷ outcomes) are = absurd are
-outcomes_run old (command ∷ commands) [] are = absurd are
+outcomes_run old commands outcomes are = absurd are
 
 outcomes_given : (old : State) (commands : List Command) (outcomes : List Outcome) → AreOutcomes old commands outcomes
     → NoneWantsMemory outcomes
@@ -199,8 +189,7 @@ outcomes_given old (command ∷ commands) (outcome ∷ outcomes) are = (
   outcomes_given (state_after old command) commands outcomes
       are.1,
 )
-outcomes_given old [] (outcome ∷ outcomes) are = absurd are
-outcomes_given old (command ∷ commands) [] are = absurd are
+outcomes_given old commands outcomes are = absurd are
 
 -- and each list of outcomes is that of such a run
 pub ample_from_outcomes : (old : State) (commands : List Command) (outcomes : List Outcome)

@@ -11,7 +11,7 @@ use Rattle.tera_meaning.specs.Form.{Form, MarkedText}
 use Rattle.tera_meaning.specs.Read.{items_in}
 use Rattle.tera_meaning.specs.SliceRule.{IsSliced, place_of_bound, start_place, end_place}
 use Rattle.tera_meaning.specs.Stretch.{up_to_bound, from_bound, stretch}
-use Rattle.tera_meaning.specs.Tree.{undefined, none, truth, number, text, bytes, array, object, items, items_list}
+use Rattle.tera_meaning.specs.Tree.{text, array, items, items_list}
 use Rattle.tera_meaning.specs.Slice.{walked, slice_of}
 use Rattle.tera_meaning.proofs.SliceLaws.{sliced_only}
 
@@ -73,13 +73,7 @@ array_stretch (array ys) xs start end outcome holds is =
     sliced_only (array ys) start end None outcome is
     ∙ ap (λ (zs : List Form). Ok (array (items zs))) (slice_is_stretch (items_list ys) start end)
     ∙ ap (λ (zs : List Form). Ok (array (items (stretch zs start end)))) same
-array_stretch undefined xs start end outcome holds is = cc
-array_stretch none xs start end outcome holds is = cc
-array_stretch (truth b) xs start end outcome holds is = cc
-array_stretch (number n) xs start end outcome holds is = cc
-array_stretch (text t) xs start end outcome holds is = cc
-array_stretch (bytes bs) xs start end outcome holds is = cc
-array_stretch (object ps) xs start end outcome holds is = cc
+array_stretch v xs start end outcome holds is = cc
 
 pub text_stretch : (t : MarkedText) (start end : Option ℤ) (outcome : Result Form Refusal) → IsSliced (text t) start end None outcome
     → outcome ≡ Ok (text (record { spelled = encode_utf8_all (stretch (chars t.spelled) start end); safe = t.safe }))

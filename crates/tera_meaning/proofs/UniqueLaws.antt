@@ -13,12 +13,9 @@ use Rattle.std.specs.declared.cmp.Ordering.TheVariants.{Less, Equal, Greater}
 use Rattle.std.proofs.lemmas.List.Sorted.{IsPermutation-refl, IsPermutation-sym, IsPermutation-trans, IsPermutation-cons, IsPermutation-insert}
 use Rattle.std.proofs.lemmas.List.Sorted.{Contains-permutation}
 use Rattle.tera_meaning.proofs.Among.{Among, among, contained}
-use Rattle.tera_meaning.proofs.ChainedLaws.{greater_less}
+use Rattle.tera_meaning.proofs.ChainedLaws.{less_equal, greater_less}
 use Rattle.tera_meaning.specs.Pairs.{Rises, HasDistinctKeys, rising, value_at}
 use Rattle.tera_meaning.proofs.PairLaws.{Below, rising_rises, found_rising}
-
-less_equal : Less ≡ Equal → ⊥
-less_equal e = cc
 
 module _ {K V : Type 0} (order : K → K → Ordering) (total : IsTotalOrder order) where
   not_less : (e d : K × V) → e ≡ d → order d.0 e.0 ≡ Less → ⊥

@@ -1,19 +1,18 @@
 -- What is printed of a well-made meaning is UTF-8.
-use Rattle.std.specs.Prelude.{◌≢◌, ℤ, pos, negsuc, codes, if◌then◌else◌, Option, Some, None, slice_index, ◌==◌}
-use Rattle.std.proofs.Common.{◌≡◌, ℕ, zero, suc, ◌+◌, ◌<◌, ◌≤◌, Bool, true, false, ◌&&◌, nat_lt, List, [], ◌∷◌, ◌++◌, length, get_or, take, drop, IsUtf8, inl}
-use Rattle.std.proofs.Common.{inr, refl, sym, ap, ap₂, ◌∙◌, subst, arith, append-nil, ltb-true, ne_eqb, take_all, length-drop}
+use Rattle.std.specs.Prelude.{ℤ, pos, negsuc, codes}
+use Rattle.std.proofs.Common.{◌≡◌, ℕ, zero, suc, ◌<◌, ◌≤◌, Bool, true, false, ◌&&◌, nat_lt, List, [], ◌∷◌, ◌++◌, length, get_or, take, IsUtf8, inl}
+use Rattle.std.proofs.Common.{inr, refl, sym, ap, ap₂, ◌∙◌, subst, arith, append-nil, ltb-true, ne_eqb, take_all}
 use Rattle.std.specs.Fmt.{signed_decimal, decimal, debug_escape, digits}
-use Rattle.std.specs.Int.{is_in_range}
 use Rattle.std.specs.List.{flat_map}
 use Rattle.std.specs.Str.{is_utf8}
-use Rattle.std.specs.Option.{unwrap_or}
-use Rattle.std.specs.Str.Lossy.{utf8_lossy, utf8_valid_len, utf8_error_len, utf8_invalid_len, error_len_of_some, error_len_after_one, error_len_after_two}
-use Rattle.std.specs.Str.Lossy.{second_byte_min, second_byte_max, valid_len_up_to, after_first_chunk, replacement_bytes}
-use Rattle.std.proofs.lemmas.Bool.{and_parts, cases_lt, cases_eq, le-ltb}
+use Rattle.std.specs.Str.Lossy.{utf8_lossy, utf8_valid_len}
+use Rattle.std.specs.Str.Lossy.{valid_len_up_to, after_first_chunk, replacement_bytes}
+use Rattle.std.proofs.lemmas.Bool.{and_parts, cases_lt, cases_eq, le-ltb, agree_below_at}
 use Rattle.std.proofs.lemmas.Fmt.{IsAscii-decimal_wide}
 use Rattle.std.proofs.lemmas.List.Concat.{flat_map-append}
-use Rattle.std.proofs.lemmas.Str.{IsUtf8-append, IsUtf8-nil, IsUtf8-encode, IsUtf8-from_ascii, IsUtf8-from_is_utf8, encode_ascii, inside_one, utf8_valid_len_le}
+use Rattle.std.proofs.lemmas.Str.{IsUtf8-append, IsUtf8-nil, IsUtf8-encode, IsUtf8-from_ascii, IsUtf8-from_is_utf8, encode_ascii, inside_one}
 use Rattle.std.proofs.lemmas.Str.{utf8_lossy-IsUtf8, utf8_lossy_step}
+use Rattle.std.proofs.str.Lossy.{length-after_first_chunk}
 use lib.Utf8.{scalar, scalars, encode, encodes, low_scalar}
 use Rattle.tera_meaning.specs.KeyMeaning.{KeyMeaning, truth_key, number_key, text_key}
 use Rattle.tera_meaning.specs.Integer.{IsWide}
@@ -37,20 +36,9 @@ ascii_utf8 (x ∷ xs) e = let p = and_parts _ _ e in ascii_then x xs (ltb-true _
 
 -- ---- the debug form of a text
 
-escapes_below : ℕ → Bool
-escapes_below zero = true
-escapes_below (suc n) = are_ascii (debug_escape 34 n) && escapes_below n
-
-escape_below : (n : ℕ) → escapes_below n ≡ true → (x : ℕ) → x < n → are_ascii (debug_escape 34 x) ≡ true
-unfolding escapes_below
-escape_below zero e x h = absurd (omega arith)
-escape_below (suc n) e x h =
-    let p = and_parts _ _ e in
-    elim (cases_eq x n) [ inl same ↦ rw same p.0 | inr other ↦ escape_below n p.1 x (omega arith) ]
-
-all_escapes : escapes_below 128 ≡ true
-unfolding escapes_below debug_escape digits
-all_escapes = refl
+escape_ascii : (x : ℕ) → x < 128 → are_ascii (debug_escape 34 x) ≡ true
+unfolding debug_escape digits
+escape_ascii x h = agree_below_at (λ c. are_ascii (debug_escape 34 c)) (λ _. true) 128 x refl h
 
 escape_plain : (x : ℕ) → 128 ≤ x → debug_escape 34 x ≡ x ∷ []
 unfolding debug_escape
@@ -73,7 +61,7 @@ escape_high (x ∷ xs) h =
 
 one_char : (c : ℕ) → scalar c ≡ true → IsUtf8 (flat_map (debug_escape 34) (encode c))
 one_char c ok = elim (cases_lt c 128) [
-  | inl small ↦ rw (encode_ascii c small, append-nil) (ascii_utf8 _ (escape_below 128 all_escapes c small))
+  | inl small ↦ rw (encode_ascii c small, append-nil) (ascii_utf8 _ (escape_ascii c small))
   | inr big ↦
       let high : (k : ℕ) → k < length (encode c) → 128 ≤ get_or (encode c) k 0 = λ k below. elim (cases_lt (get_or (encode c) k 0) 128) [
         | inl low ↦ absurd (omega (arith, inside_one c [] (encode c) k (sym (append-nil _)) below low))
@@ -112,59 +100,21 @@ replacement_utf8 : IsUtf8 replacement_bytes
 unfolding encode
 replacement_utf8 = IsUtf8-encode 65533 refl
 
--- what one U+FFFD stands for is some byte
-either_some : (b : Bool) (o p : Option ℕ) (n : ℕ) → 0 < unwrap_or o n → 0 < unwrap_or p n
-    → 0 < unwrap_or (if b then o else p) n
-either_some true o p n h k = h
-either_some false o p n h k = k
-
-some_after_two : (bs : List ℕ) (n : ℕ) → 0 < n → 0 < unwrap_or (error_len_after_two bs) n
-some_after_two bs n h =
-    let four : Option ℕ = if nat_lt (length bs) 4 then None else Some 3 in
-    let three : Option ℕ = if is_in_range 0x80 0xBF (slice_index bs 2) then four else Some 2 in
-    either_some (nat_lt (length bs) 3) None three n h
-    (either_some (is_in_range 0x80 0xBF (slice_index bs 2)) four (Some 2) n (either_some (nat_lt (length bs) 4) None (Some 3) n h (omega arith)) (omega arith))
-
-some_after_one : (bs : List ℕ) (n : ℕ) → 0 < n → 0 < unwrap_or (error_len_after_one bs) n
-some_after_one bs n h =
-    let x : ℕ = slice_index bs 0 in
-    let follows : Bool = is_in_range (second_byte_min x) (second_byte_max x) (slice_index bs 1) in
-    let two : Option ℕ = if follows then error_len_after_two bs else Some 1 in
-    either_some (nat_lt (length bs) 2) None two n h (either_some follows (error_len_after_two bs) (Some 1) n (some_after_two bs n h) (omega arith))
-
-some_invalid : (bs : List ℕ) → 0 < length bs → 0 < utf8_invalid_len bs
-unfolding utf8_error_len
-some_invalid bs h =
-    either_some (length bs == 0) None (error_len_of_some bs) (length bs) h
-    (either_some (is_in_range 0xC2 0xF4 (slice_index bs 0)) (error_len_after_one bs) (Some 1) (length bs) (some_after_one bs (length bs) h) (omega arith))
-
-shorter : (bs : List ℕ) → utf8_valid_len bs < length bs → length (after_first_chunk bs) < length bs
-shorter bs short =
-    let n = utf8_valid_len bs in
-    let invalid = some_invalid (drop n bs) (omega (arith, length-drop n bs)) in
-    omega (arith, length-drop (n + utf8_invalid_len (drop n bs)) bs)
-
-lossy_whole : (bs : List ℕ) → length bs ≤ utf8_valid_len bs → IsUtf8 (utf8_lossy bs)
-lossy_whole bs whole =
-    let within = utf8_valid_len_le bs in
-    let same : utf8_valid_len bs ≡ length bs = omega (arith, whole, within) in
-    let u : IsUtf8 bs = subst IsUtf8 (ap (λ n. take n bs) same ∙ take_all (length bs) bs (omega arith)) (valid_utf8 bs) in
-    subst IsUtf8 (sym (utf8_lossy-IsUtf8 bs u)) u
-
-lossy_within_utf8 : (k : ℕ) (bs : List ℕ) → length bs ≤ k → IsUtf8 (utf8_lossy bs)
-lossy_within_utf8 zero bs le = lossy_whole bs (let within = utf8_valid_len_le bs in omega (arith, le, within))
-lossy_within_utf8 (suc k) bs le = elim (cases_lt (utf8_valid_len bs) (length bs)) [
-  | inl short ↦
-      let faulty : utf8_valid_len bs ≢ length bs = λ e. omega (arith, short, e) in
-      let less = shorter bs short in
+lossy_within_utf8 : (k : ℕ) (bs : List ℕ) → length bs < k → IsUtf8 (utf8_lossy bs)
+lossy_within_utf8 zero bs le = absurd (omega arith)
+lossy_within_utf8 (suc k) bs le = elim (cases_eq (utf8_valid_len bs) (length bs)) [
+  | inl same ↦
+      let u : IsUtf8 bs = subst IsUtf8 (ap (λ n. take n bs) same ∙ take_all (length bs) bs (omega arith)) (valid_utf8 bs) in
+      subst IsUtf8 (sym (utf8_lossy-IsUtf8 bs u)) u
+  | inr faulty ↦
+      let less = length-after_first_chunk bs faulty in
       subst IsUtf8 (sym (utf8_lossy_step bs faulty))
       (IsUtf8-append (take (utf8_valid_len bs) bs) _ (valid_utf8 bs)
       (IsUtf8-append replacement_bytes _ replacement_utf8 (lossy_within_utf8 k (after_first_chunk bs) (omega (arith, le, less)))))
-  | inr whole ↦ lossy_whole bs whole
 ]
 
 lossy_utf8 : (bs : List ℕ) → IsUtf8 (utf8_lossy bs)
-lossy_utf8 bs = lossy_within_utf8 (length bs) bs (omega arith)
+lossy_utf8 bs = lossy_within_utf8 (suc (length bs)) bs (omega arith)
 
 -- ---- numbers, keys and whole meanings
 

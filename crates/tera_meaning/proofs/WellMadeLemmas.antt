@@ -1,5 +1,5 @@
 -- What is held stays well made.
-use Rattle.std.specs.Prelude.{◌≡◌, ℕ, ℤ, pos, negsuc, Bool, true, false, cond, IfSome, IsSome, List, [], ◌∷◌, Option, Some, None, Ok, Err, IfOk, refl}
+use Rattle.std.specs.Prelude.{◌≡◌, ℕ, ℤ, pos, negsuc, Bool, true, false, cond, IfSome, IsSome, List, [], ◌∷◌, Option, Some, None, Ok, IfOk, refl}
 use Rattle.std.proofs.Common.{sym, subst, inl, inr, arith}
 use Rattle.std.specs.Option.{option_or}
 use Rattle.std.specs.Ordering.{nat_cmp, eq_by_cmp}
@@ -25,7 +25,7 @@ use Rattle.tera_meaning.specs.Search.{Found, found_at}
 use Rattle.tera_meaning.proofs.Owed.{IsHeldWell, form_at_well}
 use Rattle.tera_meaning.proofs.found.{owed}
 use Rattle.tera_meaning.proofs.ExtendLaws.{get_extended, beginning_held}
-use Rattle.tera_meaning.specs.Request.{Command, Request, set, extend, remove, mark_safe, ask, weigh, find}
+use Rattle.tera_meaning.specs.Request.{Command, Request, set, extend, remove, mark_safe, find}
 use Rattle.tera_meaning.specs.Step.{keeping, marking, marking_into, leaves, LeavesInWant, IsStep, state_after}
 use Rattle.tera_meaning.specs.Tree.{Items, Members, number, text, bytes, array, object, no_items, item, no_members, member, members_list, relabeled_items}
 use Rattle.tera_meaning.specs.Tree.{relabeled_members}
@@ -73,10 +73,8 @@ module _ (state : State) (h : IsWellMadeState state) where
 
   kept_well : (into : Option (List ℕ)) (found : Found) → IfSome into IsUtf8 → IfOk found (λ o. IfSome o IsWellMade)
       → IsWellMadeState (keeping state into found)
-  kept_well None found utf8 well = h
-  kept_well (Some into) (Ok None) utf8 well = h
   kept_well (Some into) (Ok (Some value)) utf8 well = set_well into value utf8 well
-  kept_well (Some into) (Err refusal) utf8 well = h
+  kept_well into found utf8 well = h
 
   marked_place_well : (name : List ℕ) (o : Option Form) → IsHeldWell name o → IsWellMadeState (marking state name o)
   marked_place_well name None well = h
@@ -94,9 +92,8 @@ module _ (state : State) (h : IsWellMadeState state) where
   left_well (extend source) into well utf8 = extended_well source well
   left_well (remove name) into well utf8 = removed_well name
   left_well (mark_safe name) into well utf8 = marked_into_well name into utf8
-  left_well (ask question name) into well utf8 = h
-  left_well (weigh weighing left right) into well utf8 = h
   left_well (find search) into well utf8 = kept_well into (found_at state search) utf8 ((owed search).well_made state h)
+  left_well v into well utf8 = h
 
 pub all_left_well : (state : State) (commands : List Command) → IsWellMadeState state → AllBringWellMade commands
     → IsWellMadeState (state_after_all state commands)
@@ -118,12 +115,7 @@ want_well : (old new : State) (request : Request) → IsWellMadeState old → Br
     → LeavesInWant old request new → IsWellMadeState new
 want_well old new (extend source) h brings (part, is, left) =
     subst IsWellMadeState (sym left) (extended_well old h part (beginning_well part source is brings))
-want_well old new (set name value) h brings left = subst IsWellMadeState (sym left) h
-want_well old new (remove name) h brings left = subst IsWellMadeState (sym left) h
-want_well old new (mark_safe name) h brings left = subst IsWellMadeState (sym left) h
-want_well old new (ask question name) h brings left = subst IsWellMadeState (sym left) h
-want_well old new (weigh weighing left right) h brings same = subst IsWellMadeState (sym same) h
-want_well old new (find search) h brings left = subst IsWellMadeState (sym left) h
+want_well old new v h brings left = subst IsWellMadeState (sym left) h
 
 step_well : (old : State) (command : Command) (outcome : Outcome) (new : State) → IsWellMadeState old
     → BringsWellMade command.request → IfSome command.into IsUtf8 → IsStep old command outcome new → IsWellMadeState new
@@ -136,8 +128,7 @@ pub run_well : (old : State) (commands : List Command) (outcomes : List Outcome)
 run_well old [] [] new h brought run = subst IsWellMadeState (sym run) h
 run_well old (command ∷ commands) (outcome ∷ outcomes) new h brought (mid, step, run) =
     run_well mid commands outcomes new (step_well old command outcome mid h brought.0.0 brought.0.1 step) brought.1 run
-run_well old [] (outcome ∷ outcomes) new h brought run = absurd run
-run_well old (command ∷ commands) [] new h brought run = absurd run
+run_well old commands outcomes new h brought run = absurd run
 
 -- ---- what well-made forms mean
 

@@ -28,7 +28,6 @@ pub mod Alike
 pub mod Pairs
 pub mod Decided
 pub mod Rows
-pub mod RefusalLaws
 pub mod Stretch
 pub mod SliceRule
 pub mod Slice

@@ -17,17 +17,18 @@ span_eq a b =
 
 same_span : (a b : Span) → span_eq a b ≡ true → a ≡ b
 same_span a b h =
-    let one = eqb-true _ _ ((and_parts _ _ h).0) in
-    let h2 = (and_parts _ _ h).1 in
-    let two = eqb-true _ _ ((and_parts _ _ h2).0) in
-    let h3 = (and_parts _ _ h2).1 in
-    let three = eqb-true _ _ ((and_parts _ _ h3).0) in
-    let h4 = (and_parts _ _ h3).1 in
-    let four = eqb-true _ _ ((and_parts _ _ h4).0) in
-    let h5 = (and_parts _ _ h4).1 in
-    let five = eqb-true _ _ ((and_parts _ _ h5).0) in
-    let six = eqb-true _ _ ((and_parts _ _ h5).1) in
-    (λ i. record { start_line = one i; start_col = two i; end_line = three i; end_col = four i; range = record { start = five i; end = six i } })
+    let (one, h2) = and_parts (a.start_line == b.start_line) _ h in
+    let (two, h3) = and_parts (a.start_col == b.start_col) _ h2 in
+    let (three, h4) = and_parts (a.end_line == b.end_line) _ h3 in
+    let (four, h5) = and_parts (a.end_col == b.end_col) _ h4 in
+    let (five, six) = and_parts (a.range.start == b.range.start) _ h5 in
+    (λ i. record {
+      start_line = eqb-true _ _ one i;
+      start_col = eqb-true _ _ two i;
+      end_line = eqb-true _ _ three i;
+      end_col = eqb-true _ _ four i;
+      range = record { start = eqb-true _ _ five i; end = eqb-true _ _ six i };
+    })
 
 span_same : (a b : Span) → a ≡ b → span_eq a b ≡ true
 span_same a b e =
@@ -40,13 +41,15 @@ note_eq a b = string_eq a.label b.label && (string_eq a.filename b.filename && (
 
 same_note : (a b : Note) → note_eq a b ≡ true → note_of a ≡ note_of b
 same_note a b h =
-    let one = same_text a.label b.label ((and_parts _ _ h).0) in
-    let h2 = (and_parts _ _ h).1 in
-    let two = same_text a.filename b.filename ((and_parts _ _ h2).0) in
-    let h3 = (and_parts _ _ h2).1 in
-    let three = same_text a.source b.source ((and_parts _ _ h3).0) in
-    let four = same_span _ _ ((and_parts _ _ h3).1) in
-    (λ i. record { label = one i; file = two i; source = three i; span = four i })
+    let (one, h2) = and_parts (string_eq a.label b.label) _ h in
+    let (two, h3) = and_parts (string_eq a.filename b.filename) _ h2 in
+    let (three, four) = and_parts (string_eq a.source b.source) _ h3 in
+    (λ i. record {
+      label = same_text a.label b.label one i;
+      file = same_text a.filename b.filename two i;
+      source = same_text a.source b.source three i;
+      span = same_span a.span b.span four i;
+    })
 
 note_same : (a b : Note) → note_of a ≡ note_of b → note_eq a b ≡ true
 note_same a b e =
@@ -55,18 +58,16 @@ note_same a b e =
 
 same_notes : (xs ys : List Note) → pointwise note_eq xs ys ≡ true → map note_of xs ≡ map note_of ys
 same_notes [] [] h = refl
-same_notes [] (y ∷ ys) h = absurd (cc)
-same_notes (x ∷ xs) [] h = absurd (cc)
 same_notes (x ∷ xs) (y ∷ ys) h =
     let first = same_note x y ((and_parts _ _ h).0) in
     let others = same_notes xs ys ((and_parts _ _ h).1) in
     (λ i. first i ∷ others i)
+same_notes xs ys h = absurd (cc)
 
 notes_same : (xs ys : List Note) → map note_of xs ≡ map note_of ys → pointwise note_eq xs ys ≡ true
 notes_same [] [] e = refl
-notes_same [] (y ∷ ys) e = absurd (cc)
-notes_same (x ∷ xs) [] e = absurd (cc)
 notes_same (x ∷ xs) (y ∷ ys) e = and_from _ _ (note_same x y (cc)) (notes_same xs ys (cc))
+notes_same xs ys e = absurd (cc)
 
 abbrev report_eq : ReportError → ReportError → Bool
 report_eq a b =
@@ -75,15 +76,17 @@ report_eq a b =
 
 pub same_report : (a b : ReportError) → report_eq a b ≡ true → report_of a ≡ report_of b
 same_report a b h =
-    let one = same_text a.message b.message ((and_parts _ _ h).0) in
-    let h2 = (and_parts _ _ h).1 in
-    let two = same_text a.filename b.filename ((and_parts _ _ h2).0) in
-    let h3 = (and_parts _ _ h2).1 in
-    let three = same_text a.source b.source ((and_parts _ _ h3).0) in
-    let h4 = (and_parts _ _ h3).1 in
-    let four = same_span _ _ ((and_parts _ _ h4).0) in
-    let five = same_notes _ _ ((and_parts _ _ h4).1) in
-    (λ i. record { message = one i; file = two i; source = three i; span = four i; notes = five i })
+    let (one, h2) = and_parts (string_eq a.message b.message) _ h in
+    let (two, h3) = and_parts (string_eq a.filename b.filename) _ h2 in
+    let (three, h4) = and_parts (string_eq a.source b.source) _ h3 in
+    let (four, five) = and_parts (span_eq a.span b.span) _ h4 in
+    (λ i. record {
+      message = same_text a.message b.message one i;
+      file = same_text a.filename b.filename two i;
+      source = same_text a.source b.source three i;
+      span = same_span a.span b.span four i;
+      notes = same_notes a.notes.items b.notes.items five i;
+    })
 
 pub report_same : (a b : ReportError) → report_of a ≡ report_of b → report_eq a b ≡ true
 report_same a b e =

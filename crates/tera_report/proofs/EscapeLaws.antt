@@ -26,11 +26,7 @@ token_of-plain byte h = plain_choice (byte == 38) (byte == 60) (byte == 62) (byt
 -- a token is the one of the byte that it stands for
 pub token_of-decoding : (token : Token) → IsToken token → token_of (decoding token) ≡ token
 token_of-decoding (itself byte) h = token_of-plain byte h
-token_of-decoding ampersand h = refl
-token_of-decoding less_than h = refl
-token_of-decoding greater_than h = refl
-token_of-decoding double_quote h = refl
-token_of-decoding single_quote h = refl
+token_of-decoding token h = refl
 
 -- the token of a byte is proper and stands for it
 record IsTokenOf (byte : ℕ) (token : Token) : Type 0 where
@@ -96,16 +92,8 @@ second (a ∷ b ∷ rest) = b
 -- the first token of spelled bytes is determined, and so is what follows it
 first_token : (k l : Token) (a b : List ℕ) → IsToken k → IsToken l → spelling k ++ a ≡ spelling l ++ b → (k ≡ l) × (a ≡ b)
 first_token (itself x) (itself y) a b p q e = ((cc), (cc))
-first_token (itself x) ampersand a b p q e = no_ampersand x p (cc)
-first_token (itself x) less_than a b p q e = no_ampersand x p (cc)
-first_token (itself x) greater_than a b p q e = no_ampersand x p (cc)
-first_token (itself x) double_quote a b p q e = no_ampersand x p (cc)
-first_token (itself x) single_quote a b p q e = no_ampersand x p (cc)
-first_token ampersand (itself y) a b p q e = no_ampersand y q (cc)
-first_token less_than (itself y) a b p q e = no_ampersand y q (cc)
-first_token greater_than (itself y) a b p q e = no_ampersand y q (cc)
-first_token double_quote (itself y) a b p q e = no_ampersand y q (cc)
-first_token single_quote (itself y) a b p q e = no_ampersand y q (cc)
+first_token (itself x) l a b p q e = no_ampersand x p (cc)
+first_token k (itself y) a b p q e = no_ampersand y q (cc)
 first_token ampersand ampersand a b p q e = (refl, (cc))
 first_token less_than less_than a b p q e = (refl, (cc))
 first_token greater_than greater_than a b p q e = (refl, (cc))
@@ -115,11 +103,7 @@ first_token k l a b p q e = other_number _ _ refl (ap second e)
 
 no_token : {P : Type 0} (k : Token) (a : List ℕ) → [] ≡ spelling k ++ a → P
 no_token (itself x) a e = absurd (cc)
-no_token ampersand a e = absurd (cc)
-no_token less_than a e = absurd (cc)
-no_token greater_than a e = absurd (cc)
-no_token double_quote a e = absurd (cc)
-no_token single_quote a e = absurd (cc)
+no_token k a e = absurd (cc)
 
 same_tokens : (ks ls : List Token) → AllByRecursion IsToken ks → AllByRecursion IsToken ls → flat_map spelling ks ≡ flat_map spelling ls → ks ≡ ls
 same_tokens [] [] p q e = refl

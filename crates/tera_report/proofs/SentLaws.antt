@@ -1,15 +1,15 @@
 -- One stretch of puts and flushes after another, and what stretches on a watched writer say of the writer.
 use Rattle.std.specs.Prelude.{ℕ, List, [], ◌∷◌, ◌++◌, Option, Result, refl}
-use Rattle.std.proofs.Common.{◌∙◌, ap, subst, inl, inr, append-nil}
+use Rattle.std.proofs.Common.{◌∙◌, ap, subst, append-nil}
 use Rattle.std.proofs.lemmas.List.Concat.{flat_map-append}
 use Rattle.std.specs.declared.io.Error.{Error}
 use Rattle.std.specs.Io.KnownBytes.{Appends, Keeps}
 use Rattle.std.specs.List.{FoldsTo, flat_map}
 use Rattle.tera_report.specs.declared.watch.Watched.{Watched}
-use Rattle.tera_report.specs.Sink.{Use, put, flush, bytes_put, Uses, Sends, Delivers, Broke}
+use Rattle.tera_report.specs.Sink.{Use, put, flush, bytes_put, Uses, Sends, Delivers}
 use Rattle.tera_report.specs.inner.SinkLaws.{appends_nothing, appends_joined, keeps_appends}
-use Rattle.tera_report.specs.Watch.{held, watched_writer, WatchedTakes, WatchedFails, WatchedFlushes, WatchedFlushFails}
-use Rattle.tera_report.specs.Writer.{Passes, Breaks, Flushes, FlushFails}
+use Rattle.tera_report.specs.Watch.{held, watched_writer, WatchedTakes, WatchedFlushes}
+use Rattle.tera_report.specs.Writer.{Passes, Flushes}
 use Rattle.tera_report.specs.inner.WriterLaws.{folds_joined}
 
 module _ {S : Type 0} (takes : S → List ℕ → S → Type 0) (flushes : S → S → Type 0) where
@@ -29,17 +29,6 @@ module _ {S : Type 0} (takes : S → List ℕ → S → Type 0) (flushes : S →
     turns = folds_joined (Uses takes flushes) s p.uses t q.uses u p.turns q.turns;
     whole = flat_map-append bytes_put p.uses q.uses ∙ (λ i. p.whole i ++ q.whole i);
   }
-
-  module _ (fails : S → List ℕ → S → Type 0) (flush_fails : S → S → Type 0) where
-    pub broke_put : (s : S) (a : List ℕ) (t : S) → fails s a t → Broke takes fails flushes flush_fails s t
-    broke_put s a t p = ([], s, sends_nothing s, inl (a, p))
-
-    pub broke_flush : (s t : S) → flush_fails s t → Broke takes fails flushes flush_fails s t
-    broke_flush s t p = ([], s, sends_nothing s, inr p)
-
-    pub broke_later : (s : S) (a : List ℕ) (t u : S) → Sends takes flushes s a t
-        → Broke takes fails flushes flush_fails t u → Broke takes fails flushes flush_fails s u
-    broke_later s a t u p (b, sent, q, fault) = (a ++ b, sent, sends_joined s a t b sent p q, fault)
 
   -- what is known of a sink grows by what is sent
   module _ (known : S → Option (List ℕ)) (grows : (s : S) (a : List ℕ) (t : S) → takes s a t → Appends (known s) (known t) a)
@@ -92,9 +81,3 @@ module _ {W : Type 0} (contents : W → Option (List ℕ)) (wrote : W → List �
           (watched_appends s (a ++ []) t (sends_joined _ _ s a sent [] t p (sends_flush (WatchedTakes contents wrote) _ sent t q))),
       (watched_writer sent, watched_sends s a sent p, q.passed),
     )
-
-    pub watched_broke : (s t : Watched W)
-        → Broke (WatchedTakes contents wrote) (WatchedFails contents wrote) (WatchedFlushes contents flushed) (WatchedFlushFails contents flushed) s t
-        → Broke (Passes wrote) (Breaks wrote) (Flushes flushed) (FlushFails flushed) (watched_writer s) (watched_writer t)
-    watched_broke s t (a, sent, p, inl (text, broke)) = (a, watched_writer sent, watched_sends s a sent p, inl (text, broke.broke))
-    watched_broke s t (a, sent, p, inr (fault, flushed)) = (a, watched_writer sent, watched_sends s a sent p, inr (fault, flushed.passed))

@@ -40,8 +40,8 @@ pub fn escape_watched<W: Writer>(text: &str, writer: &mut Watched<'_, W>) -> io:
 /// The text that `escape_html` writes. The only refusal is want of memory for it, `Out of
 /// memory`; an empty text takes none.
 pub fn escape_text(alloc: Global, text: &str) -> TeraResult<String>
-    ensures spelled { IfOk result (λ made. Spells (string_bytes made) text.now) }
-    ensures refused { IfErr result IsOutOfMemory }
+    ensures ok { IfOk result (λ made. Spells (string_bytes made) text.now) }
+    ensures err { IfErr result IsOutOfMemory }
     ensures free { text.now ≡ [] → IsOk result }
 {
     let mut made = Growing::with_capacity(alloc, text.len())?;

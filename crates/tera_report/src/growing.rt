@@ -46,7 +46,7 @@ impl Growing {
     #[inline(always)]
     pub(crate) fn push(&mut self, text: &str) -> Result<(), AllocError>
         ensures puts { PutsThese GrowingTakes GrowingFails result text.now self.old self.new }
-        ensures kept { OnErr result (grown_bytes self.new ≡ grown_bytes self.old) }
+        ensures unchanged { OnErr result (grown_bytes self.new ≡ grown_bytes self.old) }
     {
         self.text.push_str(text)
     }

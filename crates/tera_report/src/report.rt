@@ -48,14 +48,14 @@ impl ReportError {
         source: &str,
         span: &Span,
     ) -> TeraResult<ReportError>
-        ensures same { IfOk result (λ made. report_of made ≡ record {
+        ensures ok { IfOk result (λ made. report_of made ≡ record {
           message = string_bytes message;
           file = filename.now;
           source = source.now;
           span = span.now;
           notes = [];
         }) }
-        ensures refused { IfErr result IsOutOfMemory }
+        ensures err { IfErr result IsOutOfMemory }
     {
         let mut made = ReportError::new_without_source(alloc, message, span);
         made.set_source(alloc, filename, source)?;
@@ -85,14 +85,14 @@ impl ReportError {
     /// That the input ended too soon. `Out of memory` where the message finds none. Mirrors
     /// `ReportError::unexpected_end_of_input`.
     pub fn unexpected_end_of_input(alloc: Global, span: &Span) -> TeraResult<ReportError>
-        ensures same { IfOk result (λ made. report_of made ≡ record {
+        ensures ok { IfOk result (λ made. report_of made ≡ record {
           message = codes "Unexpected end of input";
           file = [];
           source = [];
           span = span.now;
           notes = [];
         }) }
-        ensures refused { IfErr result IsOutOfMemory }
+        ensures err { IfErr result IsOutOfMemory }
     {
         let message = String::from_str(alloc, "Unexpected end of input")?;
         Ok(ReportError::new_without_source(alloc, message, span))
@@ -104,7 +104,7 @@ impl ReportError {
         ensures ok { OnOk result (report_of self.new
             ≡ record (report_of self.old) { file = filename.now; source = source.now }) }
         ensures unchanged { OnErr result (self.new ≡ self.old) }
-        ensures refused { IfErr result IsOutOfMemory }
+        ensures err { IfErr result IsOutOfMemory }
     {
         let filename = String::from_str(alloc, filename)?;
         let source = String::from_str(alloc, source)?;
@@ -132,7 +132,7 @@ impl ReportError {
           } ∷ [];
         }) }
         ensures unchanged { OnErr result (report_of self.new ≡ report_of self.old) }
-        ensures refused { IfErr result IsOutOfMemory }
+        ensures err { IfErr result IsOutOfMemory }
     {
         let note = Note::new(alloc, label, filename, source, span)?;
         self.notes.push(note)?;
@@ -142,9 +142,9 @@ impl ReportError {
     /// The whole report. Memory for all of it is taken before its first byte is written. `Out of
     /// memory` where there is none. Mirrors `ReportError::generate_report`.
     pub fn generate_report(&self, alloc: Global) -> TeraResult<String>
-        ensures text { IfOk result (λ text.
+        ensures ok { IfOk result (λ text.
             string_bytes text ≡ report_text (report_of self.now)) }
-        ensures refused { IfErr result IsOutOfMemory }
+        ensures err { IfErr result IsOutOfMemory }
     {
         let line = self.line();
         let mut text = Growing::with_capacity(alloc, self.report_len(line))?;
@@ -177,8 +177,8 @@ impl ReportError {
     /// The same report with texts of its own. `Out of memory` where they find none. Stands for
     /// `clone` of Rust's `Clone`.
     pub fn clone(&self, alloc: Global) -> TeraResult<ReportError>
-        ensures same { IfOk result (λ copy. report_of copy ≡ report_of self.now) }
-        ensures refused { IfErr result IsOutOfMemory }
+        ensures ok { IfOk result (λ copy. report_of copy ≡ report_of self.now) }
+        ensures err { IfErr result IsOutOfMemory }
     {
         Ok(ReportError {
             message: String::from_str(alloc, self.message.as_str())?,

@@ -51,7 +51,7 @@ impl Room {
     // Takes a text exactly where it fits.
     pub(crate) fn push(&mut self, text: &str) -> Result<(), Full>
         ensures puts { PutsThese RoomTakes RoomFails result text.now self.old self.new }
-        ensures kept { OnErr result (room_bytes self.new ≡ room_bytes self.old) }
+        ensures unchanged { OnErr result (room_bytes self.new ≡ room_bytes self.old) }
     {
         if self.left() < text.len() {
             return Err(Full);

@@ -142,7 +142,7 @@ impl Sink for Room {
 
     fn put(&mut self, text: &str) -> Result<(), Full>
         ensures puts { PutsThese RoomTakes RoomFails result text.now self.old self.new }
-        ensures kept { OnErr result (room_bytes self.new ≡ room_bytes self.old) }
+        ensures unchanged { OnErr result (room_bytes self.new ≡ room_bytes self.old) }
     {
         self.push(text)
     }
@@ -176,7 +176,7 @@ impl Sink for Growing {
     #[inline(always)]
     fn put(&mut self, text: &str) -> Result<(), AllocError>
         ensures puts { PutsThese GrowingTakes GrowingFails result text.now self.old self.new }
-        ensures kept { OnErr result (grown_bytes self.new ≡ grown_bytes self.old) }
+        ensures unchanged { OnErr result (grown_bytes self.new ≡ grown_bytes self.old) }
     {
         self.push(text)
     }

@@ -30,7 +30,7 @@ impl<T: Debug> Spanned<T> {
         T: Drop,
         ensures node { IfOk result (λ made. node_of made ≡ node) }
         ensures span { IfOk result (λ made. span_of made ≡ span) }
-        ensures refused { IfErr result IsOutOfMemory }
+        ensures err { IfErr result IsOutOfMemory }
     {
         Ok(Spanned {
             node: Box::new(alloc, node)?,
@@ -78,7 +78,7 @@ impl<T: Debug> Spanned<T> {
         T: Clone,
         ensures node { IfOk result (λ copy. T.is_clone (node_of self.now) (node_of copy)) }
         ensures span { IfOk result (λ copy. span_of copy ≡ span_of self.now) }
-        ensures refused { IfErr result IsOutOfMemory }
+        ensures err { IfErr result IsOutOfMemory }
     {
         let node = T::clone(&self.node)?;
         let span = self.span.clone()?;

@@ -1,5 +1,6 @@
 mod CharLemmas
 mod Checked
+pub mod DigitLaws
 mod LossyLemmas
 mod PlaceLemmas
 pub mod PositionLaws

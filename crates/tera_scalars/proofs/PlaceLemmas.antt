@@ -1,41 +1,26 @@
 -- What `parse` reads is a place.
-use Rattle.std.specs.Prelude.{◌≡◌, ℕ, ◌^◌, ◌<◌, ◌==◌, ◌&&◌, nat_lt, nat_le, Bool, true, false, if◌then◌else◌, cond, List, [], ◌∷◌, length, drop, Some, None}
+use Rattle.std.specs.Prelude.{◌≡◌, ℕ, ◌^◌, ◌<◌, ◌==◌, ◌&&◌, nat_lt, Bool, true, false, if◌then◌else◌, cond, List, [], ◌∷◌, length, drop, Some, None}
 use Rattle.std.specs.Prelude.{Result, Ok, Err, refl}
 use Rattle.std.proofs.Common.{sym, ◌∙◌, ap, subst, arith}
-use Rattle.std.proofs.lemmas.Bool.{lt-ltb, ltb-true, leb-true, le-leb, and_parts}
-use Rattle.std.proofs.lemmas.Str.{digit_value_digit}
-use Rattle.std.proofs.lemmas.Str.Parse.{digit_from_value}
-use Rattle.std.specs.Char.{digit_value, is_ascii_digit}
+use Rattle.std.proofs.lemmas.Bool.{lt-ltb, ltb-true, and_parts}
 use Rattle.std.specs.Result.{result_ok}
 use Rattle.std.specs.Str.{all_ascii_digits}
 use Rattle.std.specs.Str.Parse.{AllDigits, IsNumeral, digits_value, without_leading_plus, ParsesUnsigned}
 use Rattle.tera_meaning.specs.Path.{place, place_of_digits, without_plus}
 use Rattle.tera_meaning.specs.Read.{is_nonempty}
+use Rattle.tera_scalars.proofs.DigitLaws.{digit_range, digit_test}
 
 same_front : (bs : List ℕ) → without_leading_plus bs ≡ without_plus bs
 same_front [] = refl
 same_front (b ∷ bs) = elim (b == 43) as (λ t. drop (cond t 1 0) (b ∷ bs) ≡ (if t then bs else b ∷ bs)) [ true ↦ refl | false ↦ refl ]
 
-a_digit : (c : ℕ) → is_ascii_digit c ≡ true → digit_value c < 10
-a_digit c h =
-    let both = and_parts _ _ h in
-    let low = leb-true 48 c both.0 in
-    let high = leb-true c 57 both.1 in
-    let value = digit_value_digit c (low, high) in
-    omega (arith, value, high)
-
-digit_again : (c : ℕ) → digit_value c < 10 → is_ascii_digit c ≡ true
-digit_again c h =
-    let (low, high) = digit_from_value c h in
-    ap (λ b. b && nat_le c 57) (le-leb 48 c low) ∙ le-leb c 57 high
-
 digits : (ds : List ℕ) → all_ascii_digits ds ≡ true → AllDigits 10 ds
 digits [] h = tt
-digits (d ∷ ds) h = let both = and_parts _ _ h in (a_digit d both.0, digits ds both.1)
+digits (d ∷ ds) h = let both = and_parts _ _ h in (digit_range d both.0, digits ds both.1)
 
 digits_again : (ds : List ℕ) → AllDigits 10 ds → all_ascii_digits ds ≡ true
 digits_again [] h = refl
-digits_again (d ∷ ds) h = ap (λ b. b && all_ascii_digits ds) (digit_again d h.0) ∙ digits_again ds h.1
+digits_again (d ∷ ds) h = ap (λ b. b && all_ascii_digits ds) (digit_test d h.0) ∙ digits_again ds h.1
 
 some_digit : (ds : List ℕ) → 0 < length ds → is_nonempty ds ≡ true
 some_digit [] h = absurd (omega arith)

@@ -2,7 +2,7 @@
 use Rattle.std.specs.Prelude.{◌≡◌, ◌≢◌, ◌⊎◌, ◌<◌, ◌≤◌, ◌+◌, ◌-◌, ◌*◌, ◌^◌, min, ℕ, zero, suc, ℤ, pos, negsuc, Bool, true, false, ◌||◌, List, [], ◌∷◌, length}
 use Rattle.std.specs.Prelude.{take, drop, slice_get, Option, None, Some}
 use Rattle.std.proofs.Common.{refl, sym, ap, ◌∙◌, subst, arith, inl, inr}
-use Rattle.std.proofs.lemmas.Bool.{cases_lt}
+use Rattle.std.proofs.lemmas.Bool.{cases_lt, or_parts}
 use Rattle.std.proofs.lemmas.Int.{ints, clamps}
 use Rattle.tera_meaning.specs.SliceRule.{IsSliceOf, start_place, end_place}
 use Rattle.tera_meaning.specs.Slice.{IsStrided, directed, pause, place_behind, walked}
@@ -74,10 +74,6 @@ end_uncounted (pos s) (Some (negsuc b)) n m until less near e = cc
 end_uncounted (negsuc s) (Some (pos b)) n m until less near e = cc
 end_uncounted (negsuc s) (Some (negsuc b)) n m until less near e = omega (arith, ints, clamps)
 
-neither : (a b : Bool) → (a || b) ≡ false → (a ≡ false) × (b ≡ false)
-neither false b e = (refl, e)
-neither true b e = cc
-
 module _ {X : Type 0} where
   -- the length is the count, or more where no bound takes the count
   pub walk_slices : (xs : List X) (start end : Option ℤ) (step : ℤ) (n from until by : ℕ) → step ≢ pos 0
@@ -93,7 +89,7 @@ module _ {X : Type 0} where
       let places : (place_behind step m (min from m) ≡ start_place step m start) × (place_behind step m (min until m) ≡ end_place step m end) =
       elim known [
         | inl near ↦
-            let both = neither (counts_from_afar step start) (counts_from_afar step end) near in
+            let both = or_parts (counts_from_afar step start) (counts_from_afar step end) near in
             (start_uncounted step start n m from less both.0 s, end_uncounted step end n m until less both.1 e)
         | inr same ↦
             let first : from ≡ min from m = omega arith in

@@ -16,7 +16,7 @@ use Rattle.tera_meaning.specs.Meaning.{plain, Meaning}
 use Rattle.tera_meaning.specs.Order.{same}
 use Rattle.tera_meaning.specs.Pairs.{key_form_order, value_at}
 use Rattle.tera_meaning.specs.Read.{number_in}
-use Rattle.tera_meaning.specs.Tree.{Items, undefined, none, truth, number, text, bytes, array, object, items_list, members_list, Members}
+use Rattle.tera_meaning.specs.Tree.{Items, undefined, text, array, object, items_list, members_list, Members}
 use Rattle.tera_meaning.specs.WellMade.{IsWellMade, AreWellMade, AreWellMadeMembers}
 use Rattle.tera_report.specs.Refusal.{Container, in_array, in_text, not_a_map_key, not_an_index, Refusal}
 use lib.Utf8.{scalars}
@@ -82,14 +82,10 @@ at_key_plain ps i = by (key_in i)
     by (Some k) = ap Ok (unwrapped (value_at key_form_order (members_list ps) k) ∙ ap (λ o. unwrap_or o undefined) (found_pair ps (key_meaning k)))
 
 item_meant : Meaning → Option ℤ → Option KeyMeaning → Result Meaning Refusal
-item_meant undefined n k = Ok undefined
-item_meant none n k = Ok undefined
-item_meant (truth b) n k = Ok undefined
-item_meant (number z) n k = Ok undefined
 item_meant (text s) n k = indexed_meant in_text n (char_at s)
-item_meant (bytes bs) n k = Ok undefined
 item_meant (array xs) n k = indexed_meant in_array n (part_at (items_list xs))
 item_meant (object ps) n k = at_key_meant ps k
+item_meant x n k = Ok undefined
 
 item_plain : (v i : Form) → seen_by plain (item v i) ≡ item_meant (plain v) (number_in i) (option_map key_meaning (key_in i))
 unfolding item_meant

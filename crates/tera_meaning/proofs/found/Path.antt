@@ -8,7 +8,7 @@ use Rattle.tera_meaning.specs.Meaning.{plain, Meaning}
 use Rattle.tera_meaning.specs.Order.{same}
 use Rattle.tera_meaning.specs.Path.{path, followed, reached, place, elements_of}
 use Rattle.tera_meaning.specs.Read.{items_in}
-use Rattle.tera_meaning.specs.Tree.{undefined, none, truth, number, text, bytes, array, object, items_list}
+use Rattle.tera_meaning.specs.Tree.{undefined, none, text, array, items_list}
 use Rattle.tera_meaning.specs.WellMade.{IsWellMade}
 use Rattle.tera_meaning.proofs.PlainLemmas.{items_meant}
 use Rattle.tera_meaning.proofs.SoundLemmas.{Sound, sound_place}
@@ -46,12 +46,7 @@ followed_by_meaning (e ∷ es) v w same =
 led : {X : Type 0} → Meaning → X → Option X → Option X
 led undefined itself o = None
 led none itself o = Some itself
-led (truth b) itself o = o
-led (number z) itself o = o
-led (text s) itself o = o
-led (bytes bs) itself o = o
-led (array xs) itself o = o
-led (object ps) itself o = o
+led x itself o = o
 
 path_led : (v : Form) (p : List ℕ) → path v p ≡ led (plain v) none (followed v (elements_of p))
 unfolding led

@@ -72,12 +72,7 @@ held_well IntegerType.i32 (negsuc n) h = fits_unsigned 31 63 n (omega arith) h
 held_well IntegerType.i64 (negsuc n) h = fits_unsigned 63 63 n (omega arith) h
 held_well IntegerType.i128 (negsuc n) h = fits_unsigned 127 127 n (omega arith) h
 held_well IntegerType.isize (negsuc n) h = fits_unsigned 63 63 n (omega arith) h
-held_well IntegerType.u8 (negsuc n) h = cc
-held_well IntegerType.u16 (negsuc n) h = cc
-held_well IntegerType.u32 (negsuc n) h = cc
-held_well IntegerType.u64 (negsuc n) h = cc
-held_well IntegerType.u128 (negsuc n) h = cc
-held_well IntegerType.usize (negsuc n) h = cc
+held_well type (negsuc n) h = cc
 
 pub well_made : (type : IntegerType) (v : Form) → IfOk (each_ok (held_as type) (converted type v)) IsWellMade
 well_made type v =

@@ -11,8 +11,8 @@ impl ErrorKind {
     /// The same kind with texts of its own. `Out of memory` where they find none; a kind that holds
     /// no text takes none. Stands for `clone` of Rust's `Clone`.
     pub fn clone(&self, alloc: Global) -> TeraResult<ErrorKind>
-        ensures same { IfOk result (λ copy. refusal_of copy ≡ refusal_of self.now) }
-        ensures refused { IfErr result IsOutOfMemory }
+        ensures ok { IfOk result (λ copy. refusal_of copy ≡ refusal_of self.now) }
+        ensures err { IfErr result IsOutOfMemory }
         ensures succeeds { HoldsNoText self.now → IsOk result }
     {
         Ok(match self {
@@ -54,8 +54,8 @@ impl ErrorKind {
 }
 
 fn copied_report(alloc: Global, report: &Box<ReportError>) -> TeraResult<Box<ReportError>>
-    ensures same { IfOk result (λ copy. report_of copy.value ≡ report_of report.now.value) }
-    ensures refused { IfErr result IsOutOfMemory }
+    ensures ok { IfOk result (λ copy. report_of copy.value ≡ report_of report.now.value) }
+    ensures err { IfErr result IsOutOfMemory }
 {
     let held: &ReportError = report;
     Ok(Box::new(alloc, held.clone(alloc)?)?)

@@ -10,5 +10,5 @@ returns-in_err-text c =
 pub returns-in_err-escape_text : goal.returns-in_err-escape_text
 returns-in_err-escape_text c =
     want_shown c.from_residual-in_err-escape_text.result c.in_err-escape_text.field-0.0 _
-    c.from_residual-in_err-escape_text.ensures.1 c.in_err-escape_text.ensures.refused
+    c.from_residual-in_err-escape_text.ensures.1 c.in_err-escape_text.ensures.err
     (inr (tt, refl, refl))

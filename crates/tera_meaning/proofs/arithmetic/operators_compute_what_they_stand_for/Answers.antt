@@ -5,7 +5,7 @@ use Rattle.std.specs.Prelude.{ℕ, Result}
 use Rattle.tera_report.specs.Refusal.{Refusal, plus, minus, times, remainder, floor_division, power, exponent_outside_u32}
 use Rattle.tera_meaning.specs.Arithmetic.{and_then, exact, exponent, power_of}
 use Rattle.tera_meaning.specs.Integer.{is_small}
-use Rattle.tera_meaning.specs.RefusalLaws.{given_by_both}
+use Rattle.tera_meaning.proofs.RefusalLaws.{given_by_both}
 use Rattle.tera_meaning.proofs.CalculatedLemmas.{exact_is, is_exact, divided_is, is_divided, exponent_is, is_exponent}
 use Rattle.tera_meaning.proofs.arithmetic.operators_compute_what_they_stand_for.Goals as goal
 

@@ -1,4 +1,4 @@
-use Rattle.tera_meaning.specs.RefusalLaws.{refuses_on, ok_before, given_by_both}
+use Rattle.tera_meaning.proofs.RefusalLaws.{refuses_on, ok_before, given_by_both}
 use Rattle.tera_meaning.proofs.refusals.refusals_are_passed_on.Goals as goal
 
 pub returns-clause-refused : goal.returns-clause-refused
