@@ -19,14 +19,22 @@ fn one_argument(alloc: Global, name: &'static str, value: Value) -> Kwargs {
     arguments(alloc, one_pair(alloc, Key::Str(name), value))
 }
 
-// The argument of that name is taken as that.
+// The argument of that name is there, and is taken as that.
+fn finds<'k, V, T>(alloc: Global, of: &'k KwargsOf<V>, name: &'k str, wanted: T) -> bool
+where
+    V: Parts,
+    T: ArgFromValue<'k, V, Output = T> + PartialEq + Drop,
+{
+    is_there(of.get::<T>(alloc, name), &wanted)
+}
+
+// The argument of that name is taken as that, whether it has to be there or not.
 fn gets<'k, V, T>(alloc: Global, of: &'k KwargsOf<V>, name: &'k str, wanted: T) -> bool
 where
     V: Parts,
     T: ArgFromValue<'k, V, Output = T> + PartialEq + Drop,
 {
-    let got = of.get::<T>(alloc, name);
-    is_there(got, &wanted) && is_that(of.must_get::<T>(alloc, name), &wanted)
+    is_there(of.get::<T>(alloc, name), &wanted) && is_that(of.must_get::<T>(alloc, name), &wanted)
 }
 
 // It is there, and is that.
@@ -60,6 +68,20 @@ where
 }
 
 #[test]
+fn can_get_kwarg_with_type(rt: HostRuntime) {
+    let alloc = rt.alloc();
+    let hello = one_argument(alloc, "hello", text(alloc, "world"));
+    hold(
+        &rt,
+        &[
+            finds(alloc, &hello, "hello", "world"),
+            lacks::<Value, i64>(alloc, &hello, "unknown"),
+        ],
+    );
+    drop(hello);
+}
+
+#[test]
 fn an_argument_is_taken_by_its_type(rt: HostRuntime) {
     let alloc = rt.alloc();
     let hello = one_argument(alloc, "hello", text(alloc, "world"));
@@ -68,11 +90,37 @@ fn an_argument_is_taken_by_its_type(rt: HostRuntime) {
         &[
             gets(alloc, &hello, "hello", "world"),
             gets(alloc, &hello, "hello", owned(alloc, "world")),
-            lacks::<Value, i64>(alloc, &hello, "unknown"),
             lacks::<Value, &str>(alloc, &hello, "hell"),
         ],
     );
     drop(hello);
+}
+
+// The argument is refused with that text where it may be absent.
+fn get_is_denied<'k, V, T>(alloc: Global, of: &'k KwargsOf<V>, name: &'k str, text: &str) -> bool
+where
+    V: Parts,
+    T: ArgFromValue<'k, V, Output = T> + Drop,
+{
+    is_refused(alloc, of.get::<T>(alloc, name), text)
+}
+
+#[test]
+fn int_out_of_range_reports_range_not_type(rt: HostRuntime) {
+    let alloc = rt.alloc();
+    let wide = one_argument(alloc, "n", Value::from(300i64));
+    let negative = one_argument(alloc, "n", Value::from(-1i64));
+    let past = "Value `300` is out of range for `u8`";
+    let below = "Value `-1` is out of range for `usize`";
+    hold(
+        &rt,
+        &[
+            get_is_denied::<Value, u8>(alloc, &wide, "n", past),
+            get_is_denied::<Value, usize>(alloc, &negative, "n", below),
+        ],
+    );
+    drop(wide);
+    drop(negative);
 }
 
 #[test]

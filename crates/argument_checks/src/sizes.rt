@@ -2,7 +2,8 @@
 use crate::held::{all, hold};
 use crate::inputs::rendered;
 use crate::made::{falling_set, many_in_table, many_in_tree, owned, rising};
-use crate::taken::{copied_map, is_lent, is_owned, taken, takes};
+use crate::parts::copied_map;
+use crate::taken::{is_lent, is_owned, taken, takes};
 use made_values::{bytes, many_items, many_pairs, numbers_below, or_undefined, repeated};
 use std::alloc::Global;
 use std::borrow::CowStr;

@@ -2,15 +2,13 @@
 //! each owner is handed to `drop`, so that no function writes out how a value ends.
 use crate::given::{is_held, tells_held};
 use crate::held::hold;
-use crate::made::{displays, none_of, one_of, owned, two_of};
-use made_values::{
-    at_texts, bytes, no_items, no_pairs, numbers, one_item, or_undefined, safe, text, two_items,
-};
+use crate::made::{displays, owned};
+use made_values::{at_texts, bytes, numbers, one_item, or_undefined, safe, text, two_items};
 use std::alloc::Global;
 use std::borrow::CowStr;
 use tera_arguments::{ArgFromValue, StringInput};
 use tera_report::{Error, TeraResult};
-use tera_values::{Map, Number, Value, maps};
+use tera_values::{Map, Number, Value};
 
 // It is taken as that.
 pub fn takes<'k, V, T>(alloc: Global, value: &'k V, wanted: T) -> bool
@@ -148,7 +146,7 @@ fn texts_are_printed(rt: HostRuntime) {
 }
 
 // A map of a text past ASCII.
-fn one_pair_of(alloc: Global) -> Value {
+pub fn one_pair_of(alloc: Global) -> Value {
     at_texts(alloc, &[("é", 7)])
 }
 
@@ -260,140 +258,6 @@ fn numbers_of_an_i128_are_taken(rt: HostRuntime) {
         ],
     );
     drop(wide);
-}
-
-// The copy of the map that is taken.
-pub fn copied_map(alloc: Global, value: &Value) -> TeraResult<Value> {
-    let map: Map = taken(alloc, value)?;
-    Ok(Value::of_map(map))
-}
-
-// That copy is held so.
-fn copies_map(alloc: Global, value: Value, wanted: &str) -> bool {
-    let copy = or_undefined(copied_map(alloc, &value));
-    drop(value);
-    is_held(alloc, copy, wanted)
-}
-
-// In the map that is lent, a text has that number.
-fn lends_map(alloc: Global, value: Value, key: &str, wanted: i64) -> bool {
-    let is_so = match taken::<Value, &Map>(alloc, &value).ok() {
-        Some(map) => has_number(map, key, wanted),
-        None => false,
-    };
-    drop(value);
-    is_so
-}
-
-// In the map a text has that number.
-fn has_number(map: &Map, key: &str, wanted: i64) -> bool {
-    match maps::get_text(map, key) {
-        Some(found) => found.as_i64() == Some(wanted),
-        None => false,
-    }
-}
-
-#[test]
-fn maps_are_copied_or_lent(rt: HostRuntime) {
-    let alloc = rt.alloc();
-    let map = "Map({Str(\"é\"): Value { inner: I64(7) }})";
-    let items = no_items(alloc);
-    hold(
-        &rt,
-        &[
-            copies_map(alloc, one_pair_of(alloc), map),
-            lends_map(alloc, one_pair_of(alloc), "é", 7),
-            copies_map(alloc, no_pairs(alloc), "Map({})"),
-            is_no::<Value, Map>(alloc, &items, "Map", "array"),
-            is_no::<Value, &Map>(alloc, &items, "Map", "array"),
-        ],
-    );
-    drop(items);
-}
-
-// Items are lent that are equal to these.
-fn lends_items(alloc: Global, value: Value, wanted: Vec<Value>) -> bool {
-    let is_so = takes(alloc, &value, wanted.as_slice());
-    drop(value);
-    drop(wanted);
-    is_so
-}
-
-// It is refused where items are to be lent.
-fn has_no_items(alloc: Global, value: Value, name: &str) -> bool {
-    let is_so = is_no::<Value, &[Value]>(alloc, &value, "&[Value]", name);
-    drop(value);
-    is_so
-}
-
-#[test]
-fn items_are_lent(rt: HostRuntime) {
-    let alloc = rt.alloc();
-    let held = two_of(alloc, Value::from(1i64), Value::from(2i64));
-    hold(
-        &rt,
-        &[
-            lends_items(alloc, numbers(alloc, &[1, 2]), held),
-            has_no_items(alloc, no_pairs(alloc), "map/struct"),
-            has_no_items(alloc, bytes(alloc, b"\x01"), "bytes"),
-        ],
-    );
-}
-
-#[test]
-fn lists_are_taken_item_by_item(rt: HostRuntime) {
-    let alloc = rt.alloc();
-    let of = [
-        two_items(alloc, numbers(alloc, &[1, 255]), no_items(alloc)),
-        two_items(alloc, Value::from(5u8), text(alloc, "é")),
-        one_item(alloc, text(alloc, "é")),
-        one_item(alloc, Value::from(true)),
-        no_items(alloc),
-    ];
-    let [nested, both, one_text, one_truth, none] = &of;
-    let lists = two_of(alloc, two_of(alloc, 1u8, 255u8), Vec::new(alloc));
-    let texts = two_of(alloc, owned(alloc, "5"), owned(alloc, "é"));
-    hold(
-        &rt,
-        &[
-            takes(alloc, nested, lists),
-            takes(alloc, both, texts),
-            takes(alloc, one_text, one_of(alloc, "é")),
-            takes(alloc, one_truth, one_of(alloc, true)),
-            takes(alloc, none, none_of::<u8>(alloc)),
-        ],
-    );
-    drop(of);
-}
-
-// It is no list of bytes: it is refused as a value of another type than the one of that name.
-fn is_no_list(alloc: Global, value: Value, wanted: &str, name: &str) -> bool {
-    let is_so = is_no::<Value, Vec<u8>>(alloc, &value, wanted, name);
-    drop(value);
-    is_so
-}
-
-#[test]
-fn the_first_refusal_of_an_item_is_passed_on(rt: HostRuntime) {
-    let alloc = rt.alloc();
-    let of = [
-        two_items(alloc, Value::from(1u8), text(alloc, "x")),
-        two_items(alloc, Value::from(300u16), text(alloc, "x")),
-    ];
-    let [one_and_text, wide_and_text] = &of;
-    let text_and_wide = two_items(alloc, text(alloc, "x"), Value::from(300u16));
-    let told = "Value `300` is out of range for `u8`";
-    hold(
-        &rt,
-        &[
-            is_no::<Value, Vec<u8>>(alloc, one_and_text, "u8", "string"),
-            is_no_list(alloc, text_and_wide, "u8", "string"),
-            refuses::<Value, Vec<u8>>(alloc, wide_and_text, told),
-            is_no_list(alloc, bytes(alloc, b"\x01"), "Vec<Value>", "bytes"),
-            is_no::<Value, Vec<Vec<u8>>>(alloc, one_and_text, "Vec<Value>", "u64"),
-        ],
-    );
-    drop(of);
 }
 
 #[test]

@@ -1,6 +1,6 @@
 //! Each call through `run`, on operands of no part, one part and a thousand: none wants memory.
 use crate::held::hold;
-use crate::made::{kept, name, plain, set};
+use crate::made::{and, kept, name, plain, set};
 use made_values::{many_pairs, numbers_below, repeated};
 use std::alloc::Global;
 use tera_context::{Answer, BinaryOp, Call, Context, IntType, Step, run};
@@ -11,7 +11,7 @@ use tera_values::Value;
 fn is_ample(answer: &TeraResult<Answer>) -> bool {
     match answer {
         Ok(_) => true,
-        Err(error) => *error.kind() != ErrorKind::OutOfMemory,
+        Err(error) => !matches!(error.kind(), ErrorKind::OutOfMemory),
     }
 }
 
@@ -23,13 +23,6 @@ fn runs(alloc: Global, steps: Vec<Step>) -> bool {
         return false;
     };
     answers.len() == count && answers.iter().all(is_ample)
-}
-
-// The steps and one more.
-fn and(steps: Vec<Step>, step: Step) -> Vec<Step> {
-    let mut steps = steps;
-    let _ = steps.push(step);
-    steps
 }
 
 // The name of the operand.

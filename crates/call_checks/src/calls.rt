@@ -41,6 +41,7 @@ fn a_marked_copy_is_kept_elsewhere(rt: HostRuntime) {
             ),
         ],
     );
+    drop(context);
 }
 
 #[test]
@@ -50,6 +51,7 @@ fn a_text_is_marked_in_its_place(rt: HostRuntime) {
     let marked = plain(mark(alloc, "t"));
     assert!(rt; answers(alloc, &mut context, marked, "Ok(Done)"));
     assert!(rt; is_safe(alloc, &mut context, "t", "Ok(Truth(true))"));
+    drop(context);
 }
 
 #[test]
@@ -67,6 +69,7 @@ fn an_absent_name_stays_absent_when_marked(rt: HostRuntime) {
             answers(alloc, &mut context, has(alloc, "v"), "Ok(Truth(true))"),
         ],
     );
+    drop(context);
 }
 
 fn get(alloc: Global, of: &str) -> Call {
@@ -94,6 +97,7 @@ fn what_is_found_is_answered_or_kept(rt: HostRuntime) {
             answers(alloc, &mut context, plain(get(alloc, "b")), SEVEN),
         ],
     );
+    drop(context);
 }
 
 #[test]
@@ -103,6 +107,7 @@ fn nothing_is_kept_where_nothing_is_found(rt: HostRuntime) {
     let absent = kept(alloc, get(alloc, "x"), "c");
     assert!(rt; answers(alloc, &mut context, absent, "Ok(Found(None))"));
     assert!(rt; answers(alloc, &mut context, has(alloc, "c"), "Ok(Truth(false))"));
+    drop(context);
 }
 
 #[test]
@@ -112,6 +117,7 @@ fn a_length_is_kept_nowhere(rt: HostRuntime) {
     let size = kept(alloc, len(alloc, "a"), "c");
     assert!(rt; answers(alloc, &mut context, size, "Ok(Size(None))"));
     assert!(rt; answers(alloc, &mut context, has(alloc, "c"), "Ok(Truth(false))"));
+    drop(context);
 }
 
 #[test]
@@ -123,6 +129,7 @@ fn a_name_is_taken_away_once(rt: HostRuntime) {
     };
     assert!(rt; answers(alloc, &mut context, plain(removed), SEVEN));
     assert!(rt; answers(alloc, &mut context, has(alloc, "a"), "Ok(Truth(false))"));
+    drop(context);
 }
 
 #[test]
@@ -152,4 +159,5 @@ fn what_is_asked_of_a_text(rt: HostRuntime) {
             answers(alloc, &mut context, plain(escaped), "Ok(Text(\"é&lt;\"))"),
         ],
     );
+    drop(context);
 }

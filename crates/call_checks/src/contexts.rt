@@ -1,25 +1,27 @@
 //! Contexts and runs.
 use crate::held::hold;
-use crate::made::{answers, compare, equal, name, plain, print, set, with};
+use crate::made::{and, answers, compare, equal, name, plain, print, set, with};
 use made_values::{no_pairs, safe, shows};
 use std::alloc::Global;
 use tera_context::{Call, Context, Step, run};
 use tera_values::Value;
 
+// The run is answered so, in words of Debug.
+fn runs_to(alloc: Global, context: &mut Context, steps: Vec<Step>, wanted: &str) -> bool {
+    let answers = run(context, steps);
+    let is_so = shows(alloc, &answers, wanted);
+    drop(answers);
+    is_so
+}
+
 #[test]
 fn an_empty_run_answers_nothing(rt: HostRuntime) {
     let alloc = rt.alloc();
     let mut context = with(alloc, "a", Value::from(1u64));
-    let answers = run(&mut context, Vec::new(alloc));
-    assert!(rt; shows(alloc, &answers, "Ok([])"));
-    assert!(rt; context.get("a").is_some() && context.get("b").is_none());
-}
-
-// The steps and one more.
-fn and(steps: Vec<Step>, step: Step) -> Vec<Step> {
-    let mut steps = steps;
-    let _ = steps.push(step);
-    steps
+    let is_of_none = runs_to(alloc, &mut context, Vec::new(alloc), "Ok([])");
+    let is_as_before = context.get("a").is_some() && context.get("b").is_none();
+    hold(&rt, &[is_of_none, is_as_before]);
+    drop(context);
 }
 
 // Two numbers that are equal, compared twice.
@@ -41,10 +43,10 @@ fn with_text(alloc: Global) -> Vec<Step> {
 fn a_first_run(rt: HostRuntime) {
     let alloc = rt.alloc();
     let mut context = Context::new(alloc);
-    let answers = run(&mut context, with_text(alloc));
     let wanted = "Ok([Ok(Done), Ok(Done), Ok(Truth(true)), Ok(Order(Some(Equal))), Ok(Done), \
         Ok(Text(\"<x>\")), Ok(Order(Some(Less)))])";
-    assert!(rt; shows(alloc, &answers, wanted));
+    assert!(rt; runs_to(alloc, &mut context, with_text(alloc), wanted));
+    drop(context);
 }
 
 const EQUAL: &str = "Ok(Order(Some(Equal)))";
@@ -73,6 +75,7 @@ fn absent_names_are_undefined(rt: HostRuntime) {
             answers(alloc, &mut context, compare(alloc, "n", "m"), LESS),
         ],
     );
+    drop(context);
 }
 
 #[test]
@@ -82,6 +85,7 @@ fn a_later_value_replaces_the_first(rt: HostRuntime) {
     let later = set(alloc, "a", Value::from(2u64));
     assert!(rt; answers(alloc, &mut context, later, "Ok(Done)"));
     assert!(rt; answers(alloc, &mut context, print(alloc, "a"), "Ok(Text(\"2\"))"));
+    drop(context);
 }
 
 // `try_cmp` of the two names is answered so.
@@ -108,11 +112,11 @@ fn of_three_names(alloc: Global) -> Vec<Step> {
 fn the_partial_order_leaves_ranks_and_maps_undecided(rt: HostRuntime) {
     let alloc = rt.alloc();
     let mut context = Context::new(alloc);
-    let made = run(&mut context, of_three_names(alloc));
+    let done = "Ok([Ok(Done), Ok(Done), Ok(Done)])";
     hold(
         &rt,
         &[
-            made.is_ok(),
+            runs_to(alloc, &mut context, of_three_names(alloc), done),
             tries(alloc, &mut context, ["one", "two"], LESS),
             tries(alloc, &mut context, ["two", "one"], GREATER),
             tries(alloc, &mut context, ["nope", "none"], EQUAL),
@@ -120,4 +124,5 @@ fn the_partial_order_leaves_ranks_and_maps_undecided(rt: HostRuntime) {
             tries(alloc, &mut context, ["one", "map"], UNDECIDED),
         ],
     );
+    drop(context);
 }

@@ -13,3 +13,5 @@ mod entries;
 mod held;
 #[cfg(test)]
 mod made;
+#[cfg(test)]
+mod shown;

@@ -54,12 +54,21 @@ pub fn has(alloc: Global, of: &str) -> Step {
 // The step is answered so, in words of Debug.
 pub fn answers(alloc: Global, context: &mut Context, asked: Step, wanted: &str) -> bool {
     let answer = step(context, asked);
-    shows(alloc, &answer, wanted)
+    let is_so = shows(alloc, &answer, wanted);
+    drop(answer);
+    is_so
+}
+
+// The steps and one more.
+pub fn and(steps: Vec<Step>, step: Step) -> Vec<Step> {
+    let mut steps = steps;
+    let _ = steps.push(step);
+    steps
 }
 
 // A context in which a name has that value.
 pub fn with(alloc: Global, to: &str, value: Value) -> Context {
     let mut context = Context::new(alloc);
-    let _ = step(&mut context, set(alloc, to, value));
+    let _ = context.insert_value(to, value);
     context
 }

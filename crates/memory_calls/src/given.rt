@@ -30,7 +30,9 @@ fn lent_text(alloc: Global) -> TeraResult<Value> {
 // A value, lent.
 fn lent_value(alloc: Global) -> TeraResult<Value> {
     let value = Value::safe_string(alloc, "é<")?;
-    (&value).to_value(alloc)
+    let copy = (&value).to_value(alloc);
+    drop(value);
+    copy
 }
 
 /// Collections.
@@ -58,7 +60,9 @@ fn set(alloc: Global) -> TeraResult<Value> {
 
 fn slice(alloc: Global) -> TeraResult<Value> {
     let values = vec![in alloc; Value::safe_string(alloc, "é")?, Value::none()]?;
-    values.as_slice().to_value(alloc)
+    let copy = values.as_slice().to_value(alloc);
+    drop(values);
+    copy
 }
 
 fn table(alloc: Global) -> TeraResult<Value> {
@@ -69,7 +73,8 @@ fn table(alloc: Global) -> TeraResult<Value> {
 
 fn tree(alloc: Global) -> TeraResult<Value> {
     let mut map = BTreeMap::new(alloc);
-    map.insert(String::from_str(alloc, "é")?, vec![in alloc; -1i128]?)?;
+    let (key, list) = (String::from_str(alloc, "é")?, vec![in alloc; -1i128]?);
+    map.insert(key, list)?;
     map.to_value(alloc)
 }
 

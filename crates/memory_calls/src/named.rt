@@ -2,9 +2,10 @@
 ghost use Rattle.tera_report.specs.Errors.{IsOutOfMemory};
 
 use crate::answers::tell;
+use crate::taken::taken;
 use std::alloc::Global;
 use std::io;
-use tera_arguments::{ArgFromValue, Autoescape, Kwargs, StringInput};
+use tera_arguments::{Autoescape, Kwargs, StringInput};
 use tera_report::{TeraResult, escape_text, one_spelling};
 use tera_values::Value;
 
@@ -49,19 +50,31 @@ pub fn tell_arguments(rt: &(impl Print + AllocGlobal)) -> io::Result<()> {
 }
 
 fn copied(alloc: Global) -> TeraResult<Kwargs> {
-    arguments(alloc)?.clone(alloc)
+    let of = arguments(alloc)?;
+    let answer = of.clone(alloc);
+    drop(of);
+    answer
 }
 
 fn argument(alloc: Global) -> TeraResult<Option<String>> {
-    arguments(alloc)?.get(alloc, "n")
+    let of = arguments(alloc)?;
+    let answer = of.get(alloc, "n");
+    drop(of);
+    answer
 }
 
 fn wrong(alloc: Global) -> TeraResult<u8> {
-    arguments(alloc)?.must_get(alloc, "n")
+    let of = arguments(alloc)?;
+    let answer = of.must_get(alloc, "n");
+    drop(of);
+    answer
 }
 
 fn missing(alloc: Global) -> TeraResult<u8> {
-    arguments(alloc)?.must_get(alloc, "é")
+    let of = arguments(alloc)?;
+    let answer = of.must_get(alloc, "é");
+    drop(of);
+    answer
 }
 
 /// Texts, copied and shown.
@@ -73,11 +86,23 @@ pub fn tell_inputs(rt: &(impl Print + AllocGlobal)) -> io::Result<()> {
 
 fn input_copied(alloc: Global) -> TeraResult<Value> {
     let value = Value::safe_string(alloc, "é<")?;
-    StringInput::from_value(alloc, &value)?.into_value(alloc)
+    let copy = copy_of(alloc, taken(alloc, &value));
+    drop(value);
+    copy
+}
+
+fn copy_of(alloc: Global, input: TeraResult<StringInput<'_>>) -> TeraResult<Value> {
+    input?.into_value(alloc)
 }
 
 fn rendered(alloc: Global) -> TeraResult<String> {
     let value = Value::normal_string(alloc, "é<")?;
-    let shown = StringInput::from_value(alloc, &value)?.rendered(alloc, &Page)?;
+    let shown = shown(alloc, taken(alloc, &value));
+    drop(value);
+    shown
+}
+
+fn shown(alloc: Global, input: TeraResult<StringInput<'_>>) -> TeraResult<String> {
+    let shown = input?.rendered(alloc, &Page)?;
     Ok(shown.into_owned(alloc)?)
 }

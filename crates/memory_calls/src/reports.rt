@@ -1,5 +1,6 @@
 //! Reports: made, copied, changed, as texts.
 use crate::answers::tell;
+use crate::errors::is_want;
 use std::alloc::Global;
 use std::io;
 use std::io::{ErrorKind as Fault, Write};
@@ -37,7 +38,10 @@ pub fn tell_reports(rt: &(impl Print + AllocGlobal)) -> io::Result<()> {
 }
 
 fn copied(alloc: Global) -> TeraResult<ReportError> {
-    sample(alloc)?.clone(alloc)
+    let report = sample(alloc)?;
+    let copy = report.clone(alloc);
+    drop(report);
+    copy
 }
 
 /// Reports that are changed: where memory is refused they are as they were.
@@ -49,28 +53,42 @@ pub fn tell_changes(rt: &(impl Print + AllocGlobal)) -> io::Result<()> {
 
 fn given_a_source(alloc: Global) -> TeraResult<ReportError> {
     let mut report = sample(alloc)?;
-    let before = report.clone(alloc)?;
+    let before = copied(alloc)?;
     let answer = report.set_source(alloc, "é.html", "é\né");
-    changed(report, &before, answer)
+    changed(report, before, answer)
 }
 
 fn noted(alloc: Global) -> TeraResult<ReportError> {
     let mut report = sample(alloc)?;
-    let before = report.clone(alloc)?;
+    let before = copied(alloc)?;
     let answer = report.add_note(alloc, "é", "é.html", "é", &on(1, 0..1));
-    changed(report, &before, answer)
+    changed(report, before, answer)
 }
 
 // The report; where it was refused a change, that refusal if it is as before.
 fn changed(
     report: ReportError,
-    before: &ReportError,
+    before: ReportError,
     answer: TeraResult<()>,
 ) -> TeraResult<ReportError> {
+    let is_as_before = report == before;
+    drop(before);
     match answer {
-        Err(refused) if report == *before => Err(refused),
-        _ => Ok(report),
+        Err(refused) if is_as_before => denied(report, refused),
+        other => kept(report, other),
     }
+}
+
+// The refusal.
+fn denied(report: ReportError, refused: Error) -> TeraResult<ReportError> {
+    drop(report);
+    Err(refused)
+}
+
+// The report.
+fn kept(report: ReportError, answer: TeraResult<()>) -> TeraResult<ReportError> {
+    drop(answer);
+    Ok(report)
 }
 
 /// Reports as texts.
@@ -82,7 +100,10 @@ pub fn tell_texts(rt: &(impl Print + AllocGlobal)) -> io::Result<()> {
 }
 
 fn text(alloc: Global) -> TeraResult<String> {
-    sample(alloc)?.generate_report(alloc)
+    let report = sample(alloc)?;
+    let text = report.generate_report(alloc);
+    drop(report);
+    text
 }
 
 const TEXT: &str = "error: no é\n --> a.html:2:3\n  |\n2 | é {{\n  |   ^^\n\n\
@@ -91,17 +112,23 @@ const TEXT: &str = "error: no é\n --> a.html:2:3\n  |\n2 | é {{\n  |   ^^\n\n\
 // A report is displayed without memory.
 fn is_displayed(alloc: Global) -> TeraResult<bool> {
     let report = Box::new(alloc, sample(alloc)?)?;
-    let error = Error::new(ErrorKind::RenderingError(report));
-    Ok(is_written(&error, TEXT))
+    Ok(is_shown(Error::new(ErrorKind::RenderingError(report)), TEXT))
+}
+
+// The error is displayed so.
+fn is_shown(error: Error, wanted: &str) -> bool {
+    let is_so = is_written(&error, wanted);
+    drop(error);
+    is_so
 }
 
 fn is_a_syntax_error(alloc: Global) -> TeraResult<bool> {
     let message = String::from_str(alloc, "é")?;
     let error = Error::syntax_error(alloc, message, &on(1, 0..2));
-    match error.kind() {
-        ErrorKind::OutOfMemory => Err(error),
-        _ => Ok(is_written(&error, "error: é\n --> :1:1\n  |\n1 | \n  | ^^")),
+    if is_want(&error) {
+        return Err(error);
     }
+    Ok(is_shown(error, "error: é\n --> :1:1\n  |\n1 | \n  | ^^"))
 }
 
 /// What is still to be written.

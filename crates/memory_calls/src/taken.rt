@@ -1,4 +1,5 @@
-//! What values are taken as.
+//! What values are taken as. What is generic takes its value by reference, and each owner is handed
+//! to `drop`, so that no function writes out how a value ends.
 use crate::answers::tell;
 use std::alloc::Global;
 use std::borrow::CowStr;
@@ -9,8 +10,9 @@ use tera_values::{Key, Map, Number, Value, maps};
 
 // A map of a list of texts.
 fn sample(alloc: Global) -> TeraResult<Value> {
+    let texts = texts(alloc)?;
     let mut map = maps::new(alloc);
-    maps::insert(&mut map, Key::Str("é"), texts(alloc)?)?;
+    maps::insert(&mut map, Key::Str("é"), texts)?;
     Ok(Value::of_map(map))
 }
 
@@ -21,22 +23,45 @@ fn texts(alloc: Global) -> TeraResult<Value> {
     Ok(Value::of_array(vec![in alloc; marked, plain]?))
 }
 
+/// What it is taken as.
+pub fn taken<'k, V, T: ArgFromValue<'k, V, Output = T>>(
+    alloc: Global,
+    value: &'k V,
+) -> TeraResult<T> {
+    T::from_value(alloc, value)
+}
+
 /// Values that are printed.
 pub fn tell_texts(rt: &(impl Print + AllocGlobal)) -> io::Result<()> {
     let alloc = rt.alloc();
     tell(rt, printed(alloc))?;
     tell(rt, lent_or_printed(alloc))?;
-    tell(rt, String::from_value(alloc, &Value::from(5u8)))
+    tell(rt, number_printed(alloc, Value::from(5u8)))
 }
 
 fn printed(alloc: Global) -> TeraResult<String> {
-    String::from_value(alloc, &sample(alloc)?)
+    let of = sample(alloc)?;
+    let text = taken(alloc, &of);
+    drop(of);
+    text
 }
 
 fn lent_or_printed(alloc: Global) -> TeraResult<String> {
-    let value = sample(alloc)?;
-    let text = CowStr::from_value(alloc, &value)?;
-    Ok(text.into_owned(alloc)?)
+    let of = sample(alloc)?;
+    let text = owned(alloc, taken(alloc, &of));
+    drop(of);
+    text
+}
+
+// The text, as one of its own.
+fn owned(alloc: Global, text: TeraResult<CowStr<'_>>) -> TeraResult<String> {
+    Ok(text?.into_owned(alloc)?)
+}
+
+fn number_printed(alloc: Global, of: Value) -> TeraResult<String> {
+    let text = taken(alloc, &of);
+    drop(of);
+    text
 }
 
 /// Values that are copied.
@@ -48,30 +73,60 @@ pub fn tell_copies(rt: &(impl Print + AllocGlobal)) -> io::Result<()> {
 }
 
 fn copied(alloc: Global) -> TeraResult<Value> {
-    Value::from_value(alloc, &sample(alloc)?)
+    let of = sample(alloc)?;
+    let copy = taken(alloc, &of);
+    drop(of);
+    copy
 }
 
 fn copied_map(alloc: Global) -> TeraResult<Value> {
-    Ok(Value::of_map(Map::from_value(alloc, &sample(alloc)?)?))
+    let of = sample(alloc)?;
+    let copy = taken(alloc, &of);
+    drop(of);
+    as_value(copy)
+}
+
+fn as_value(map: TeraResult<Map>) -> TeraResult<Value> {
+    Ok(Value::of_map(map?))
 }
 
 fn listed(alloc: Global) -> TeraResult<Vec<String>> {
-    Vec::from_value(alloc, &texts(alloc)?)
+    let of = texts(alloc)?;
+    let list = taken(alloc, &of);
+    drop(of);
+    list
 }
 
 /// Values that are refused.
 pub fn tell_refusals(rt: &(impl Print + AllocGlobal)) -> io::Result<()> {
+    let of = [
+        Value::from(300i64),
+        Value::from(-1i64),
+        Value::from(1u8),
+        Value::none(),
+        Value::from(u128::MAX),
+    ];
+    let told = tell_refused(rt, &of);
+    drop(of);
+    told?;
+    tell(rt, numbers(rt.alloc()))
+}
+
+fn tell_refused(rt: &(impl Print + AllocGlobal), of: &[Value; 5]) -> io::Result<()> {
     let alloc = rt.alloc();
-    tell(rt, u8::from_value(alloc, &Value::from(300i64)))?;
-    tell(rt, usize::from_value(alloc, &Value::from(-1i64)))?;
-    tell(rt, bool::from_value(alloc, &Value::from(1u8)))?;
-    tell(rt, i128::from_value(alloc, &Value::none()))?;
-    tell(rt, Number::from_value(alloc, &Value::from(u128::MAX)))?;
-    tell(rt, Number::from_value(alloc, &Value::none()))?;
-    tell(rt, Map::from_value(alloc, &Value::none()))?;
-    tell(rt, numbers(alloc))
+    let [past, below, one, none, widest] = of;
+    tell(rt, taken::<Value, u8>(alloc, past))?;
+    tell(rt, taken::<Value, usize>(alloc, below))?;
+    tell(rt, taken::<Value, bool>(alloc, one))?;
+    tell(rt, taken::<Value, i128>(alloc, none))?;
+    tell(rt, taken::<Value, Number>(alloc, widest))?;
+    tell(rt, taken::<Value, Number>(alloc, none))?;
+    tell(rt, taken::<Value, Map>(alloc, none))
 }
 
 fn numbers(alloc: Global) -> TeraResult<Vec<u8>> {
-    Vec::from_value(alloc, &texts(alloc)?)
+    let of = texts(alloc)?;
+    let list = taken(alloc, &of);
+    drop(of);
+    list
 }

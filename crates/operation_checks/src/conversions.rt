@@ -3,15 +3,29 @@ use crate::held::hold;
 use made_values::{shows, text};
 use std::alloc::Global;
 use std::fmt::Display;
-use tera_scalars::Number;
-use tera_values::{ConversionRefused, Value};
+use tera_report::Error;
+use tera_scalars::{BinaryOp, Number};
+use tera_values::{ConversionRefused, IntType, Value};
 
 // The value becomes that.
 fn becomes<T>(of: Value, wanted: T) -> bool
 where
     T: TryFrom<Value, Error = ConversionRefused> + PartialEq + Drop,
 {
-    T::try_from(of).ok() == Some(wanted)
+    match T::try_from(of) {
+        Ok(made) => are_equal(made, wanted),
+        Err(refused) => let_go(refused),
+    }
+}
+
+fn are_equal<T: PartialEq + Drop>(left: T, right: T) -> bool {
+    left == right
+}
+
+// A refusal is let go, and nothing is equal to it.
+fn let_go(refused: ConversionRefused) -> bool {
+    drop(refused);
+    false
 }
 
 // The value is refused.
@@ -19,7 +33,10 @@ fn is_refused<T>(of: Value) -> bool
 where
     T: TryFrom<Value, Error = ConversionRefused> + Drop,
 {
-    T::try_from(of).is_err()
+    match T::try_from(of) {
+        Ok(_) => false,
+        Err(refused) => !let_go(refused),
+    }
 }
 
 // Both numbers become what stands beside them, the ends of the type.
@@ -109,7 +126,13 @@ fn displays<D: Display>(alloc: Global, it: &D, wanted: &str) -> bool {
 // The refusal shows this text, and its error too.
 fn tells(alloc: Global, refused: ConversionRefused, text: &str) -> bool {
     let shown = displays(alloc, &refused, text);
-    displays(alloc, &refused.into_error(alloc), text) && shown
+    error_displays(alloc, refused.into_error(alloc), text) && shown
+}
+
+fn error_displays(alloc: Global, error: Error, wanted: &str) -> bool {
+    let is_so = displays(alloc, &error, wanted);
+    drop(error);
+    is_so
 }
 
 // The conversion to `u8` is refused by this text.
@@ -150,20 +173,63 @@ fn other_kinds_are_told(rt: HostRuntime) {
 
 // The debug text of the conversion to `u8` is that.
 fn is_debugged(alloc: Global, of: Value, wanted: &str) -> bool {
-    shows(alloc, &u8::try_from(of), wanted)
+    let answer = u8::try_from(of);
+    let is_so = shows(alloc, &answer, wanted);
+    drop(answer);
+    is_so
 }
 
 #[test]
 fn what_is_debugged(rt: HostRuntime) {
     let alloc = rt.alloc();
     let told = "Err(WrongType { expected: \"u8\", actual: \"none\" })";
+    let outside = "Err(OutOfRange { value: Value { inner: U64(300) }, target: \"u8\" })";
     let number = Number::Integer(-5);
     hold(
         &rt,
         &[
             is_debugged(alloc, Value::none(), told),
+            is_debugged(alloc, Value::from(300u64), outside),
             displays(alloc, &number, "-5"),
             shows(alloc, &number, "Integer(-5)"),
+        ],
+    );
+}
+
+#[test]
+fn integer_types_show_their_names(rt: HostRuntime) {
+    let alloc = rt.alloc();
+    hold(
+        &rt,
+        &[
+            shows(alloc, &IntType::U8, "U8"),
+            shows(alloc, &IntType::U16, "U16"),
+            shows(alloc, &IntType::U32, "U32"),
+            shows(alloc, &IntType::U64, "U64"),
+            shows(alloc, &IntType::U128, "U128"),
+            shows(alloc, &IntType::Usize, "Usize"),
+            shows(alloc, &IntType::I8, "I8"),
+            shows(alloc, &IntType::I16, "I16"),
+            shows(alloc, &IntType::I32, "I32"),
+            shows(alloc, &IntType::I64, "I64"),
+            shows(alloc, &IntType::I128, "I128"),
+            shows(alloc, &IntType::Isize, "Isize"),
+        ],
+    );
+}
+
+#[test]
+fn operators_show_their_names(rt: HostRuntime) {
+    let alloc = rt.alloc();
+    hold(
+        &rt,
+        &[
+            shows(alloc, &BinaryOp::Add, "Add"),
+            shows(alloc, &BinaryOp::Sub, "Sub"),
+            shows(alloc, &BinaryOp::Mul, "Mul"),
+            shows(alloc, &BinaryOp::Rem, "Rem"),
+            shows(alloc, &BinaryOp::FloorDiv, "FloorDiv"),
+            shows(alloc, &BinaryOp::Pow, "Pow"),
         ],
     );
 }

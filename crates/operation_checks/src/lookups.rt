@@ -7,17 +7,27 @@ use tera_values::{Key, Value};
 
 // What was found is that part.
 fn is(found: Option<&Value>, part: i64) -> bool {
-    found == Some(&Value::from(part))
+    is_equal(found, Value::from(part))
+}
+
+fn is_equal(found: Option<&Value>, part: Value) -> bool {
+    let is_so = found == Some(&part);
+    drop(part);
+    is_so
 }
 
 // The path leads to that part.
 pub fn leads(of: Value, path: &str, part: i64) -> bool {
-    is(of.get_from_path(path), part)
+    let is_so = is(of.get_from_path(path), part);
+    drop(of);
+    is_so
 }
 
 // The path leads nowhere.
 pub fn leads_nowhere(of: Value, path: &str) -> bool {
-    of.get_from_path(path).is_none()
+    let is_so = of.get_from_path(path).is_none();
+    drop(of);
+    is_so
 }
 
 // A map in an array in a map.
@@ -59,12 +69,16 @@ fn paths_lead_nowhere(rt: HostRuntime) {
 
 // The attribute is that part.
 pub fn has_attribute(of: Value, name: &str, part: i64) -> bool {
-    is(of.get_attr(name), part)
+    let is_so = is(of.get_attr(name), part);
+    drop(of);
+    is_so
 }
 
 // There is no such attribute.
 pub fn lacks_attribute(of: Value, name: &str) -> bool {
-    of.get_attr(name).is_none()
+    let is_so = of.get_attr(name).is_none();
+    drop(of);
+    is_so
 }
 
 #[test]
@@ -82,12 +96,17 @@ fn attributes_are_looked_up(rt: HostRuntime) {
 
 // The two are equal, and as safe.
 fn are_alike(found: Value, part: Value) -> bool {
-    found == part && found.is_safe() == part.is_safe()
+    let is_so = found == part && found.is_safe() == part.is_safe();
+    drop(found);
+    drop(part);
+    is_so
 }
 
 // What it has at an item is that part, undefined where it has nothing. A refusal counts as false.
 pub fn has_item(alloc: Global, of: Value, at: Value, part: Value) -> bool {
     let found = of.get_item(alloc, &at).unwrap_or(Value::from(false));
+    drop(of);
+    drop(at);
     are_alike(found, part)
 }
 
@@ -149,7 +168,10 @@ fn characters_keep_the_flag(rt: HostRuntime) {
 
 // The item is refused with that text.
 fn item_is_refused(alloc: Global, of: Value, at: Value, text: &str) -> bool {
-    is_refused(of.get_item(alloc, &at), text)
+    let answer = of.get_item(alloc, &at);
+    drop(of);
+    drop(at);
+    is_refused(answer, text)
 }
 
 #[test]
@@ -174,7 +196,10 @@ fn one_map(alloc: Global) -> Value {
 
 // Whether it holds the value is answered so, and not refused.
 pub fn holds(alloc: Global, of: Value, needle: Value, wanted: bool) -> bool {
-    of.contains(alloc, &needle).unwrap_or(!wanted) == wanted
+    let answer = of.contains(alloc, &needle);
+    drop(of);
+    drop(needle);
+    answer.unwrap_or(!wanted) == wanted
 }
 
 #[test]
@@ -200,15 +225,37 @@ fn containers_hold(rt: HostRuntime) {
 
 #[test]
 fn numbers_hold_nothing(rt: HostRuntime) {
-    let one = Value::from(1i64);
     let says = "`in` cannot be used on a container of type `i64`. \
         It can only be used on arrays, strings and map/structs";
-    assert!(rt; is_refused(one.contains(rt.alloc(), &one), says));
+    assert!(rt; needle_is_refused(rt.alloc(), Value::from(1i64), says));
+}
+
+// Whether it holds itself is refused with that text.
+fn needle_is_refused(alloc: Global, of: Value, text: &str) -> bool {
+    let answer = of.contains(alloc, &of);
+    drop(of);
+    is_refused(answer, text)
 }
 
 // The key that it is equals that.
 fn is_key(alloc: Global, of: Value, key: Key<'static>) -> bool {
-    of.as_key(alloc).unwrap_or(Key::Str("none")) == key
+    let found = of.as_key(alloc).unwrap_or(Key::Str("none"));
+    drop(of);
+    are_one(found, key)
+}
+
+fn are_one(left: Key<'static>, right: Key<'static>) -> bool {
+    let is_so = left == right;
+    drop(left);
+    drop(right);
+    is_so
+}
+
+// It is no key, and is refused with that text.
+fn is_no_key(alloc: Global, of: Value, text: &str) -> bool {
+    let answer = of.as_key(alloc);
+    drop(of);
+    is_refused(answer, text)
 }
 
 #[test]
@@ -220,20 +267,25 @@ fn values_are_keys(rt: HostRuntime) {
             is_key(alloc, safe(alloc, "a"), Key::Str("a")),
             is_key(alloc, Value::from(1u64), Key::I128(1)),
             is_key(alloc, Value::from(true), Key::Bool(true)),
-            is_refused(Value::none().as_key(alloc), "Not a valid key type"),
+            is_no_key(alloc, Value::none(), "Not a valid key type"),
         ],
     );
 }
 
 // How many fields it has.
 pub fn field_count(alloc: Global, of: Value) -> Option<usize> {
-    Some(of.available_fields(alloc).ok()?.len())
+    let names = of.available_fields(alloc);
+    drop(of);
+    Some(names.ok()?.len())
 }
 
 // The first and the last of its fields are called so.
 pub fn fields_are(alloc: Global, of: Value, first: &str, last: &str) -> bool {
     let names = of.available_fields(alloc).unwrap_or(Vec::new(alloc));
-    ends_are(names.as_slice(), first, last)
+    drop(of);
+    let is_so = ends_are(names.as_slice(), first, last);
+    drop(names);
+    is_so
 }
 
 // The first and the last text are these.

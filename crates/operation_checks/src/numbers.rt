@@ -1,5 +1,6 @@
 //! What is computed.
 use crate::held::hold;
+use crate::refused::refusal_holds;
 use made_values::or_undefined;
 use std::alloc::Global;
 use tera_report::TeraResult;
@@ -25,19 +26,26 @@ fn computed(alloc: Global, op: BinaryOp, left: &Value, right: &Value) -> TeraRes
 
 /// What the function of that operator answers at these operands.
 pub fn answer(alloc: Global, op: BinaryOp, left: Value, right: Value) -> TeraResult<Value> {
-    computed(alloc, op, &left, &right)
+    let made = computed(alloc, op, &left, &right);
+    drop(left);
+    drop(right);
+    made
 }
 
 /// What the negation answers.
 pub fn negated(alloc: Global, of: Value) -> TeraResult<Value> {
-    negate(alloc, &of)
+    let made = negate(alloc, &of);
+    drop(of);
+    made
 }
 
 // It is that number, held in 128 bits with a sign; or it is refused, where no number is wanted.
 fn is(made: TeraResult<Value>, wanted: Option<i128>) -> bool {
     let is_made = made.is_ok();
     let value = or_undefined(made);
-    value.is_i128() == is_made && value.as_i128() == wanted
+    let is_so = value.is_i128() == is_made && value.as_i128() == wanted;
+    drop(value);
+    is_so
 }
 
 // The operator computes that number of these operands, or refuses where none is wanted.
@@ -46,17 +54,28 @@ fn gives(alloc: Global, op: BinaryOp, left: Value, right: Value, wanted: Option<
 }
 
 #[test]
-fn kinds_of_operands_do_not_count(rt: HostRuntime) {
+fn arithmetic_in_i128(rt: HostRuntime) {
     let alloc = rt.alloc();
-    let (add, sub, mul) = (BinaryOp::Add, BinaryOp::Sub, BinaryOp::Mul);
+    let (add, sub) = (BinaryOp::Add, BinaryOp::Sub);
+    let past = answer(alloc, add, Value::from(i128::MAX), Value::from(1i128));
+    let wide = answer(alloc, add, Value::from(u128::MAX), Value::from(0u64));
     hold(
         &rt,
         &[
             gives(alloc, add, Value::from(-1i64), Value::from(2u128), Some(1)),
             gives(alloc, sub, Value::from(5u128), Value::from(10u64), Some(-5)),
-            gives(alloc, mul, Value::from(-3i8), Value::from(4u16), Some(-12)),
+            refusal_holds(past, "Unable to perform"),
+            refusal_holds(wide, "out of range"),
         ],
     );
+}
+
+#[test]
+fn kinds_of_operands_do_not_count(rt: HostRuntime) {
+    let alloc = rt.alloc();
+    let mul = BinaryOp::Mul;
+    let (left, right) = (Value::from(-3i8), Value::from(4u16));
+    hold(&rt, &[gives(alloc, mul, left, right, Some(-12))]);
 }
 
 #[test]
@@ -122,23 +141,33 @@ fn powers_up_to_the_ends(rt: HostRuntime) {
 }
 
 #[test]
-fn numbers_are_negated(rt: HostRuntime) {
+fn can_negate(rt: HostRuntime) {
     let alloc = rt.alloc();
     hold(
         &rt,
         &[
-            is(negated(alloc, Value::from(0u64)), Some(0)),
-            is(negated(alloc, Value::from(5u128)), Some(-5)),
+            refusal_holds(negated(alloc, Value::from(i128::MIN)), "overflow"),
             is(negated(alloc, Value::from(5i64)), Some(-5)),
             is(negated(alloc, Value::from(-5i64)), Some(5)),
             is(negated(alloc, Value::from(i128::MAX)), Some(-i128::MAX)),
+            is(negated(alloc, Value::from(5u128)), Some(-5)),
+            refusal_holds(negated(alloc, Value::from(u128::MAX)), "overflow"),
         ],
     );
 }
 
+#[test]
+fn zero_is_negated(rt: HostRuntime) {
+    let alloc = rt.alloc();
+    hold(&rt, &[is(negated(alloc, Value::from(0u64)), Some(0))]);
+}
+
 // What the operator computes.
 fn calculated(alloc: Global, op: BinaryOp, left: Value, right: Value) -> TeraResult<Value> {
-    calculate(alloc, op, &left, &right)
+    let made = calculate(alloc, op, &left, &right);
+    drop(left);
+    drop(right);
+    made
 }
 
 #[test]
@@ -157,7 +186,9 @@ type Read = (bool, Option<Number>, Option<u128>, Option<i64>, Option<u64>);
 
 // It is read so.
 fn reads(value: Value, wanted: Read) -> bool {
-    is_read(&value, wanted)
+    let is_so = is_read(&value, wanted);
+    drop(value);
+    is_so
 }
 
 fn is_read(value: &Value, wanted: Read) -> bool {
@@ -188,7 +219,9 @@ fn numbers_are_read(rt: HostRuntime) {
 }
 
 fn kind_of(value: Value) -> ValueKind {
-    value.kind()
+    let kind = value.kind();
+    drop(value);
+    kind
 }
 
 #[test]
@@ -211,7 +244,10 @@ fn numbers_are_compared(rt: HostRuntime) {
 
 // The quotient of two values, or why there is none.
 fn quotient(left: Value, right: Value) -> Result<i128, NotComputed> {
-    compute(BinaryOp::FloorDiv, &left, &right)
+    let made = compute(BinaryOp::FloorDiv, &left, &right);
+    drop(left);
+    drop(right);
+    made
 }
 
 #[test]

@@ -163,10 +163,12 @@ fn texts_of_any_size_hold(rt: HostRuntime) {
 
 // The key of a text of so many accents has so many bytes.
 fn has_key_of(alloc: Global, count: usize, size: usize) -> bool {
-    let key = accents(alloc, count)
-        .as_key(alloc)
-        .unwrap_or(Key::Bool(false));
-    key.as_str().unwrap_or("none").len() == size
+    let of = accents(alloc, count);
+    let key = of.as_key(alloc).unwrap_or(Key::Bool(false));
+    drop(of);
+    let is_so = key.as_str().unwrap_or("none").len() == size;
+    drop(key);
+    is_so
 }
 
 #[test]

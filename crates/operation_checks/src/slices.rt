@@ -16,8 +16,15 @@ fn sliced(alloc: Global, of: &Value, bounds: Bounds) -> Value {
 // The slice is of the value's kind, as safe, and prints that.
 pub fn slices_to(alloc: Global, of: Value, bounds: Bounds, wanted: &str) -> bool {
     let found = sliced(alloc, &of, bounds);
-    let shown = printed(alloc, &found);
-    found.kind() == of.kind() && found.is_safe() == of.is_safe() && shown.as_str() == wanted
+    let is_alike = found.kind() == of.kind() && found.is_safe() == of.is_safe();
+    drop(of);
+    prints(alloc, found, wanted) && is_alike
+}
+
+fn prints(alloc: Global, value: Value, wanted: &str) -> bool {
+    let is_so = printed(alloc, &value).as_str() == wanted;
+    drop(value);
+    is_so
 }
 
 fn five(alloc: Global) -> Value {
@@ -121,15 +128,39 @@ fn slices_of_texts_keep_their_flag(rt: HostRuntime) {
 }
 
 pub fn reversed(alloc: Global, of: Value) -> Value {
-    or_undefined(of.reverse(alloc))
+    let made = of.reverse(alloc);
+    drop(of);
+    or_undefined(made)
 }
 
 // The reversal is of that kind, not safe, and prints that.
 pub fn reverses_to(alloc: Global, of: Value, wanted: &str) -> bool {
     let kind = of.kind();
     let found = reversed(alloc, of);
-    let shown = printed(alloc, &found);
-    found.kind() == kind && !found.is_safe() && shown.as_str() == wanted
+    let is_alike = found.kind() == kind && !found.is_safe();
+    prints(alloc, found, wanted) && is_alike
+}
+
+// An `e`, an accent of its own and four letters.
+const ACCENTED: &str = "e\u{301}cole";
+
+// It has so many parts.
+fn has_parts(of: Value, count: usize) -> bool {
+    let is_so = of.len() == Some(count);
+    drop(of);
+    is_so
+}
+
+#[test]
+fn len_and_reverse_use_chars(rt: HostRuntime) {
+    let alloc = rt.alloc();
+    hold(
+        &rt,
+        &[
+            has_parts(text(alloc, ACCENTED), 6),
+            reverses_to(alloc, text(alloc, ACCENTED), "eloc\u{301}e"),
+        ],
+    );
 }
 
 #[test]
@@ -138,7 +169,7 @@ fn values_are_reversed(rt: HostRuntime) {
     hold(
         &rt,
         &[
-            reverses_to(alloc, safe(alloc, "e\u{301}cole"), "eloc\u{301}e"),
+            reverses_to(alloc, safe(alloc, ACCENTED), "eloc\u{301}e"),
             reverses_to(alloc, text(alloc, "abc"), "cba"),
             reverses_to(alloc, bytes(alloc, b"\x01\x02"), "\x02\x01"),
             reverses_to(alloc, five(alloc), "[4, 3, 2, 1, 0]"),
@@ -148,7 +179,16 @@ fn values_are_reversed(rt: HostRuntime) {
 
 // The slice is refused with that text.
 fn slice_is_refused(alloc: Global, of: Value, step: i128, says: &str) -> bool {
-    is_refused(of.slice(alloc, None, None, Some(step)), says)
+    let answer = of.slice(alloc, None, None, Some(step));
+    drop(of);
+    is_refused(answer, says)
+}
+
+// The reversal is refused with that text.
+fn reversal_is_refused(alloc: Global, of: Value, says: &str) -> bool {
+    let answer = of.reverse(alloc);
+    drop(of);
+    is_refused(answer, says)
 }
 
 #[test]
@@ -161,7 +201,7 @@ fn what_is_no_list_is_refused(rt: HostRuntime) {
         &[
             slice_is_refused(alloc, Value::from(1u8), 0, "Slicing step cannot be 0"),
             slice_is_refused(alloc, bytes(alloc, b"ab"), 1, of_bytes),
-            is_refused(Value::from(true).reverse(alloc), of_truth),
+            reversal_is_refused(alloc, Value::from(true), of_truth),
         ],
     );
 }

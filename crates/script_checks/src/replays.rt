@@ -73,11 +73,21 @@ const FIRST: &[u8] =
 
 const FIRST_ANSWERS: &[u8] = b"ok\nok\ntrue\nequal\nok\ntext <x>\nless\n";
 
+const WORKED: &[u8] = b"set t s\"a\\nb\"\nget t\nset b x\"6869\"\nprint b\n\
+slice t _ _ -1\nlen t\nkind b\nread u8 t\nset n 300\nread u8 n\n\
+fields n\ntry_cmp n t\nnegate n -> n\nget n\n";
+
+const WORKED_ANSWERS: &[u8] =
+    b"ok\nvalue \"a\\nb\"\nok\ntext hi\nvalue \"b\\na\"\nsize 3\nkind bytes\n\
+error: Invalid type for the value, expected `u8` but got `string`\nok\n\
+error: Value `300` is out of range for `u8`\nfields []\nundecided\nok\nvalue -300\n";
+
 #[test]
 fn scripts_are_answered_in_any_pieces(rt: HostRuntime) -> std::result::Result<(), Fail> {
     let alloc = rt.alloc();
     for (script, answers, report, want) in [
         (FIRST, FIRST_ANSWERS, b"".as_slice(), 0),
+        (WORKED, WORKED_ANSWERS, b"", 0),
         (b"", b"", b"", 0),
         (b"# note", b"", b"", 0),
         (b"# \xff\n \t \n", b"", b"", 0),
@@ -139,6 +149,7 @@ fn an_interrupted_read_is_a_failed_one(rt: HostRuntime) -> std::result::Result<(
     let alloc = rt.alloc();
     for (script, answers) in [
         (b"eq a b\neq a".as_slice(), b"true\n".as_slice()),
+        (b"eq a b\nhas a\ncm", b"true\nfalse\n"),
         (b"eq a b\nfrob", b"true\n"),
         (b"", b""),
     ] {

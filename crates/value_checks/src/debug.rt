@@ -7,7 +7,9 @@ use tera_values::{Key, Value, ValueKind};
 
 /// Its debug text is that.
 pub fn tells<D: Debug + Drop>(alloc: Global, it: D, wanted: &str) -> bool {
-    shows(alloc, &it, wanted)
+    let is_so = shows(alloc, &it, wanted);
+    drop(it);
+    is_so
 }
 
 #[test]

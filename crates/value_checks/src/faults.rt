@@ -15,21 +15,24 @@ fn narrow(alloc: Global, room: usize) -> Narrow {
 }
 
 // A writer with that much room took what fits of the text, and a fault is told where not all does.
-fn breaks_there(text: &[u8], room: usize, taken: &[u8], told: bool) -> bool {
+fn breaks_there(out: Narrow, text: &[u8], room: usize, told: bool) -> bool {
     let fits = room.min(text.len());
-    taken == &text[..fits] && told == (fits < text.len())
+    let is_so = out.taken.as_slice() == &text[..fits] && told == (fits < text.len());
+    drop(out);
+    is_so
 }
 
 // `format` of the value breaks there.
 fn format_breaks(alloc: Global, value: &Value, text: &str, room: usize) -> bool {
     let mut out = narrow(alloc, room);
     let told = value.format(&mut out).is_err();
-    breaks_there(text.as_bytes(), room, out.taken.as_slice(), told)
+    breaks_there(out, text.as_bytes(), room, told)
 }
 
 // The value breaks in every room, and is let go.
 fn tells(rt: &(impl Abort + AllocGlobal), value: Value, text: &str) {
     breaks_everywhere(rt, &value, text);
+    drop(value);
 }
 
 // A fault is told at each room that is too small for its text; and where there is room, all is
@@ -71,7 +74,7 @@ fn format_of_a_map_answers_its_writers_error(rt: HostRuntime) {
 fn quoting_breaks(alloc: Global, value: &Value, text: &str, room: usize) -> bool {
     let mut out = narrow(alloc, room);
     let told = value.format_inside(&mut out).is_err();
-    breaks_there(text.as_bytes(), room, out.taken.as_slice(), told)
+    breaks_there(out, text.as_bytes(), room, told)
 }
 
 #[test]
@@ -83,13 +86,15 @@ fn inside_an_array_a_text_is_quoted_and_faults_are_told(rt: HostRuntime) {
             "room for {room}"
         );
     }
+    drop(value);
 }
 
 // `format` of the key breaks there.
 fn key_breaks(alloc: Global, key: Key<'static>, text: &str, room: usize) -> bool {
     let mut out = narrow(alloc, room);
     let told = key.format(&mut out).is_err();
-    breaks_there(text.as_bytes(), room, out.taken.as_slice(), told)
+    drop(key);
+    breaks_there(out, text.as_bytes(), room, told)
 }
 
 #[test]

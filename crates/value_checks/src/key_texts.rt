@@ -15,7 +15,9 @@ fn formats_to(alloc: Global, key: &Key<'_>, wanted: &str) -> bool {
 
 // The key prints that, by `{}` at any width and fill, and to a writer.
 fn prints(alloc: Global, key: Key<'static>, wanted: &str) -> bool {
-    displays(alloc, &key, wanted) && formats_to(alloc, &key, wanted)
+    let is_so = displays(alloc, &key, wanted) && formats_to(alloc, &key, wanted);
+    drop(key);
+    is_so
 }
 
 #[test]

@@ -1,4 +1,5 @@
 //! Keys of every kind beside one another: what is equal, what hashes alike, what is copied.
+use crate::debug::tells;
 use crate::held::hold;
 use crate::order::{are_all, rise};
 use made_values::{or_undefined, repeated, shows};
@@ -6,7 +7,7 @@ use std::alloc::Global;
 use std::cmp::Ordering;
 use std::hash::{DefaultHasher, Hash, Hasher};
 use std::rc::RcStr;
-use tera_values::Key;
+use tera_values::{Key, Value};
 
 /// A key that owns that text, or one of another kind where memory is wanting.
 pub fn owned(alloc: Global, text: &str) -> Key<'static> {
@@ -34,11 +35,16 @@ fn one_number_is_one_key(rt: HostRuntime) {
             are_one(Key::I64(-1), Key::I128(-1)),
         ],
     );
+    drop(ones);
+    drop(greatest);
 }
 
 // They are one key.
 fn are_one(left: Key<'static>, right: Key<'static>) -> bool {
-    left == right && left.cmp(&right) == Ordering::Equal
+    let is_so = left == right && left.cmp(&right) == Ordering::Equal;
+    drop(left);
+    drop(right);
+    is_so
 }
 
 // What std's hasher answers once it is fed the value.
@@ -50,7 +56,9 @@ fn hash_of<T: Hash>(value: &T) -> u64 {
 
 // The key feeds a hasher what feeds it to that hash.
 fn feeds(key: Key<'static>, wanted: u64) -> bool {
-    hash_of(&key) == wanted
+    let hash = hash_of(&key);
+    drop(key);
+    hash == wanted
 }
 
 fn fed_natural(n: u128) -> u64 {
@@ -103,11 +111,14 @@ fn keys_in_order(rt: HostRuntime) {
         Key::Str("é"),
     ];
     rise(&rt, &rising);
+    drop(rising);
 }
 
 // The debug text of its value, which tells the kind and the flag, is that.
 fn has_value(alloc: Global, key: Key<'static>, wanted: &str) -> bool {
-    shows(alloc, &or_undefined(key.as_value(alloc)), wanted)
+    let value = or_undefined(key.as_value(alloc));
+    drop(key);
+    tells(alloc, value, wanted)
 }
 
 #[test]
@@ -131,7 +142,8 @@ fn values_of_keys(rt: HostRuntime) {
 // Its copy is equal, and of the kind that its debug text tells.
 fn is_copied(alloc: Global, key: Key<'static>, wanted: &str) -> bool {
     let copy = key.clone(alloc).unwrap_or(Key::Str("none"));
-    copy == key && shows(alloc, &copy, wanted)
+    let is_told = shows(alloc, &copy, wanted);
+    are_one(copy, key) && is_told
 }
 
 #[test]
@@ -155,18 +167,31 @@ fn copies_of_keys(rt: HostRuntime) {
 fn holds(alloc: Global, key: &Key<'_>, text: &str) -> bool {
     let copy = key.clone(alloc).unwrap_or(Key::Bool(false));
     let value = or_undefined(copy.as_value(alloc));
-    copy.as_str() == Some(text) && value.as_str() == Some(text)
+    let is_held = copy.as_str() == Some(text);
+    drop(copy);
+    is_text(value, text) && is_held
+}
+
+fn is_text(value: Value, text: &str) -> bool {
+    let is_so = value.as_str() == Some(text);
+    drop(value);
+    is_so
 }
 
 // Keys of so many characters hold them.
 fn hold_many(alloc: Global, count: usize) -> bool {
     let made = repeated(alloc, 'é', count, "");
-    made.len() == Some(count) && are_held(alloc, made.as_str().unwrap_or("none"))
+    let is_so = made.len() == Some(count) && are_held(alloc, made.as_str().unwrap_or("none"));
+    drop(made);
+    is_so
 }
 
 // Keys of that text hold it, whether it is owned or lent.
 fn are_held(alloc: Global, text: &str) -> bool {
-    holds(alloc, &owned(alloc, text), text) && holds(alloc, &Key::Str(text), text)
+    let key = owned(alloc, text);
+    let is_owned = holds(alloc, &key, text);
+    drop(key);
+    holds(alloc, &Key::Str(text), text) && is_owned
 }
 
 // Texts of no character, of one and of 1,000 are copied whole.

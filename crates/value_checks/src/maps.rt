@@ -9,7 +9,10 @@ use tera_values::{Key, Value};
 
 // They compare so, and the other way round turned; and the partial order decides that.
 fn compare(left: Value, right: Value, order: Ordering, decided: Option<Ordering>) -> bool {
-    are_in_order(&left, &right, order) && left.try_compare(&right) == decided
+    let is_so = are_in_order(&left, &right, order) && left.try_compare(&right) == decided;
+    drop(left);
+    drop(right);
+    is_so
 }
 
 fn are_in_order(left: &Value, right: &Value, order: Ordering) -> bool {

@@ -35,7 +35,9 @@ fn are_undecided(rt: &impl Abort, values: &[Value]) {
 
 /// All of them compare so with that one.
 pub fn are_all<T: Ord + Drop>(values: &[T], other: T, order: Ordering) -> bool {
-    compare_all(values, &other, order)
+    let is_so = compare_all(values, &other, order);
+    drop(other);
+    is_so
 }
 
 // Each of them compares so.
@@ -67,6 +69,7 @@ fn integers_compare_by_number(rt: HostRuntime) {
             are_all(&ones, Value::from(true), Ordering::Greater),
         ],
     );
+    drop(ones);
 }
 
 #[test]
@@ -86,6 +89,7 @@ fn scalars_come_in_order(rt: HostRuntime) {
         Value::undefined(),
     ];
     rise(&rt, &all);
+    drop(all);
 }
 
 #[test]
@@ -105,6 +109,7 @@ fn arrays_come_in_order(rt: HostRuntime) {
         Value::undefined(),
     ];
     rise(&rt, &all);
+    drop(all);
 }
 
 #[test]
@@ -122,11 +127,15 @@ fn ranks_decide_and_leave_undecided(rt: HostRuntime) {
     ];
     rise(&rt, &all);
     are_undecided(&rt, &all);
+    drop(all);
 }
 
 // They are equal.
 fn are_equal(left: Value, right: Value) -> bool {
-    compare(&left, &right, Ordering::Equal)
+    let is_so = compare(&left, &right, Ordering::Equal);
+    drop(left);
+    drop(right);
+    is_so
 }
 
 #[test]

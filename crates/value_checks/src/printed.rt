@@ -16,13 +16,17 @@ pub fn displays<D: Display>(alloc: Global, it: &D, wanted: &str) -> bool {
 fn formats_to(alloc: Global, value: &Value, wanted: &str) -> bool {
     let mut out = Vec::new(alloc);
     let is_told = value.format(&mut out).is_ok();
-    is_told && out.as_slice() == wanted.as_bytes()
+    let is_so = out.as_slice() == wanted.as_bytes();
+    drop(out);
+    is_told && is_so
 }
 
 // It prints that: as a text of its own, by `{}` at any width and fill, and to a writer.
 fn prints(alloc: Global, value: Value, wanted: &str) -> bool {
     let has_text = printed(alloc, &value).as_str() == wanted;
-    has_text && displays(alloc, &value, wanted) && formats_to(alloc, &value, wanted)
+    let is_so = displays(alloc, &value, wanted) && formats_to(alloc, &value, wanted);
+    drop(value);
+    has_text && is_so
 }
 
 #[test]

@@ -24,9 +24,10 @@ fn debug_form(alloc: Global, text: &str) -> String {
 
 // An array of that text prints the library's form, which is longer than the text.
 fn is_in_debug_form(alloc: Global, of: &str) -> bool {
-    let found = printed(alloc, &one_item(alloc, text(alloc, of)));
-    let wanted = debug_form(alloc, of);
-    found.len() > of.len() && found.as_str() == wanted.as_str()
+    let array = one_item(alloc, text(alloc, of));
+    let found = printed(alloc, &array);
+    drop(array);
+    found.len() > of.len() && found.as_str() == debug_form(alloc, of).as_str()
 }
 
 #[test]

@@ -49,12 +49,15 @@ fn tests_of_kinds(rt: HostRuntime) {
     for (place, value) in all.iter().enumerate() {
         assert!(rt; is_only(value, place), "at {place}");
     }
+    drop(all);
 }
 
 // It is of that kind and name, has so many parts and can be gone over, counts as true, and is not
 // marked safe.
 fn reads(value: Value, kind: ValueKind, name: &str, count: usize) -> bool {
-    value.kind() == kind && value.name() == name && has_parts(&value, count)
+    let is_so = value.kind() == kind && value.name() == name && has_parts(&value, count);
+    drop(value);
+    is_so
 }
 
 fn has_parts(value: &Value, count: usize) -> bool {
@@ -81,7 +84,9 @@ fn what_is_read_of_values_with_parts(rt: HostRuntime) {
 
 // How many items or pairs are lent.
 fn lent(value: Value) -> Option<usize> {
-    parts_lent(&value)
+    let count = parts_lent(&value);
+    drop(value);
+    count
 }
 
 fn parts_lent(value: &Value) -> Option<usize> {
@@ -94,12 +99,18 @@ fn parts_lent(value: &Value) -> Option<usize> {
 
 // How many items are handed over.
 fn items_taken(value: Value) -> Option<usize> {
-    Some(value.into_vec()?.len())
+    let items = value.into_vec()?;
+    let count = items.len();
+    drop(items);
+    Some(count)
 }
 
 // How many pairs are handed over.
 fn pairs_taken(value: Value) -> Option<usize> {
-    Some(value.into_map()?.len())
+    let map = value.into_map()?;
+    let count = map.len();
+    drop(map);
+    Some(count)
 }
 
 #[test]
@@ -118,7 +129,9 @@ fn parts_are_lent_and_handed_over(rt: HostRuntime) {
 
 // It is those bytes.
 fn are_bytes(value: Value, wanted: &[u8]) -> bool {
-    value.as_bytes() == Some(wanted)
+    let is_so = value.as_bytes() == Some(wanted);
+    drop(value);
+    is_so
 }
 
 #[test]
@@ -128,7 +141,9 @@ fn bytes_are_lent(rt: HostRuntime) {
 
 // It counts as false.
 fn is_false(value: Value) -> bool {
-    !value.is_truthy()
+    let is_so = !value.is_truthy();
+    drop(value);
+    is_so
 }
 
 #[test]
@@ -146,7 +161,11 @@ fn what_counts_as_false(rt: HostRuntime) {
 
 // It has no length, and is no map.
 fn is_single(value: Value) -> bool {
-    value.len().is_none() && value.into_map().is_none()
+    let has_no_length = value.len().is_none();
+    let map = value.into_map();
+    let is_so = has_no_length && map.is_none();
+    drop(map);
+    is_so
 }
 
 #[test]

@@ -9,7 +9,10 @@ fn is_copied(alloc: Global, value: Value, count: usize) -> bool {
     let copy = or_undefined(value.clone(alloc));
     let shown = printed(alloc, &value);
     let prints_alike = shown.len() > count && printed(alloc, &copy).as_str() == shown.as_str();
-    prints_alike && copy == value && copy.len() == Some(count)
+    let is_so = prints_alike && copy == value && copy.len() == Some(count);
+    drop(copy);
+    drop(value);
+    is_so
 }
 
 #[test]
@@ -40,7 +43,9 @@ fn maps_of_any_size_find_ample_memory(rt: HostRuntime) {
 
 // It prints as the text that it is.
 fn prints_itself(alloc: Global, value: Value) -> bool {
-    value.as_str() == Some(printed(alloc, &value).as_str())
+    let is_so = value.as_str() == Some(printed(alloc, &value).as_str());
+    drop(value);
+    is_so
 }
 
 // A text of so many characters, and at least one.
