@@ -1,8 +1,10 @@
 """Gives random scripts to a program and to tests/second.py, whose outputs, errors and statuses must be the same.
 
     python3 tests/fuzz.py PROGRAM [--seed N] [--lines N] [--no-extend]
+    python3 tests/fuzz.py PROGRAM --seconds N [--seed N] [--first N] [--size X] [--keep FOLDER]
 
-The same seed makes the same scripts. Long scripts are of good lines up to near their end, short ones of lines of which
+With `--seconds` it goes on for so long, with large scripts among the small ones (tests/storm.py); a failing script is kept
+in the folder. The same seed makes the same scripts. Long scripts are of good lines up to near their end, short ones of lines of which
 many were changed by a byte or two. Where the two differ, the fewest lines found that show it are printed, and the
 status is 1; else the one line 'fuzz: end, N lines', where N counts the lines up to the bad ones.
 """
@@ -527,7 +529,15 @@ def main():
     parser.add_argument("--seed", type=int, default=1)
     parser.add_argument("--lines", type=int, default=5000)
     parser.add_argument("--no-extend", action="store_true")
+    parser.add_argument("--seconds", type=float)
+    parser.add_argument("--first", type=int, default=0)
+    parser.add_argument("--size", type=float, default=1.0)
+    parser.add_argument("--keep", default=".")
     given = parser.parse_args()
+    if given.seconds:
+        import storm
+
+        return storm.storm(given.program, given)
     maker, count, scripts = Maker(random.Random(given.seed), not given.no_extend), 0, 0
     while count < given.lines:
         good, doubtful = (300, 20) if scripts % 48 == 0 else (maker.chance.randint(0, 3), maker.chance.randint(1, 3))

@@ -3,9 +3,11 @@
 behind a 'FAIL ..' each place that breaks it. The last line is 'house: end'.
 
 - calls: each word of a call in crates/tera_script/specs is in a script of script_checks or examples/, has a row in
-  docs/SCRIPT.md, an entry in tests/second.py, and a line that tests/fuzz.py makes, which heeds `->` where that entry does
+  docs/SCRIPT.md, an entry in tests/second.py, and a line that tests/fuzz.py makes; all of these, and the comment of
+  tera_context's `Step`, let just those heed `->` that the specs do; and what `step` calls for it, or its arm there, has a
+  wrong body
 - imports: a crate imports a lower crate's proofs by its files of laws alone (docs/ARCHITECTURE.md says which these are)
-- lemmas: each is cited; a line 'note: ..' tells which have one statement
+- lemmas: each is cited, and no two have one statement up to the names of variables
 - lengths: no file of src/, specs/ or proofs/ is longer than its bound, and no line is wider
 - docs: each path, module and name that README.md and docs/ write as code is there
 """
@@ -21,7 +23,7 @@ import fuzz
 import second
 
 TOP = os.path.dirname(os.path.dirname(os.path.abspath(__file__)))
-FILE_LINES = 500
+FILE_LINES = 400
 WIDTHS = {"src": 100, "specs": 100, "proofs": 160}
 LAWS = re.compile(r"\w*Laws$")
 WORD = re.compile(r"[\w'-]+")
@@ -58,10 +60,24 @@ def said_calls():
     return {word: form[0].endswith(">") for word, form in second.CALLS.items()}
 
 
-def words_in_specs():
-    """The words that tera_script's table of verbs gives."""
-    table = read("crates/tera_script/specs/Verb.antt").partition("pub verbs :")[0]
-    return set(re.findall(r'codes "([a-z_]+)"', table))
+def rows_in_specs():
+    """Each verb of tera_script's table, with its word and whether it heeds a name for what is found."""
+    table = read("crates/tera_script/specs/Verb.antt")
+    return {verb: (word, how == "keeping") for verb, how, word in
+            re.findall(r'(?m)^row_of verb\.(\w+) = (plain|keeping) \(codes "([a-z_]+)"\)', table)}
+
+
+def words_told_to_keep(page, words):
+    """The words that the language's page lets end in a name for what is found; 'the six of two operands' are operators."""
+    told = re.search(r"(?s)\n- ([^.]*?) may end in\s+`-> NAME`", page)[1]
+    operators = re.search(r"\| (`add NAME NAME`[^|]*)\|", page)[1]
+    return {it for it in re.findall(r"`([a-z_]+)[ `]", told + operators) if it in words}
+
+
+def calls_told_to_keep():
+    """The calls that the comment of `Step` says heed the name for what is found."""
+    text = re.sub(r"\s*\n///\s*", " ", read("crates/tera_context/src/call.rt"))
+    return set(re.findall(r"`(\w+)`", re.search(r"Only (.*?) heed that name", text)[1]))
 
 
 def words_made():
@@ -77,12 +93,22 @@ def words_made():
 
 def calls():
     told = said_calls()
-    spec = words_in_specs()
+    table = rows_in_specs()
+    spec = dict(table.values())
     page = read("docs/SCRIPT.md")
+    keep = words_told_to_keep(page, spec)
+    variants = set(re.findall(r"(?m)^    (\w+) \{", read("crates/tera_context/src/call.rt")))
+    own = {verb if verb in variants else "Binary" for verb, (_, keeps) in table.items() if keeps}
+    for call in sorted(own ^ calls_told_to_keep()):
+        yield f"crates/tera_context/src/call.rt: whether `{call}` heeds `->` is not as in tera_script's table"
     rows = set(re.findall(r"`([a-z_]+)[ `]", "\n".join(it for it in page.split("\n") if it.startswith("| "))))
     tests = "".join(read(it) for it in FILES if re.match(r"crates/script_checks/src/|examples/.*\.replay$", it))
     made = words_made()
-    for word in sorted(spec | set(told)):
+    for word in sorted(set(spec) | set(told)):
+        if word in spec and spec[word] != (word in keep):
+            yield f"docs/SCRIPT.md: whether `{word}` heeds `->` is not as in tera_script's table"
+        if word in told and spec.get(word) != told[word]:
+            yield f"tests/second.py: whether `{word}` heeds `->` is not as in tera_script's table"
         if word not in spec:
             yield f"`{word}` of tests/second.py is no word of tera_script"
         if word not in told:
@@ -95,6 +121,46 @@ def calls():
             yield f"`{word}` heeds `->` in one of tests/second.py and tests/fuzz.py alone"
         if not re.search(rf'\b{word} ', tests):
             yield f"`{word}` is in no script of script_checks or of examples/"
+    yield from bodies(set(told))
+
+
+# ---- wrong bodies of calls
+
+# the words of calls that are not their names in the code
+SHORT = {"equal": "eq", "compare": "cmp", "try_compare": "try_cmp"}
+# what a name means, for any call that asks
+READS = {"value_at", "absent_value"}
+
+
+def variants(path, name):
+    """The variants of an enum, in small letters: 'is_safe' of `IsSafe`."""
+    body = re.search(rf"(?ms)^pub enum {name} \{{\n(.*?)^\}}", read(path))[1]
+    return {re.sub(r"(?<=[a-z])(?=[A-Z])", "_", it).lower(): it for it in re.findall(r"(?m)^    ([A-Z]\w*)", body)}
+
+
+def bodies(words):
+    """Each word whose call has no wrong body: of a function that its arm of `step` calls, or of the arm."""
+    edits = [it for it in FILES if re.match(r"crates/tera_(?:context|values|scalars)/wrong/.*\.edit$", it)]
+    wrong = {it.split("/")[-2] for it in edits}
+    step = read("crates/tera_context/src/steps.rt").partition("pub fn step(")[2].partition("\n}\n")[0]
+    arms = dict(re.findall(r"(?ms)^        Call::(\w+)(.*?)(?=^        Call::|\Z)", step))
+    edited = {it for path in edits if "/steps/step/" in path for it in re.findall(r"\bCall::(\w+)", read(path))}
+    for name, variant in variants("crates/tera_context/src/call.rt", "Call").items():
+        word = SHORT.get(name, name)
+        # a function of this crate, or one of a context or else of a value, as the folders of wrong bodies spell it
+        calls = re.findall(r"(\bcontext)?(\.?)\b([a-z]\w*)\(", arms.get(variant, ""))
+        called = {f"{'Context.' if of else 'Value.' if dot else ''}{it}" for of, dot, it in calls} - READS
+        if not called:
+            yield f"`{word}`: `step` has no arm `Call::{variant}` that calls something"
+        elif not called & wrong and variant not in edited:
+            yield f"`{word}` has no wrong body: of {', '.join(sorted(called))}, or of its arm of `step`"
+        words = words - {word}
+    for operator in variants("crates/tera_scalars/src/operation.rt", "BinaryOp"):
+        if operator not in wrong:
+            yield f"`{operator}` has no wrong body: of {operator}"
+        words = words - {operator}
+    for word in sorted(words):
+        yield f"`{word}` is the name of no variant of `Call` and of no operator"
 
 
 # ---- imports
@@ -116,6 +182,8 @@ def imports():
 # ---- lemmas
 
 HEAD = re.compile(r"(?m)^( {0,2})(?:pub )?(?:unfoldable |abbrev |opaque )*([a-z][\w'-]*) :(?= |$)")
+# what makes a statement more than the type of a definition
+SAYS = re.compile(r"[≡≢<≤⊥⊎↔×]|\b(?:Is|Are|Has)[A-Z]")
 
 
 class Lemma:
@@ -129,6 +197,9 @@ class Lemma:
         # the statement ends where the first clause begins: a line that starts with the name again
         body = re.search(rf"(?m)^{head[1]}{re.escape(self.name)}(?![\w'-])(?! :)", block)
         self.statement = block[: body.start()] if body else block
+        self.rest = block[len(self.statement) :]
+        above = [it for it in text[: head.start()].split("\n") if it[:1] not in ("", " ", "-")] if head[1] else []
+        self.module = above[-1] if above else ""
 
 
 NEXT = re.compile(r"(?m)^ *(?:module _|(?:pub )?(?:unfoldable |abbrev |opaque )*[^\W\d][\w'-]* :(?= |$))")
@@ -159,23 +230,43 @@ def lemmas():
         is_spec = "/specs/" in path and not re.search(r"Laws\.antt$", path)
         if is_answer or is_spec:
             continue
+        homes = homes_of(path, bare[path])
         for lemma in lemmas_of(path, bare[path]):
             if everywhere[lemma.name] <= lemma.own:
                 yield f"{path}:{lemma.line}: `{lemma.name}` is cited nowhere"
-            same[spelled(lemma)].append(f"{path}:{lemma.line} `{lemma.name}`")
-    for places in same.values():
-        if len(places) > 1:
-            print(f"note: one statement up to names: {', '.join(places)}")
+            same[spelled(lemma, homes)].append(lemma)
+    for group in same.values():
+        if len(group) > 1:
+            yield f"one statement: {', '.join(f'{it.path}:{it.line} `{it.name}`' for it in group)}"
 
 
-def spelled(lemma):
-    """The statement with its variables numbered in the order in which they stand."""
-    text = re.sub(r"\s+", " ", lemma.statement.partition(":")[2]).strip()
+def homes_of(path, text):
+    """Where the names of this repository that a file uses come from: {name: file and name there}."""
+    homes = {it[2]: f"{path}.{it[2]}" for it in HEAD.finditer(text)}
+    homes.update((it, f"{path}.{it}") for it in re.findall(r"(?m)^ *(?:pub |abbrev |unfoldable )*([A-Z]\w*) :", text))
+    for module, names in re.findall(r"(?m)^use (Rattle\.(?:tera_\w+|uses)\.[\w.]+)\.\{([^}]*)\}", text):
+        for said in names.split(","):
+            name, _, other = said.strip().partition(" as ")
+            homes[other or name] = f"{module}.{name}"
+    return homes
+
+
+def spelled(lemma, homes):
+    """The statement with its variables numbered in the order in which they stand, those of its module's first, and with
+    the repository's own names in full. A definition is spelled with its body."""
+    text = lemma.statement.partition(":")[2]
+    if not SAYS.search(text):
+        text += re.sub(rf"(?<![\w'-]){re.escape(lemma.name)}(?![\w'-])", "itself", lemma.rest)
+    # of what the module takes only that which the statement names
+    for group in reversed(re.findall(r"[({][^(){}:]+ : [^{}]*?[)}](?= [({]| where|$)", lemma.module)):
+        if set(group[1:].partition(":")[0].split()) & set(WORD.findall(text)):
+            text = f"{group} {text}"
+    text = re.sub(r"\s+", " ", text).strip()
     names = {}
     for group in re.findall(r"[({]([^(){}:]+?) :", text):
         for name in group.split():
             names.setdefault(name, f"#{len(names)}")
-    return re.sub(WORD, lambda it: names.get(it[0], it[0]), text)
+    return re.sub(WORD, lambda it: names.get(it[0], homes.get(it[0], it[0])), text)
 
 
 # ---- lengths
@@ -240,7 +331,7 @@ def is_there(code):
 RULES = {
     "each call has its scripts, its row and its lines": calls,
     "a lower crate's proofs are imported by their laws alone": imports,
-    "each lemma is cited": lemmas,
+    "each lemma is cited, and stated once": lemmas,
     "files and lines keep their lengths": lengths,
     "what the documents name is there": docs,
 }

@@ -217,8 +217,19 @@ status=$?
 [ "$status" -eq 1 ] && [ ! -s "$work/out" ] && [ "$(cat "$work/err")" = "error: reading failed" ]
 tell "a folder for standard input is a failed read" $?
 
-python3 tests/talk.py "$program" 2>"$work/err"
-tell "each answer is out before more input is asked for" $?
+# Where standard error fails too, an ending with status 1 has its status and its output all the same.
+ends_so() {
+    [ "$1" -eq 1 ] && [ "$(cat "$work/out")" = "$2" ]
+}
+"$program" <examples/first.replay >/dev/full 2>/dev/full
+ends_so $? "$(: >"$work/out")"
+tell "both streams on a full device end with status 1" $?
+"$program" <"$work" >"$work/out" 2>/dev/full
+ends_so $? ""
+tell "a failed read is no other where standard error fails" $?
+
+python3 tests/talk.py 10000 "$program" 2>"$work/err"
+tell "each answer of 10,000 lines is out before more input is asked for" $?
 
 python3 bench/scalars.py 400000 >"$work/script"
 python3 bench/scalars.py 400000 --answers >"$work/wanted"
@@ -226,6 +237,10 @@ python3 bench/scalars.py 400000 --answers >"$work/wanted"
 status=$?
 [ "$status" -eq 0 ] && [ ! -s "$work/err" ] && cmp -s "$work/out" "$work/wanted"
 tell "400,000 short lines" $?
+
+{ "$program" <"$work/script" 2>"$work/err"; echo $? >"$work/status"; } | head -n 1 >"$work/out"
+[ "$(cat "$work/status")" -eq 1 ] && [ "$(cat "$work/out")" = ok ] && [ "$(cat "$work/err")" = "error: writing failed" ]
+tell "a reader of the answers that closes early is a failed write" $?
 
 python3 -c 'print("set t \"" + "long text, " * 100000 + "\"\nprint t")' >"$work/script"
 python3 -c 'print("ok\ntext " + "long text, " * 100000)' >"$work/wanted"
@@ -240,6 +255,9 @@ tell "each line on operands of 0, 1 and 1,000 parts, with ample memory" $?
 python3 tests/fuzz.py "$program" --seed 1 --lines 20000 >"$work/out" 2>"$work/err"
 tell "a second implementation answers 20,000 lines in the same way" $?
 
+python3 tests/fuzz.py "$program" --seconds 30 --seed 2 --keep "$work" >"$work/out" 2>"$work/err"
+tell "thirty seconds of large scripts, cut and in pieces, answered as by a second implementation" $?
+
 python3 -c 'print("set l [0]\npath l \"" + ".".join(["0"] * 10000) + "\"")' >"$work/script"
 printf 'ok\nnothing\n' >"$work/wanted"
 "$program" <"$work/script" >"$work/out" 2>"$work/err"
@@ -247,31 +265,6 @@ status=$?
 [ "$status" -eq 0 ] && [ ! -s "$work/err" ] && cmp -s "$work/out" "$work/wanted"
 tell "a path of 10,000 elements" $?
 
-# Each request for memory is refused in turn. Either the program itself found no memory, and what it
-# wrote is a beginning of the answers, or a step did, and the run went on.
-refusals() {
-    answers=${1%.replay}.answers
-    turn=1
-    while [ "$turn" -le 2000 ]; do
-        LD_PRELOAD="$work/refuse.so" REFUSE=$turn "$program" <"$1" >"$work/out" 2>"$work/err"
-        status=$?
-        lines=$(wc -l <"$work/out")
-        if [ "$status" -eq 0 ]; then
-            cmp -s "$work/out" "$answers" && [ "$turn" -gt 1 ]
-            return
-        fi
-        [ "$status" -eq 1 ] || return 1
-        if [ -s "$work/err" ]; then
-            [ "$(cat "$work/err")" = "error: Out of memory" ] || return 1
-            head -n "$lines" "$answers" | cmp -s - "$work/out" || return 1
-        else
-            [ "$lines" -eq "$(wc -l <"$answers")" ] || return 1
-            [ "$(grep -c '^error: Out of memory$' "$work/out")" -eq 1 ] || return 1
-        fi
-        turn=$((turn + 1))
-    done
-    return 1
-}
 command -v cc >/dev/null || { apt-get update && apt-get install -y gcc libc6-dev; } >"$work/install" 2>&1
 cc -shared -fPIC -o "$work/refuse.so" tests/refuse.c -ldl
 tell "the library that refuses memory is built" $?
@@ -279,40 +272,29 @@ LD_PRELOAD="$work/refuse.so" REFUSE=1 "$program" <examples/first.replay >"$work/
 status=$?
 [ "$status" -eq 1 ] && [ ! -s "$work/out" ] && [ "$(cat "$work/err")" = "error: Out of memory" ]
 tell "no memory for the answers' buffer is told" $?
-for script in first calls maps look_ups slices arithmetic worked; do
-    script=examples/$script.replay
-    refusals "$script"
-    tell "$script with each request for memory refused in turn" $?
-done
-
-# Where memory is refused while names are taken over, the names before stand, or none; else all are
-# taken over. Some refusal leaves one of the two.
-begun() {
+LD_PRELOAD="$work/refuse.so" REFUSE=1 "$program" <examples/first.replay >"$work/out" 2>/dev/full
+ends_so $? ""
+tell "the program's own want of memory is no other where standard error fails" $?
+# The value's text is refused, and the line behind it is answered.
+printf 'set a "a text that takes memory"\nget a\n' >"$work/script"
+step_refused() {
     turn=1
-    parts=0
-    while [ "$turn" -le 2000 ]; do
-        LD_PRELOAD="$work/refuse.so" REFUSE=$turn "$program" <examples/extends.replay >"$work/out" 2>"$work/err"
-        status=$?
-        if [ "$status" -eq 0 ]; then
-            [ "$parts" -gt 0 ]
-            return
-        fi
-        if [ ! -s "$work/err" ]; then
-            case $(sed -n '16,18p' "$work/out" | tr '\n' ' ') in
-                "ok value 100 value [1, \"two\"] ") ;;
-                "ok error: Out of memory value [1, \"two\"] ") ;;
-                "ok value 100 error: Out of memory ") ;;
-                "error: Out of memory value 1 nothing ") ;;
-                "error: Out of memory value 100 nothing ") parts=$((parts + 1)) ;;
-                *) return 1 ;;
-            esac
-        fi
+    while [ "$turn" -le 50 ]; do
+        LD_PRELOAD="$work/refuse.so" REFUSE=$turn "$program" <"$work/script" >"$work/out" 2>/dev/full
+        ends_so $? "$(printf 'error: Out of memory\nnothing')" && return 0
         turn=$((turn + 1))
     done
     return 1
 }
-begun
-tell "some first names of a source are taken over where memory is refused" $?
+step_refused
+tell "a step's want of memory is its answer where standard error fails" $?
+python3 tests/refused.py "$program" "$work/refuse.so" >"$work/out" 2>"$work/err"
+tell "every call with each request for memory refused in turn" $?
+for script in first calls maps look_ups slices arithmetic worked extends; do
+    script=examples/$script.replay
+    python3 tests/refused.py "$program" "$work/refuse.so" "$script" >"$work/out" 2>"$work/err"
+    tell "$script with each request for memory refused in turn" $?
+done
 
 # Where memory is refused while a bad line is answered, that is the program's own want of it.
 bad_line_refused() {

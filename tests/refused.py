@@ -1,0 +1,168 @@
+#!/usr/bin/env python3
+"""Scripts with each request for memory refused in turn: `python3 tests/refused.py PROGRAM REFUSE_LIBRARY [SCRIPT..]`.
+
+A script is run again and again, with its first, second, .. request refused, until a run meets no refusal. Each run with
+one shows what the model (tests/second.py) says:
+
+- The program itself found no memory: standard error says so, the status is 1, and whole answers from the first on are out.
+- Else a step did: its answer is want of memory, the status is 1, and all other answers are those of the script without
+  that step. Of an `extend`, some first names of its source by their bytes, fewer than all, are taken over.
+
+Behind each script come lines that ask for every name, its kind and its mark, so that what a refused step left is seen.
+Without scripts there is one of every call, with and without a name for what is found. Each line of it that may want
+memory has to meet a refusal, its long `extend` with several beginnings taken over; those that take none never do.
+"""
+import os
+import subprocess
+import sys
+import tempfile
+
+sys.dont_write_bytecode = True  # no folder beside this file
+import second
+
+MOST = 5000
+WANT = "error: Out of memory"
+VALUES = {
+    "t": '"a\\u{e9}<b, a text of more than twenty bytes"', "s": 's"<b>safe</b>, and no less than twenty bytes"',
+    "b": 'x"00ff7f4142434445464748494a4b4c4d4e4f5051"', "l": '[1, "two", [3u64, s"four"], {"five": 5}]',
+    "m": '{"k": [1, s"<"], 1: "one", true: none, "other": {"in": 2}}', "n": "7", "u": "340282366920938463463374607431768211455",
+    "z": "0", "key": '"k"', "one": "1", "item": "[3u64, s\"four\"]", "none": "none", "copy": '{"k": [1, s"<"]}'}
+FINDS = ["get l", "path m \"other.in\"", "attr m \"k\"", "item m one", "item l n", "slice l 1 _ _", "slice t _ _ -1", "slice n _ _ _",
+         "slice l _ _ 0", "reverse l", "reverse t", "reverse b", "reverse n", "negate n", "negate t", "read u8 n", "read u8 u",
+         "read i128 u", "read usize t", "mark_safe t", "mark_safe l", "get absent", "attr m \"absent\"", "path absent \"a\"",
+         *[f"{word} {left} {right}" for word in second.OPERATORS for left, right in (("n", "n"), ("n", "z"), ("u", "n"), ("t", "n"))]]
+ASKS = ["has l", "len m", "truthy m", "fields m", "fields l", "kind m", "is_safe s", "print m", "print t", "escape t", "escape m",
+        "escape s", "eq m copy", "eq l l", "cmp m copy", "cmp l l", "try_cmp l l", "try_cmp l n", "contains m key", "contains m one",
+        "contains l item", "contains t key", "contains n one", "contains t n", "print absent", "escape absent"]
+MANY = ", ".join(f'"n{number:02}": [{number}, s"x"]' for number in range(60, 0, -1))
+CHANGES = ["remove n", "remove absent", "extend {}", f'extend {{{MANY}, "t": "another text, longer than twenty bytes"}}',
+           "mark_safe t", "set l [[[1]]]", 'set m {"k": 1, "k": 2}']
+# no line of these takes memory, wherever the script stands
+FREE = ("has", "len", "truthy", "kind", "is_safe", "eq", "cmp", "try_cmp", "remove")
+
+
+def every_call():
+    """A script of every call, on operands that are there and not, that succeed and refuse."""
+    sets = [f"set {name} {literal}" for name, literal in VALUES.items()]
+    kept = [line for at, find in enumerate(FINDS) for line in (find, f"{find} -> kept{at % 7}")]
+    return [*sets, *kept, *ASKS, *CHANGES]
+
+
+def with_questions(lines):
+    """The lines, and behind them what each name that they may set holds."""
+    names = {}
+    for line in lines:
+        word, operands, into = second.read_call(line)
+        names.update(dict.fromkeys(operands[0] if word == "extend" else operands[:1] if word == "set" else []))
+        names.update({into: None} if into else {})
+    asked = [name for name in names if second.NAME.fullmatch(name)]
+    return lines + [f"{word} {name}" for name in asked for word in ("get", "kind", "is_safe")]
+
+
+def beginnings(source):
+    """The proper beginnings of what an `extend` takes over, in the order of the names' bytes."""
+    names = sorted(source, key=str.encode)
+    return [{name: source[name] for name in names[:count]} for count in range(len(names))]
+
+
+def answers(lines, refused=None, part=None):
+    """The model's answers, where the step of this number found no memory and had taken over this part of its source."""
+    names, given = {}, []
+    for number, line in enumerate(lines):
+        if number == refused:
+            names.update(part or {})
+            given.append(WANT)
+        else:
+            given.append(second.step(names, line))
+    return given
+
+
+def parts_of(line):
+    word, operands, _ = second.read_call(line)
+    return beginnings(operands[0]) if word == "extend" and operands[0] else [{}]
+
+
+class Runs:
+    """The runs of one script, and which of its steps were seen to want memory, with what part taken over."""
+
+    def __init__(self, program, library, lines):
+        self.program, self.library, self.lines = program, library, lines
+        self.given = "".join(f"{line}\n" for line in lines).encode()
+        self.whole = answers(lines)
+        self.wanting, self.parts = set(), set()
+
+    def run(self, number, told):
+        if os.path.exists(told):
+            os.remove(told)
+        refuse = {"LD_PRELOAD": self.library, "REFUSE": str(number), "REFUSED": told}
+        ran = subprocess.run([self.program], input=self.given, capture_output=True, env={**os.environ, **refuse}, timeout=60)
+        return ran.stdout.decode().split("\n")[:-1], ran.stderr.decode(), ran.returncode, os.path.exists(told)
+
+    def fault(self, number, told):
+        """What is wrong with the run with this request refused, `None` where nothing is; `False` where none was refused."""
+        out, err, status, is_refused = self.run(number, told)
+        if not is_refused:
+            return False if (out, err, status) == (self.whole, "", 0) else "the answers with ample memory are not the model's"
+        if status != 1:
+            return f"status {status} where memory was refused"
+        if err:
+            whole = out == self.whole[: len(out)]
+            return None if err == f"{WANT}\n" and whole else f"the program's own want of memory: {err!r} behind {len(out)} answers"
+        wants = [at for at, answer in enumerate(out) if answer == WANT]
+        if len(wants) != 1:
+            return f"{len(wants)} answers are want of memory"
+        parts = [part for part in parts_of(self.lines[wants[0]]) if answers(self.lines, wants[0], part) == out]
+        if not parts:
+            return f"`{self.lines[wants[0]]}` wanted memory, and the rest is not as if it was left out"
+        self.wanting.add(wants[0])
+        self.parts.add((wants[0], len(parts[0])))
+        return None
+
+    def all(self):
+        with tempfile.TemporaryDirectory() as room:
+            for number in range(1, MOST):
+                fault = self.fault(number, f"{room}/refused")
+                if fault is False:
+                    return number - 1
+                if fault:
+                    sys.exit(f"request {number} refused: {fault}")
+        sys.exit(f"a refusal is met at request {MOST}")
+
+    def missing(self):
+        """The lines that have to want memory and did not, and those that may not and did."""
+        free = [line.split()[0] in FREE for line in self.lines]
+        held = [line for at, line in enumerate(self.lines) if self.must_want(at, line) and at not in self.wanting]
+        return held + [line for at, line in enumerate(self.lines) if free[at] and at in self.wanting]
+
+    def beginnings(self):
+        """How many beginnings of a source were seen, that of no name left out."""
+        return sum(count > 0 for _, count in self.parts)
+
+    def must_want(self, at, line):
+        """What is found and copied, shown as a text, or refused with a text takes memory for it."""
+        word, answer = line.split()[0], self.whole[at]
+        shows = word in ("print", "escape", "fields") and answer not in ("text ", "fields []")
+        copies = word in ("get", "path", "attr", "item", "slice", "reverse") and '"' in answer and "-> " not in line
+        return shows or copies or answer.startswith("error: ")
+
+
+def main():
+    program, library, *scripts = sys.argv[1:]
+    for script in scripts or [None]:
+        if script:
+            with open(script, "rb") as it:
+                lines = [line.decode() for line in second.lines_of(it.read()) if not second.is_skipped(line)]
+        runs = Runs(program, library, with_questions(lines if script else every_call()))
+        count = runs.all()
+        missing = [] if script else runs.missing()
+        if missing:
+            sys.exit("\n".join(["these lines wanted no memory, or may not have:", *missing]))
+        if not script and runs.beginnings() < 3:
+            sys.exit("fewer than three beginnings of a source were taken over")
+        print(f"refused: {script or 'every call'}, {count} requests, {len(runs.wanting)} of {len(runs.lines)} steps wanted memory, "
+              f"{runs.beginnings()} beginnings of a source were left")
+    print("refused: end")
+
+
+if __name__ == "__main__":
+    main()
