@@ -15,7 +15,8 @@ then open counts only where the prover finds values at which it is false, or whe
 without that part.
 
 Prints a line 'pass ..' or 'FAIL ..' for each edit, and 'wrong bodies: end'. It uses the libraries that `rt ci` built, and
-begins with a copy of the work that checks kept in out/.
+begins with a copy of the work that checks kept in out/. With `--gate LOG` it runs beside an `rt ci` that writes LOG: the edits
+of a crate are tried once the log says that it is proved, in half of the lanes until the log has its last line.
 """
 import argparse
 import importlib.machinery
@@ -25,6 +26,7 @@ import re
 import shutil
 import sys
 import tempfile
+import threading
 import time
 from concurrent.futures import ThreadPoolExecutor
 
@@ -388,10 +390,42 @@ def shares(edits, most=200):
     return [[it for it in edits if functions.index(os.path.dirname(it.path)) % parts == part] for part in range(parts)]
 
 
+class Gate:
+    """A run of `rt ci` beside this one, by its log; or none, and then all crates are proved already."""
+
+    def __init__(self, log, lanes):
+        self.log, self.lanes = log, threading.BoundedSemaphore(max(1, lanes // 2))
+
+    def has_ended(self):
+        return not self.log or bool(re.search(r"(?m)^\d+ passed, \d+ failed", self.told()))
+
+    def told(self):
+        return read(self.log) if os.path.isfile(self.log) else ""
+
+    def proves(self, crate):
+        """Waits until the crate is proved, or the gate has ended without that."""
+        proved = re.compile(rf"(?m)^rt: {crate.name} proved$")
+        while not proved.search(self.told()):
+            if self.has_ended():
+                return bool(proved.search(self.told()))
+            time.sleep(2)
+        return True
+
+
 def tried(rt, edits, given):
     """Tries the crates' edits side by side, and returns for each list of them how many are refused and how many are not."""
+    gate = Gate(given.gate, rt.processors())
 
     def counted(crate, some, kept):
+        if given.gate and not gate.proves(crate):
+            print(f"FAIL {crate.name}: it is not proved, so its {len(some)} wrong bodies were not tried", flush=True)
+            return [0, len(some)]
+        if gate.has_ended():
+            return counted_now(crate, some, kept)
+        with gate.lanes:
+            return counted_now(crate, some, kept)
+
+    def counted_now(crate, some, kept):
         if not os.path.isdir(kept) and os.path.isdir(f"{crate.folder}/out/incremental"):
             shutil.copytree(f"{crate.folder}/out/incremental", kept)
         os.makedirs(kept, exist_ok=True)
@@ -402,6 +436,9 @@ def tried(rt, edits, given):
     with tempfile.TemporaryDirectory(prefix="wrong-") as room, ThreadPoolExecutor(rt.processors()) as lanes:
         above = os.path.abspath(given.kept) if given.kept else room
         lists = [(crate, part, some) for crate in edits for part, some in enumerate(shares(edits[crate]))]
+        if given.gate:
+            # the crates that are proved first
+            lists.sort(key=lambda it: len(it[0].below()))
         counts = [lanes.submit(counted, crate, some, f"{above}/{crate.name}-{part}") for crate, part, some in lists]
         return [it.result() for it in counts]
 
@@ -412,6 +449,7 @@ def main():
     words.add_argument("--folder", default="wrong", help="where the edits stand in a crate's folder")
     words.add_argument("--edit", default="", metavar="WORD", help="just the edits whose paths have this word")
     words.add_argument("--kept", help="a folder in which work is kept between runs")
+    words.add_argument("--gate", metavar="LOG", default="", help="what a run of `rt ci` beside this one prints")
     words.add_argument("--told", help="a file to which what the prover said is appended")
     given = words.parse_args()
     os.chdir(os.path.dirname(os.path.dirname(os.path.abspath(__file__))))
@@ -421,7 +459,7 @@ def main():
     edits = {it: [edit for edit in edits_below(f"{it.folder}/{given.folder}", it) if given.edit in edit.path] for it in crates}
     edits = {it: edits[it] for it in sorted(crates, key=lambda it: -len(edits[it])) if edits[it]}
     below = {low.name: low for it in edits for low in it.below()}.values()
-    for low in sorted(below, key=lambda it: len(it.below())):
+    for low in sorted(below, key=lambda it: len(it.below())) if not given.gate else []:
         if not is_current(low) and low.build_rlib(["--jobs", "1"], anew=False):
             sys.exit(f"{low.name} is not proved")
     counts = tried(rt, edits, given)
