@@ -4,16 +4,14 @@ use Rattle.std.proofs.Common.{sym, ◌∙◌, ap}
 use Rattle.std.proofs.lemmas.List.{length-map}
 use Rattle.std.specs.BTreeMap.{insert_entry}
 use Rattle.std.specs.List.{Contains}
-use Rattle.std.specs.List.Sorted.{IsPermutation}
 use Rattle.std.specs.Map.{lookup}
 use Rattle.std.specs.Option.{option_map}
 use Rattle.std.specs.Ordering.{eq_by_cmp, match_ordering}
 use Rattle.std.specs.declared.cmp.Ordering.TheVariants.{Less, Equal, Greater}
-use Rattle.std.proofs.lemmas.List.Sorted.{IsPermutation-map}
 use Rattle.tera_meaning.specs.Form.{Form, MarkedText}
 use Rattle.tera_meaning.specs.Integer.{Integer}
 use Rattle.tera_meaning.specs.KeyMeaning.{KeyForm, KeyMeaning, key_meaning, key_order}
-use Rattle.tera_meaning.specs.Meaning.{Layout, Meaning, layout, sorted_items, sorted_pairs, meaning, pair_meaning, map_meaning}
+use Rattle.tera_meaning.specs.Meaning.{Meaning, layout, sorted_items, sorted_pairs, meaning, pair_meaning, map_meaning}
 use Rattle.tera_meaning.specs.Pairs.{Rises, HasDistinctKeys, put, rising, value_at, key_form_order}
 use Rattle.tera_meaning.specs.Read.{is_nonempty, size_in, truthy_in}
 use Rattle.tera_meaning.specs.Tree.{Items, Members, array, object, no_items, item, no_members, member, items, items_list, members, members_list}

@@ -1,12 +1,11 @@
 -- How values are laid out, and what they mean: trees of bare numbers, texts and key meanings.
 use Rattle.std.specs.Prelude.{ℕ, ℤ, List, [], ◌∷◌}
-use Rattle.tera_meaning.specs.Form.{Form, MarkedText}
-use Rattle.tera_meaning.specs.Integer.{Integer}
+use Rattle.tera_meaning.specs.Form.{Form}
 use Rattle.tera_meaning.specs.KeyMeaning.{KeyForm, KeyMeaning, key_meaning, key_order}
 use Rattle.tera_meaning.specs.Pairs.{rising}
-use Rattle.tera_meaning.specs.Tree.{Tree, Items, Members, undefined, none, truth, number, text, bytes}
-use Rattle.tera_meaning.specs.Tree.{array, object, no_items, item, no_members, member, members}
-use Rattle.tera_meaning.specs.Tree.{relabeled, relabeled_items, relabeled_members}
+use Rattle.tera_meaning.specs.Tree.{Tree, Items, Members, undefined, none, truth, number, text}
+use Rattle.tera_meaning.specs.Tree.{bytes, array, object, no_items, item, no_members, member}
+use Rattle.tera_meaning.specs.Tree.{members, relabeled}
 
 -- the pairs of a layout's maps stand in the order of insertion, those of a meaning's in the order
 -- of their keys
@@ -19,13 +18,6 @@ Meaning = Tree ℤ (List ℕ) KeyMeaning
 -- forgets kinds of integers, and safe flags
 abbrev pub layout : Form → Layout
 layout v = relabeled (λ n. n.value) (λ t. t.spelled) key_meaning v
-
--- the same of items and of pairs
-abbrev pub layout_items : Items Integer MarkedText KeyForm → Items ℤ (List ℕ) KeyMeaning
-layout_items xs = relabeled_items (λ n. n.value) (λ t. t.spelled) key_meaning xs
-
-abbrev pub layout_members : Members Integer MarkedText KeyForm → Members ℤ (List ℕ) KeyMeaning
-layout_members ps = relabeled_members (λ n. n.value) (λ t. t.spelled) key_meaning ps
 
 -- puts the pairs of each map, at every depth, into the places of their keys
 abbrev mutual
