@@ -73,10 +73,12 @@ pub forms_decide : (es fs : List (KeyForm × Form)) (k : KeyForm) → IsLeastDif
 forms_decide es fs k least =
     compare_forms es fs ∙ entries_decide key_form_order (on_total key_meaning key_total) (on meaning compare) es fs k least
 
-pub forms_tie : (es fs : List (KeyForm × Form)) → AgreeEverywhere key_form_order (on meaning compare) es fs ↔ (compare (map_meaning es) (map_meaning fs) ≡ Equal)
+pub forms_tie : (es fs : List (KeyForm × Form))
+    → AgreeEverywhere key_form_order (on meaning compare) es fs ↔ (compare (map_meaning es) (map_meaning fs) ≡ Equal)
 forms_tie es fs =
-    let tie : AgreeEverywhere key_form_order (on meaning compare) es fs ↔ (slice_cmp (entry_order key_form_order (on meaning compare)) (pairs_of es) (pairs_of fs)
-    ≡ Equal) = entries_tie key_form_order (on_total key_meaning key_total) (on meaning compare) es fs in
+    let tie : AgreeEverywhere key_form_order (on meaning compare) es fs
+    ↔ (slice_cmp (entry_order key_form_order (on meaning compare)) (pairs_of es) (pairs_of fs) ≡ Equal) =
+    entries_tie key_form_order (on_total key_meaning key_total) (on meaning compare) es fs in
     (λ agree. compare_forms es fs ∙ tie.0 agree, λ e. tie.1 (sym (compare_forms es fs) ∙ e))
 
 pub forms_equal : (es fs : List (KeyForm × Form)) → AgreeEverywhere key_form_order (on meaning compare) es fs ↔ (map_meaning es ≡ map_meaning fs)

@@ -129,12 +129,15 @@ module _ {V : Type 0} (t : List ℕ) where
 -- and so has the map of them the same fields
 same_names : {V : Type 0} (es : List (KeyMeaning × V)) → rising_texts (shown_of (rising key_order es)) ≡ rising_texts (shown_of es)
 same_names es =
-    let are : AreRisingOf (shown_of (rising key_order es)) (rising_texts (shown_of (rising key_order es))) = rising_are_rising (shown_of (rising key_order es)) in
-    only_rising_texts (shown_of es) (rising_texts (shown_of (rising key_order es)))
-    (are.0, λ t. (
-      λ c. contained (shown_of es) t (rising_shows t es (among (shown_of (rising key_order es)) t ((are.1 t).0 c))),
-      λ c. (are.1 t).1 (contained (shown_of (rising key_order es)) t (shows_rising t es (among (shown_of es) t c))),
-    ))
+    let are : AreRisingOf (shown_of (rising key_order es)) (rising_texts (shown_of (rising key_order es))) =
+    rising_are_rising (shown_of (rising key_order es)) in
+    only_rising_texts (shown_of es) (rising_texts (shown_of (rising key_order es))) (
+      are.0,
+      λ t. (
+        λ c. contained (shown_of es) t (rising_shows t es (among (shown_of (rising key_order es)) t ((are.1 t).0 c))),
+        λ c. (are.1 t).1 (contained (shown_of (rising key_order es)) t (shows_rising t es (among (shown_of es) t c))),
+      ),
+    )
 
 fields_meant : Meaning → List (List ℕ)
 fields_meant (object ps) = rising_texts (shown_of (members_list ps))

@@ -37,8 +37,8 @@ AskTheSame command also = RequestTheSame command.request also.request × (comman
 abbrev pub AllAskTheSame : List Command → List Command → Type 0
 AllAskTheSame asked also = AllZip AskTheSame asked also
 
--- from two states of equal meaning the outcomes are of one shape: of what is printed this holds where
--- the layouts are equal and exact
+-- from two states of equal meaning the outcomes are of one shape: of what is printed this holds
+-- where the layouts are equal and exact
 abbrev pub IsSettled : State → State → Request → Type 0
 IsSettled f g (set name value) = ⊤
 IsSettled f g (extend source) = ⊤
@@ -66,7 +66,8 @@ AnswerAlike f g =
     → AreOutcomes f commands outcomes → AreOutcomes g also others
     → AreAlike f g commands also outcomes others
 
--- whatever the commands come to from these states, the shapes of some outcome that is settled differ
+-- whatever the commands come to from these states, the shapes of some outcome that is settled
+-- differ
 abbrev pub AreToldApartBy : List Command → State → State → Type 0
 AreToldApartBy commands f g =
     (outcomes others : List Outcome) → AreOutcomes f commands outcomes

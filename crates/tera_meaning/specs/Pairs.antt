@@ -1,5 +1,5 @@
--- The pairs of maps: lists in the order of insertion, lists with strictly rising keys, and the least
--- key at which two differ.
+-- The pairs of maps: lists in the order of insertion, lists with strictly rising keys, and the
+-- least key at which two differ.
 use Rattle.std.specs.Prelude.{◌≡◌, Bool, true, false, if◌then◌else◌, List, [], ◌∷◌, Option, Some}
 use Rattle.std.specs.Prelude.{None}
 use Rattle.std.specs.BTreeMap.{insert_entry}

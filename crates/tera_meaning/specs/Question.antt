@@ -23,8 +23,8 @@ pub data Question : Type 0 where
   walk : Question
 
 -- what is answered of what a name holds, which reads as undefined where it holds nothing. What is
--- printed is some text, and one text alone where the layout is exact. A walk tells what the keys of a
--- map print, along its pairs
+-- printed is some text, and one text alone where the layout is exact. A walk tells what the keys of
+-- a map print, along its pairs
 abbrev pub IsAnswered : Question → Option Form → Outcome → Type 0
 IsAnswered has held outcome = outcome ≡ Ok (Answer.truth (is_some held))
 IsAnswered truthy held outcome = outcome ≡ Ok (Answer.truth (truthy_in (meaning (read held))))

@@ -20,8 +20,8 @@ pub fn commands_ask_the_same_as_themselves()
 {}
 
 /// From states of equal meaning, commands of equal meaning come to outcomes of equal shapes, where
-/// these are settled, and leave states of equal meaning. What is printed or escaped is settled where
-/// the printed values are laid out alike and this is exact.
+/// these are settled, and leave states of equal meaning. What is printed or escaped is settled
+/// where the printed values are laid out alike and this is exact.
 pub fn answers_depend_on_meaning()
     ensures answer { (f g : State) (command also : Command) (outcome other : Outcome)
         → MeanTheSame f g → AskTheSame command also → IsOutcome f command outcome

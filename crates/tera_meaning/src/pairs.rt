@@ -1,5 +1,5 @@
-//! The laws of the pairs of maps: their order of insertion, their rising lists, and the least key at
-//! which two differ. Each function here does nothing: its clauses are the law.
+//! The laws of the pairs of maps: their order of insertion, their rising lists, and the least key
+//! at which two differ. Each function here does nothing: its clauses are the law.
 ghost use Rattle.std.specs.Prelude.{◌≡◌, ◌≢◌, ◌↔◌, ◌⊎◌, ℕ, suc, true, false, cond, codes, pos};
 ghost use Rattle.std.specs.Prelude.{if◌then◌else◌, Some, None, is_some, List, [], ◌∷◌, ◌++◌, map};
 ghost use Rattle.std.specs.Prelude.{length};
@@ -24,8 +24,8 @@ ghost use Rattle.tera_meaning.specs.Tree.{array, items, object, members};
 
 use std::cmp::Ordering;
 
-/// The rising list of a map's entries has strictly rising keys, and a look-up in it is a look-up in the
-/// entries, in whatever order they stand. Where no two entries have one key it has just the
+/// The rising list of a map's entries has strictly rising keys, and a look-up in it is a look-up in
+/// the entries, in whatever order they stand. Where no two entries have one key it has just the
 /// entries.
 pub fn pair_lists_hold_the_entries()
     ensures rises { (entries : List (KeyForm × Form)) → Rises key_form_order (pairs_of entries) }
@@ -37,8 +37,8 @@ pub fn pair_lists_hold_the_entries()
         → IsPermutation entries (pairs_of entries) }
 {}
 
-/// The rising list of a map's entries is the only list with strictly rising keys that has just the map's
-/// entries, so it is the same in whatever order these stand.
+/// The rising list of a map's entries is the only list with strictly rising keys that has just the
+/// map's entries, so it is the same in whatever order these stand.
 pub fn only_one_pair_list_holds_the_entries()
     ensures only { (entries pairs : List (KeyForm × Form)) → HasDistinctKeys key_form_order entries
         → Rises key_form_order pairs
@@ -84,8 +84,8 @@ pub fn sizes_of_maps_count_their_pairs()
         → truthy_in (meaning (object (members pairs))) ≡ is_nonempty pairs }
 {}
 
-/// An array is laid out as the list of its laid out items and means the list of what these mean; and
-/// a map is laid out as the list of its laid out pairs, in the order in which they stand.
+/// An array is laid out as the list of its laid out items and means the list of what these mean;
+/// and a map is laid out as the list of its laid out pairs, in the order in which they stand.
 pub fn lists_are_laid_out_item_by_item()
     ensures array { (xs : List Form) → layout (array (items xs)) ≡ array (items (map layout xs)) }
     ensures means { (xs : List Form) → meaning (array (items xs)) ≡ array (items (map meaning xs)) }
@@ -199,7 +199,8 @@ pub fn entries_take_their_places()
         ≡ (text_key (borrowed (codes "a")), 1) ∷ [] }
 {}
 
-/// A key that is put again keeps its first place, and how it was held there, and takes the last value.
+/// A key that is put again keeps its first place, and how it was held there, and takes the last
+/// value.
 pub fn first_places_take_last_values()
     ensures again { put_all {V = ℕ} key_form_order []
         ((text_key (owned (codes "b")), 1) ∷ (text_key (owned (codes "a")), 2)

@@ -58,8 +58,8 @@ pub fn slices_backwards_are_the_reversed_value()
 /// a refusal; and so does what is reversed.
 pub fn slices_depend_on_meaning()
     ensures sliced { (v w : Form) (start end step : Option ℤ) (outcome other : Result Form Refusal)
-        → meaning v ≡ meaning w → IsSliced v start end step outcome → IsSliced w start end step other
-        → shape_of outcome ≡ shape_of other }
+        → meaning v ≡ meaning w → IsSliced v start end step outcome
+        → IsSliced w start end step other → shape_of outcome ≡ shape_of other }
     ensures reversed { (v w : Form) → meaning v ≡ meaning w
         → shape_of (reversed v) ≡ shape_of (reversed w) }
 {}

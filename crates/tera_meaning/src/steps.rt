@@ -49,8 +49,8 @@ pub fn what_is_held_is_read()
     ensures walk { HeldAnswers (ask Question.walk) (λ value. Answer.walked (shown_in value)) }
 {}
 
-/// Where what a name holds is laid out exactly, it prints one text, and escapes to one. With what `is_safe`
-/// answers these are what a page shows of it.
+/// Where the layout of what a name holds is exact, it prints one text, and escapes to one. With
+/// what `is_safe` answers these are what a page shows of it.
 pub fn what_is_exact_prints_one_text()
     ensures print { (state : State) (name : List ℕ) → IsExact (layout_at state name)
         → ComesOnlyTo state (ask Question.print name)

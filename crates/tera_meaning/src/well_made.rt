@@ -22,10 +22,10 @@ pub fn what_is_held_stays_well_made()
         → IsWellMadeState new }
 {}
 
-/// How a well-made form is laid out, and what it means, is well made: its numbers are those that some
-/// kind holds, its texts UTF-8, its bytes below 256, and the keys of each map distinct, and in what it
-/// means rising. Each such layout is that of some well-made form, and each such meaning. So is what
-/// any name means in a state that is well made, and a name that is held there is UTF-8.
+/// How a well-made form is laid out, and what it means, is well made: its numbers are those that
+/// some kind holds, its texts UTF-8, its bytes below 256, and the keys of each map distinct, and in
+/// what it means rising. Each such layout is that of some well-made form, and each such meaning. So
+/// is what any name means in a state that is well made, and a name that is held there is UTF-8.
 pub fn well_made_forms_mean_what_is_well_made()
     ensures form { (value : Form) → IsWellMade value → IsWellMadeMeaning (meaning value) }
     ensures meant { (x : Meaning) → IsWellMadeMeaning x
@@ -41,8 +41,8 @@ pub fn well_made_forms_mean_what_is_well_made()
         → (value : Form) × IsWellMade value × (layout value ≡ x) }
 {}
 
-/// What a well-made layout means is well made. A well-made meaning is a well-made layout, and as one
-/// it means itself.
+/// What a well-made layout means is well made. A well-made meaning is a well-made layout, and as
+/// one it means itself.
 pub fn meanings_are_layouts_that_mean_themselves()
     ensures sorted { (x : Layout) → IsWellMadeLayout x → IsWellMadeMeaning (sorted x) }
     ensures layout { (x : Meaning) → IsWellMadeMeaning x → IsWellMadeLayout x }

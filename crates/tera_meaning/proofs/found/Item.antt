@@ -58,7 +58,8 @@ unwrapped : (o : Option Form) → meaning (unwrap_or o undefined) ≡ unwrap_or 
 unwrapped None = refl
 unwrapped (Some x) = refl
 
-indexed_as_meant : (container : Container) (index : Form) (part : ℤ → Option Form) (meant : ℤ → Option Meaning) → ((z : ℤ) → option_map meaning (part z) ≡ meant z)
+indexed_as_meant : (container : Container) (index : Form) (part : ℤ → Option Form) (meant : ℤ → Option Meaning)
+    → ((z : ℤ) → option_map meaning (part z) ≡ meant z)
     → seen_by meaning (indexed container index part) ≡ indexed_meant container (number_in index) meant
 unfolding indexed_meant
 indexed_as_meant container index part meant h = by (number_in index)
@@ -98,7 +99,8 @@ item_as_meant v i = refl
 pub by_meaning : (v i w j : Form) → meaning v ≡ meaning w → meaning i ≡ meaning j → seen_by meaning (item v i) ≡ seen_by meaning (item w j)
 by_meaning v i w j same index =
     item_as_meant v i
-    ∙ (λ d. item_meant (same d) ((number_as_meant i ∙ ap number_meant index ∙ sym (number_as_meant j)) d) ((key_as_meant i ∙ ap key_meant index ∙ sym (key_as_meant j)) d))
+    ∙ (λ d. item_meant (same d) ((number_as_meant i ∙ ap number_meant index ∙ sym (number_as_meant j)) d)
+    ((key_as_meant i ∙ ap key_meant index ∙ sym (key_as_meant j)) d))
     ∙ sym (item_as_meant w j)
 
 -- ---- no want of memory
