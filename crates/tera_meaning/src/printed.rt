@@ -5,12 +5,13 @@ ghost use Rattle.std.specs.Str.{IsAscii, IsUtf8};
 ghost use Rattle.tera_meaning.specs.Form.{Form};
 ghost use Rattle.tera_meaning.specs.KeyMeaning.{KeyMeaning, truth_key, number_key, text_key};
 ghost use Rattle.tera_meaning.specs.Meaning.{Layout, layout, meaning};
+ghost use Rattle.tera_meaning.specs.Order.{same};
 ghost use Rattle.tera_meaning.specs.Printed.{IsExact, IsExactInside, IsExactKey, Prints};
 ghost use Rattle.tera_meaning.specs.Printed.{PrintsInside, is_exact_inside, printed, printed_with};
 ghost use Rattle.tera_report.specs.Quoted.{quoted};
 ghost use Rattle.tera_meaning.specs.Tree.{undefined, none, truth, number, text, bytes, array};
 ghost use Rattle.tera_meaning.specs.Tree.{object, items, members};
-ghost use Rattle.tera_meaning.specs.WellMade.{IsWellMadeLayout};
+ghost use Rattle.tera_meaning.specs.WellMade.{IsWellMade, IsWellMadeLayout};
 
 /// Values that are laid out alike print equal bytes where each text that is quoted is ASCII, by
 /// themselves and inside arrays and maps: kinds of integers and flags of texts change no byte. What
@@ -29,6 +30,13 @@ pub fn equal_layouts_print_alike()
     ensures prints { (v w : Form) (written : List ℕ) → layout v ≡ layout w
         → (Prints (layout v) written ↔ Prints (layout w) written) }
     ensures equal { (v w : Form) → layout v ≡ layout w → meaning v ≡ meaning w }
+{}
+
+/// Of equal values that are well made all or none are exact: the order in which pairs stand leaves
+/// open no text.
+pub fn equal_values_are_exact_together()
+    ensures { (v w : Form) → IsWellMade v → IsWellMade w → IsTrue (same (meaning v) (meaning w))
+        → (IsExact (layout v) ↔ IsExact (layout w)) }
 {}
 
 /// By itself each value but an array or a map has one printed text. An array has where its items
