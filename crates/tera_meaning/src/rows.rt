@@ -8,7 +8,7 @@ ghost use Rattle.tera_meaning.specs.Integer.{Integer, u64, i64, u128, i128};
 ghost use Rattle.tera_meaning.specs.KeyMeaning.{KeyForm, truth_key, number_key, text_key, owned};
 ghost use Rattle.tera_meaning.specs.KeyMeaning.{borrowed};
 ghost use Rattle.tera_meaning.specs.Kind.{kind_in, kind_name};
-ghost use Rattle.tera_meaning.specs.Meaning.{plain};
+ghost use Rattle.tera_meaning.specs.Meaning.{meaning};
 ghost use Rattle.tera_meaning.specs.Order.{compare, same};
 ghost use Rattle.tera_meaning.specs.Printed.{is_exact, printed, shown_in_page};
 ghost use Rattle.tera_meaning.specs.Read.{safe_in, size_in, truthy_in};
@@ -86,7 +86,7 @@ pub fn nested_values_print()
 /// The texts of bytes are quoted in no array, those of safe texts are, and where no character
 /// stands next in bytes the longest beginning of one is one U+FFFD.
 pub fn texts_and_bytes_print_in_arrays()
-    ensures safe { printed (plain (array (items (text (record { spelled = codes "a"; safe = true })
+    ensures safe { printed (meaning (array (items (text (record { spelled = codes "a"; safe = true })
         ∷ bytes (104 ∷ 105 ∷ []) ∷ array (items []) ∷ [])))) ≡ codes "[\"a\", hi, []]" }
     ensures lossy { printed (list_of (bytes (226 ∷ 130 ∷ 65 ∷ 240 ∷ 128 ∷ 128 ∷ []) ∷ []))
         ≡ 91 ∷ 239 ∷ 191 ∷ 189 ∷ 65 ∷ 239 ∷ 191 ∷ 189 ∷ 239 ∷ 191 ∷ 189 ∷ 239 ∷ 191 ∷ 189 ∷ 93
@@ -186,14 +186,14 @@ pub fn kinds_have_names()
 /// A form means what it holds: the kind of an integer, the safe flag of a text and how a key is
 /// held are forgotten.
 pub fn kinds_and_flags_are_forgotten()
-    ensures number { plain (number (record { kind = u64; value = pos 1 }))
-        ≡ plain (number (record { kind = i128; value = pos 1 })) }
-    ensures text { plain (text (record { spelled = codes "a"; safe = true }))
-        ≡ plain (text (record { spelled = codes "a"; safe = false })) }
-    ensures key { plain (map_at (text_key (owned (codes "a"))))
-        ≡ plain (map_at (text_key (borrowed (codes "a")))) }
-    ensures key_number { plain (map_at (number_key (record { kind = u64; value = pos 1 })))
-        ≡ plain (map_at (number_key (record { kind = i128; value = pos 1 }))) }
-    ensures told_apart { same (plain (number (record { kind = u64; value = pos 1 })))
-        (plain (text (record { spelled = codes "1"; safe = true }))) ≡ false }
+    ensures number { meaning (number (record { kind = u64; value = pos 1 }))
+        ≡ meaning (number (record { kind = i128; value = pos 1 })) }
+    ensures text { meaning (text (record { spelled = codes "a"; safe = true }))
+        ≡ meaning (text (record { spelled = codes "a"; safe = false })) }
+    ensures key { meaning (map_at (text_key (owned (codes "a"))))
+        ≡ meaning (map_at (text_key (borrowed (codes "a")))) }
+    ensures key_number { meaning (map_at (number_key (record { kind = u64; value = pos 1 })))
+        ≡ meaning (map_at (number_key (record { kind = i128; value = pos 1 }))) }
+    ensures told_apart { same (meaning (number (record { kind = u64; value = pos 1 })))
+        (meaning (text (record { spelled = codes "1"; safe = true }))) ≡ false }
 {}
