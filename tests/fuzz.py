@@ -81,7 +81,7 @@ class Maker:
         self.makers = {
             self.arithmetic_lines: 11, self.two_lines: 12, self.item_lines: 11, self.contains_lines: 7,
             self.slice_lines: 11, self.path_lines: 12, self.read_lines: 8, self.shown_lines: 20, self.set_lines: 7,
-            self.extend_lines: 3 * with_extend, self.odd_lines: 2, self.skipped_lines: 4}
+            self.order_lines: 5, self.extend_lines: 3 * with_extend, self.odd_lines: 2, self.skipped_lines: 4}
         self.names = {}
         self.bad_lines = []
 
@@ -419,6 +419,13 @@ class Maker:
             word = self.pick(*shows.get(words[0], ["get", "get", "kind", "is_safe"]))
             after = [self.joined(word, into)]
         return [line.rstrip(" \t") + self.blanks(1) + "->" + self.blanks(1) + into, *after]
+
+    def order_lines(self):
+        """A map, the same in another order, and what tells the order and what does not."""
+        value = self.map(2)
+        lines = [self.set_line(name, value) for name in "ab"]
+        lines += [self.joined(self.pick("walk", "print", "get", "escape", "fields"), name) for name in "ab"]
+        return lines + [self.joined(self.pick("eq", "cmp"), "a", "b"), self.joined("walk", "a")]
 
     def skipped_lines(self):
         return [self.chance.choice(SKIPPED)]
