@@ -114,6 +114,9 @@ fn mark_safe(context: &mut Context, name: &str, into: Option<String>) -> TeraRes
 /// The list of answers takes its memory first: where that is refused, `Out of memory` is the answer
 /// to the whole run and nothing was done. A run of no steps takes none. A step that finds no memory
 /// answers so in its place.
+///
+/// The answers depend on what the names mean: those of `Print`, `Escape` and `Walk` also on the order
+/// of pairs in maps, and those of `Kind` and `IsSafe` on kinds of integers and safe flags.
 pub fn run(context: &mut Context, steps: Vec<Step>) -> TeraResult<Vec<TeraResult<Answer>>>
     ensures run { IfOk result (λ answers. (outcomes : List Outcome)
         × AllZip ShowsOutcome answers.items outcomes
