@@ -13,7 +13,7 @@ use Rattle.std.specs.declared.cmp.Ordering.{Ordering}
 use Rattle.std.specs.declared.cmp.Ordering.TheVariants.{Less, Equal, Greater}
 use Rattle.tera_meaning.specs.Alike.{MeanTheSame}
 use Rattle.tera_meaning.specs.Form.{Form}
-use Rattle.tera_meaning.specs.Meaning.{plain}
+use Rattle.tera_meaning.specs.Meaning.{meaning}
 use Rattle.tera_meaning.specs.State.{State, extended, IsProperBeginning}
 use Rattle.tera_meaning.proofs.StateLaws.{same_state, name_exact}
 
@@ -72,18 +72,18 @@ others_kept state source name absent =
 
 -- ---- meanings
 
-mapped_or : (o p : Option Form) → option_map plain (option_or o p) ≡ option_or (option_map plain o) (option_map plain p)
+mapped_or : (o p : Option Form) → option_map meaning (option_or o p) ≡ option_or (option_map meaning o) (option_map meaning p)
 mapped_or None p = refl
 mapped_or (Some value) p = refl
 
 pub extended_alike : (f g source other : State) → MeanTheSame f g → MeanTheSame source other
     → MeanTheSame (extended f source) (extended g other)
 extended_alike f g source other h also name =
-    ap (option_map plain) (get_extended f source name)
+    ap (option_map meaning) (get_extended f source name)
     ∙ mapped_or (get source name) (get f name)
     ∙ (λ i. option_or (also name i) (h name i))
     ∙ sym (mapped_or (get other name) (get g name))
-    ∙ sym (ap (option_map plain) (get_extended g other name))
+    ∙ sym (ap (option_map meaning) (get_extended g other name))
 
 -- ---- a beginning of a source
 
