@@ -4,7 +4,6 @@ ghost use Rattle.tera_meaning.specs.Read.{iterable_in};
 ghost use Rattle.tera_report.specs.Errors.{IsOutOfMemory};
 
 use crate::Value;
-use crate::map::copied_pairs;
 use crate::value::ValueInner;
 use std::alloc::Global;
 use tera_report::TeraResult;
@@ -34,15 +33,15 @@ impl Value {
             }
             ValueInner::Array(all) => ValueInner::Array(copies(alloc, all.as_slice())?),
             ValueInner::Bytes(held) => ValueInner::Bytes(held.as_slice().to_vec(alloc)?),
-            ValueInner::Map(all) => return Ok(Value::of_map(copied_pairs(alloc, all)?)),
+            ValueInner::Map(all) => ValueInner::Map(all.clone(alloc)?),
         };
         Ok(Value { inner })
     }
 }
 
-// A copy of each item, in their order.
+/// A copy of each item, in their order.
 #[cycle(copy)]
-fn copies(alloc: Global, all: &[Value]) -> TeraResult<Vec<Value>>
+pub(crate) fn copies(alloc: Global, all: &[Value]) -> TeraResult<Vec<Value>>
     ensures ok { IfOk result (λ v. v.items ≡ all.now) }
     ensures err { IfErr result IsOutOfMemory }
 {
