@@ -29,7 +29,7 @@ def literals(count):
 
 def asked(name, others):
     """Each line of a name, and each of two with the others."""
-    yield from (f"{verb} {name}" for verb in "has get len truthy fields kind is_safe print escape negate reverse".split())
+    yield from (f"{verb} {name}" for verb in "has get len truthy fields walk kind is_safe print escape negate reverse".split())
     yield from (f"{verb} {name} -> kept" for verb in ("get", "reverse", "negate", "mark_safe"))
     yield from (f"read {kind} {name}{into}" for kind in TYPES for into in ("", " -> kept"))
     yield from (f"slice {name} {bounds} -> kept" for bounds in ("_ _ _", "_ _ -1", "1 -1 2"))

@@ -31,12 +31,12 @@ FINDS = ["get l", "path m \"other.in\"", "attr m \"k\"", "item m one", "item l n
          "slice l _ _ 0", "reverse l", "reverse t", "reverse b", "reverse n", "negate n", "negate t", "read u8 n", "read u8 u",
          "read i128 u", "read usize t", "mark_safe t", "mark_safe l", "get absent", "attr m \"absent\"", "path absent \"a\"",
          *[f"{word} {left} {right}" for word in second.OPERATORS for left, right in (("n", "n"), ("n", "z"), ("u", "n"), ("t", "n"))]]
-ASKS = ["has l", "len m", "truthy m", "fields m", "fields l", "kind m", "is_safe s", "print m", "print t", "escape t", "escape m",
+ASKS = ["has l", "len m", "truthy m", "fields m", "fields l", "walk m", "walk l", "walk absent", "kind m", "is_safe s", "print m", "print t", "escape t", "escape m",
         "escape s", "eq m copy", "eq l l", "cmp m copy", "cmp l l", "try_cmp l l", "try_cmp l n", "contains m key", "contains m one",
         "contains l item", "contains t key", "contains n one", "contains t n", "print absent", "escape absent"]
 MANY = ", ".join(f'"n{number:02}": [{number}, s"x"]' for number in range(60, 0, -1))
 CHANGES = ["remove n", "remove absent", "extend {}", f'extend {{{MANY}, "t": "another text, longer than twenty bytes"}}',
-           "mark_safe t", "set l [[[1]]]", 'set m {"k": 1, "k": 2}']
+           "mark_safe t", "set l [[[1]]]", 'set m {"k": 1, "j": "no less than twenty bytes", "k": 2}']
 # no line of these takes memory, wherever the script stands
 FREE = ("has", "len", "truthy", "kind", "is_safe", "eq", "cmp", "try_cmp", "remove")
 
@@ -141,7 +141,7 @@ class Runs:
     def must_want(self, at, line):
         """What is found and copied, shown as a text, or refused with a text takes memory for it."""
         word, answer = line.split()[0], self.whole[at]
-        shows = word in ("print", "escape", "fields") and answer not in ("text ", "fields []")
+        shows = word in ("print", "escape", "fields", "walk") and answer not in ("text ", "fields []", "walk []")
         copies = word in ("get", "path", "attr", "item", "slice", "reverse") and '"' in answer and "-> " not in line
         return shows or copies or answer.startswith("error: ")
 

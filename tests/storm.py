@@ -54,7 +54,7 @@ class StormMaker(fuzz.Maker):
         value = {key: self.leaf() if self.often(5) else Number("", place) for place, key in enumerate(keys)}
         lines = [self.set_line("a", value), self.set_line("b", value), self.set_line("c", self.near(value))]
         lines += [self.joined(word, *pair) for word in ("eq", "cmp") for pair in ("ab", "ac")]
-        lines += [self.joined(self.pick("print", "escape", "fields", "len", "get"), "a")]
+        lines += [self.joined(self.pick("print", "escape", "fields", "walk", "len", "get"), "a")]
         rank, key = self.chance.choice(keys) if keys else (2, "")
         lines += [self.set_line("d", Text(key, False) if rank == 2 else Number("", key)), self.joined("item", "a", "d"), self.joined("contains", "a", "d")]
         return lines + [self.joined("attr", "a", self.spell_text(str(key))), self.joined("remove", "b"), self.joined("get", "a", "->", "b")]

@@ -104,6 +104,7 @@ fn calls_that_ask_show_the_name(rt: HostRuntime) {
             call_shows(alloc, Call::Print { of: a(alloc) }, "Print { of: \"a\" }"),
             call_shows(alloc, Call::Escape { of: a(alloc) }, "Escape { of: \"a\" }"),
             call_shows(alloc, Call::Fields { of: a(alloc) }, "Fields { of: \"a\" }"),
+            call_shows(alloc, Call::Walk { of: a(alloc) }, "Walk { of: \"a\" }"),
         ],
     );
 }

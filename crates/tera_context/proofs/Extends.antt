@@ -19,7 +19,7 @@ use Rattle.tera_meaning.proofs.EqualLaws.{same_pair, equal_is}
 use Rattle.tera_meaning.proofs.ExtendLaws.{get_extended, is_rising, is_new, begins, entries_of_rising, extended_on}
 use Rattle.tera_meaning.specs.Alike.{MeanTheSame}
 use Rattle.tera_meaning.specs.Form.{Form}
-use Rattle.tera_meaning.specs.Meaning.{plain}
+use Rattle.tera_meaning.specs.Meaning.{meaning}
 use Rattle.tera_meaning.specs.Order.{same}
 use Rattle.tera_meaning.specs.State.{State, states_equal, extended, IsProperBeginning}
 use Rattle.tera_meaning.proofs.StateLaws.{name_exact, same_state}
@@ -96,11 +96,11 @@ nothing_taken state =
 
 -- whether the pairs of two maps of names are equal, one by one
 abbrev pub pairs_equal : {A : Type 0} → List (String A × Form) → List (String A × Form) → Bool
-pairs_equal ps qs = pointwise (λ p q. string_eq p.0 q.0 && same (plain p.1) (plain q.1)) ps qs
+pairs_equal ps qs = pointwise (λ p q. string_eq p.0 q.0 && same (meaning p.1) (meaning q.1)) ps qs
 
 equal_named : {A : Type 0} (ps qs : List (String A × Form)) → pairs_equal ps qs ≡ pointwise same_pair (named ps) (named qs)
 equal_named [] [] = refl
-equal_named (p ∷ ps) (q ∷ qs) = ap (λ b. (string_eq p.0 q.0 && same (plain p.1) (plain q.1)) && b) (equal_named ps qs)
+equal_named (p ∷ ps) (q ∷ qs) = ap (λ b. (string_eq p.0 q.0 && same (meaning p.1) (meaning q.1)) && b) (equal_named ps qs)
 equal_named [] (q ∷ qs) = refl
 equal_named (p ∷ ps) [] = refl
 

@@ -10,7 +10,6 @@ use Rattle.tera_meaning.specs.Read.{members_in, text_in}
 use Rattle.tera_meaning.specs.State.{State}
 use Rattle.tera_meaning.specs.Tree.{undefined, object, members, text}
 use Rattle.tera_meaning.proofs.TreeLaws.{list_of_members}
-use Rattle.tera_values.specs.Placing.{some_same}
 use Rattle.tera_script.specs.declared.bound.Bounds.{Bounds}
 use Rattle.tera_script.specs.declared.verb.Shape.{Shape}
 use Rattle.tera_script.specs.declared.verb.Shape.TheVariants as shape
@@ -165,7 +164,7 @@ bounds_part bytes {answer = Some (bounds, rest)} e =
 -- ---- maps whose keys are all texts
 
 pairs_same : (ps qs : List (KeyForm × Form)) → object (members ps) ≡ object (members qs) → ps ≡ qs
-pairs_same ps qs e = some_same ps qs (sym (ap Some (list_of_members ps)) ∙ ap members_in e ∙ ap Some (list_of_members qs))
+pairs_same ps qs e = same_Some ps qs (sym (ap Some (list_of_members ps)) ∙ ap members_in e ∙ ap Some (list_of_members qs))
 
 source_value : (bytes : List ℕ) (source : State) (rest : List ℕ) (h : Begins SpellsSource bytes source rest)
     → Begins SpellsValue bytes (object (members h.spells.0)) rest

@@ -11,7 +11,7 @@ use crate::number::{number_in, value_of};
 use crate::text::take_text;
 use crate::word::{past_blanks, past_word};
 use std::alloc::{AllocError, Global};
-use tera_values::{Key, Value, maps};
+use tera_values::{Key, Map, Value};
 
 /// How deep arrays and maps may nest. The outermost is level 1.
 pub(crate) const LEVELS: usize = 64;
@@ -89,7 +89,7 @@ fn take_map(
     if levels == 0 {
         return Ok(None);
     }
-    let mut pairs = maps::new(alloc);
+    let mut pairs = Map::new(alloc);
     let mut rest = past_blanks(bytes);
     if let Some(behind) = rest.strip_prefix(b"}".as_slice()) {
         return Ok(Some((Value::of_map(pairs), behind)));
@@ -98,7 +98,7 @@ fn take_map(
         let Some((key, value, behind)) = take_pair(alloc, rest, levels - 1)? else {
             return Ok(None);
         };
-        let Ok(()) = maps::insert(&mut pairs, key, value) else {
+        let Ok(_) = pairs.insert(key, value) else {
             return Err(AllocError);
         };
         let Some((mark, further)) = past_blanks(behind).split_first() else {
