@@ -1,6 +1,6 @@
 -- Where a text is cut at its first marked character, and what stands for that character.
 use Rattle.std.proofs.Common.{map, None, Some, if◌then◌else◌, ◌≡◌, ℕ, zero, suc, ◌+◌, ◌-◌, ◌<◌, ◌≤◌, Bool, true, false, not, ◌||◌, ◌==◌, IsTrue, nat_lt, cond}
-use Rattle.std.proofs.Common.{List, [], ◌∷◌, ◌++◌, length, get_or, take, drop, bytes_eq, refl, sym, ap, subst, ◌∙◌, arith, ne_eqb, append-nil, append_assoc}
+use Rattle.std.proofs.Common.{List, [], ◌∷◌, ◌++◌, length, get_or, take, drop, bytes_eq, refl, sym, ap, subst, ◌∙◌, arith, ne_eqb, append_assoc}
 use Rattle.std.proofs.Common.{take-append-drop, take_at, ltb-true, encode_utf8_all, IsUtf8, length-append, length-take-le, length-drop}
 use Rattle.std.proofs.lemmas.Bool.{cond-false, and_parts, agree_below_at}
 use Rattle.std.proofs.lemmas.Bool.Decides.{nat_tests}
@@ -15,7 +15,7 @@ use Rattle.std.specs.Char.Escape.{IsEscapeDebug, escape_default}
 use Rattle.std.specs.Cmp.Lexicographic.{bytes_decides}
 use Rattle.std.specs.Fmt.{◌++?◌, debug_escape, debug_str, debug_items, comma_space, digits}
 use Rattle.std.specs.List.{list_all}
-use Rattle.tera_report.specs.Quoted.{IsText, is_ascii_text, is_marked, escapes, quoted, Quotes, QuotesItems, Cuts, SkipsPlain, EscapesMarked}
+use Rattle.tera_report.specs.Quoted.{IsText, is_ascii_text, is_marked, escapes, quoted, Quotes, QuotesItems, Cuts, SkipsPlain, Escapes, EscapesMarked}
 use Rattle.tera_report.proofs.PutLaws.{texts_joined}
 
 -- what `escape_debug` gives for an ASCII character
@@ -34,10 +34,9 @@ or_right true b h e = h
 or_right false b h e = absurd (cc)
 
 -- what `escape_debug` gives for a marked character stands for it
-pub marked_escape : (c : ℕ) (given : List ℕ) → IsEscapeDebug c given → EscapesMarked c (encode_utf8_all given)
-marked_escape c given e marked low =
-    let is : given ≡ escape_chars c = given_chars c given e low in
-    ap encode_utf8_all is ∙ (bytes_decides _ _).0 (or_right (is_marked c) _ (each_escape c low) marked)
+pub marked_escape : (c : ℕ) (given bytes : List ℕ) → IsEscapeDebug c given → bytes ≡ encode_utf8_all given → EscapesMarked c bytes
+marked_escape c given bytes e spelled marked low =
+    spelled ∙ ap encode_utf8_all (given_chars c given e low) ∙ (bytes_decides _ _).0 (or_right (is_marked c) _ (each_escape c low) marked)
   where
     given_chars : (c : ℕ) (given : List ℕ) → IsEscapeDebug c given → c < 128 → given ≡ escape_chars c
     given_chars zero given e low = e.0 refl
@@ -187,35 +186,11 @@ cut_here text run after tail c skips cut run_is ascii =
           ∙ ap (λ l. l ++ escapes after) (skips.plain ∙ sym same) ∙ ap (λ l. run ++ escapes l) first.1;
     }
 
--- one more part of an escape is put
-pub parts_more : (given done rest later : List ℕ) (part : ℕ) → encode_utf8_all given ≡ done ++ encode_utf8_all rest
-    → rest ≡ part ∷ later
-    → encode_utf8_all given ≡ (done ++ encode_utf8 part) ++ encode_utf8_all later
-parts_more given done rest later part split is =
-    split ∙ ap (λ l. done ++ encode_utf8_all l) is ∙ sym (append_assoc done (encode_utf8 part) (encode_utf8_all later))
-
--- one more run and what stands for a marked character are put
-pub runs_more : (text rest done run after bytes : List ℕ) (c : ℕ)
-    → (IsTrue (is_ascii_text text) → IsTrue (is_ascii_text rest) × (escapes text ≡ done ++ escapes rest))
-    → (IsTrue (is_ascii_text rest) → Cuts rest run c after) → EscapesMarked c bytes
-    → IsTrue (is_ascii_text text)
-    → IsTrue (is_ascii_text after) × (escapes text ≡ ((done ++ run) ++ bytes) ++ escapes after)
-runs_more text rest done run after bytes c split cut stands ascii =
-    let before = split ascii in
-    let at = cut before.0 in (
-      at.ascii_rest,
-      before.1 ∙ ap (λ l. done ++ l) (at.whole
-          ∙ ap (λ l. run ++ (l ++ escapes after)) (sym (stands at.marked at.ascii)))
-          ∙ sym (append_assoc done run (bytes ++ escapes after))
-          ∙ sym (append_assoc (done ++ run) bytes (escapes after)),
-    )
-
--- where an escape has no more parts, all of it is put
-pub parts_done : (given done rest : List ℕ) (left : ℕ) (all : List ℕ)
-    → encode_utf8_all given ≡ done ++ encode_utf8_all rest → rest ≡ take left all → left ≡ 0
-    → encode_utf8_all given ≡ done
-parts_done given done rest left all split is none =
-    split ∙ ap (λ l. done ++ encode_utf8_all l) (is ∙ ap (λ n. take n all) none) ∙ append-nil done
+-- a run, what stands for a marked character, and what stands for the rest stand for a text
+pub run_stands : (text run after bytes : List ℕ) (c : ℕ) → (IsTrue (is_ascii_text text) → Cuts text run c after) → EscapesMarked c bytes
+    → (rest : List ℕ) → Escapes after rest → Escapes text (run ++ (bytes ++ rest))
+run_stands text run after bytes c cut stands rest others ascii =
+    let at = cut ascii in (λ i. run ++ (stands at.marked at.ascii i ++ others at.ascii_rest i)) ∙ sym at.whole
 
 -- what stands for a quoted text is its debug form, where that is known
 known_if : (b : Bool) (known bytes : List ℕ) → (b ≡ true → bytes ≡ known) → IsText (if b then Some known else None) bytes
@@ -226,19 +201,10 @@ quoted_known : (text bytes : List ℕ) → Quotes text bytes → IsText (debug_s
 quoted_known text bytes stands = known_if (list_all is_ascii text) (quoted text) bytes stands
 
 -- what stands for a text and for the texts after it stands for all of them
-items_more : (lead text bytes later : List ℕ) (texts : List (List ℕ)) → Quotes text bytes → QuotesItems comma_space texts later
-    → QuotesItems lead (text ∷ texts) (lead ++ (bytes ++ later))
-items_more lead text bytes later texts stands rest =
-    let others = debug_items debug_str comma_space texts in
-    texts_joined (Some lead) (debug_str text ++? others) lead (bytes ++ later) refl
-    (texts_joined (debug_str text) others bytes later (quoted_known text bytes stands) rest)
-
--- one more text of a list is put
-pub list_more : {A : Type 0} (f : A → List ℕ) (all left : List A) (x : A) (others : List A) (lead done bytes : List ℕ) → left ≡ x ∷ others
-    → ((later : List ℕ) → QuotesItems lead (map f left) later → QuotesItems [] (map f all) (done ++ later)) → Quotes (f x) bytes
-    → (later : List ℕ) → QuotesItems comma_space (map f others) later → QuotesItems [] (map f all) (((done ++ lead) ++ bytes) ++ later)
-list_more f all left x others lead done bytes is whole stands later rest =
-    let here = subst (λ l. QuotesItems lead (map f l) (lead ++ (bytes ++ later))) (sym is)
-    (items_more lead (f x) bytes later (map f others) stands rest) in
-    subst (QuotesItems [] (map f all))
-    (sym (append_assoc (done ++ lead) bytes later ∙ append_assoc done lead (bytes ++ later))) (whole (lead ++ (bytes ++ later)) here)
+pub items_more : {A : Type 0} (f : A → List ℕ) (left : List A) (x : A) (others : List A) (lead bytes : List ℕ) → left ≡ x ∷ others → Quotes (f x) bytes
+    → (later : List ℕ) → QuotesItems comma_space (map f others) later → QuotesItems lead (map f left) (lead ++ (bytes ++ later))
+items_more f left x others lead bytes is stands later rest =
+    let behind = debug_items debug_str comma_space (map f others) in
+    subst (λ l. QuotesItems lead (map f l) (lead ++ (bytes ++ later))) (sym is)
+    (texts_joined (Some lead) (debug_str (f x) ++? behind) lead (bytes ++ later) refl
+    (texts_joined (debug_str (f x)) behind bytes later (quoted_known (f x) bytes stands) rest))

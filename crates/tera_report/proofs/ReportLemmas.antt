@@ -1,14 +1,12 @@
 -- Runs of one character, lengths with a cap, and equality of reports by their parts.
 use Rattle.std.proofs.lemmas.List.{nil_from_length}
-use Rattle.std.proofs.Common.{◌≡◌, ◌⊎◌, inl, inr, ℕ, zero, suc, ◌+◌, ◌-◌, ◌^◌, ◌<◌, ◌≤◌, List, [], ◌∷◌, ◌++◌, min, length, replicate, map, codes, take, drop}
-use Rattle.std.proofs.Common.{get_or, slice_range, refl, sym, ap, ◌∙◌, arith, append_assoc, append-nil}
+use Rattle.std.proofs.Common.{◌≡◌, ℕ, ◌+◌, ◌-◌, ◌^◌, ◌<◌, ◌≤◌, List, [], ◌∷◌, ◌++◌, min, length, replicate, map, codes, take, drop}
+use Rattle.std.proofs.Common.{get_or, slice_range, sym, ap, ◌∙◌, arith, append_assoc, append-nil}
 use Rattle.std.proofs.lemmas.List.{drop_more, length-append, length-map, length-replicate, length-take, map-append, take-append-drop, take-replicate, take_more}
 use Rattle.std.proofs.lemmas.List.Concat.{flat_map-append}
 use Rattle.std.proofs.lemmas.List.Elements.{All-replicate}
-use Rattle.std.proofs.lemmas.Str.{chars_past_char, chars-nil}
-use Rattle.std.proofs.Math.Seq.{take-append-add}
-use Rattle.std.specs.Char.{encode_utf8}
-use Rattle.std.specs.Str.{IsCharBoundary, IsUtf8, chars}
+use Rattle.std.proofs.lemmas.Str.{chars-nil}
+use Rattle.std.specs.Str.{IsCharBoundary, chars}
 use Rattle.std.specs.Fmt.{decimal}
 use Rattle.std.specs.List.{flat_map, join_with_byte, sum}
 use Rattle.tera_report.specs.declared.span.Span.{Span}
@@ -29,31 +27,6 @@ run_front n k c within = let all : k - 0 ≡ k = omega arith in ap (λ m. take m
 -- lengths with a cap may be added before or after they are capped
 pub capped_both : (a b : ℕ) → min (capped a + capped b) (2 ^ 64 - 1) ≡ capped (a + b)
 capped_both a b = omega arith
-
--- ---- characters of a line, one after another
-
-pub columns_more : (line rest later so_far : List ℕ) (c : ℕ) → IsUtf8 rest → chars line ≡ so_far ++ chars rest → rest ≡ encode_utf8 c ++ later
-    → chars line ≡ (so_far ++ c ∷ []) ++ chars later
-columns_more line rest later so_far c utf8 split off =
-    split ∙ ap (λ cs. so_far ++ cs) (chars_past_char rest later c utf8 off) ∙ sym (append_assoc so_far (c ∷ []) (chars later))
-
-pub columns_taken : (all so_far later : List ℕ) (n : ℕ) → all ≡ so_far ++ later → length so_far ≤ n → take n all ≡ so_far ++ take (n - length so_far) later
-columns_taken all so_far later n split within =
-    let sum : n ≡ length so_far + (n - length so_far) = omega (arith, within) in
-    ap (take n) split ∙ ap (λ k. take k (so_far ++ later)) sum ∙ take-append-add so_far later (n - length so_far)
-
-pub columns_all : (all so_far later : List ℕ) (n : ℕ) → all ≡ so_far ++ later → length so_far ≤ n → (length so_far ≡ n) ⊎ (later ≡ [])
-    → take n all ≡ so_far
-columns_all all so_far later n split within (inl full) =
-    let none : n - length so_far ≡ 0 = omega (arith, full) in
-    columns_taken all so_far later n split within ∙ ap (λ k. so_far ++ take k later) none ∙ append-nil so_far
-columns_all all so_far later n split within (inr ended) =
-    columns_taken all so_far later n split within ∙ ap (λ l. so_far ++ take (n - length so_far) l) ended
-    ∙ ap (λ l. so_far ++ l) (take-nil (n - length so_far)) ∙ append-nil so_far
-  where
-    take-nil : (k : ℕ) → take {A = ℕ} k [] ≡ []
-    take-nil zero = refl
-    take-nil (suc k) = refl
 
 pub no_characters : (xs : List ℕ) → length xs ≡ 0 → chars xs ≡ []
 no_characters xs e = ap chars (nil_from_length xs e) ∙ chars-nil
