@@ -8,7 +8,8 @@ use Rattle.std.proofs.lemmas.List.{get_or-append_right, get_or-take}
 use Rattle.std.proofs.lemmas.List.Concat.{flat_map-append}
 use Rattle.std.proofs.lemmas.List.Folds.{list_all-append}
 use Rattle.std.proofs.Math.Seq.{drop-cons}
-use Rattle.std.proofs.lemmas.Str.{char_from_byte, encode_ascii, IsCharBoundary-start, IsCharBoundary-after_ascii, length-encode, len_utf8_bounds}
+use Rattle.std.proofs.lemmas.Str.{char_from_byte, encode_ascii, length-encode, len_utf8_bounds}
+use Rattle.std.proofs.lemmas.Str.{IsCharBoundary-start, IsCharBoundary-after_ascii, IsCharBoundary-at_seam}
 use Rattle.std.specs.Str.{IsCharBoundary}
 use Rattle.std.specs.Char.{encode_utf8, is_ascii}
 use Rattle.std.specs.Char.Escape.{IsEscapeDebug, escape_default}
@@ -22,21 +23,18 @@ use Rattle.tera_report.proofs.PutLaws.{texts_joined}
 abbrev escape_chars : ℕ → List ℕ
 escape_chars c = cond (c == 0) (92 ∷ 48 ∷ []) (escape_default c)
 
-abbrev same_escape : ℕ → Bool
-same_escape c = not (is_marked c) || bytes_eq (encode_utf8_all (escape_chars c)) (debug_escape 34 c)
-
-each_escape : (c : ℕ) → c < 128 → same_escape c ≡ true
+-- what stands for each ASCII character
+each_escape : (c : ℕ) → c < 128 → debug_escape 34 c ≡ (if is_marked c then encode_utf8_all (escape_chars c) else c ∷ [])
 unfolding debug_escape digits encode_utf8
-each_escape c h = agree_below_at same_escape (λ _. true) 128 c refl h
-
-or_right : (a b : Bool) → (not a || b) ≡ true → a ≡ true → b ≡ true
-or_right true b h e = h
-or_right false b h e = absurd (cc)
+each_escape c h =
+    (bytes_decides _ _).0 (agree_below_at (λ n. bytes_eq (debug_escape 34 n) (if is_marked n then encode_utf8_all (escape_chars n) else n ∷ [])) (λ _. true)
+    128 c refl h)
 
 -- what `escape_debug` gives for a marked character stands for it
 pub marked_escape : (c : ℕ) (given bytes : List ℕ) → IsEscapeDebug c given → bytes ≡ encode_utf8_all given → EscapesMarked c bytes
 marked_escape c given bytes e spelled marked low =
-    spelled ∙ ap encode_utf8_all (given_chars c given e low) ∙ (bytes_decides _ _).0 (or_right (is_marked c) _ (each_escape c low) marked)
+    spelled ∙ ap encode_utf8_all (given_chars c given e low)
+    ∙ sym (each_escape c low ∙ ap (λ m. if m then encode_utf8_all (escape_chars c) else c ∷ []) marked)
   where
     given_chars : (c : ℕ) (given : List ℕ) → IsEscapeDebug c given → c < 128 → given ≡ escape_chars c
     given_chars zero given e low = e.0 refl
@@ -44,34 +42,13 @@ marked_escape c given bytes e spelled marked low =
         ∙ sym (cond-false _ _ _ (ne_eqb (suc n) 0 (λ h. omega arith)))
 
 -- a byte that is not marked stands for itself
-plain_escape_tests : (b : ℕ) → is_marked b ≡ false
-    → (nat_lt b 32 ≡ false) × ((b == 34) ≡ false) × ((b == 92) ≡ false) × (nat_lt 126 b ≡ false)
-plain_escape_tests b h = four (nat_lt b 32) (b == 34) (b == 92) (nat_lt 126 b) h
-  where
-    four : (p q r s : Bool) → (p || (q || (r || s))) ≡ false → (p ≡ false) × (q ≡ false) × (r ≡ false) × (s ≡ false)
-    four true q r s h = absurd (cc)
-    four false true r s h = absurd (cc)
-    four false false true s h = absurd (cc)
-    four false false false s h = (refl, refl, refl, h)
-
 pub plain_bounds : (b : ℕ) → is_marked b ≡ false → (32 ≤ b) × (b < 127)
-plain_bounds b h = let t = plain_escape_tests b h in (grind (arith, nat_tests), grind (arith, nat_tests))
-
-abbrev plain_same : ℕ → Bool
-plain_same b = is_marked b || bytes_eq (debug_escape 34 b) (b ∷ [])
-
-each_plain : (b : ℕ) → b < 128 → plain_same b ≡ true
-unfolding debug_escape
-each_plain b h = agree_below_at plain_same (λ _. true) 128 b refl h
+plain_bounds b h = (grind (arith, nat_tests), grind (arith, nat_tests))
 
 plain_escape : (b : ℕ) → is_marked b ≡ false → debug_escape 34 b ≡ b ∷ []
 plain_escape b h =
-    let low : (32 ≤ b) × (b < 127) = plain_bounds b h in
-    (bytes_decides _ _).0 (or_other (is_marked b) _ (each_plain b (omega arith)) h)
-  where
-    or_other : (a b : Bool) → (a || b) ≡ true → a ≡ false → b ≡ true
-    or_other true b h e = absurd (cc)
-    or_other false b h e = h
+    let low = (plain_bounds b h).1 in
+    each_escape b (omega arith) ∙ ap (λ m. if m then encode_utf8_all (escape_chars b) else b ∷ []) h
 
 -- a text with no marked byte stands for itself
 pub escapes_plain : (xs : List ℕ) → ((k : ℕ) → k < length xs → is_marked (get_or xs k 0) ≡ false) → escapes xs ≡ xs
@@ -126,22 +103,10 @@ past_plain text after at within plain stops is = record {
 }
 
 -- a character begins where a text begins that ends another, or that text ends
-pub boundary_before : (text front after : List ℕ) → text ≡ front ++ after → IsUtf8 after
-    → IsCharBoundary text (length text - length after)
+pub boundary_before : (text front after : List ℕ) → text ≡ front ++ after → IsUtf8 after → IsCharBoundary text (length text - length after)
 boundary_before text front after parts u =
-    let here : length text - length after ≡ length front = omega (arith, ap length parts, length-append front after) in
-    let start = IsCharBoundary-start after u in
-    let same : get_or text (length front) 0 ≡ get_or after 0 0 =
-    ap (λ l. get_or l (length front) 0) parts
-    ∙ get_or-append_right front after (length front) (length front) 0 refl (omega arith)
-    ∙ ap (λ k. get_or after k 0) (sub_self (length front)) in
-    subst (λ n. IsCharBoundary text n) (sym here) (
-      omega (arith, ap length parts, length-append front after),
-      λ some high. rw same (start.1 (omega (arith, ap length parts, length-append front after)) (rw same at high)),
-    )
-  where
-    sub_self : (n : ℕ) → n - n ≡ 0
-    sub_self n = omega arith
+    let here : length front ≡ length text - length after = omega (arith, ap length parts, length-append front after) in
+    subst (IsCharBoundary text) here (IsCharBoundary-at_seam text front after parts u)
 
 pub some_left : (after tail : List ℕ) (c : ℕ) → after ≡ encode_utf8 c ++ tail → length tail < length after
 some_left after tail c cut = omega (
