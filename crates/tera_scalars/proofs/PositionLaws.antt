@@ -21,7 +21,7 @@ module _ {X : Type 0} where
   }
     where
       place : (k : ℕ) → k < length ys → k * by ≡ k * step
-      place zero b = refl
+      place zero b = omega arith
       place (suc k) b = let e = h.before (suc k) b in absurd (omega arith)
 
   paced : (xs ys : List X) (from until by : ℕ) (step : ℤ) → until < 2 ^ 64 → by ≡ min (suc (pause step)) (2 ^ 64 - 1)

@@ -4,9 +4,9 @@ use Rattle.std.specs.Prelude.{reverse, length, take, drop, slice_get, Option, So
 use Rattle.std.proofs.Common.{refl, sym, ap, ap₂, ◌∙◌, subst, arith, inl, inr, ltb-true, append_assoc, append-nil}
 use Rattle.std.proofs.lemmas.Bool.{cases_lt}
 use Rattle.std.proofs.lemmas.List.{reverse-append, reverse-reverse, length-reverse, length-take, length-drop, drop-drop, take-append-drop, take_at, drop_at}
-use Rattle.std.proofs.lemmas.List.{take_all, drop_all, take_min, drop-take}
+use Rattle.std.proofs.lemmas.List.{take_all, drop_all, take_min, drop-take, length-append}
 use Rattle.std.proofs.lemmas.Str.{encodes-append, encodes-chars, chars-append, chars-IsAscii, IsUtf8-take, IsUtf8-from_ascii, IsCharBoundary-from_drop}
-use Rattle.std.proofs.lemmas.Str.{IsCharBoundary-from_take}
+use Rattle.std.proofs.lemmas.Str.{IsCharBoundary-at_seam}
 use Rattle.std.proofs.lemmas.Str.Ascii.{IsAscii-cons, IsAscii-nil}
 use Rattle.std.specs.Char.{encode_utf8}
 use Rattle.std.specs.Str.{chars, encode_utf8_all, IsAscii, IsUtf8, IsCharBoundary}
@@ -70,14 +70,21 @@ bytes_taken backwards bytes bs count most utf8 at are ascii =
     ap (turned backwards) are ∙ (ascii_near bs most utf8 (omega arith) backwards (subst IsAscii are ascii)).0
     ∙ ap (λ n. take n (chars_from backwards bs)) at ∙ take_most count (length bs) _ (chars_le_bytes backwards bs utf8)
 
--- a text before what is left of it once so many characters are off its front
+-- what stands before what is left of a text once so many characters are off its front
 pub before_left : (bs left : List ℕ) (count : ℕ) → IsUtf8 bs → IsUtf8 left → chars left ≡ drop count (chars bs)
-    → bs ≡ encode_utf8_all (take count (chars bs)) ++ left
+    → let at = length bs - length left in
+    (length left ≤ length bs) × IsCharBoundary bs at × (take at bs ≡ encode_utf8_all (take count (chars bs)))
 before_left bs left count utf8 text off =
     let front = encode_utf8_all (take count (chars bs)) in
-    sym (encodes-chars bs utf8) ∙ ap encode_utf8_all (sym (take-append-drop count (chars bs)))
+    let seam : bs ≡ front ++ left = sym (encodes-chars bs utf8) ∙ ap encode_utf8_all (sym (take-append-drop count (chars bs)))
     ∙ encodes-append (take count (chars bs)) (drop count (chars bs))
-    ∙ ap (λ cs. front ++ encode_utf8_all cs) (sym off) ∙ ap (λ xs. front ++ xs) (encodes-chars left text)
+    ∙ ap (λ cs. front ++ encode_utf8_all cs) (sym off) ∙ ap (λ xs. front ++ xs) (encodes-chars left text) in
+    let long = ap length seam ∙ length-append front left in
+    let at : length front ≡ length bs - length left = omega (arith, long) in (
+      omega (arith, long),
+      subst (IsCharBoundary bs) at (IsCharBoundary-at_seam bs front left seam text),
+      ap (take (length bs - length left)) seam ∙ take_at front left _ at,
+    )
 
 -- ---- walks
 
