@@ -92,6 +92,13 @@ no_line_of source zero past = refl
 no_line_of source (suc n) (inl zeroth) = absurd (omega (arith, zeroth))
 no_line_of source (suc n) (inr past) = ap (λ o. unwrap_or o []) (slice_get_past (pieces_of source) n (omega (arith, past)))
 
+-- the line before the first line feed, and the only line of a source without line feeds
+pub first_line : (front back : List ℕ) → HasNoLineFeed front → numbered_line (front ++ line_feed ∷ back) 1 ≡ front
+first_line front back free = ap (λ l. unwrap_or (slice_get l 0) []) (first_part line_feed front back free)
+
+pub only_line : (source : List ℕ) → HasNoLineFeed source → numbered_line source 1 ≡ source
+only_line source free = ap (λ l. unwrap_or (slice_get l 0) []) (one_part line_feed source free)
+
 -- behind a line feed stand the lines from the next line on
 pub line_later : (source front back rest : List ℕ) (at : ℕ) → HasNoLineFeed front → rest ≡ front ++ line_feed ∷ back
     → pieces_of rest ≡ drop at (pieces_of source) → pieces_of back ≡ drop (at + 1) (pieces_of source)

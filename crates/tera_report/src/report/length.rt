@@ -36,6 +36,7 @@ fn notes_len(notes: &[Note]) -> usize
     total
 }
 
+#[tactic(auto, using(crate::proofs::ReportLemmas::note_length))]
 fn note_len(note: &Note) -> usize
     ensures { result ≡ capped (length (note_text (note_of note.now))) }
 {
@@ -44,6 +45,7 @@ fn note_len(note: &Note) -> usize
     capped_sum(&["\n\nnote:  ".len(), note.label.as_str().len(), place])
 }
 
+#[tactic(auto, using(crate::proofs::ReportLemmas::place_length))]
 fn place_len(file: &str, line: &str, span: &Span) -> usize
     ensures { result ≡ capped (length (shown_place file.now line.now span.now)) }
 {
