@@ -1,6 +1,7 @@
 -- The two columns of a map: its keys, and its values in the same order.
-use Rattle.std.specs.Prelude.{◌≡◌, ◌<◌, ◌≤◌, ◌+◌, ℕ, zero, suc, Bool, true, false, cond, ◌||◌, if◌then◌else◌, List, [], ◌∷◌, ◌++◌, length, Option, Some, None, position, slice_get, refl}
-use Rattle.std.proofs.Common.{sym, ◌∙◌, ap, subst, arith, get_or, set}
+use Rattle.std.specs.Prelude.{◌≡◌, ◌<◌, ◌≤◌, ℕ, zero, suc, true, false, cond, ◌||◌}
+use Rattle.std.specs.Prelude.{if◌then◌else◌, List, [], ◌∷◌, ◌++◌, length, Some, None, position, slice_get, refl}
+use Rattle.std.proofs.Common.{sym, ◌∙◌, ap, arith, get_or, set}
 use Rattle.std.proofs.lemmas.List.Quantifiers.{position-Some}
 use Rattle.std.specs.List.{AllByRecursion, IsDistinct, list_any}
 use Rattle.std.specs.Map.{keys_of}
@@ -134,3 +135,8 @@ module _ {V : Type 0} where
   distinct_pairs [] vs h = tt
   distinct_pairs (x ∷ ks) [] h = tt
   distinct_pairs (x ∷ ks) (v ∷ vs) h = (differs x ks vs h.0, distinct_pairs ks vs h.1)
+
+-- what a count says, and what a look-up does
+pub ruleset counted = (pair_count, distinct_pairs)
+
+pub ruleset looked_up = (found, lost)

@@ -1,10 +1,9 @@
 -- Each item of an array, and each value of a map, is less deep than the array or the map.
-use Rattle.std.specs.Prelude.{◌≡◌, ◌+◌, ◌*◌, ◌≤◌, ℕ, max, List, [], ◌∷◌, length}
+use Rattle.std.specs.Prelude.{◌≡◌, ◌+◌, ◌*◌, ◌≤◌, max, List, [], ◌∷◌, length}
 use Rattle.std.proofs.Common.{arith}
 use denote.Param.Weighed.{most}
 use Rattle.tera_meaning.specs.Form.{Form}
-use Rattle.tera_meaning.specs.KeyMeaning.{KeyForm}
-use Rattle.tera_meaning.specs.Tree.{items, members, depth, items_depth, members_depth}
+use Rattle.tera_meaning.specs.Tree.{items, items_depth}
 use Rattle.tera_values.specs.Map.{pairs_held, AreColumns}
 use Rattle.tera_values.specs.Size.{value_size, pairs_size}
 use Rattle.tera_values.specs.View.{form_of}

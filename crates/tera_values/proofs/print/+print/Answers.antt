@@ -1,4 +1,4 @@
-use Rattle.std.proofs.Common.{rules, refl, ◌≡◌, Some, None, [], length, ◌+◌, ◌∷◌, ◌++◌, sym, ap, ◌∙◌, arith, drop, codes}
+use Rattle.std.proofs.Common.{rules, refl, ◌≡◌, ◌+◌, ◌∷◌, ◌++◌, sym, ap, ◌∙◌, arith, drop, codes}
 use Rattle.std.proofs.lemmas.List.{drop_more}
 use Rattle.std.proofs.lemmas.Result.{MatchResult-weaker}
 use Rattle.std.proofs.lemmas.Bool.{and_parts}
