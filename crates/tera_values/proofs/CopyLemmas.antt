@@ -1,13 +1,12 @@
 -- Copies of the keys of a map, one after another.
-use Rattle.std.specs.Prelude.{◌≡◌, ◌<◌, ◌+◌, ℕ, zero, suc, Bool, true, false, ◌||◌, List, [], ◌∷◌, ◌++◌, length, map, refl}
-use Rattle.std.proofs.Common.{sym, ◌∙◌, ap, subst, arith, get_or, take}
+use Rattle.std.specs.Prelude.{◌≡◌, ◌<◌, ℕ, zero, suc, false, ◌||◌, List, [], ◌∷◌, ◌++◌, length, map, refl}
+use Rattle.std.proofs.Common.{sym, ◌∙◌, ap, arith, get_or, take}
 use Rattle.std.specs.Cmp.{eq_by_cmp_equiv}
 use Rattle.std.specs.List.{AllByRecursion, IsDistinct, list_any}
 use Rattle.std.specs.Ordering.{eq_by_cmp}
-use Rattle.tera_meaning.specs.KeyMeaning.{KeyForm}
 use Rattle.tera_meaning.specs.Pairs.{key_form_order}
 use Rattle.tera_values.specs.Key.{key_form}
-use Rattle.tera_values.specs.Map.{keys_tie, pairs_held, AreColumns, AreKeysLike}
+use Rattle.tera_values.specs.Map.{keys_tie, pairs_held}
 use Rattle.tera_values.specs.declared.key.Key.{Key}
 use Rattle.tera_values.proofs.PartsLaws.{form_total}
 
@@ -63,15 +62,3 @@ module _ {V : Type 0} where
       let first : key_form y ≡ key_form x = cc in
       let rest : map key_form made ≡ map key_form ks = cc in
       λ j. (first j, v) ∷ same_pairs ks made vs rest j
-
-as_many : (ks made : List Key) → map key_form made ≡ map key_form ks → length made ≡ length ks
-as_many [] [] e = refl
-as_many [] (y ∷ made) e = cc
-as_many (x ∷ ks) [] e = cc
-as_many (x ∷ ks) (y ∷ made) e =
-    let rest : map key_form made ≡ map key_form ks = cc in
-    ap suc (as_many ks made rest)
-
-module _ {V : Type 0} where
-  pub copied_columns : (ks made : List Key) (vs ws : List V) → AreColumns ks vs → AreKeysLike ks made → ws ≡ vs → AreColumns made ws
-  copied_columns ks made vs ws h like same = record { even = as_many ks made like.forms ∙ h.even ∙ sym (ap length same); distinct = like.distinct }

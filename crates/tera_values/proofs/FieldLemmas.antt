@@ -1,6 +1,6 @@
 -- The names of fields: what the keys of a map print, sorted, with one of those that are equal.
-use Rattle.std.specs.Prelude.{◌≡◌, ℕ, zero, suc, nat_eq, true, List, [], ◌∷◌, ◌++◌, map, refl}
-use Rattle.std.proofs.Common.{sym, ◌∙◌, ap, arith, subst, append_assoc}
+use Rattle.std.specs.Prelude.{◌≡◌, ℕ, zero, suc, nat_eq, true, List, [], ◌∷◌, map, refl}
+use Rattle.std.proofs.Common.{sym, ◌∙◌, ap, arith, subst}
 use Rattle.std.proofs.lemmas.List.Kept.{IsStrictlySortedBy-dedup, Any-dedup, Contains-from_dedup}
 use Rattle.std.proofs.lemmas.List.Sorted.{Contains-permutation, IsPermutation-sym}
 use Rattle.std.specs.BTreeSet.{insert_key}
@@ -79,15 +79,6 @@ shown_of value ps is = ap shown_in is ∙ ap shown_keys (list_of_members ps)
 pub none_shown : (ps : List (KeyForm × Form)) → shown_keys ps ≡ [] → ps ≡ []
 none_shown [] e = refl
 none_shown (p ∷ ps) e = cc
-
--- one more text, of the first pair that is left
-pub one_more_shown : (texts : List (List ℕ)) (text : List ℕ) (all left rest : List (KeyForm × Form)) (p : KeyForm × Form) → left ≡ p ∷ rest
-    → text ≡ shown_key (key_meaning p.0) → texts ++ shown_keys left ≡ shown_keys all → (texts ++ text ∷ []) ++ shown_keys rest ≡ shown_keys all
-one_more_shown texts text all left rest p is same h =
-    append_assoc texts (text ∷ []) (shown_keys rest)
-    ∙ ap (λ t. texts ++ t ∷ shown_keys rest) same
-    ∙ sym (ap (λ l. texts ++ shown_keys l) is)
-    ∙ h
 
 -- ---- the names of a map
 

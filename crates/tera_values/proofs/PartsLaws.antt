@@ -1,6 +1,6 @@
 -- The items of arrays and the pairs of maps: how many, how deep, and the first that differ.
 use Rattle.std.specs.Prelude.{◌≡◌, true, not, nat_eq, ◌<◌, ◌≤◌, ℕ, Some, zero, suc, min, max, List, [], ◌∷◌, length, refl}
-use Rattle.std.proofs.Common.{inl, inr, sym, ◌∙◌, ap, subst, arith, get_or, take, drop}
+use Rattle.std.proofs.Common.{sym, ◌∙◌, ap, subst, arith, get_or, take, drop}
 use Rattle.std.proofs.lemmas.Grind.{common_steps}
 use Rattle.std.specs.Cmp.{IsTotalOrder, nat_cmp_is, on_total, ranks}
 use Rattle.std.specs.Ordering.{MatchOrdering, nat_cmp}
@@ -16,7 +16,8 @@ use Rattle.tera_meaning.proofs.KeyLaws.{key_total}
 use Rattle.tera_meaning.proofs.MeaningLaws.{meant_items}
 use Rattle.tera_meaning.specs.Pairs.{HasDistinctKeys, key_form_order}
 use Rattle.tera_meaning.proofs.TreeLaws.{items_of_list, list_of_members, members_of_list}
-use Rattle.tera_meaning.specs.Tree.{undefined, none, truth, number, text, bytes, object, array, items, items_list, members, members_list, depth, items_depth, members_depth}
+use Rattle.tera_meaning.specs.Tree.{undefined, none, truth, number, text, bytes, object, array, items, items_list}
+use Rattle.tera_meaning.specs.Tree.{members, members_list, depth, items_depth, members_depth}
 use Rattle.tera_meaning.specs.WellMade.{IsWellMade, IsWellMadeKey, AreWellMade, AreWellMadeMembers}
 
 pub form_total : IsTotalOrder key_form_order
@@ -34,7 +35,8 @@ counted_pairs (p ∷ ps) = let some : not (nat_eq (suc (length ps)) 0) ≡ true 
 -- the values of the pairs that are left are less deep than their map
 pub first_depth : (left rest : List (KeyForm × Form)) (p : KeyForm × Form) → left ≡ p ∷ rest
     → (depth p.1 ≤ members_depth (members left)) × (members_depth (members rest) ≤ members_depth (members left))
-first_depth left rest p is = let same : members_depth (members left) ≡ max (depth p.1) (members_depth (members rest)) = ap (λ l. members_depth (members l)) is in
+first_depth left rest p is =
+    let same : members_depth (members left) ≡ max (depth p.1) (members_depth (members rest)) = ap (λ l. members_depth (members l)) is in
     (omega arith, omega arith)
 
 -- what holds these pairs is the map of them

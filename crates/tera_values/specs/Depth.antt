@@ -1,10 +1,9 @@
 -- Each item of an array, and each value of a map, is less deep than the array or the map.
-use Rattle.std.specs.Prelude.{◌≡◌, ◌+◌, ◌*◌, ◌≤◌, ℕ, max, List, [], ◌∷◌, length}
+use Rattle.std.specs.Prelude.{◌≡◌, ◌+◌, ◌*◌, ◌≤◌, max, List, [], ◌∷◌, length}
 use Rattle.std.proofs.Common.{arith}
 use denote.Param.Weighed.{most}
 use Rattle.tera_meaning.specs.Form.{Form}
-use Rattle.tera_meaning.specs.KeyMeaning.{KeyForm}
-use Rattle.tera_meaning.specs.Tree.{items, members, depth, items_depth, members_depth}
+use Rattle.tera_meaning.specs.Tree.{items, items_depth}
 use Rattle.tera_values.specs.Map.{pairs_held, AreColumns}
 use Rattle.tera_values.specs.Size.{value_size, pairs_size}
 use Rattle.tera_values.specs.View.{form_of}
@@ -15,11 +14,13 @@ use Rattle.tera_values.specs.declared.value.ValueInner.TheVariants.{U64, I64, U1
 use Rattle.tera_values.specs.declared.value.ValueInner.TheVariants.{Array, Bytes, Map}
 use Rattle.tera_values.specs.declared.map.Map.TheDeep.{deep-ValueInner}
 
-most_le-items_depth : (xs : List Form) → most (λ v. value_size v + 1) xs ≤ 2 * items_depth (items xs) + 1
+most_le-items_depth : (xs : List Form) → most (λ v. value_size v + 1) xs
+    ≤ 2 * items_depth (items xs) + 1
 most_le-items_depth [] = omega arith
 most_le-items_depth (x ∷ xs) = omega (arith, most_le-items_depth xs)
 
-most_le : (ks : List Key) (vs : List Form) → length ks ≡ length vs → most (λ v. value_size v + 1) vs ≤ pairs_size (pairs_held ks vs)
+most_le : (ks : List Key) (vs : List Form) → length ks ≡ length vs
+    → most (λ v. value_size v + 1) vs ≤ pairs_size (pairs_held ks vs)
 most_le ks [] e = omega arith
 most_le [] (v ∷ vs) e = absurd (omega arith)
 most_le (k ∷ ks) (v ∷ vs) e = omega (arith, most_le ks vs (omega arith))

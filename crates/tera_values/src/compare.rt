@@ -104,7 +104,8 @@ fn array_order(left: &[Value], right: &Value) -> Ordering
 // the lengths.
 #[cycle(order)]
 fn items_order(left: &[Value], right: &[Value]) -> Ordering
-    ensures { result ≡ compare (meaning (array (items left.now))) (meaning (array (items right.now))) }
+    ensures { result
+        ≡ compare (meaning (array (items left.now))) (meaning (array (items right.now))) }
 {
     for place in 0..left.len().min(right.len()) {
         let first = order(&left[place], &right[place]);

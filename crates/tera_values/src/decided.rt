@@ -49,7 +49,8 @@ fn partial_array_order(left: &[Value], right: &Value) -> Option<Ordering>
 // The partial order of two arrays of these items.
 #[cycle(partial_order)]
 fn partial_items_order(left: &[Value], right: &[Value]) -> Option<Ordering>
-    ensures { result ≡ decided (meaning (array (items left.now))) (meaning (array (items right.now))) }
+    ensures { result
+        ≡ decided (meaning (array (items left.now))) (meaning (array (items right.now))) }
 {
     for place in 0..left.len().min(right.len()) {
         let first = partial_order(&left[place], &right[place]);

@@ -64,7 +64,7 @@ impl Map {
     }
 
     /// How many pairs there are. Takes no memory.
-    #[tactic(auto, using(crate::proofs::ColumnLemmas::pair_count, crate::proofs::ColumnLemmas::distinct_pairs))]
+    #[tactic(auto, using(crate::proofs::ColumnLemmas::counted))]
     pub fn len(&self) -> usize
         ensures len { result ≡ length self.now }
         ensures distinct { HasDistinctKeys key_form_order self.now }
@@ -73,7 +73,7 @@ impl Map {
     }
 
     /// The value at a key, lent; `None` where no key is equal to it. Takes no memory.
-    #[tactic(auto, using(crate::proofs::ColumnLemmas::found, crate::proofs::ColumnLemmas::lost))]
+    #[tactic(auto, using(crate::proofs::ColumnLemmas::looked_up))]
     pub fn get(&self, key: &Key<'_>) -> Option<&Value>
         ensures { option_copied result ≡ value_at key_form_order self.now (key_form key.now) }
     {
@@ -100,8 +100,8 @@ impl Map {
     /// Puts a value at a key, and answers the value that was there. A new key goes last; a key that
     /// is there stays as it is held and where it is.
     ///
-    /// Takes memory where the key is not there; the only refusal is want of it, `Out of memory`, and
-    /// then the map is as it was.
+    /// Takes memory where the key is not there; the only refusal is want of it, `Out of memory`,
+    /// and then the map is as it was.
     pub fn insert(&mut self, key: Key<'static>, value: Value) -> TeraResult<Option<Value>>
         ensures ok { OnOk result
             (self.new ≡ put key_form_order self.old (key_form key.entry) value) }
@@ -151,6 +151,7 @@ impl Map {
 
 /// As std's maps show themselves, the pairs in their order.
 impl fmt::Debug for Map {
+    #[cycle(debug)]
     fn fmt<W: fmt::Write>(&self, f: &mut fmt::Formatter<W>) -> fmt::Result {
         let mut shown = f.debug_map();
         for (key, value) in self.iter() {

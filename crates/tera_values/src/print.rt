@@ -28,7 +28,8 @@ use tera_scalars::{put_integer, put_lossy};
 impl Value {
     /// Writes the printed text. Undefined and none print nothing, a text itself, bytes the text
     /// that they are, with U+FFFD for what is no character, an array its items between brackets,
-    /// and a map its pairs between braces in their order; texts in arrays and maps are quoted. Mirrors `Value::format`, which is private there.
+    /// and a map its pairs between braces in their order; texts in arrays and maps are quoted.
+    /// Mirrors `Value::format`, which is private there.
     ///
     /// Answers an error only where, during the call, a write of the writer answered an error or
     /// took no byte; then a beginning may be written. Takes no memory.
@@ -164,7 +165,8 @@ fn put_inside<S: Sink>(value: &Value, out: &mut S) -> Result<(), S::Fault>
 // Puts items between brackets.
 #[cycle(print)]
 fn put_array<S: Sink>(all: &[Value], out: &mut S) -> Result<(), S::Fault>
-    ensures { Puts S.takes S.fails result (Prints (layout (array (items all.now)))) out.old out.new }
+    ensures { Puts S.takes S.fails result
+        (Prints (layout (array (items all.now)))) out.old out.new }
 {
     out.put("[")?;
     put_items(all, out)?;

@@ -1,13 +1,13 @@
-use Rattle.std.proofs.Common.{◌≡◌, Some, ◌<◌, ◌∙◌, arith, sym, ap, subst, true, false, min, length}
+use Rattle.std.proofs.Common.{◌≡◌, Some, ◌<◌, ◌≤◌, ◌∙◌, arith, sym, ap, subst, true, false, min, length}
 use Rattle.std.specs.Option.{option_map}
 use Rattle.tera_meaning.specs.Meaning.{meaning}
 use Rattle.tera_meaning.specs.Order.{compare}
-use Rattle.tera_meaning.specs.Tree.{array, object, items, members}
+use Rattle.tera_meaning.specs.Tree.{array, object, items, members, members_depth}
 use Rattle.tera_meaning.specs.Form.{Form}
 use Rattle.tera_meaning.specs.KeyMeaning.{KeyForm}
 use Rattle.tera_meaning.specs.Pairs.{key_form_order, value_at}
 use Rattle.tera_values.specs.Key.{key_form}
-use Rattle.tera_values.specs.Unlike.{IsLeastUnlike, least_met, unlike, lacking, difference_at}
+use Rattle.tera_values.specs.Unlike.{IsLeastUnlike, least_met, unlike, lacking, difference_at, met}
 use Rattle.tera_values.proofs.UnlikeLemmas.{from_left, met_below, met_not_below, by_held, by_left, by_right, all_tie, walks_meet_least}
 use Rattle.tera_values.proofs.PartsLaws.{depth_at, first_depth, array_of_items, map_of_members, order_ended}
 use Rattle.tera_values.proofs.+order.Goals as goal
@@ -95,12 +95,13 @@ unlike::least_unlike-loop-key-preserved-then-is_below t c =
     let qs = c.args.right.now in
     let less_deep = first_depth left rest p c.in-Some.ensures.steps in
     let within = c.loop-key.invariant.within in
+    let no_deeper : members_depth (members rest) ≤ members_depth (members c.args.left.now) = omega (arith, less_deep.1, within) in
     let least = option_map (λ d. (key_form d.0.now, d.1)) c.loop-key.least in
-    let new = c.difference_at-least.ensures
+    let new : option_map (λ d. (key_form d.0.now, d.1)) c.difference_at-least.result ≡ met least k (from_left qs p) = c.difference_at-least.ensures
     ∙ ap (λ h. difference_at h k least) (c.unlike.ensures ∙ ap (unlike (Some c.in-Some.value.now)) c.get.ensures)
     ∙ sym (met_below least k (from_left qs p) (sym c.is_below.ensures ∙ c.if-is_below.true)) in
     record {
-      within = omega (arith, less_deep.1, within);
+      within = no_deeper;
       least = ap (λ l. least_met (from_left qs) l rest) new
           ∙ sym (ap (λ l. least_met (from_left qs) least l) c.in-Some.ensures.steps)
           ∙ c.loop-key.invariant.least;
@@ -115,10 +116,11 @@ unlike::least_unlike-loop-key-preserved t c =
     let qs = c.args.right.now in
     let less_deep = first_depth left rest p c.in-Some.ensures.steps in
     let within = c.loop-key.invariant.within in
+    let no_deeper : members_depth (members rest) ≤ members_depth (members c.args.left.now) = omega (arith, less_deep.1, within) in
     let least = option_map (λ d. (key_form d.0.now, d.1)) c.loop-key.least in
-    let new = met_not_below least k (from_left qs p) (sym c.is_below.ensures ∙ c.if-is_below.false) in
+    let new : met least k (from_left qs p) ≡ least = met_not_below least k (from_left qs p) (sym c.is_below.ensures ∙ c.if-is_below.false) in
     record {
-      within = omega (arith, less_deep.1, within);
+      within = no_deeper;
       least = ap (λ l. least_met (from_left qs) l rest) (sym new)
           ∙ sym (ap (λ l. least_met (from_left qs) least l) c.in-Some.ensures.steps)
           ∙ c.loop-key.invariant.least;

@@ -1,4 +1,4 @@
-use Rattle.std.proofs.Common.{map, string_bytes, sym, subst}
+use Rattle.std.proofs.Common.{map, string_bytes, subst}
 use Rattle.tera_meaning.specs.Fields.{AreRisingOf, shown_keys}
 use Rattle.tera_meaning.proofs.FieldLaws.{only_rising_texts}
 use Rattle.tera_values.proofs.fields.field_names.Goals as goal

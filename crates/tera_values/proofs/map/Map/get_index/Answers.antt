@@ -1,6 +1,5 @@
-use Rattle.std.proofs.Common.{Some, None, ◌≡◌, ◌<◌, ◌≤◌, ap, sym, ◌∙◌, subst, arith, get_or, length}
+use Rattle.std.proofs.Common.{◌≡◌, ◌<◌, ◌≤◌, ap, ◌∙◌, arith, get_or, length}
 use Rattle.std.specs.Prelude.{slice_get}
-use Rattle.tera_values.specs.Key.{key_form}
 use Rattle.tera_values.specs.Map.{keys_held}
 use Rattle.tera_values.proofs.ColumnLemmas.{pair_at, no_pair_at}
 use Rattle.tera_values.proofs.map.Map.get_index.Goals as goal
