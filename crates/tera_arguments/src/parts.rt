@@ -75,7 +75,7 @@ impl Parts for Value {
     {
         let mut made = Map::new(alloc);
         for (key, value) in pairs {
-            made.insert(key.to_key(alloc)?, value)?;
+            drop(made.insert(key.to_key(alloc)?, value)?);
         }
         Ok(Value::of_map(made))
     }
