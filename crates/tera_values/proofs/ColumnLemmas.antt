@@ -6,7 +6,8 @@ use Rattle.std.specs.List.{AllByRecursion, IsDistinct, list_any}
 use Rattle.std.specs.Map.{keys_of}
 use Rattle.std.specs.Ordering.{eq_by_cmp}
 use Rattle.indexmap.specs.IndexSet.{insert_key}
-use Rattle.tera_meaning.specs.KeyMeaning.{KeyForm}
+use Rattle.tera_meaning.specs.Form.{Form}
+use Rattle.tera_meaning.specs.Tree.{items, items_depth, members, members_depth}
 use Rattle.tera_meaning.specs.Pairs.{key_form_order, put, value_at, HasDistinctKeys}
 use Rattle.tera_values.specs.Key.{key_form}
 use Rattle.tera_values.specs.Map.{keys_tie, pairs_held, AreColumns}
@@ -19,6 +20,12 @@ no_keys = tt
 -- a key that is not there goes behind the others
 pub new_key : (ks : List Key) (k : Key) → list_any (keys_tie k) ks ≡ false → insert_key keys_tie ks k ≡ ks ++ k ∷ []
 new_key ks k e = ap (λ b. if b then ks else ks ++ k ∷ []) e
+
+-- the values are no deeper than their map
+pub column_depth : (ks : List Key) (vs : List Form) → length ks ≡ length vs → items_depth (items vs) ≤ members_depth (members (pairs_held ks vs))
+column_depth ks [] even = omega arith
+column_depth [] (v ∷ vs) even = absurd (omega arith)
+column_depth (k ∷ ks) (v ∷ vs) even = omega (arith, column_depth ks vs (omega arith))
 
 module _ {V : Type 0} where
   pub no_columns : AreColumns {V = V} [] []

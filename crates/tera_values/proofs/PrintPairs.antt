@@ -1,20 +1,11 @@
 -- Pairs are printed one after another.
-use Rattle.std.specs.Prelude.{◌≡◌, ◌≢◌, ◌&&◌, ℕ, Bool, true, false, cond, T, IsTrue, List, [], ◌∷◌, ◌++◌, codes, Some, None, refl}
-use Rattle.std.proofs.Common.{sym, ◌∙◌, ap, subst, append_assoc, inl, inr}
+use Rattle.std.specs.Prelude.{◌≡◌, ◌&&◌, ℕ, Bool, true, false, IsTrue, List, [], ◌∷◌, ◌++◌, codes, refl}
+use Rattle.std.proofs.Common.{sym, ◌∙◌, ap, subst, append_assoc}
 use Rattle.std.proofs.lemmas.Bool.{and_parts}
-use Rattle.std.specs.Cmp.{tied_itself}
-use Rattle.std.specs.FinMap.Entries.{where_key, is_sorted, below_all}
-use Rattle.std.specs.Ordering.{is_lt}
-use Rattle.std.specs.declared.cmp.Ordering.{Ordering}
-use Rattle.std.specs.declared.cmp.Ordering.TheVariants.{Less, Equal, Greater}
 use Rattle.tera_meaning.specs.Form.{Form}
 use Rattle.tera_meaning.specs.KeyMeaning.{KeyForm, key_meaning}
 use Rattle.tera_meaning.specs.Meaning.{layout}
-use Rattle.tera_meaning.specs.Pairs.{key_form_order, pairs_of}
 use Rattle.tera_meaning.specs.Printed.{printed_with, printed_members, printed_key, is_exact_key, is_exact_inside, are_exact_members}
-use Rattle.tera_values.specs.Map.{above, first_pair, is_above}
-use Rattle.tera_values.specs.MapLaws.{form_total}
-use Rattle.tera_values.specs.Placing.{In, is_less, is_true, some_same, in_below, below_less, not_back, placed_sorted, rising_is, first_part, second_part}
 use Rattle.tera_values.specs.Print.{pairs_layout, PrintsPair, PrintsPairs}
 use Rattle.tera_report.specs.Quoted.{quoted}
 

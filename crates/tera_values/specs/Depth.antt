@@ -15,11 +15,13 @@ use Rattle.tera_values.specs.declared.value.ValueInner.TheVariants.{U64, I64, U1
 use Rattle.tera_values.specs.declared.value.ValueInner.TheVariants.{Array, Bytes, Map}
 use Rattle.tera_values.specs.declared.map.Map.TheDeep.{deep-ValueInner}
 
-most_le-items_depth : (xs : List Form) → most (λ v. value_size v + 1) xs ≤ 2 * items_depth (items xs) + 1
+most_le-items_depth : (xs : List Form) → most (λ v. value_size v + 1) xs
+    ≤ 2 * items_depth (items xs) + 1
 most_le-items_depth [] = omega arith
 most_le-items_depth (x ∷ xs) = omega (arith, most_le-items_depth xs)
 
-most_le : (ks : List Key) (vs : List Form) → length ks ≡ length vs → most (λ v. value_size v + 1) vs ≤ pairs_size (pairs_held ks vs)
+most_le : (ks : List Key) (vs : List Form) → length ks ≡ length vs
+    → most (λ v. value_size v + 1) vs ≤ pairs_size (pairs_held ks vs)
 most_le ks [] e = omega arith
 most_le [] (v ∷ vs) e = absurd (omega arith)
 most_le (k ∷ ks) (v ∷ vs) e = omega (arith, most_le ks vs (omega arith))

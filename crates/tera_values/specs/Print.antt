@@ -4,16 +4,17 @@ use Rattle.std.specs.Prelude.{if◌then◌else◌}
 use Rattle.std.specs.Io.KnownBytes.{Appends}
 use Rattle.tera_meaning.specs.Form.{Form}
 use Rattle.tera_meaning.specs.KeyMeaning.{KeyMeaning, KeyForm, key_meaning}
-use Rattle.tera_meaning.specs.Meaning.{Layout, layout, layout_items, layout_members}
+use Rattle.tera_meaning.specs.Meaning.{Layout, layout}
 use Rattle.tera_meaning.specs.Printed.{printed, printed_with, printed_items, printed_members}
 use Rattle.tera_meaning.specs.Printed.{printed_key, is_exact, is_exact_key, is_exact_inside}
 use Rattle.tera_meaning.specs.Printed.{are_exact_items, are_exact_members, Prints, PrintsInside}
 use Rattle.tera_report.specs.Quoted.{quoted}
-use Rattle.tera_meaning.specs.Tree.{Items, Members, items, members}
+use Rattle.tera_meaning.specs.Tree.{Items, Members, items, members, relabeled_items}
+use Rattle.tera_meaning.specs.Tree.{relabeled_members}
 
 -- the layouts of items
 abbrev pub items_layout : List Form → Items ℤ (List ℕ) KeyMeaning
-items_layout xs = layout_items (items xs)
+items_layout xs = relabeled_items (λ n. n.value) (λ t. t.spelled) key_meaning (items xs)
 
 -- what is printed of items: the items joined by `, ` where each text that is quoted is ASCII, and
 -- else some bytes
@@ -23,7 +24,7 @@ PrintsItems xs written = IsTrue (are_exact_items (items_layout xs)) → written
 
 -- the layouts of pairs
 abbrev pub pairs_layout : List (KeyForm × Form) → Members ℤ (List ℕ) KeyMeaning
-pairs_layout ps = layout_members (members ps)
+pairs_layout ps = relabeled_members (λ n. n.value) (λ t. t.spelled) key_meaning (members ps)
 
 -- what is printed of a key that stands in a map, where a text is quoted
 abbrev pub PrintsKey : KeyMeaning → List ℕ → Type 0

@@ -151,6 +151,7 @@ impl Map {
 
 /// As std's maps show themselves, the pairs in their order.
 impl fmt::Debug for Map {
+    #[cycle(debug)]
     fn fmt<W: fmt::Write>(&self, f: &mut fmt::Formatter<W>) -> fmt::Result {
         let mut shown = f.debug_map();
         for (key, value) in self.iter() {

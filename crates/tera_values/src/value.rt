@@ -117,7 +117,7 @@ impl Value {
 
     /// A map of these pairs. Mirrors what `Value::from(Map)` makes. Takes no memory.
     pub fn of_map(pairs: Map) -> Value
-        ensures { result ≡ object (members pairs.entry) }
+        ensures { result ≡ object (members pairs) }
     {
         Value {
             inner: ValueInner::Map(pairs),

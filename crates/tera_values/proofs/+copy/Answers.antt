@@ -1,4 +1,8 @@
-use Rattle.std.proofs.Common.{arith}
+use Rattle.std.proofs.Common.{arith, ap, ◌∙◌}
+use Rattle.tera_meaning.specs.Tree.{items, items_depth, members, members_depth}
+use Rattle.tera_values.specs.Map.{keys_held, pairs_held}
+use Rattle.tera_values.proofs.ColumnLemmas.{column_depth}
+use Rattle.tera_values.proofs.CopyLemmas.{same_pairs}
 use Rattle.tera_values.proofs.PartsLaws.{depth_at}
 use Rattle.tera_values.proofs.+copy.Goals as goal
 
@@ -9,4 +13,16 @@ copy::copies-clone-requires t c =
     (omega (arith, less_deep), tt)
 
 pub map::Map::clone-copies-requires : goal.map::Map::clone-copies-requires
-map::Map::clone-copies-requires t c = ?
+map::Map::clone-copies-requires t c =
+    let deep = column_depth (keys_held c.self.inside.keys) c.self.inside.values.items c.self.invariant.even in
+    let same = ap (λ ps. members_depth (members ps)) c.self.view_is in
+    let slice = ap (λ vs. items_depth (items vs)) c.as_slice.ensures.value in
+    (omega (arith, deep, same, slice), tt)
+
+pub map::Map::clone-returns-clause-ok : goal.map::Map::clone-returns-clause-ok
+map::Map::clone-returns-clause-ok t c =
+    let made = keys_held c.in_ok-copied_keys.field-0 in
+    let values = c.in_ok-copies.ensures.ok ∙ c.as_slice.ensures.value in
+    ap (pairs_held made) values
+    ∙ same_pairs (keys_held c.self.inside.keys) made c.self.inside.values.items c.in_ok-copied_keys.ensures.ok.forms
+    ∙ c.self.view_is

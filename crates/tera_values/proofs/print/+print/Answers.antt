@@ -186,15 +186,3 @@ put_items-returns-in_err-put_inside-2 g t c =
     let failed = g.met.S.Sink.failed_early _ _ _ (later after) (g.met.S.Sink.failed_later _ _ _ bytes _ comma refused) in
     let bad = failed_of g.S.Sink.fails (PrintsItems all) _ _ _ (rest_done all after _ so_far) failed in
     search rules
-
-pub put_pairs-returns-in_default : goal.put_pairs-returns-in_default
-put_pairs-returns-in_default g t c =
-    let none : c.args.map.now ≡ [] = ? in
-    ([], (λ exact. ap (λ l. printed_members (pairs_layout l)) (sym none)), g.met.S.Sink.nothing _)
-
-pub put_pairs-put_pair-requires : goal.put_pairs-put_pair-requires
-put_pairs-put_pair-requires g t c κs within =
-    let p : KeyForm × Form = (key_form c.in-Some.first.now, c.in-Some.value.now) in
-    let h = c.in-Some.ensures in
-    let less_deep = first_depth c.args.map.now _ p ? in
-    (omega (arith, less_deep), within)

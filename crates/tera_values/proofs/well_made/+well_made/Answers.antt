@@ -6,31 +6,31 @@ use Rattle.tera_meaning.specs.WellMade.{AreWellMade, AreWellMadeMembers}
 use Rattle.tera_values.proofs.PartsLaws.{depth_at, first_depth, one_more_well_made, one_more_made, map_made}
 use Rattle.tera_meaning.specs.Form.{Form}
 use Rattle.tera_values.specs.Key.{key_form}
-use Rattle.tera_values.proofs.+well_made.Goals as goal
+use Rattle.tera_values.proofs.well_made.+well_made.Goals as goal
 
-pub well_made::items_are_well_made-is_well_made-requires : goal.well_made::items_are_well_made-is_well_made-requires
-well_made::items_are_well_made-is_well_made-requires t c =
+pub items_are_well_made-is_well_made-requires : goal.items_are_well_made-is_well_made-requires
+items_are_well_made-is_well_made-requires t c =
     let item = c.value-item in
     let less_deep = depth_at c.args.all.now c.loop-value.value-index item.result c.loop-value-test.true item.is in
     (omega (arith, less_deep), tt)
 
-pub well_made::items_are_well_made-loop-value-preserved : goal.well_made::items_are_well_made-loop-value-preserved
-well_made::items_are_well_made-loop-value-preserved t c =
+pub items_are_well_made-loop-value-preserved : goal.items_are_well_made-loop-value-preserved
+items_are_well_made-loop-value-preserved t c =
     let all = c.args.all.now in
     let l = c.loop-value in
     let item = c.value-item in
     let more = one_more_well_made all l.value-index item.result c.loop-value-test.true item.is l.invariant c.is_well_made.ensures in
     subst (λ n. AreWellMade (items (take n all))) (suc-eq-add-one l.value-index) more
 
-pub well_made::pairs_are_well_made-is_well_made-requires : goal.well_made::pairs_are_well_made-is_well_made-requires
-well_made::pairs_are_well_made-is_well_made-requires t c =
+pub pairs_are_well_made-is_well_made-requires : goal.pairs_are_well_made-is_well_made-requires
+pairs_are_well_made-is_well_made-requires t c =
     let p : KeyForm × Form = (key_form c.in-Some.key.now, c.in-Some.value.now) in
     let less_deep = first_depth c.loop-key.key-iterator c.next.new.self p c.in-Some.ensures.steps in
     let within = c.loop-key.invariant.within in
     (omega (arith, less_deep.0, within), tt)
 
-pub well_made::pairs_are_well_made-loop-key-preserved : goal.well_made::pairs_are_well_made-loop-key-preserved
-well_made::pairs_are_well_made-loop-key-preserved t c =
+pub pairs_are_well_made-loop-key-preserved : goal.pairs_are_well_made-loop-key-preserved
+pairs_are_well_made-loop-key-preserved t c =
     let p : KeyForm × Form = (key_form c.in-Some.key.now, c.in-Some.value.now) in
     let steps = c.in-Some.ensures.steps in
     let left = c.loop-key.key-iterator in
@@ -42,8 +42,8 @@ well_made::pairs_are_well_made-loop-key-preserved t c =
       within = omega (arith, less_deep.1, within);
     }
 
-pub well_made::pairs_are_well_made-returns : goal.well_made::pairs_are_well_made-returns
-well_made::pairs_are_well_made-returns t c =
+pub pairs_are_well_made-returns : goal.pairs_are_well_made-returns
+pairs_are_well_made-returns t c =
     let none = c.in-None.ensures.steps in
-    map_made c.args.all.now c.iter.ensures.distinct
+    map_made c.args.all.now c.iter-key-items.ensures.distinct
     (c.loop-key.invariant.made (subst (λ l. AreWellMadeMembers (members l)) (sym none.0) tt))
