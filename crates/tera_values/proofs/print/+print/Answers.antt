@@ -186,3 +186,55 @@ put_items-returns-in_err-put_inside-2 g t c =
     let failed = g.met.S.Sink.failed_early _ _ _ (later after) (g.met.S.Sink.failed_later _ _ _ bytes _ comma refused) in
     let bad = failed_of g.S.Sink.fails (PrintsItems all) _ _ _ (rest_done all after _ so_far) failed in
     search rules
+
+pub put_pairs-loop-key-preserved : goal.put_pairs-loop-key-preserved
+put_pairs-loop-key-preserved g t c =
+    let (done, before, took, within) = c.loop-key.invariant in
+    let (bytes, prints, put) = c.in_ok-put_pair-2.ensures in
+    let p : KeyForm × Form = (key_form c.in-Some-2.key.now, c.in-Some-2.value.now) in
+    let left = c.loop-key.key-iterator in
+    let others = c.next-in-loop-key.new.self in
+    let less_deep = first_depth left others p c.in-Some-2.ensures.steps in
+    let comma = g.met.S.Sink.joined _ done _ (codes ", ") _ took c.in_ok-put.ensures in (
+      _,
+      next_pair_done c.args.map.now left others p done bytes c.in-Some-2.ensures.steps before prints,
+      g.met.S.Sink.joined _ _ _ bytes _ comma put,
+      omega (arith, less_deep.1, within),
+    )
+
+pub put_pairs-returns-in_err-put_pair : goal.put_pairs-returns-in_err-put_pair
+put_pairs-returns-in_err-put_pair g t c =
+    let (bytes, prints, refused) = c.in_err-put_pair.ensures in
+    let p : KeyForm × Form = (key_form c.in-Some.first.now, c.in-Some.value.now) in
+    let ps = c.args.map.now in
+    let others = c.next.new.self in
+    let done = first_pair_done ps others p bytes (sym c.iter-pairs.ensures.pairs ∙ c.in-Some.ensures.steps) prints in
+    let failed = g.met.S.Sink.failed_early _ bytes _ (later_pairs others) refused in
+    let bad = failed_of g.S.Sink.fails (PrintsPairs ps) _ _ _ (rest_pairs_done ps others bytes done) failed in
+    search rules
+
+pub put_pairs-returns-in_err-put : goal.put_pairs-returns-in_err-put
+put_pairs-returns-in_err-put g t c =
+    let (done, before, took, within) = c.loop-key.invariant in
+    let p : KeyForm × Form = (key_form c.in-Some-2.key.now, c.in-Some-2.value.now) in
+    let ps = c.args.map.now in
+    let left = c.loop-key.key-iterator in
+    let others = c.next-in-loop-key.new.self in
+    let failed = g.met.S.Sink.failed_later _ done _ _ _ took (g.met.S.Sink.failed_early _ (codes ", ") _ (printed_members (pairs_layout (p ∷ others)))
+    c.in_err-put.ensures) in
+    let bad = failed_of g.S.Sink.fails (PrintsPairs ps) _ _ _ (comma_pairs_done ps left others p done c.in-Some-2.ensures.steps before) failed in
+    search rules
+
+pub put_pairs-returns-in_err-put_pair-2 : goal.put_pairs-returns-in_err-put_pair-2
+put_pairs-returns-in_err-put_pair-2 g t c =
+    let (done, before, took, within) = c.loop-key.invariant in
+    let (bytes, prints, refused) = c.in_err-put_pair-2.ensures in
+    let p : KeyForm × Form = (key_form c.in-Some-2.key.now, c.in-Some-2.value.now) in
+    let ps = c.args.map.now in
+    let left = c.loop-key.key-iterator in
+    let others = c.next-in-loop-key.new.self in
+    let comma = g.met.S.Sink.joined _ done _ (codes ", ") _ took c.in_ok-put.ensures in
+    let so_far = next_pair_done ps left others p done bytes c.in-Some-2.ensures.steps before prints in
+    let failed = g.met.S.Sink.failed_early _ _ _ (later_pairs others) (g.met.S.Sink.failed_later _ _ _ bytes _ comma refused) in
+    let bad = failed_of g.S.Sink.fails (PrintsPairs ps) _ _ _ (rest_pairs_done ps others _ so_far) failed in
+    search rules
