@@ -11,10 +11,10 @@ ghost use Rattle.tera_values.specs.Key.{key_form};
 
 use crate::copy::copies;
 use crate::{Key, Value};
-use indexmap::IndexSet;
+use indexmap::{IndexSet, set};
 use std::alloc::{AllocError, Global};
 use std::marker::Model;
-use std::{fmt, mem, slice};
+use std::{fmt, mem, slice, vec};
 use tera_report::TeraResult;
 
 /// The pairs of a map, in the order in which their keys came. Mirrors `tera::value::Map`.
@@ -296,6 +296,78 @@ impl<'a> Iterator for Pairs<'a> {
     ghost remaining = { item_count (λ s. s) };
 
     fn next(&mut self) -> Option<(&'a Key<'static>, &'a Value)> {
+        let key = self.keys.next()?;
+        let value = self.values.next()?;
+        Some((key, value))
+    }
+}
+
+/// The pairs, given away one after another in their order. No two keys are equal. Takes no memory.
+impl IntoIterator for Map {
+    ghost use Rattle.std.specs.Prelude.{◌≡◌};
+    ghost use Rattle.tera_meaning.specs.Pairs.{HasDistinctKeys, key_form_order};
+
+    type Item = (Key<'static>, Value);
+
+    type IntoIter = OwnPairs;
+
+    ghost into_iter_gives = { λ m r. (r ≡ m) × HasDistinctKeys key_form_order m };
+
+    fn into_iter(self) -> OwnPairs {
+        let Map { keys, values } = self;
+        let keys = own_keys(*values.allocator(), keys);
+        OwnPairs {
+            keys: keys.into_iter(),
+            values: values.into_iter(),
+        }
+    }
+}
+
+// The keys as a set, in their order.
+#[tactic(auto, using(crate::proofs::ColumnLemmas::no_keys))]
+fn own_keys(alloc: Global, keys: Option<Box<IndexSet<Key<'static>>>>) -> IndexSet<Key<'static>>
+    ensures { result.keys ≡ keys_held keys.entry }
+{
+    match keys {
+        Some(held) => Box::into_inner(held),
+        None => IndexSet::new(alloc),
+    }
+}
+
+/// The pairs of a map that are left of a walk that gives them away.
+#[derive(Drop)]
+pub struct OwnPairs {
+    keys: set::IntoIter<Key<'static>>,
+    values: vec::IntoIter<Value>,
+}
+
+impl Model for OwnPairs {
+    ghost use Rattle.std.specs.Prelude.{List};
+    ghost use Rattle.std.specs.Vec.Iter.{into_iter_items};
+    ghost use Rattle.tera_meaning.specs.Form.{Form};
+    ghost use Rattle.tera_meaning.specs.KeyMeaning.{KeyForm};
+    ghost use Rattle.tera_values.specs.Map.{coded_pairs, pairs_held, AreColumns};
+
+    ghost Value = { List (KeyForm × Form) };
+
+    ghost coded = { coded_pairs };
+
+    ghost view = { λ p. pairs_held p.keys (into_iter_items p.values) };
+
+    ghost invariant = { λ p. AreColumns p.keys (into_iter_items p.values) };
+}
+
+impl Iterator for OwnPairs {
+    ghost use Rattle.std.specs.Iterator.{YieldsFirstBy, item_count};
+    ghost use Rattle.tera_values.specs.Key.{key_form};
+
+    type Item = (Key<'static>, Value);
+
+    ghost next_gives = { YieldsFirstBy (λ p. (key_form p.0, p.1)) (λ s. s) };
+
+    ghost remaining = { item_count (λ s. s) };
+
+    fn next(&mut self) -> Option<(Key<'static>, Value)> {
         let key = self.keys.next()?;
         let value = self.values.next()?;
         Some((key, value))
