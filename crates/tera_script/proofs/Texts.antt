@@ -179,8 +179,8 @@ letter_next {rest} {after} {byte} e ends unclosed =
     let run : IsNoRun (byte ∷ after) = subst IsNoRun e ends in let is : byte ≡ 92 = omega arith in rw (e, is) refl
 
 -- the number of an escape's digits fits 32 bits
-pub short_power : (place : ℕ) → (16 ^ place ≡ 16 ^ place) × (place ≤ 5 → 16 ^ place ≤ 16 ^ 5)
-short_power place = (refl, λ short. pow-le-pow_right {n = 16} (omega arith) short)
+pub powers : (place : ℕ) → (16 ^ place ≡ 16 ^ place) × (place ≤ 5 → 16 ^ place ≤ 16 ^ 5)
+powers place = (refl, λ short. pow-le-pow_right {n = 16} (omega arith) short)
 
 -- what is decoded, and then what the rest gives, is what all bytes give
 module _ (decoded rest bytes : List ℕ) (read : behind decoded (text_from rest at_token) ≡ text_from bytes at_token) where

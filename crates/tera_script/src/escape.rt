@@ -29,11 +29,7 @@ pub(crate) fn take_escape(bytes: &[u8]) -> Option<(char, &[u8])>
 
 /// The character whose number stands in braces at the front of the bytes, by one to six hexadecimal
 /// digits, and the bytes after the braces. `None` where they begin with no such number.
-#[tactic(
-    auto,
-    using(crate::proofs::Texts::short_power),
-    unfolding(crate::specs::TextParts::text_from)
-)]
+#[tactic(auto, using(crate::proofs::Texts::powers), unfolding(crate::specs::TextParts::text_from))]
 fn take_number(bytes: &[u8]) -> Option<(char, &[u8])>
     ensures found { MatchOption result (text_from bytes.now at_brace ≡ None) (λ found.
         text_from bytes.now at_brace
