@@ -4,6 +4,7 @@ use Rattle.std.proofs.Common.{Option, Some, None, refl, sym, ap, ◌∙◌, subs
 use Rattle.std.specs.Prelude.{flat_map, encode_utf8, IsUtf8}
 use Rattle.std.specs.Char.{digit_value, IsScalar}
 use Rattle.std.specs.List.{AllByRecursion}
+use Rattle.std.specs.Option.{option_and_then}
 use Rattle.std.specs.Str.Parse.{AllDigits, digits_value, digits_value_after}
 use Rattle.std.proofs.Math.Nat.{pow-le-pow_right}
 use Rattle.std.proofs.lemmas.Bool.Decides.{nat_tests}
@@ -12,7 +13,8 @@ use Rattle.std.proofs.lemmas.List.{append_cancel_right}
 use Rattle.std.proofs.lemmas.Option.{some_pair_parts}
 use Rattle.tera_script.specs.Text.{Token, itself, quote, backslash, line_feed, carriage_return, tab, null, character, spelling, decoding, IsToken, SpellsText}
 use Rattle.tera_script.specs.Text.{BeginsWithText}
-use Rattle.tera_script.specs.TextParts.{IsPlain, IsNoRun, at_token, at_letter, at_brace, at_digit, letter_token, text_from}
+use Rattle.tera_script.specs.TextParts.{IsPlain, IsNoRun, BeginsWithRun, Place, at_token, at_letter, at_brace, at_digit, letter_token}
+use Rattle.tera_script.specs.TextParts.{text_from, escape_at}
 use Rattle.tera_script.specs.Readers.{behind}
 use Rattle.tera_script.proofs.Fronts.{behind_nothing, behind_both, behind_found}
 use Rattle.tera_script.proofs.Utf8.{utf8_tokens}
@@ -156,27 +158,49 @@ text_is_utf8 inner text p u = subst IsUtf8 (sym p.3) (utf8_tokens [] p.0 p.1 (su
 
 -- ---- the steps of the code
 
--- bytes that each stand for themselves
-run_read : (n : ℕ) (bytes : List ℕ) → n ≤ length bytes → ((k : ℕ) → k < n → IsPlain (get_or bytes k 0))
-    → text_from bytes at_token ≡ behind (take n bytes) (text_from (drop n bytes) at_token)
-unfolding text_from
-run_read zero bytes within plain = sym (behind_nothing (text_from bytes at_token))
-run_read (suc n) [] within plain = absurd (omega (arith, within))
-run_read (suc n) (b ∷ bytes) within plain =
-    let first = plain 0 (omega arith) in
-    let more = run_read n bytes (omega (arith, within)) (λ k h. plain (suc k) (suc-le-suc h)) in
-    grind (arith, nat_tests, more, behind_both)
+-- a run
+pub run_found : (bytes : List ℕ) (n : ℕ) → n ≤ length bytes → ((k : ℕ) → k < n → IsPlain (get_or bytes k 0))
+    → (n < length bytes → (get_or bytes n 0 ≡ 34) ⊎ (get_or bytes n 0 ≡ 92)) → BeginsWithRun bytes (take n bytes) (drop n bytes)
+run_found [] zero within plain ends = (tt, refl, tt)
+run_found [] (suc n) within plain ends = absurd (omega (arith, within))
+run_found (b ∷ bytes) zero within plain ends = (tt, refl, ends (omega arith))
+run_found (b ∷ bytes) (suc n) within plain ends =
+    let more = run_found bytes n (omega (arith, within)) (λ k h. plain (suc k) (suc-le-suc h)) (λ h. ends (suc-le-suc h)) in
+    ((plain 0 (omega arith), more.0), ap (λ xs. b ∷ xs) more.1, more.2)
 
-pub run_taken : (decoded bytes : List ℕ) (n : ℕ) → n ≤ length bytes → ((k : ℕ) → k < n → IsPlain (get_or bytes k 0))
-    → behind (decoded ++ take n bytes) (text_from (drop n bytes) at_token) ≡ behind decoded (text_from bytes at_token)
-run_taken decoded bytes n within plain =
-    sym (behind_both decoded (take n bytes) (text_from (drop n bytes) at_token)) ∙ ap (behind decoded) (sym (run_read n bytes within plain))
+run_read : (run bytes : List ℕ) → AllByRecursion IsPlain run → text_from (run ++ bytes) at_token ≡ behind run (text_from bytes at_token)
+unfolding text_from
+run_read [] bytes plain = sym (behind_nothing (text_from bytes at_token))
+run_read (b ∷ run) bytes plain = let first = plain.0 in let more = run_read run bytes plain.1 in grind (arith, nat_tests, more, behind_both)
+
+pub run_taken : (decoded longer bytes run rest : List ℕ) → BeginsWithRun bytes run rest → longer ≡ decoded ++ run
+    → behind longer (text_from rest at_token) ≡ behind decoded (text_from bytes at_token)
+run_taken decoded longer bytes run rest r is =
+    rw (is, r.1) (sym (behind_both decoded run (text_from rest at_token)) ∙ ap (behind decoded) (sym (run_read run rest r.0)))
+
+-- an escape, and then what stands behind it
+abbrev IsInside : Place → Type 0
+IsInside at_token = ⊥
+IsInside place = Unit {0}
+
+abbrev pub then_text : Option (List ℕ × List ℕ) → Option (List ℕ × List ℕ)
+then_text read = option_and_then (λ found. behind found.0 (text_from found.1 at_token)) read
+
+escapes : (bytes : List ℕ) (place : Place) → IsInside place → text_from bytes place ≡ then_text (escape_at bytes place)
+unfolding text_from escape_at
+escapes [] place inside = refl
+escapes (b ∷ bytes) at_token inside = absurd inside
+escapes (b ∷ bytes) at_letter inside = grind (arith, nat_tests, escapes bytes at_brace tt)
+escapes (b ∷ bytes) at_brace inside = grind (arith, nat_tests, escapes bytes (at_digit 0 0) tt)
+escapes (b ∷ bytes) (at_digit n count) inside = grind (arith, nat_tests, escapes bytes (at_digit (n * 16 + digit_value b) (count + 1)) tt)
 
 -- what stands behind a run, if it is no closing quote, is a backslash
-pub letter_next : {rest after : List ℕ} {byte : ℕ} → rest ≡ byte ∷ after → IsNoRun rest → byte ≢ 34 → text_from rest at_token ≡ text_from after at_letter
+pub letter_next : {rest after : List ℕ} {byte : ℕ} → rest ≡ byte ∷ after → IsNoRun rest → byte ≢ 34
+    → text_from rest at_token ≡ then_text (escape_at after at_letter)
 unfolding text_from
 letter_next {rest} {after} {byte} e ends unclosed =
-    let run : IsNoRun (byte ∷ after) = subst IsNoRun e ends in let is : byte ≡ 92 = omega arith in rw (e, is) refl
+    let run : IsNoRun (byte ∷ after) = subst IsNoRun e ends in let is : byte ≡ 92 = omega arith in
+    rw (e, is) (escapes after at_letter tt)
 
 -- the number of an escape's digits fits 32 bits
 pub powers : (place : ℕ) → (16 ^ place ≡ 16 ^ place) × (place ≤ 5 → 16 ^ place ≤ 16 ^ 5)
@@ -192,7 +216,8 @@ module _ (decoded rest bytes : List ℕ) (read : behind decoded (text_from rest 
   closed {after} {byte} e is = text_found bytes decoded after (sym read ∙ rw (e, is, append-nil decoded) refl)
 
   pub escaped : (next : List ℕ) (c : ℕ) {after : List ℕ} {byte : ℕ} → rest ≡ byte ∷ after → IsNoRun rest → byte ≢ 34
-      → text_from after at_letter ≡ behind (encode_utf8 c) (text_from next at_token)
+      → Some (encode_utf8 c, next) ≡ escape_at after at_letter
       → behind (decoded ++ encode_utf8 c) (text_from next at_token) ≡ text_from bytes at_token
   escaped next c e ends unclosed found =
-      sym (behind_both decoded (encode_utf8 c) (text_from next at_token)) ∙ ap (behind decoded) (sym (letter_next e ends unclosed ∙ found)) ∙ read
+      sym (behind_both decoded (encode_utf8 c) (text_from next at_token))
+      ∙ ap (behind decoded) (sym (letter_next e ends unclosed ∙ ap then_text (sym found))) ∙ read

@@ -1,9 +1,12 @@
 -- What the readers of a text give, byte by byte: what the bytes stand for up to the closing quote,
 -- and what stands behind that quote.
 use Rattle.std.specs.Prelude.{◌≡◌, ◌≢◌, ℕ, ◌+◌, ◌*◌, ◌⊎◌, cond, ◌&&◌, ◌==◌, nat_lt, List, []}
-use Rattle.std.specs.Prelude.{◌∷◌, Option, Some, None, encode_utf8}
+use Rattle.std.specs.Prelude.{◌∷◌, ◌++◌, Option, Some, None, encode_utf8}
 use lib.Utf8.{scalar}
+use Rattle.std.specs.Borrow.{Bor}
 use Rattle.std.specs.Char.{digit_value}
+use Rattle.std.specs.List.{AllByRecursion}
+use Rattle.std.specs.Option.{option_map}
 use Rattle.tera_script.specs.Readers.{behind}
 use Rattle.tera_script.specs.Text.{Token, quote, backslash, line_feed, carriage_return, tab, null}
 use Rattle.tera_script.specs.Text.{decoding}
@@ -16,6 +19,10 @@ IsPlain byte = (byte ≢ 34) × (byte ≢ 92)
 abbrev pub IsNoRun : List ℕ → Type 0
 IsNoRun [] = Unit {0}
 IsNoRun (byte ∷ bytes) = (byte ≡ 34) ⊎ (byte ≡ 92)
+
+-- run stands for itself, and no byte of the rest goes on with it
+abbrev pub BeginsWithRun : List ℕ → List ℕ → List ℕ → Type 0
+BeginsWithRun bytes run rest = AllByRecursion IsPlain run × (bytes ≡ run ++ rest) × IsNoRun rest
 
 -- where a reader stands: before a token, behind a backslash, behind the u of an escape, and behind
 -- its brace and some digits: the number of these, and how many they are
@@ -50,3 +57,19 @@ text_from (b ∷ bytes) (at_digit n count) =
     (cond (scalar n) (behind (encode_utf8 n) (text_from bytes at_token)) None)
     (cond (nat_lt (digit_value b) 16 && nat_lt count 6)
     (text_from bytes (at_digit (n * 16 + digit_value b) (count + 1))) None)
+
+-- what an escape stands for, from a place behind its backslash on, and the bytes behind the escape
+unfoldable pub escape_at : List ℕ → Place → Option (List ℕ × List ℕ)
+escape_at [] place = None
+escape_at (b ∷ bytes) at_token = None
+escape_at (b ∷ bytes) at_letter = cond (b == 117) (escape_at bytes at_brace)
+    (option_map (λ token. (decoding token, bytes)) (letter_token b))
+escape_at (b ∷ bytes) at_brace = cond (b == 123) (escape_at bytes (at_digit 0 0)) None
+escape_at (b ∷ bytes) (at_digit n count) =
+    cond ((b == 125) && nat_lt 0 count) (cond (scalar n) (Some (encode_utf8 n, bytes)) None)
+    (cond (nat_lt (digit_value b) 16 && nat_lt count 6)
+    (escape_at bytes (at_digit (n * 16 + digit_value b) (count + 1))) None)
+
+-- a character and a slice, by what they hold
+abbrev pub char_rest : ℕ × Bor (List ℕ) → List ℕ × List ℕ
+char_rest pair = (encode_utf8 pair.0, pair.1.now)

@@ -1,17 +1,15 @@
 //! Escapes inside the texts of a script.
 #![tactic(auto)]
 
-ghost use Rattle.std.specs.Prelude.{◌≡◌, ◌<◌, length, None, IfSome, MatchOption, encode_utf8};
-ghost use Rattle.tera_script.specs.TextParts.{text_from, at_token, at_letter, at_brace};
-ghost use Rattle.tera_script.specs.Readers.{behind};
+ghost use Rattle.std.specs.Prelude.{◌≡◌, ◌<◌, length, IfSome};
+ghost use Rattle.std.specs.Option.{option_map};
+ghost use Rattle.tera_script.specs.TextParts.{escape_at, at_letter, at_brace, char_rest};
 
 /// The character of an escape, and the bytes after the escape. The bytes begin behind its
 /// backslash. `None` where they begin with no escape.
-#[tactic(auto, using(crate::proofs::Fronts::ascii), unfolding(crate::specs::TextParts::text_from))]
+#[tactic(auto, using(crate::proofs::Fronts::ascii), unfolding(crate::specs::TextParts::escape_at))]
 pub(crate) fn take_escape(bytes: &[u8]) -> Option<(char, &[u8])>
-    ensures found { MatchOption result (text_from bytes.now at_letter ≡ None) (λ found.
-        text_from bytes.now at_letter
-        ≡ behind (encode_utf8 found.0) (text_from found.1.now at_token)) }
+    ensures escape { option_map char_rest result ≡ escape_at bytes.now at_letter }
     ensures shorter { IfSome result (λ found. length found.1.now < length bytes.now) }
 {
     let (letter, rest) = bytes.split_first()?;
@@ -29,11 +27,9 @@ pub(crate) fn take_escape(bytes: &[u8]) -> Option<(char, &[u8])>
 
 /// The character whose number stands in braces at the front of the bytes, by one to six hexadecimal
 /// digits, and the bytes after the braces. `None` where they begin with no such number.
-#[tactic(auto, using(crate::proofs::Texts::powers), unfolding(crate::specs::TextParts::text_from))]
+#[tactic(auto, using(crate::proofs::Texts::powers), unfolding(crate::specs::TextParts::escape_at))]
 fn take_number(bytes: &[u8]) -> Option<(char, &[u8])>
-    ensures found { MatchOption result (text_from bytes.now at_brace ≡ None) (λ found.
-        text_from bytes.now at_brace
-        ≡ behind (encode_utf8 found.0) (text_from found.1.now at_token)) }
+    ensures escape { option_map char_rest result ≡ escape_at bytes.now at_brace }
     ensures shorter { IfSome result (λ found. length found.1.now < length bytes.now) }
 {
     let (brace, digits) = bytes.split_first()?;

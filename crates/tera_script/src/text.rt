@@ -1,10 +1,9 @@
 //! The texts of a script.
 
-ghost use Rattle.std.specs.Prelude.{◌≡◌, ℕ, List, IfOk, MatchOption, ◌<◌, ◌≤◌, ◌⊎◌, IsUtf8};
+ghost use Rattle.std.specs.Prelude.{◌≡◌, ℕ, List, ◌++◌, IfOk, MatchOption, ◌<◌, ◌≤◌, ◌⊎◌, IsUtf8};
 ghost use Rattle.std.specs.Prelude.{string_bytes, length, slice_index};
 ghost use Rattle.tera_script.specs.Text.{BeginsWithText};
-ghost use Rattle.tera_script.specs.TextParts.{IsPlain, IsNoRun, text_from, at_token};
-ghost use Rattle.tera_script.specs.Readers.{behind};
+ghost use Rattle.tera_script.specs.TextParts.{IsPlain, BeginsWithRun};
 
 use crate::escape::take_escape;
 use bstr::ByteSlice;
@@ -63,9 +62,8 @@ fn decode_text(alloc: Global, bytes: &[u8]) -> Result<Option<(Vec<u8>, usize)>, 
 
 /// Adds the bytes at the front that stand for themselves, and answers those that follow them.
 fn take_run<'a>(decoded: &mut Vec<u8>, bytes: &'a [u8]) -> Result<&'a [u8], AllocError>
-    ensures read { IfOk result (λ rest. behind decoded.new.items (text_from rest.now at_token)
-        ≡ behind decoded.old.items (text_from bytes.now at_token)) }
-    ensures ends { IfOk result (λ rest. IsNoRun rest.now) }
+    ensures run { IfOk result (λ rest. (run : List ℕ) × BeginsWithRun bytes.now run rest.now
+        × (decoded.new.items ≡ decoded.old.items ++ run)) }
     ensures shorter { IfOk result (λ rest. length rest.now ≤ length bytes.now) }
 {
     let (run, rest) = bytes.split_at(run_length(bytes));
