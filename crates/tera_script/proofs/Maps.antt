@@ -16,7 +16,7 @@ use Rattle.tera_script.proofs.Fronts.{tail, bracket_or_comma}
 use Rattle.tera_script.proofs.Literals.{EndsPair, pairs_closed, only_at, only_pair, key_literal, key_ends, only_key}
 use Rattle.tera_script.proofs.Openings.{literal_utf8}
 use Rattle.tera_script.proofs.Series.{ArePartsOf, deepest, IsSoFar, IsNowhere, IsWhole, past_utf8, none_so_far, no_part, no_mark, last_part, one_more}
-use Rattle.tera_script.proofs.Utf8Texts.{after_byte}
+use Rattle.tera_script.proofs.Utf8.{after_byte}
 use Rattle.tera_values.specs.Key.{key_value}
 
 -- ---- one pair

@@ -1,14 +1,20 @@
--- A text that UTF-8 spells is UTF-8.
+-- UTF-8: where it may be cut, and that what it spells is UTF-8.
 use Rattle.std.proofs.Common.{◌≡◌, ℕ, ◌+◌, ◌<◌, List, [], ◌∷◌, ◌++◌, length, get_or, drop, refl, sym, ap, ◌∙◌, arith, append_assoc, length-append, add-zero}
-use Rattle.std.proofs.Common.{get_or-append-add, take_at, drop_at}
+use Rattle.std.proofs.Common.{get_or-append-add, take_at, drop_at, Bool, true, nat_lt, subst}
 use Rattle.std.specs.Prelude.{flat_map, encode_utf8, IsUtf8}
-use Rattle.std.specs.List.{AllByRecursion}
+use Rattle.std.specs.List.{AllByRecursion, list_all}
 use Rattle.std.specs.Str.Parse.{AllDigits, digits_value}
 use Rattle.std.proofs.lemmas.Str.{IsUtf8-append, IsUtf8-encode, IsUtf8-take, IsUtf8-drop, IsUtf8-from_ascii, IsCharBoundary-before_ascii}
 use Rattle.std.proofs.lemmas.Str.{IsCharBoundary-after_ascii}
 use Rattle.std.proofs.lemmas.Str.Ascii.{IsAscii-nil, IsAscii-cons}
 use Rattle.std.proofs.lemmas.Grind.{common_steps}
 use Rattle.tera_script.specs.Text.{Token, itself, quote, backslash, line_feed, carriage_return, tab, null, character, spelling, decoding, IsToken}
+use Rattle.std.specs.Str.{IsUtf8, IsAscii}
+use Rattle.std.proofs.lemmas.Bool.Decides.{nat_tests}
+use Rattle.tera_script.specs.Line.{SpellsOperand}
+use Rattle.tera_script.specs.Word.{is_blank, AreBlanks, is_name_byte, IsName}
+use Rattle.tera_script.specs.Readers.{is_word_byte}
+use Rattle.tera_script.proofs.Fronts.{both_pass}
 
 -- the byte behind a front
 pub byte_at : (xs zs : List ℕ) (b : ℕ) → get_or (xs ++ (b ∷ zs)) (length xs) 0 ≡ b
@@ -45,13 +51,6 @@ pub utf8_tokens : (xs : List ℕ) (ps : List Token) → AllByRecursion IsToken p
 utf8_tokens xs [] h u = u
 utf8_tokens xs (itself b ∷ ps) h u = rw (← append_assoc xs (b ∷ []) (flat_map decoding ps))
     (utf8_tokens (xs ++ (b ∷ [])) ps h.1 (rw (append_assoc xs (b ∷ []) (flat_map spelling ps)) u))
-utf8_tokens xs (quote ∷ ps) h u = escaped xs (flat_map spelling ps) (flat_map decoding ps) 34 34 (omega arith) (omega arith) (utf8_tokens [] ps h.1) u
-utf8_tokens xs (backslash ∷ ps) h u = escaped xs (flat_map spelling ps) (flat_map decoding ps) 92 92 (omega arith) (omega arith) (utf8_tokens [] ps h.1) u
-utf8_tokens xs (line_feed ∷ ps) h u = escaped xs (flat_map spelling ps) (flat_map decoding ps) 110 10 (omega arith) (omega arith) (utf8_tokens [] ps h.1) u
-utf8_tokens xs (carriage_return ∷ ps) h u = escaped xs (flat_map spelling ps) (flat_map decoding ps) 114 13 (omega arith) (omega arith) (utf8_tokens [] ps h.1)
-    u
-utf8_tokens xs (tab ∷ ps) h u = escaped xs (flat_map spelling ps) (flat_map decoding ps) 116 9 (omega arith) (omega arith) (utf8_tokens [] ps h.1) u
-utf8_tokens xs (null ∷ ps) h u = escaped xs (flat_map spelling ps) (flat_map decoding ps) 48 0 (omega arith) (omega arith) (utf8_tokens [] ps h.1) u
 utf8_tokens xs (character digits ∷ ps) h u =
     let cut = around_byte xs (117 ∷ 123 ∷ ((digits ++ (125 ∷ [])) ++ flat_map spelling ps)) 92 (omega arith) u in
     let inside = after_byte ((digits ++ (125 ∷ [])) ++ flat_map spelling ps) 123 (omega arith)
@@ -60,3 +59,43 @@ utf8_tokens xs (character digits ∷ ps) h u =
     IsUtf8-append xs (encode_utf8 (digits_value 16 digits) ++ flat_map decoding ps) cut.0
     (IsUtf8-append (encode_utf8 (digits_value 16 digits)) (flat_map decoding ps) (IsUtf8-encode (digits_value 16 digits) h.0.3)
     (utf8_tokens [] ps h.1 rest))
+utf8_tokens xs (p ∷ ps) h u = escaped xs (flat_map spelling ps) (flat_map decoding ps) _ _ (omega arith) (omega arith) (utf8_tokens [] ps h.1) u
+
+module _ (p : ℕ → Bool) (ascii : (b : ℕ) → p b ≡ true → b < 128) where
+  utf8_past : (xs ys : List ℕ) → list_all p xs ≡ true → IsUtf8 (xs ++ ys) → IsUtf8 ys
+  utf8_past [] ys h u = u
+  utf8_past (b ∷ xs) ys h u = let e = both_pass p (p b) (list_all p xs) h in utf8_past xs ys e.1 (after_byte (xs ++ ys) b (ascii b e.0) u)
+
+  ascii_from : (xs : List ℕ) → list_all p xs ≡ true → IsAscii xs
+  ascii_from [] h = IsAscii-nil
+  ascii_from (b ∷ xs) h = let e = both_pass p (p b) (list_all p xs) h in IsAscii-cons b xs (ascii b e.0) (ascii_from xs e.1)
+
+name_byte_is_ascii : (b : ℕ) → is_name_byte b ≡ true → b < 128
+name_byte_is_ascii b h = grind (arith, nat_tests)
+
+pub utf8_past_blanks : (xs ys : List ℕ) → AreBlanks xs → IsUtf8 (xs ++ ys) → IsUtf8 ys
+utf8_past_blanks = utf8_past is_blank (λ b h. grind (arith, nat_tests))
+
+pub utf8_past_word : (xs ys : List ℕ) → list_all is_word_byte xs ≡ true → IsUtf8 (xs ++ ys) → IsUtf8 ys
+utf8_past_word = utf8_past is_word_byte (λ b h. grind (arith, nat_tests))
+
+pub utf8_past_name : (name rest : List ℕ) → IsName name → IsUtf8 (name ++ rest) → IsUtf8 rest
+utf8_past_name [] rest n u = absurd n
+utf8_past_name (b ∷ name) rest n u = utf8_past is_name_byte name_byte_is_ascii name rest n.1 (after_byte (name ++ rest) b (grind (arith, nat_tests, n.0)) u)
+
+pub utf8_past_operand : (operand name rest : List ℕ) → SpellsOperand operand name → IsUtf8 (operand ++ rest) → IsUtf8 rest
+utf8_past_operand operand name rest h u = utf8_past_name name rest h.2
+    (utf8_past_blanks h.0 (name ++ rest) h.1.1 (subst IsUtf8 (ap (λ xs. xs ++ rest) h.3 ∙ append_assoc h.0 name rest) u))
+
+pub ruleset ascii_texts = (IsUtf8-from_ascii)
+
+pub name_utf8 : (name : List ℕ) → IsName name → IsUtf8 name
+name_utf8 [] n = absurd n
+name_utf8 (b ∷ name) n = IsUtf8-from_ascii (b ∷ name) (IsAscii-cons b name (grind (arith, nat_tests, n.0))
+    (ascii_from is_name_byte name_byte_is_ascii name n.1))
+
+abbrev pub all_ascii : List ℕ → Bool
+all_ascii = list_all (λ b. nat_lt b 128)
+
+pub ascii_utf8 : (xs : List ℕ) → all_ascii xs ≡ true → IsUtf8 xs
+ascii_utf8 xs h = IsUtf8-from_ascii xs (ascii_from (λ b. nat_lt b 128) (λ b h. grind (arith, nat_tests, h)) xs h)
