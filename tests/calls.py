@@ -220,7 +220,7 @@ def given(count, text, names):
     yield Row("BTreeMap::to_value", f"ok map {pairs(entries)}")
     yield Row("FunctionResult::into_result", texts)
     yield Row("Result::into_result", texts)
-    yield Row("Result::into_result of an error", f"error: {text}", takes=False)
+    yield Row("Result::into_result of an error", f"error: {text}")
     for source in ("String::to_key", "CowStr::to_key", "CowStr::to_key of its own"):
         yield Row(source, ok(f"String({quoted(text)})"))
 
