@@ -1,7 +1,8 @@
 #!/usr/bin/env python3
 """Every line of the language on operands of no part, one part and 1,000 parts, with ample memory.
 
-`python3 tests/ample.py PROGRAM`: the program answers as tests/second.py does, and no answer is want of memory.
+`python3 tests/ample.py PROGRAM`: the program answers as tests/second.py does, and no answer is want of memory. The same
+lines go through `run` in tests/hostile.py.
 """
 import subprocess
 import sys
@@ -27,24 +28,30 @@ def literals(count):
     }
 
 
-def asked(name, others):
-    """Each line of a name, and each of two with the others."""
+def asked(name, others, numbers):
+    """Each line of a name, and each of two with the others; what is found with a number, or the name itself, is kept too."""
     yield from (f"{verb} {name}" for verb in "has get len truthy fields walk kind is_safe print escape negate reverse".split())
     yield from (f"{verb} {name} -> kept" for verb in ("get", "reverse", "negate", "mark_safe"))
     yield from (f"read {kind} {name}{into}" for kind in TYPES for into in ("", " -> kept"))
-    yield from (f"slice {name} {bounds} -> kept" for bounds in ("_ _ _", "_ _ -1", "1 -1 2"))
+    yield from (f"slice {name} {bounds}{into}" for bounds in ("_ _ _", "_ _ -1", "1 -1 2") for into in ("", " -> kept"))
     for text in ("", "k0999", "999.1", "0", "t0"):
-        yield from (f'path {name} "{text}" -> kept', f'attr {name} "{text}" -> kept')
+        yield from (f'{verb} {name} "{text}"{into}' for verb in ("path", "attr") for into in ("", " -> kept"))
     for other in others:
         for verb in "eq cmp try_cmp contains item add sub mul rem floor_div pow".split():
             yield f"{verb} {name} {other}"
+    for other in (name, *numbers):
+        yield from (f"{verb} {name} {other} -> kept" for verb in "item add sub mul rem floor_div pow".split())
 
 
 def script():
     names = {f"{kind}{count}": literal for count in COUNTS for kind, literal in literals(count).items()}
     yield from (f"set {name} {literal}" for name, literal in names.items())
+    numbers = [name for name in names if name.startswith("number")]
     for name in names:
-        yield from asked(name, names)
+        for line in asked(name, names, numbers):
+            yield line
+            if line.endswith(" -> kept"):
+                yield from ("kind kept", "len kept", "is_safe kept")
         yield from (f"mark_safe {name}", f"is_safe {name}")
     for count in COUNTS:
         yield f"extend {literals(count)['map']}"

@@ -1,5 +1,5 @@
 -- The text of bytes is that of its chunks in turn.
-use Rattle.std.proofs.Common.{◌≡◌, ℕ, ◌<◌, List, [], ◌∷◌, ◌++◌, length, drop, IsUtf8, refl, sym, ap, subst, ◌∙◌, arith, append_assoc, append-nil, drop_at, None}
+use Rattle.std.proofs.Common.{◌≡◌, ℕ, ◌<◌, List, [], ◌∷◌, ◌++◌, length, drop, IsUtf8, refl, sym, ap, subst, ◌∙◌, arith, append-nil, drop_at, None}
 use Rattle.std.proofs.lemmas.Str.{utf8_lossy_chunk, utf8_lossy-IsUtf8, utf8_lossy_empty, utf8_valid_len-IsValidUpTo}
 use Rattle.std.specs.Str.{IsValidUpTo}
 use Rattle.std.specs.Str.Lossy.{utf8_lossy, utf8_valid_len, utf8_invalid_len, replacement_bytes}

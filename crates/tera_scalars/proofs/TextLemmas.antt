@@ -1,10 +1,10 @@
 -- Walks over the characters of a text, from either end.
-use Rattle.std.specs.Prelude.{◌≡◌, ◌≢◌, ◌⊎◌, ◌<◌, ◌≤◌, ◌+◌, ◌-◌, ◌^◌, min, Bool, true, false, ℕ, zero, suc, ℤ, pos, negsuc, int_lt, List, [], ◌∷◌, ◌++◌}
-use Rattle.std.specs.Prelude.{reverse, length, take, drop, slice_get, Option, Some, Result, Ok, Err, IfOk}
+use Rattle.std.specs.Prelude.{◌≡◌, ◌⊎◌, ◌<◌, ◌≤◌, ◌+◌, ◌-◌, ◌^◌, min, Bool, true, false, ℕ, zero, suc, ℤ, pos, negsuc, int_lt, List, [], ◌∷◌, ◌++◌}
+use Rattle.std.specs.Prelude.{reverse, length, take, drop, slice_get, Some}
 use Rattle.std.proofs.Common.{refl, sym, ap, ap₂, ◌∙◌, subst, arith, inl, inr, ltb-true, append_assoc, append-nil}
 use Rattle.std.proofs.lemmas.Bool.{cases_lt}
-use Rattle.std.proofs.lemmas.List.{reverse-append, reverse-reverse, length-reverse, length-take, length-drop, drop-drop, take-append-drop, take_at, drop_at}
-use Rattle.std.proofs.lemmas.List.{take_all, drop_all, take_min, drop-take, length-append}
+use Rattle.std.proofs.lemmas.List.{reverse-append, length-reverse, length-take, length-drop, drop-drop, take-append-drop, take_at, drop_at}
+use Rattle.std.proofs.lemmas.List.{drop_all, take_min, drop-take, length-append}
 use Rattle.std.proofs.lemmas.Str.{encodes-append, encodes-chars, chars-append, chars-IsAscii, IsUtf8-take, IsUtf8-from_ascii, IsCharBoundary-from_drop}
 use Rattle.std.proofs.lemmas.Str.{IsCharBoundary-at_seam}
 use Rattle.std.proofs.lemmas.Str.Ascii.{IsAscii-cons, IsAscii-nil}

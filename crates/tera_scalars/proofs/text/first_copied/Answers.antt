@@ -1,4 +1,4 @@
-use Rattle.std.proofs.Common.{◌≡◌, ℕ, List, IfOk, subst, ◌∙◌, arith}
+use Rattle.std.proofs.Common.{◌≡◌, ℕ, List, IfOk, subst, ◌∙◌}
 use Rattle.std.specs.String.{string_bytes}
 use Rattle.tera_scalars.proofs.TextLemmas.{before_left}
 use Rattle.tera_scalars.proofs.text.first_copied.Goals as goal
