@@ -1,6 +1,6 @@
 -- Entries whose keys are apart give pairs whose keys are, and such pairs are put as they stand.
 use Rattle.std.specs.Prelude.{◌≡◌, Bool, true, false, cond, List, [], ◌∷◌, ◌++◌, reverse, refl, None, Some}
-use Rattle.std.specs.Cmp.{IsTotalOrder, on_total, eq_by_cmp_equiv}
+use Rattle.std.specs.Cmp.{eq_by_cmp_equiv}
 use Rattle.std.specs.List.{AllZip, AllByRecursion, IsDistinct}
 use Rattle.std.specs.List.Sorted.{IsPermutation}
 use Rattle.std.specs.Map.{keys_of}
@@ -13,12 +13,10 @@ use Rattle.tera_conversions.specs.Given.{GivesPair}
 use Rattle.tera_meaning.proofs.PutLaws.{put_last}
 use Rattle.tera_meaning.proofs.UniqueLaws.{rising_permutes, rising_permuted}
 use Rattle.tera_meaning.specs.Form.{Form}
-use Rattle.tera_meaning.proofs.KeyLaws.{key_is, key_total}
+use Rattle.tera_meaning.proofs.KeyLaws.{key_is}
 use Rattle.tera_meaning.specs.KeyMeaning.{KeyForm, key_meaning}
 use Rattle.tera_meaning.specs.Pairs.{HasDistinctKeys, key_form_order, pairs_of, put_all, value_at}
-
-form_total : IsTotalOrder key_form_order
-form_total = on_total key_meaning key_total
+use Rattle.tera_values.proofs.PartsLaws.{form_total}
 
 -- ---- pairs that are put
 
