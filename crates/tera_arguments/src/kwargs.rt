@@ -2,6 +2,7 @@
 ghost use Rattle.std.specs.Prelude.{◌≡◌, ◌⊎◌, IfOk, IfErr, MatchOption};
 ghost use Rattle.std.specs.Option.{IsSomeAnd};
 ghost use Rattle.tera_arguments.specs.Named.{TakesArgument, pairs_held};
+ghost use Rattle.tera_meaning.specs.Pairs.{HasDistinctKeys, key_form_order};
 ghost use Rattle.tera_meaning.specs.Tree.{object, members};
 ghost use Rattle.tera_report.specs.Errors.{IsOutOfMemory, Raises};
 ghost use Rattle.tera_report.specs.Refusal.{missing_argument};
@@ -98,15 +99,17 @@ impl KwargsOf<Value> {
         }
     }
 
-    /// The pairs, lent one after another in their order. Mirrors `Kwargs::iter`. Takes no memory.
+    /// The pairs, lent one after another in their order; no two keys are equal. Mirrors
+    /// `Kwargs::iter`. Takes no memory.
     pub fn iter(&self) -> KwargsIter<'_>
-        ensures { result ≡ pairs_held self.now }
+        ensures pairs { result ≡ pairs_held self.now }
+        ensures distinct { HasDistinctKeys key_form_order (pairs_held self.now) }
     {
-        KwargsIter {
-            pairs: match self.values.as_map() {
-                Some(map) => Some(map.iter()),
-                None => None,
+        match self.values.as_map() {
+            Some(map) => KwargsIter {
+                pairs: Some(map.iter()),
             },
+            None => KwargsIter { pairs: None },
         }
     }
 
