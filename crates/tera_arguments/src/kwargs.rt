@@ -2,6 +2,7 @@
 ghost use Rattle.std.specs.Prelude.{◌≡◌, ◌⊎◌, IfOk, IfErr, MatchOption};
 ghost use Rattle.std.specs.Option.{IsSomeAnd};
 ghost use Rattle.tera_arguments.specs.Named.{TakesArgument, pairs_held};
+ghost use Rattle.tera_meaning.specs.Pairs.{HasDistinctKeys, key_form_order};
 ghost use Rattle.tera_meaning.specs.Tree.{object, members};
 ghost use Rattle.tera_report.specs.Errors.{IsOutOfMemory, Raises};
 ghost use Rattle.tera_report.specs.Refusal.{missing_argument};
@@ -31,7 +32,7 @@ impl<V> Model for KwargsOf<V> {
 
 impl<V: Parts> KwargsOf<V> {
     /// These pairs in their order, by what can be made their keys. Of two with equal keys the first
-    /// key, its place and the later value stand. Mirrors `From<[(&'static str, Value); N]>` of
+    /// key and its place and the later value stand. Mirrors `From<[(&'static str, Value); N]>` of
     /// `tera::Kwargs`.
     ///
     /// Takes memory; the first error of a key is passed on.
@@ -99,15 +100,17 @@ impl KwargsOf<Value> {
         }
     }
 
-    /// The pairs, lent one after another in their order. Mirrors `Kwargs::iter`. Takes no memory.
+    /// The pairs, lent one after another in their order; no two keys are equal. Mirrors
+    /// `Kwargs::iter`. Takes no memory.
     pub fn iter(&self) -> KwargsIter<'_>
-        ensures { result ≡ pairs_held self.now }
+        ensures pairs { result ≡ pairs_held self.now }
+        ensures distinct { HasDistinctKeys key_form_order (pairs_held self.now) }
     {
-        KwargsIter {
-            pairs: match self.values.as_map() {
-                Some(map) => Some(map.iter()),
-                None => None,
+        match self.values.as_map() {
+            Some(map) => KwargsIter {
+                pairs: Some(map.iter()),
             },
+            None => KwargsIter { pairs: None },
         }
     }
 
