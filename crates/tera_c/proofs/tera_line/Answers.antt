@@ -10,4 +10,5 @@ returns c =
     let was : c.args.session.now.talk ≡ Some c.into_box-talk.result.value = search rules in
     goes_where _ _ c.into_box-talk.result.value c.take_line-status.new.self
     (λ (old new : Talk). Takes old c.args.line.now new c.take_line-status.result × (c.len.result ≡ length (reply_of new))) was c.of.ensures
-    (subst (λ (s : Talk). Takes s c.args.line.now c.take_line-status.new.self c.take_line-status.result) c.deref_mut.ensures.value c.take_line-status.ensures, search rules)
+    (subst (λ (s : Talk). Takes s c.args.line.now c.take_line-status.new.self c.take_line-status.result) c.deref_mut.ensures.value
+    c.take_line-status.ensures, search rules)
