@@ -3,21 +3,17 @@ use Rattle.std.specs.Prelude.{◌≡◌, Bool, true, false, cond, if◌then◌el
 use Rattle.std.proofs.Common.{sym, ◌∙◌, ap, append_assoc, append-nil}
 use Rattle.std.proofs.lemmas.List.{reverse-append}
 use Rattle.std.proofs.lemmas.List.Sums.{fold-append}
-use Rattle.std.specs.Cmp.{IsTotalOrder, on_total, alike_right, Equal-is}
+use Rattle.std.specs.Cmp.{alike_right, Equal-is}
 use Rattle.std.specs.List.{IsDistinct}
 use Rattle.std.specs.Map.{keys_of}
 use Rattle.std.specs.Option.{option_or}
 use Rattle.std.specs.Ordering.{eq_by_cmp, is_eq}
 use Rattle.tera_meaning.specs.Form.{Form}
-use Rattle.tera_meaning.specs.KeyMeaning.{KeyForm, key_meaning}
+use Rattle.tera_meaning.specs.KeyMeaning.{KeyForm}
 use Rattle.tera_meaning.specs.Pairs.{HasDistinctKeys, put, put_all, value_at, key_form_order}
-use Rattle.tera_meaning.proofs.KeyLaws.{key_total}
 use Rattle.tera_meaning.proofs.PutLaws.{distinct_put_all, found_put}
+use Rattle.tera_values.proofs.PartsLaws.{form_total}
 use Rattle.tera_script.specs.Literal.{in_places, key_at}
-
--- keys are ordered, whatever their form
-pub form_total : IsTotalOrder key_form_order
-form_total = on_total key_meaning key_total
 
 abbrev ties : KeyForm → KeyForm → Bool
 ties = eq_by_cmp key_form_order
