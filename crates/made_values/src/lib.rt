@@ -124,7 +124,7 @@ pub fn no_pairs(alloc: Global) -> Value
 
 /// The map with that pair.
 pub fn with(map: Map, key: Key<'static>, value: Value) -> Map
-    ensures { Inserted map.entry ((key_form key.entry, value) ∷ []) result }
+    ensures { Inserted map ((key_form key.entry, value) ∷ []) result }
 {
     let mut map = map;
     let _ = map.insert(key, value);

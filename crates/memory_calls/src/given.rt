@@ -1,12 +1,13 @@
 //! Values, keys and results that are given.
 use crate::answers::tell;
+use indexmap::IndexMap;
 use std::alloc::Global;
 use std::borrow::CowStr;
 use std::collections::{BTreeMap, BTreeSet, HashMap};
 use std::io;
 use tera_conversions::{FunctionResult, ToKey, ToValue};
 use tera_report::{Error, TeraResult};
-use tera_values::{Key, Value};
+use tera_values::{Key, Map, Value};
 
 /// Single values that take memory.
 pub fn tell_values(rt: &(impl Print + AllocGlobal)) -> io::Result<()> {
@@ -44,6 +45,8 @@ pub fn tell_collections(rt: &(impl Print + AllocGlobal)) -> io::Result<()> {
     tell(rt, b"a\xff".as_slice().to_value(alloc))?;
     tell(rt, table(alloc))?;
     tell(rt, tree(alloc))?;
+    tell(rt, row(alloc))?;
+    tell(rt, map(alloc))?;
     tell(rt, lists(alloc))
 }
 
@@ -68,6 +71,7 @@ fn slice(alloc: Global) -> TeraResult<Value> {
 fn table(alloc: Global) -> TeraResult<Value> {
     let mut map = HashMap::new(alloc);
     map.insert("é", 'a')?;
+    map.insert("a", 'é')?;
     map.to_value(alloc)
 }
 
@@ -75,6 +79,20 @@ fn tree(alloc: Global) -> TeraResult<Value> {
     let mut map = BTreeMap::new(alloc);
     let (key, list) = (String::from_str(alloc, "é")?, vec![in alloc; -1i128]?);
     map.insert(key, list)?;
+    map.to_value(alloc)
+}
+
+fn row(alloc: Global) -> TeraResult<Value> {
+    let mut map = IndexMap::new(alloc);
+    map.insert("é", 'a')?;
+    map.insert("a", 'é')?;
+    map.to_value(alloc)
+}
+
+fn map(alloc: Global) -> TeraResult<Value> {
+    let mut map = Map::new(alloc);
+    map.insert(Key::Str("é"), 'a'.to_value(alloc)?)?;
+    map.insert(Key::Str("a"), Value::none())?;
     map.to_value(alloc)
 }
 

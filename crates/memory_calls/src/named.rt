@@ -33,10 +33,11 @@ impl Autoescape for Page {
     }
 }
 
-// Two arguments.
+// Two arguments, of three pairs.
 fn arguments(alloc: Global) -> TeraResult<Kwargs> {
     let text = Value::normal_string(alloc, "é<")?;
-    Kwargs::from_pairs(alloc, [("n", text), ("n", Value::from(300u16))])
+    let (last, flag) = (Value::from(300u16), Value::from(true));
+    Kwargs::from_pairs(alloc, [("n", text), ("a", flag), ("n", last)])
 }
 
 /// Arguments by their names.

@@ -6,13 +6,13 @@ use std::borrow::CowStr;
 use std::io;
 use tera_arguments::ArgFromValue;
 use tera_report::TeraResult;
-use tera_values::{Key, Map, Number, Value, maps};
+use tera_values::{Key, Map, Number, Value};
 
 // A map of a list of texts.
 fn sample(alloc: Global) -> TeraResult<Value> {
     let texts = texts(alloc)?;
-    let mut map = maps::new(alloc);
-    maps::insert(&mut map, Key::Str("é"), texts)?;
+    let mut map = Map::new(alloc);
+    map.insert(Key::Str("é"), texts)?;
     Ok(Value::of_map(map))
 }
 
