@@ -27,7 +27,7 @@ pub use convert::ConversionRefused;
 pub use integers::IntType;
 pub use key::Key;
 pub use kind::{ValueKind, kinds_equal_where_the_same};
-pub use map::{Map, Pairs};
+pub use map::{Map, OwnPairs, Pairs};
 pub use tera_scalars::{BinaryOp, NoResult, Number};
 pub use value::Value;
 pub use well_made::is_well_made;
