@@ -32,7 +32,8 @@ impl<V> Model for KwargsOf<V> {
 
 impl<V: Parts> KwargsOf<V> {
     /// These pairs in their order, by what can be made their keys. Of two with equal keys the first
-    /// key and its place and the later value stand. Mirrors `From<[(&'static str, Value); N]>` of `tera::Kwargs`.
+    /// key and its place and the later value stand. Mirrors `From<[(&'static str, Value); N]>` of
+    /// `tera::Kwargs`.
     ///
     /// Takes memory; the first error of a key is passed on.
     pub fn from_pairs<K: ToKey + Drop, const N: usize>(

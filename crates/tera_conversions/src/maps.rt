@@ -35,7 +35,8 @@ impl ToValue for Map {
 /// A map of what its keys and its values give, in its order. Of equal keys the first key and its
 /// place and the later value stand.
 ///
-/// Takes memory, but for no entry; the first error of a key or a value, in that order, is passed on.
+/// Takes memory, but for no entry; the first error of a key or a value, in that order, is passed
+/// on.
 impl<K: ToKey + Hash + Drop, T: ToValue + Drop> ToValue for IndexMap<K, T> {
     ghost gives = { λ map v. GivesMap K.gives_key T.gives map.entries v };
 
@@ -54,7 +55,8 @@ impl<K: ToKey + Hash + Drop, T: ToValue + Drop> ToValue for IndexMap<K, T> {
 /// A map of what its keys and its values give, in the order of its keys. Of keys that give equal
 /// ones the first key and its place and the later value stand.
 ///
-/// Takes memory, but for no entry; the first error of a key or a value, in that order, is passed on.
+/// Takes memory, but for no entry; the first error of a key or a value, in that order, is passed
+/// on.
 impl<K: ToKey + Ord + Drop, T: ToValue + Drop> ToValue for BTreeMap<K, T> {
     ghost gives = { λ map v. GivesMap K.gives_key T.gives map.entries v };
 

@@ -1,4 +1,4 @@
-use Rattle.std.proofs.Common.{ap, sym, refl, ◌∙◌, ◌++◌, ◌∷◌, []}
+use Rattle.std.proofs.Common.{ap, sym, ◌∙◌, ◌++◌, ◌∷◌, []}
 use Rattle.tera_conversions.proofs.GivenLaws.{passed_on, puts_on, parts_refused, moved_on}
 use Rattle.tera_conversions.specs.Given.{GivesPair, PairRefuses}
 use Rattle.tera_conversions.proofs.maps.IndexMapToValue.to_value.Goals as goal
@@ -18,7 +18,7 @@ pub loop-key-preserved : goal.loop-key-preserved
 loop-key-preserved g c =
     let before = c.loop-key.invariant.before in record {
       before = before ++ ((c.in-Some.key, c.in-Some.value) ∷ []);
-      so_far = puts_on g.K.ToKey.gives_key g.T.ToValue.gives before c.loop-key.given (c.in-Some.key, c.in-Some.value) c.in_ok-put.ensures.ok.0 c.put.new.given c.loop-key.invariant.so_far c.in_ok-put.ensures.ok.1
-          c.in_ok-put.ensures.ok.2;
+      so_far = puts_on g.K.ToKey.gives_key g.T.ToValue.gives before c.loop-key.given (c.in-Some.key, c.in-Some.value)
+          c.in_ok-put.ensures.ok.0 c.put.new.given c.loop-key.invariant.so_far c.in_ok-put.ensures.ok.1 c.in_ok-put.ensures.ok.2;
       whole = moved_on _ _ _ _ (ap (λ rest. before ++ rest) (sym c.in-Some.ensures.steps) ∙ c.loop-key.invariant.whole);
     }
