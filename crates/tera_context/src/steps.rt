@@ -115,8 +115,8 @@ fn mark_safe(context: &mut Context, name: &str, into: Option<String>) -> TeraRes
 /// to the whole run and nothing was done. A run of no steps takes none. A step that finds no memory
 /// answers so in its place.
 ///
-/// The answers depend on what the names mean: those of `Print`, `Escape` and `Walk` also on the order
-/// of pairs in maps, and those of `Kind` and `IsSafe` on kinds of integers and safe flags.
+/// The answers depend on what the names mean: those of `Print`, `Escape` and `Walk` also on the
+/// order of pairs in maps, and those of `Kind` and `IsSafe` on kinds of integers and safe flags.
 pub fn run(context: &mut Context, steps: Vec<Step>) -> TeraResult<Vec<TeraResult<Answer>>>
     ensures run { IfOk result (λ answers. (outcomes : List Outcome)
         × AllZip ShowsOutcome answers.items outcomes
