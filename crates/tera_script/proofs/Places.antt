@@ -90,7 +90,8 @@ value_put_all : (es ps : List (KeyForm × Form)) (q : KeyForm)
 value_put_all [] ps q = refl
 value_put_all (e ∷ es) ps q =
     value_put_all es (put key_form_order ps e.0 e.1) q
-    ∙ ap (option_or (value_at key_form_order (reverse es) q)) (found_put key_form_order form_total ps e.0 e.1 q ∙ cond_or (ties q e.0) e.1 None (value_at key_form_order ps q))
+    ∙ ap (option_or (value_at key_form_order (reverse es) q))
+    (found_put key_form_order form_total ps e.0 e.1 q ∙ cond_or (ties q e.0) e.1 None (value_at key_form_order ps q))
     ∙ sym (or_assoc (value_at key_form_order (reverse es) q) (cond (ties q e.0) (Some e.1) None) (value_at key_form_order ps q))
     ∙ ap (λ o. option_or o (value_at key_form_order ps q)) (sym (value_behind (reverse es) e q))
     ∙ ap (λ l. option_or (value_at key_form_order l q) (value_at key_form_order ps q)) (sym (reverse-append (e ∷ []) es))

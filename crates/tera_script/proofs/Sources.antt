@@ -1,5 +1,5 @@
 -- The state of a map whose keys are all texts.
-use Rattle.std.proofs.Common.{◌≡◌, ℕ, false, cond, List, [], ◌∷◌, ◌++◌, Some, None, IsSome, refl, ap, sym, ◌∙◌, subst, append_assoc}
+use Rattle.std.proofs.Common.{◌≡◌, ℕ, false, cond, List, [], ◌∷◌, ◌++◌, Some, None, IsSome, refl, ap, sym, ◌∙◌, subst, append_assoc, arith}
 use Rattle.std.proofs.Common.{append-nil}
 use Rattle.std.proofs.lemmas.Option.{same_Some}
 use Rattle.std.specs.Cmp.{eq_by_cmp_equiv}
@@ -107,7 +107,7 @@ module _ {value : Form} {state : State} {left : List (KeyForm × Form)} (h : IsS
       (h.done, sym (map_of_members value h.done (h.whole ∙ ap Some all)), (h.texts, h.so_far))
 
   module _ {rest : List (KeyForm × Form)} {k : KeyForm} {v : Form} (was : left ≡ (k, v) ∷ rest) where
-    here : List (KeyForm × Form) → List (KeyForm × Form)
+    abbrev here : List (KeyForm × Form) → List (KeyForm × Form)
     here ps = h.done ++ ps
 
     pub none_named : text_in_key k ≡ None → IsSourceOf value None

@@ -15,7 +15,7 @@ pub(crate) fn source_of(alloc: Global, value: Value) -> Result<Option<Context>, 
         return Ok(None);
     };
     let mut source = Context::new(alloc);
-    for (key, held) in map.into_pairs() {
+    for (key, held) in map {
         let Some(name) = key.as_str() else {
             return Ok(None);
         };

@@ -98,7 +98,8 @@ impl Value {
     /// Puts the printed text into a room, where it fits. Else the room holds a beginning of it
     /// besides what it held. Takes no memory.
     pub fn print_into_room(&self, room: &mut Room) -> Result<(), Full>
-        ensures puts { Puts RoomTakes RoomFails result (Prints (layout self.now)) room.old room.new }
+        ensures puts { Puts RoomTakes RoomFails result (Prints (layout self.now))
+            room.old room.new }
         ensures decided { IsTrue (is_exact (layout self.now))
             → IsDecided result room.old (printed (layout self.now)) room.new }
     {

@@ -9,8 +9,9 @@ loop-key-init c = record {
   done = [];
   texts = tt;
   so_far = subst (λ state. HoldsSoFar state []) (sym c.new-source.ensures) (λ name. get-empty _ name);
-  whole = c.in-Some.ensures ∙ ap Some (sym c.into_pairs-key-iterator.ensures);
-  apart = c.into_pairs-key-iterator.ensures.distinct;
+  whole = c.in-Some.ensures ∙ ap Some (sym c.into_iter-key-iterator.ensures.into_iter_gives.0);
+  apart = subst (HasDistinctKeys key_form_order) (sym c.into_iter-key-iterator.ensures.into_iter_gives.0)
+      c.into_iter-key-iterator.ensures.into_iter_gives.1;
 }
 
 pub returns-in_default-as_str : goal.returns-in_default-as_str
