@@ -1,95 +1,69 @@
--- Spans, notes and reports are equal exactly where all that they hold is.
-use Rattle.std.proofs.lemmas.Bool.{and_parts, and_from}
-use lib.Pointwise.{pointwise}
+-- Texts, spans, notes and reports are equal exactly where all that they hold is.
+use lib.Pointwise.{pointwise, bytes_decides}
 use Rattle.std.specs.String.{string_eq}
-use Rattle.std.proofs.Common.{Bool, true, ◌&&◌, ◌==◌, ◌≡◌, List, [], ◌∷◌, map, ap, refl}
-use Rattle.std.proofs.lemmas.Bool.{eqb-true, eq-eqb}
+use Rattle.std.proofs.Common.{Bool, ◌&&◌, ◌==◌, ◌≡◌, List, [], ◌∷◌, String, Global, string_bytes, map, ap, refl, Decides}
+use Rattle.std.proofs.lemmas.Bool.Decides.{Decides-and, Decides-eqb, Decides-like}
 use Rattle.tera_report.specs.Errors.{note_of, report_of}
 use Rattle.tera_report.specs.declared.report.Note.{Note}
 use Rattle.tera_report.specs.declared.report.ReportError.{ReportError}
 use Rattle.tera_report.specs.declared.span.Span.{Span}
-use Rattle.tera_report.proofs.ErrorLemmas.{same_text, text_same}
+
+pub texts_equal : (s t : String Global) → Decides (string_eq s t) (string_bytes s ≡ string_bytes t)
+texts_equal s t = bytes_decides (string_bytes s) (string_bytes t)
+
+-- lists are equal by their items
+pub items_equal : {X Y : Type 0} (same : X → X → Bool) (held : X → Y) → ((x y : X) → Decides (same x y) (held x ≡ held y))
+    → (xs ys : List X) → Decides (pointwise same xs ys) (map held xs ≡ map held ys)
+items_equal same held each [] [] = ((λ h. refl), (λ e. refl))
+items_equal same held each (x ∷ xs) (y ∷ ys) =
+    Decides-like _ (λ h i. h.0 i ∷ h.1 i) (λ e. ((cc), (cc))) (Decides-and _ _ (each x y) (items_equal same held each xs ys))
+items_equal same held each xs ys = ((λ h. absurd (cc)), (λ e. absurd (cc)))
 
 abbrev span_eq : Span → Span → Bool
 span_eq a b =
     a.start_line == b.start_line && (a.start_col == b.start_col && (a.end_line == b.end_line && (a.end_col == b.end_col
     && (a.range.start == b.range.start && a.range.end == b.range.end))))
 
-same_span : (a b : Span) → span_eq a b ≡ true → a ≡ b
-same_span a b h =
-    let (one, h2) = and_parts (a.start_line == b.start_line) _ h in
-    let (two, h3) = and_parts (a.start_col == b.start_col) _ h2 in
-    let (three, h4) = and_parts (a.end_line == b.end_line) _ h3 in
-    let (four, h5) = and_parts (a.end_col == b.end_col) _ h4 in
-    let (five, six) = and_parts (a.range.start == b.range.start) _ h5 in
-    (λ i. record {
-      start_line = eqb-true _ _ one i;
-      start_col = eqb-true _ _ two i;
-      end_line = eqb-true _ _ three i;
-      end_col = eqb-true _ _ four i;
-      range = record { start = eqb-true _ _ five i; end = eqb-true _ _ six i };
-    })
-
-span_same : (a b : Span) → a ≡ b → span_eq a b ≡ true
-span_same a b e =
-    and_from _ _ (eq-eqb _ _ (ap (λ s. s.start_line) e)) (and_from _ _ (eq-eqb _ _ (ap (λ s. s.start_col) e))
-    (and_from _ _ (eq-eqb _ _ (ap (λ s. s.end_line) e)) (and_from _ _ (eq-eqb _ _ (ap (λ s. s.end_col) e))
-    (and_from _ _ (eq-eqb _ _ (ap (λ s. s.range.start) e)) (eq-eqb _ _ (ap (λ s. s.range.end) e))))))
+spans_equal : (a b : Span) → Decides (span_eq a b) (a ≡ b)
+spans_equal a b =
+    Decides-like _
+    (λ (l, (c, (m, (d, (s, e))))) i. record { start_line = l i; start_col = c i; end_line = m i; end_col = d i; range = record { start = s i; end = e i } })
+    (λ e. (
+      ap (λ s. s.start_line) e,
+      (
+        ap (λ s. s.start_col) e,
+        (
+          ap (λ s. s.end_line) e,
+          (
+            ap (λ s. s.end_col) e,
+            (ap (λ s. s.range.start) e, ap (λ s. s.range.end) e),
+          ),
+        ),
+      ),
+    ))
+    (Decides-and _ _ (Decides-eqb _ _) (Decides-and _ _ (Decides-eqb _ _) (Decides-and _ _ (Decides-eqb _ _) (Decides-and _ _ (Decides-eqb _ _)
+    (Decides-and _ _ (Decides-eqb _ _) (Decides-eqb _ _))))))
 
 abbrev note_eq : Note → Note → Bool
 note_eq a b = string_eq a.label b.label && (string_eq a.filename b.filename && (string_eq a.source b.source && span_eq a.span b.span))
 
-same_note : (a b : Note) → note_eq a b ≡ true → note_of a ≡ note_of b
-same_note a b h =
-    let (one, h2) = and_parts (string_eq a.label b.label) _ h in
-    let (two, h3) = and_parts (string_eq a.filename b.filename) _ h2 in
-    let (three, four) = and_parts (string_eq a.source b.source) _ h3 in
-    (λ i. record {
-      label = same_text a.label b.label one i;
-      file = same_text a.filename b.filename two i;
-      source = same_text a.source b.source three i;
-      span = same_span a.span b.span four i;
-    })
-
-note_same : (a b : Note) → note_of a ≡ note_of b → note_eq a b ≡ true
-note_same a b e =
-    and_from _ _ (text_same a.label b.label (ap (λ n. n.label) e)) (and_from _ _ (text_same a.filename b.filename (ap (λ n. n.file) e))
-    (and_from _ _ (text_same a.source b.source (ap (λ n. n.source) e)) (span_same _ _ (ap (λ n. n.span) e))))
-
-same_notes : (xs ys : List Note) → pointwise note_eq xs ys ≡ true → map note_of xs ≡ map note_of ys
-same_notes [] [] h = refl
-same_notes (x ∷ xs) (y ∷ ys) h =
-    let first = same_note x y ((and_parts _ _ h).0) in
-    let others = same_notes xs ys ((and_parts _ _ h).1) in
-    (λ i. first i ∷ others i)
-same_notes xs ys h = absurd (cc)
-
-notes_same : (xs ys : List Note) → map note_of xs ≡ map note_of ys → pointwise note_eq xs ys ≡ true
-notes_same [] [] e = refl
-notes_same (x ∷ xs) (y ∷ ys) e = and_from _ _ (note_same x y (cc)) (notes_same xs ys (cc))
-notes_same xs ys e = absurd (cc)
+notes_equal : (a b : Note) → Decides (note_eq a b) (note_of a ≡ note_of b)
+notes_equal a b =
+    Decides-like _ (λ (label, (file, (source, span))) i. record { label = label i; file = file i; source = source i; span = span i })
+    (λ e. (ap (λ n. n.label) e, (ap (λ n. n.file) e, (ap (λ n. n.source) e, ap (λ n. n.span) e))))
+    (Decides-and _ _ (texts_equal a.label b.label) (Decides-and _ _ (texts_equal a.filename b.filename)
+    (Decides-and _ _ (texts_equal a.source b.source) (spans_equal a.span b.span))))
 
 abbrev report_eq : ReportError → ReportError → Bool
 report_eq a b =
     string_eq a.message b.message && (string_eq a.filename b.filename && (string_eq a.source b.source && (span_eq a.span b.span
     && pointwise note_eq a.notes.items b.notes.items)))
 
-pub same_report : (a b : ReportError) → report_eq a b ≡ true → report_of a ≡ report_of b
-same_report a b h =
-    let (one, h2) = and_parts (string_eq a.message b.message) _ h in
-    let (two, h3) = and_parts (string_eq a.filename b.filename) _ h2 in
-    let (three, h4) = and_parts (string_eq a.source b.source) _ h3 in
-    let (four, five) = and_parts (span_eq a.span b.span) _ h4 in
-    (λ i. record {
-      message = same_text a.message b.message one i;
-      file = same_text a.filename b.filename two i;
-      source = same_text a.source b.source three i;
-      span = same_span a.span b.span four i;
-      notes = same_notes a.notes.items b.notes.items five i;
-    })
-
-pub report_same : (a b : ReportError) → report_of a ≡ report_of b → report_eq a b ≡ true
-report_same a b e =
-    and_from _ _ (text_same a.message b.message (ap (λ r. r.message) e)) (and_from _ _ (text_same a.filename b.filename (ap (λ r. r.file) e))
-    (and_from _ _ (text_same a.source b.source (ap (λ r. r.source) e)) (and_from _ _ (span_same _ _ (ap (λ r. r.span) e))
-    (notes_same _ _ (ap (λ r. r.notes) e)))))
+pub reports_equal : (a b : ReportError) → Decides (report_eq a b) (report_of a ≡ report_of b)
+reports_equal a b =
+    Decides-like _
+    (λ (message, (file, (source, (span, notes)))) i. record { message = message i; file = file i; source = source i; span = span i; notes = notes i })
+    (λ e. (ap (λ r. r.message) e, (ap (λ r. r.file) e, (ap (λ r. r.source) e, (ap (λ r. r.span) e, ap (λ r. r.notes) e)))))
+    (Decides-and _ _ (texts_equal a.message b.message) (Decides-and _ _ (texts_equal a.filename b.filename)
+    (Decides-and _ _ (texts_equal a.source b.source) (Decides-and _ _ (spans_equal a.span b.span)
+    (items_equal note_eq note_of notes_equal a.notes.items b.notes.items)))))

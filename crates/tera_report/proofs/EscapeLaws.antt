@@ -1,78 +1,55 @@
 -- Each text has one spelling, and spelled bytes stand for one text.
-use Rattle.std.proofs.Common.{◌≡◌, ℕ, suc, ◌<◌, ◌≤◌, length, get_or, take, drop, arith, append_assoc, append-nil, Bool, true, false, ◌||◌, ◌==◌, List, [], ◌∷◌}
+use Rattle.std.proofs.Common.{◌≡◌, ℕ, suc, ◌<◌, ◌≤◌, length, get_or, take, drop, arith, Bool, true, false, ◌==◌, List, [], ◌∷◌}
 use Rattle.std.proofs.Common.{◌++◌, map, refl, sym, ap, ◌∙◌, subst, if◌then◌else◌}
 use Rattle.std.proofs.lemmas.Bool.{eqb-true}
+use Rattle.std.proofs.lemmas.Bool.Decides.{nat_tests}
 use Rattle.std.proofs.lemmas.List.Concat.{flat_map-append}
 use Rattle.std.proofs.lemmas.List.{length-take, get_or-take, take-append-drop}
 use Rattle.std.specs.List.{flat_map, AllByRecursion}
-use Rattle.tera_report.proofs.ErrorLemmas.{other_number}
 use Rattle.tera_report.specs.Escaping.{Token, itself, ampersand, less_than, greater_than, double_quote, single_quote, spelling, decoding, is_special, IsToken}
 use Rattle.tera_report.specs.Escaping.{Spells, token_of, escaped, IsPlain}
 
 -- an ordinary byte's token is the byte itself
-plain_choice : (p q r s t : Bool) (byte : ℕ) → (p || (q || (r || (s || t)))) ≡ false
-    → (if p then ampersand else (if q then less_than else (if r then greater_than else
-    (if s then double_quote else (if t then single_quote else itself byte))))) ≡ itself byte
-plain_choice true q r s t byte h = cc
-plain_choice false true r s t byte h = cc
-plain_choice false false true s t byte h = cc
-plain_choice false false false true t byte h = cc
-plain_choice false false false false true byte h = cc
-plain_choice false false false false false byte h = refl
-
 pub token_of-plain : (byte : ℕ) → is_special byte ≡ false → token_of byte ≡ itself byte
-token_of-plain byte h = plain_choice (byte == 38) (byte == 60) (byte == 62) (byte == 34) (byte == 39) byte h
+token_of-plain byte h = grind (arith, nat_tests)
 
--- a token is the one of the byte that it stands for
-pub token_of-decoding : (token : Token) → IsToken token → token_of (decoding token) ≡ token
-token_of-decoding (itself byte) h = token_of-plain byte h
-token_of-decoding token h = refl
+-- a special byte is ASCII
+pub special_is_ascii : (byte : ℕ) → is_special byte ≡ true → byte < 128
+special_is_ascii byte h = grind (arith, nat_tests)
 
 -- the token of a byte is proper and stands for it
-record IsTokenOf (byte : ℕ) (token : Token) : Type 0 where
-  proper : IsToken token
-  decoded : decoding token ≡ byte
-
 token_choice : (byte : ℕ) (p q r s t : Bool) → (byte == 38) ≡ p → (byte == 60) ≡ q → (byte == 62) ≡ r → (byte == 34) ≡ s → (byte == 39) ≡ t
-    → IsTokenOf byte (if p then ampersand else (if q then less_than else
-    (if r then greater_than else (if s then double_quote else (if t then single_quote else itself byte)))))
-token_choice byte true q r s t e f g h k = record { proper = tt; decoded = sym (eqb-true byte 38 e) }
-token_choice byte false true r s t e f g h k = record { proper = tt; decoded = sym (eqb-true byte 60 f) }
-token_choice byte false false true s t e f g h k = record { proper = tt; decoded = sym (eqb-true byte 62 g) }
-token_choice byte false false false true t e f g h k = record { proper = tt; decoded = sym (eqb-true byte 34 h) }
-token_choice byte false false false false true e f g h k = record { proper = tt; decoded = sym (eqb-true byte 39 k) }
-token_choice byte false false false false false e f g h k = record { proper = rw (e, f, g, h, k) refl; decoded = refl }
-
-is_token_of : (byte : ℕ) → IsTokenOf byte (token_of byte)
-is_token_of byte = token_choice byte _ _ _ _ _ refl refl refl refl refl
-
-proper_tokens : (text : List ℕ) → AllByRecursion IsToken (map token_of text)
-proper_tokens [] = tt
-proper_tokens (byte ∷ text) = ((is_token_of byte).proper, proper_tokens text)
-
-decoded_tokens : (text : List ℕ) → map decoding (map token_of text) ≡ text
-decoded_tokens [] = refl
-decoded_tokens (byte ∷ text) = let first = (is_token_of byte).decoded in let others = decoded_tokens text in cc
-
-spelled_tokens : (text : List ℕ) → flat_map spelling (map token_of text) ≡ escaped text
-spelled_tokens [] = refl
-spelled_tokens (byte ∷ text) = ap (λ rest. spelling (token_of byte) ++ rest) (spelled_tokens text)
+    → let token = if p then ampersand else (if q then less_than else (if r then greater_than
+    else (if s then double_quote else (if t then single_quote else itself byte)))) in
+    IsToken token × (decoding token ≡ byte)
+token_choice byte true q r s t e f g h k = (tt, sym (eqb-true byte 38 e))
+token_choice byte false true r s t e f g h k = (tt, sym (eqb-true byte 60 f))
+token_choice byte false false true s t e f g h k = (tt, sym (eqb-true byte 62 g))
+token_choice byte false false false true t e f g h k = (tt, sym (eqb-true byte 34 h))
+token_choice byte false false false false true e f g h k = (tt, sym (eqb-true byte 39 k))
+token_choice byte false false false false false e f g h k = (rw (e, f, g, h, k) refl, refl)
 
 -- `escaped` spells the text
 pub Spells-escaped : (text : List ℕ) → Spells (escaped text) text
-Spells-escaped text = record { tokens = map token_of text; proper = proper_tokens text; spelled = spelled_tokens text; decoded = decoded_tokens text }
-
-tokens_decoding : (tokens : List Token) → AllByRecursion IsToken tokens → map token_of (map decoding tokens) ≡ tokens
-tokens_decoding [] h = refl
-tokens_decoding (token ∷ tokens) h = let first = token_of-decoding token h.0 in let others = tokens_decoding tokens h.1 in cc
+Spells-escaped [] = record { tokens = []; proper = tt; spelled = refl; decoded = refl }
+Spells-escaped (byte ∷ text) =
+    let (proper, decoded) = token_choice byte _ _ _ _ _ refl refl refl refl refl in
+    let h = Spells-escaped text in
+    record {
+      tokens = token_of byte ∷ h.tokens;
+      proper = (proper, h.proper);
+      spelled = ap (λ l. spelling (token_of byte) ++ l) h.spelled;
+      decoded = λ i. decoded i ∷ h.decoded i;
+    }
 
 -- what spells a text is `escaped` of it
+escaped_tokens : (tokens : List Token) → AllByRecursion IsToken tokens → escaped (map decoding tokens) ≡ flat_map spelling tokens
+escaped_tokens [] h = refl
+escaped_tokens (itself byte ∷ tokens) h = λ i. spelling (token_of-plain byte h.0 i) ++ escaped_tokens tokens h.1 i
+escaped_tokens (token ∷ tokens) h = ap (λ l. spelling token ++ l) (escaped_tokens tokens h.1)
+
 pub escaped_from_spelling : (bytes text : List ℕ) → Spells bytes text → escaped text ≡ bytes
-escaped_from_spelling bytes text h =
-    sym (spelled_tokens text)
-    ∙ ap (λ t. flat_map spelling (map token_of t)) (sym h.decoded)
-    ∙ ap (flat_map spelling) (tokens_decoding h.tokens h.proper)
-    ∙ h.spelled
+escaped_from_spelling bytes text h = ap escaped (sym h.decoded) ∙ escaped_tokens h.tokens h.proper ∙ h.spelled
 
 pub spelling_is_escaped : (bytes text : List ℕ) → Spells bytes text → bytes ≡ escaped text
 spelling_is_escaped bytes text h = sym (escaped_from_spelling bytes text h)
@@ -99,7 +76,7 @@ first_token less_than less_than a b p q e = (refl, (cc))
 first_token greater_than greater_than a b p q e = (refl, (cc))
 first_token double_quote double_quote a b p q e = (refl, (cc))
 first_token single_quote single_quote a b p q e = (refl, (cc))
-first_token k l a b p q e = other_number _ _ refl (ap second e)
+first_token k l a b p q e = absurd (omega (arith, ap second e))
 
 no_token : {P : Type 0} (k : Token) (a : List ℕ) → [] ≡ spelling k ++ a → P
 no_token (itself x) a e = absurd (cc)
@@ -120,19 +97,6 @@ one_decoding_each bytes s t g h =
     ∙ ap (map decoding) (same_tokens g.tokens h.tokens g.proper h.proper (g.spelled ∙ sym h.spelled))
     ∙ h.decoded
 
--- a special byte is ASCII
-special_choice : (byte : ℕ) (p q r s t : Bool) → (byte == 38) ≡ p → (byte == 60) ≡ q → (byte == 62) ≡ r → (byte == 34) ≡ s → (byte == 39) ≡ t
-    → (p || (q || (r || (s || t)))) ≡ true → byte < 128
-special_choice byte true q r s t e f g h k special = let is = eqb-true byte 38 e in omega arith
-special_choice byte false true r s t e f g h k special = let is = eqb-true byte 60 f in omega arith
-special_choice byte false false true s t e f g h k special = let is = eqb-true byte 62 g in omega arith
-special_choice byte false false false true t e f g h k special = let is = eqb-true byte 34 h in omega arith
-special_choice byte false false false false true e f g h k special = let is = eqb-true byte 39 k in omega arith
-special_choice byte false false false false false e f g h k special = absurd (cc)
-
-pub special_is_ascii : (byte : ℕ) → is_special byte ≡ true → byte < 128
-special_is_ascii byte h = special_choice byte _ _ _ _ _ refl refl refl refl refl h
-
 -- a text with no special byte is its own spelling
 pub escaped_plain : (xs : List ℕ) → ((k : ℕ) → k < length xs → is_special (get_or xs k 0) ≡ false) → escaped xs ≡ xs
 escaped_plain [] plain = refl
@@ -152,12 +116,3 @@ escaped_run text bytes run rest i same within plain run_is rest_is =
     ∙ ap (λ l. l ++ escaped (drop i bytes)) front in
     let moved = subst (λ t. escaped t ≡ take i t ++ escaped (drop i t)) same parts in
     rw (run_is, rest_is) moved
-
--- one more piece is done
-pub done_more : (whole rest done piece after : List ℕ) → whole ≡ done ++ escaped rest → escaped rest ≡ piece ++ escaped after
-    → whole ≡ (done ++ piece) ++ escaped after
-done_more whole rest done piece after split cut = split ∙ ap (λ bytes. done ++ bytes) cut ∙ sym (append_assoc done piece (escaped after))
-
--- nothing is left
-pub done_whole : (whole rest done : List ℕ) → whole ≡ done ++ escaped rest → rest ≡ [] → done ≡ whole
-done_whole whole rest done split ended = sym (split ∙ ap (λ t. done ++ escaped t) ended ∙ append-nil done)

@@ -1,6 +1,7 @@
 -- From the mask of a block's special bytes to how many ordinary bytes it begins with.
 use Rattle.std.proofs.Common.{◌≡◌, ◌≢◌, ℕ, ◌+◌, ◌%◌, ◌^◌, ◌≤◌, Bool, true, false, ◌||◌, cond, eqb, List, length, map, replicate, bit_or, refl, sym, ap, ◌∙◌}
 use Rattle.std.proofs.Common.{arith, ⊎_elim}
+use Rattle.std.proofs.Math.Bool.{or_assoc}
 use Rattle.std.proofs.lemmas.Simd.{zip2_splat, zip2_of_maps, map-map, mask_l-mod, leading_from_mask_l, trailing_mask_l, run_in_chunk_fails}
 use Rattle.std.proofs.lemmas.List.{length-map}
 use Rattle.std.proofs.lemmas.Bool.{cases_lt}
@@ -26,21 +27,8 @@ top_ones : (b : Bool) → top 7 (ones b) ≡ b
 top_ones true = refl
 top_ones false = refl
 
-regrouped : (p q r s t : Bool) → ((((p || q) || r) || s) || t) ≡ (p || (q || (r || (s || t))))
-regrouped true q r s t = refl
-regrouped false true r s t = refl
-regrouped false false true s t = refl
-regrouped false false false true t = refl
-regrouped false false false false t = refl
-
 any_of_five : (p q r s t : Bool) → top 7 (bit_or (bit_or (bit_or (bit_or (ones p) (ones q)) (ones r)) (ones s)) (ones t)) ≡ (p || (q || (r || (s || t))))
-any_of_five p q r s t =
-    ap (λ n. top 7 (bit_or (bit_or (bit_or n (ones r)) (ones s)) (ones t))) (either p q)
-    ∙ ap (λ n. top 7 (bit_or (bit_or n (ones s)) (ones t))) (either (p || q) r)
-    ∙ ap (λ n. top 7 (bit_or n (ones t))) (either ((p || q) || r) s)
-    ∙ ap (top 7) (either (((p || q) || r) || s) t)
-    ∙ top_ones _
-    ∙ regrouped p q r s t
+any_of_five p q r s t = simp (either, top_ones, or_assoc)
 
 any_special : (x : ℕ) → top 7 (bit_or (bit_or (bit_or (bit_or (hit x 38) (hit x 60)) (hit x 62)) (hit x 34)) (hit x 39)) ≡ is_special x
 any_special x = any_of_five (eqb x 38) (eqb x 60) (eqb x 62) (eqb x 34) (eqb x 39)

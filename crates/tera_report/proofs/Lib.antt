@@ -1,5 +1,4 @@
 mod EqualReports
-mod ErrorLemmas
 pub mod EscapeLaws
 mod LaneLemmas
 pub mod PartLaws

@@ -3,7 +3,7 @@ use Rattle.std.proofs.Common.{◌≡◌, ◌≢◌, ◌==◌, ℕ, zero, suc, �
 use Rattle.std.proofs.Common.{take, drop, slice_range, refl, sym, ap, ◌∙◌, subst, arith}
 use Rattle.std.proofs.Common.{ne_eqb}
 use Rattle.std.proofs.lemmas.Bool.{eqb-false, eq-eqb}
-use Rattle.std.proofs.lemmas.List.{get_or_default, get_or-take, length-drop, length-take-le, take-append-drop}
+use Rattle.std.proofs.lemmas.List.{drop-drop, get_or_default, get_or-take, length-drop, length-take-le, take-append-drop}
 use Rattle.std.proofs.lemmas.List.Elements.{All-nil, All-cons, All-head, All-tail}
 use Rattle.std.proofs.lemmas.List.Splits.{join_with_byte-slice_split, length-slice_split, slice_split_none, slice_split_at, slice_split-cons_yes}
 use Rattle.std.proofs.lemmas.List.Splits.{slice_split-cons_no}
@@ -68,15 +68,6 @@ first_left [] n = ap (λ l. slice_get l 0) (drop-nil n)
 first_left (x ∷ xs) zero = refl
 first_left (x ∷ xs) (suc n) = first_left xs n
 
--- and goes on with what is left from the next place on
-next_left : {X : Type 0} (xs : List X) (n : ℕ) (x : X) (rest : List X) → drop n xs ≡ x ∷ rest → drop (suc n) xs ≡ rest
-next_left [] n x rest h = absurd (nil_is_no_cons (sym (drop-nil n) ∙ h))
-  where
-    nil_is_no_cons : [] ≡ x ∷ rest → ⊥
-    nil_is_no_cons e = cc
-next_left (y ∷ ys) zero x rest h = cc
-next_left (y ∷ ys) (suc n) x rest h = next_left ys n x rest h
-
 -- the lines from a line on begin with that line
 pub line_from : (source rest : List ℕ) (number : ℕ) → 0 < number → pieces_of rest ≡ drop (number - 1) (pieces_of source)
     → numbered_line rest 1 ≡ numbered_line source number
@@ -92,13 +83,18 @@ no_line_of source zero past = refl
 no_line_of source (suc n) (inl zeroth) = absurd (omega (arith, zeroth))
 no_line_of source (suc n) (inr past) = ap (λ o. unwrap_or o []) (slice_get_past (pieces_of source) n (omega (arith, past)))
 
+-- the line before the first line feed, and the only line of a source without line feeds
+pub first_line : (front back : List ℕ) → HasNoLineFeed front → numbered_line (front ++ line_feed ∷ back) 1 ≡ front
+first_line front back free = ap (λ l. unwrap_or (slice_get l 0) []) (first_part line_feed front back free)
+
+pub only_line : (source : List ℕ) → HasNoLineFeed source → numbered_line source 1 ≡ source
+only_line source free = ap (λ l. unwrap_or (slice_get l 0) []) (one_part line_feed source free)
+
 -- behind a line feed stand the lines from the next line on
 pub line_later : (source front back rest : List ℕ) (at : ℕ) → HasNoLineFeed front → rest ≡ front ++ line_feed ∷ back
     → pieces_of rest ≡ drop at (pieces_of source) → pieces_of back ≡ drop (at + 1) (pieces_of source)
 line_later source front back rest at free is stands =
-    let next : at + 1 ≡ suc at = omega arith in
-    let left = sym stands ∙ ap pieces_of is ∙ first_part line_feed front back free in
-    sym (ap (λ k. drop k (pieces_of source)) next ∙ next_left (pieces_of source) at front (pieces_of back) left)
+    ap (drop 1) (sym (first_part line_feed front back free) ∙ ap pieces_of (sym is) ∙ stands) ∙ drop-drop 1 at (pieces_of source)
 
 -- a rest without a line feed is the last line
 pub last_line : (source rest : List ℕ) (at : ℕ) → HasNoLineFeed rest → pieces_of rest ≡ drop at (pieces_of source)

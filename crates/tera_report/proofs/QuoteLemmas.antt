@@ -1,43 +1,40 @@
 -- Where a text is cut at its first marked character, and what stands for that character.
-use Rattle.std.proofs.Common.{map, None, Some, if◌then◌else◌, ◌≡◌, ℕ, zero, suc, ◌+◌, ◌-◌, ◌<◌, ◌≤◌, Bool, true, false, not, ◌||◌, ◌==◌, IsTrue, nat_lt, cond}
-use Rattle.std.proofs.Common.{List, [], ◌∷◌, ◌++◌, length, get_or, take, drop, bytes_eq, refl, sym, ap, subst, ◌∙◌, arith, ne_eqb, append-nil, append_assoc}
+use Rattle.std.proofs.Common.{map, None, Some, if◌then◌else◌, ◌≡◌, ℕ, zero, suc, ◌+◌, ◌-◌, ◌<◌, ◌≤◌, Bool, true, false, ◌==◌, IsTrue, cond}
+use Rattle.std.proofs.Common.{List, [], ◌∷◌, ◌++◌, length, get_or, take, drop, bytes_eq, refl, sym, ap, subst, ◌∙◌, arith, ne_eqb, append_assoc}
 use Rattle.std.proofs.Common.{take-append-drop, take_at, ltb-true, encode_utf8_all, IsUtf8, length-append, length-take-le, length-drop}
 use Rattle.std.proofs.lemmas.Bool.{cond-false, and_parts, agree_below_at}
 use Rattle.std.proofs.lemmas.Bool.Decides.{nat_tests}
-use Rattle.std.proofs.lemmas.List.{get_or-append_right, get_or-take}
+use Rattle.std.proofs.lemmas.List.{get_or-take}
 use Rattle.std.proofs.lemmas.List.Concat.{flat_map-append}
 use Rattle.std.proofs.lemmas.List.Folds.{list_all-append}
 use Rattle.std.proofs.Math.Seq.{drop-cons}
-use Rattle.std.proofs.lemmas.Str.{char_from_byte, encode_ascii, IsCharBoundary-start, IsCharBoundary-after_ascii, length-encode, len_utf8_bounds}
+use Rattle.std.proofs.lemmas.Str.{char_from_byte, encode_ascii, length-encode, len_utf8_bounds}
+use Rattle.std.proofs.lemmas.Str.{IsCharBoundary-start, IsCharBoundary-after_ascii, IsCharBoundary-at_seam}
 use Rattle.std.specs.Str.{IsCharBoundary}
 use Rattle.std.specs.Char.{encode_utf8, is_ascii}
 use Rattle.std.specs.Char.Escape.{IsEscapeDebug, escape_default}
 use Rattle.std.specs.Cmp.Lexicographic.{bytes_decides}
 use Rattle.std.specs.Fmt.{◌++?◌, debug_escape, debug_str, debug_items, comma_space, digits}
 use Rattle.std.specs.List.{list_all}
-use Rattle.tera_report.specs.Quoted.{IsText, is_ascii_text, is_marked, escapes, quoted, Quotes, QuotesItems, Cuts, SkipsPlain, EscapesMarked}
+use Rattle.tera_report.specs.Quoted.{IsText, is_ascii_text, is_marked, escapes, quoted, Quotes, QuotesItems, Cuts, SkipsPlain, Escapes, EscapesMarked}
 use Rattle.tera_report.proofs.PutLaws.{texts_joined}
 
 -- what `escape_debug` gives for an ASCII character
 abbrev escape_chars : ℕ → List ℕ
 escape_chars c = cond (c == 0) (92 ∷ 48 ∷ []) (escape_default c)
 
-abbrev same_escape : ℕ → Bool
-same_escape c = not (is_marked c) || bytes_eq (encode_utf8_all (escape_chars c)) (debug_escape 34 c)
-
-each_escape : (c : ℕ) → c < 128 → same_escape c ≡ true
+-- what stands for each ASCII character
+each_escape : (c : ℕ) → c < 128 → debug_escape 34 c ≡ (if is_marked c then encode_utf8_all (escape_chars c) else c ∷ [])
 unfolding debug_escape digits encode_utf8
-each_escape c h = agree_below_at same_escape (λ _. true) 128 c refl h
-
-or_right : (a b : Bool) → (not a || b) ≡ true → a ≡ true → b ≡ true
-or_right true b h e = h
-or_right false b h e = absurd (cc)
+each_escape c h =
+    (bytes_decides _ _).0 (agree_below_at (λ n. bytes_eq (debug_escape 34 n) (if is_marked n then encode_utf8_all (escape_chars n) else n ∷ [])) (λ _. true)
+    128 c refl h)
 
 -- what `escape_debug` gives for a marked character stands for it
-pub marked_escape : (c : ℕ) (given : List ℕ) → IsEscapeDebug c given → EscapesMarked c (encode_utf8_all given)
-marked_escape c given e marked low =
-    let is : given ≡ escape_chars c = given_chars c given e low in
-    ap encode_utf8_all is ∙ (bytes_decides _ _).0 (or_right (is_marked c) _ (each_escape c low) marked)
+pub marked_escape : (c : ℕ) (given bytes : List ℕ) → IsEscapeDebug c given → bytes ≡ encode_utf8_all given → EscapesMarked c bytes
+marked_escape c given bytes e spelled marked low =
+    spelled ∙ ap encode_utf8_all (given_chars c given e low)
+    ∙ sym (each_escape c low ∙ ap (λ m. if m then encode_utf8_all (escape_chars c) else c ∷ []) marked)
   where
     given_chars : (c : ℕ) (given : List ℕ) → IsEscapeDebug c given → c < 128 → given ≡ escape_chars c
     given_chars zero given e low = e.0 refl
@@ -45,34 +42,13 @@ marked_escape c given e marked low =
         ∙ sym (cond-false _ _ _ (ne_eqb (suc n) 0 (λ h. omega arith)))
 
 -- a byte that is not marked stands for itself
-plain_escape_tests : (b : ℕ) → is_marked b ≡ false
-    → (nat_lt b 32 ≡ false) × ((b == 34) ≡ false) × ((b == 92) ≡ false) × (nat_lt 126 b ≡ false)
-plain_escape_tests b h = four (nat_lt b 32) (b == 34) (b == 92) (nat_lt 126 b) h
-  where
-    four : (p q r s : Bool) → (p || (q || (r || s))) ≡ false → (p ≡ false) × (q ≡ false) × (r ≡ false) × (s ≡ false)
-    four true q r s h = absurd (cc)
-    four false true r s h = absurd (cc)
-    four false false true s h = absurd (cc)
-    four false false false s h = (refl, refl, refl, h)
-
 pub plain_bounds : (b : ℕ) → is_marked b ≡ false → (32 ≤ b) × (b < 127)
-plain_bounds b h = let t = plain_escape_tests b h in (grind (arith, nat_tests), grind (arith, nat_tests))
-
-abbrev plain_same : ℕ → Bool
-plain_same b = is_marked b || bytes_eq (debug_escape 34 b) (b ∷ [])
-
-each_plain : (b : ℕ) → b < 128 → plain_same b ≡ true
-unfolding debug_escape
-each_plain b h = agree_below_at plain_same (λ _. true) 128 b refl h
+plain_bounds b h = (grind (arith, nat_tests), grind (arith, nat_tests))
 
 plain_escape : (b : ℕ) → is_marked b ≡ false → debug_escape 34 b ≡ b ∷ []
 plain_escape b h =
-    let low : (32 ≤ b) × (b < 127) = plain_bounds b h in
-    (bytes_decides _ _).0 (or_other (is_marked b) _ (each_plain b (omega arith)) h)
-  where
-    or_other : (a b : Bool) → (a || b) ≡ true → a ≡ false → b ≡ true
-    or_other true b h e = absurd (cc)
-    or_other false b h e = h
+    let low = (plain_bounds b h).1 in
+    each_escape b (omega arith) ∙ ap (λ m. if m then encode_utf8_all (escape_chars b) else b ∷ []) h
 
 -- a text with no marked byte stands for itself
 pub escapes_plain : (xs : List ℕ) → ((k : ℕ) → k < length xs → is_marked (get_or xs k 0) ≡ false) → escapes xs ≡ xs
@@ -127,22 +103,10 @@ past_plain text after at within plain stops is = record {
 }
 
 -- a character begins where a text begins that ends another, or that text ends
-pub boundary_before : (text front after : List ℕ) → text ≡ front ++ after → IsUtf8 after
-    → IsCharBoundary text (length text - length after)
+pub boundary_before : (text front after : List ℕ) → text ≡ front ++ after → IsUtf8 after → IsCharBoundary text (length text - length after)
 boundary_before text front after parts u =
-    let here : length text - length after ≡ length front = omega (arith, ap length parts, length-append front after) in
-    let start = IsCharBoundary-start after u in
-    let same : get_or text (length front) 0 ≡ get_or after 0 0 =
-    ap (λ l. get_or l (length front) 0) parts
-    ∙ get_or-append_right front after (length front) (length front) 0 refl (omega arith)
-    ∙ ap (λ k. get_or after k 0) (sub_self (length front)) in
-    subst (λ n. IsCharBoundary text n) (sym here) (
-      omega (arith, ap length parts, length-append front after),
-      λ some high. rw same (start.1 (omega (arith, ap length parts, length-append front after)) (rw same at high)),
-    )
-  where
-    sub_self : (n : ℕ) → n - n ≡ 0
-    sub_self n = omega arith
+    let here : length front ≡ length text - length after = omega (arith, ap length parts, length-append front after) in
+    subst (IsCharBoundary text) here (IsCharBoundary-at_seam text front after parts u)
 
 pub some_left : (after tail : List ℕ) (c : ℕ) → after ≡ encode_utf8 c ++ tail → length tail < length after
 some_left after tail c cut = omega (
@@ -187,35 +151,11 @@ cut_here text run after tail c skips cut run_is ascii =
           ∙ ap (λ l. l ++ escapes after) (skips.plain ∙ sym same) ∙ ap (λ l. run ++ escapes l) first.1;
     }
 
--- one more part of an escape is put
-pub parts_more : (given done rest later : List ℕ) (part : ℕ) → encode_utf8_all given ≡ done ++ encode_utf8_all rest
-    → rest ≡ part ∷ later
-    → encode_utf8_all given ≡ (done ++ encode_utf8 part) ++ encode_utf8_all later
-parts_more given done rest later part split is =
-    split ∙ ap (λ l. done ++ encode_utf8_all l) is ∙ sym (append_assoc done (encode_utf8 part) (encode_utf8_all later))
-
--- one more run and what stands for a marked character are put
-pub runs_more : (text rest done run after bytes : List ℕ) (c : ℕ)
-    → (IsTrue (is_ascii_text text) → IsTrue (is_ascii_text rest) × (escapes text ≡ done ++ escapes rest))
-    → (IsTrue (is_ascii_text rest) → Cuts rest run c after) → EscapesMarked c bytes
-    → IsTrue (is_ascii_text text)
-    → IsTrue (is_ascii_text after) × (escapes text ≡ ((done ++ run) ++ bytes) ++ escapes after)
-runs_more text rest done run after bytes c split cut stands ascii =
-    let before = split ascii in
-    let at = cut before.0 in (
-      at.ascii_rest,
-      before.1 ∙ ap (λ l. done ++ l) (at.whole
-          ∙ ap (λ l. run ++ (l ++ escapes after)) (sym (stands at.marked at.ascii)))
-          ∙ sym (append_assoc done run (bytes ++ escapes after))
-          ∙ sym (append_assoc (done ++ run) bytes (escapes after)),
-    )
-
--- where an escape has no more parts, all of it is put
-pub parts_done : (given done rest : List ℕ) (left : ℕ) (all : List ℕ)
-    → encode_utf8_all given ≡ done ++ encode_utf8_all rest → rest ≡ take left all → left ≡ 0
-    → encode_utf8_all given ≡ done
-parts_done given done rest left all split is none =
-    split ∙ ap (λ l. done ++ encode_utf8_all l) (is ∙ ap (λ n. take n all) none) ∙ append-nil done
+-- a run, what stands for a marked character, and what stands for the rest stand for a text
+pub run_stands : (text run after bytes : List ℕ) (c : ℕ) → (IsTrue (is_ascii_text text) → Cuts text run c after) → EscapesMarked c bytes
+    → (rest : List ℕ) → Escapes after rest → Escapes text (run ++ (bytes ++ rest))
+run_stands text run after bytes c cut stands rest others ascii =
+    let at = cut ascii in (λ i. run ++ (stands at.marked at.ascii i ++ others at.ascii_rest i)) ∙ sym at.whole
 
 -- what stands for a quoted text is its debug form, where that is known
 known_if : (b : Bool) (known bytes : List ℕ) → (b ≡ true → bytes ≡ known) → IsText (if b then Some known else None) bytes
@@ -226,19 +166,10 @@ quoted_known : (text bytes : List ℕ) → Quotes text bytes → IsText (debug_s
 quoted_known text bytes stands = known_if (list_all is_ascii text) (quoted text) bytes stands
 
 -- what stands for a text and for the texts after it stands for all of them
-items_more : (lead text bytes later : List ℕ) (texts : List (List ℕ)) → Quotes text bytes → QuotesItems comma_space texts later
-    → QuotesItems lead (text ∷ texts) (lead ++ (bytes ++ later))
-items_more lead text bytes later texts stands rest =
-    let others = debug_items debug_str comma_space texts in
-    texts_joined (Some lead) (debug_str text ++? others) lead (bytes ++ later) refl
-    (texts_joined (debug_str text) others bytes later (quoted_known text bytes stands) rest)
-
--- one more text of a list is put
-pub list_more : {A : Type 0} (f : A → List ℕ) (all left : List A) (x : A) (others : List A) (lead done bytes : List ℕ) → left ≡ x ∷ others
-    → ((later : List ℕ) → QuotesItems lead (map f left) later → QuotesItems [] (map f all) (done ++ later)) → Quotes (f x) bytes
-    → (later : List ℕ) → QuotesItems comma_space (map f others) later → QuotesItems [] (map f all) (((done ++ lead) ++ bytes) ++ later)
-list_more f all left x others lead done bytes is whole stands later rest =
-    let here = subst (λ l. QuotesItems lead (map f l) (lead ++ (bytes ++ later))) (sym is)
-    (items_more lead (f x) bytes later (map f others) stands rest) in
-    subst (QuotesItems [] (map f all))
-    (sym (append_assoc (done ++ lead) bytes later ∙ append_assoc done lead (bytes ++ later))) (whole (lead ++ (bytes ++ later)) here)
+pub items_more : {A : Type 0} (f : A → List ℕ) (left : List A) (x : A) (others : List A) (lead bytes : List ℕ) → left ≡ x ∷ others → Quotes (f x) bytes
+    → (later : List ℕ) → QuotesItems comma_space (map f others) later → QuotesItems lead (map f left) (lead ++ (bytes ++ later))
+items_more f left x others lead bytes is stands later rest =
+    let behind = debug_items debug_str comma_space (map f others) in
+    subst (λ l. QuotesItems lead (map f l) (lead ++ (bytes ++ later))) (sym is)
+    (texts_joined (Some lead) (debug_str (f x) ++? behind) lead (bytes ++ later) refl
+    (texts_joined (debug_str (f x)) behind bytes later (quoted_known (f x) bytes stands) rest))

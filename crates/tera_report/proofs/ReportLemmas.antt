@@ -1,20 +1,18 @@
--- Runs of one character, lengths with a cap, and equality of reports by their parts.
+-- Runs of one character, and the pieces of reports with their lengths.
 use Rattle.std.proofs.lemmas.List.{nil_from_length}
-use Rattle.std.proofs.Common.{◌≡◌, ◌⊎◌, inl, inr, ℕ, zero, suc, ◌+◌, ◌-◌, ◌^◌, ◌<◌, ◌≤◌, List, [], ◌∷◌, ◌++◌, min, length, replicate, map, codes, take, drop}
-use Rattle.std.proofs.Common.{get_or, slice_range, refl, sym, ap, ◌∙◌, arith, append_assoc, append-nil}
-use Rattle.std.proofs.lemmas.List.{drop_more, length-append, length-map, length-replicate, length-take, map-append, take-append-drop, take-replicate, take_more}
+use Rattle.std.proofs.Common.{◌≡◌, ℕ, ◌+◌, ◌-◌, ◌<◌, ◌≤◌, List, [], ◌∷◌, ◌++◌, min, length, replicate, map, codes, take, drop}
+use Rattle.std.proofs.Common.{get_or, slice_range, refl, sym, ap, ◌∙◌, arith, append_assoc}
+use Rattle.std.proofs.lemmas.List.{drop_more, length-append, length-map, length-replicate, length-take, map-append, take-append-drop, take-replicate}
 use Rattle.std.proofs.lemmas.List.Concat.{flat_map-append}
 use Rattle.std.proofs.lemmas.List.Elements.{All-replicate}
-use Rattle.std.proofs.lemmas.Str.{chars_past_char, chars-nil}
-use Rattle.std.proofs.Math.Seq.{take-append-add}
-use Rattle.std.specs.Char.{encode_utf8}
-use Rattle.std.specs.Str.{IsCharBoundary, IsUtf8, chars}
+use Rattle.std.proofs.lemmas.Str.{chars-nil, chars_from_encodes, chars-IsAscii}
+use Rattle.std.specs.Str.{IsCharBoundary, chars}
 use Rattle.std.specs.Fmt.{decimal}
 use Rattle.std.specs.List.{flat_map, join_with_byte, sum}
 use Rattle.tera_report.specs.declared.span.Span.{Span}
 use Rattle.tera_report.specs.Parts.{line_feed}
-use Rattle.tera_report.specs.Report.{Note, Report, capped, space, error_lines, frame_text, line_of, line_of_note, margin, note_text, place_text, shown_lines}
-use Rattle.tera_report.specs.Report.{shown_place, underline, width}
+use Rattle.tera_report.specs.Report.{Note, Report, space, error_lines, frame_text, line_of, line_of_note, margin, note_text, numbered_line, place_text}
+use Rattle.tera_report.specs.Report.{shown_lines, shown_place, underline, width}
 
 -- a run of one ASCII character may be cut at any place, and its front is a run
 pub run_cut : (n k c : ℕ) → c < 128 → k ≤ n → IsCharBoundary (replicate n c) k
@@ -26,37 +24,10 @@ run_cut n k c low within = (
 pub run_front : (n k c : ℕ) → k ≤ n → slice_range (replicate n c) 0 k ≡ replicate k c
 run_front n k c within = let all : k - 0 ≡ k = omega arith in ap (λ m. take m (replicate n c)) all ∙ take-replicate k n c within
 
--- lengths with a cap may be added before or after they are capped
-pub capped_both : (a b : ℕ) → min (capped a + capped b) (2 ^ 64 - 1) ≡ capped (a + b)
-capped_both a b = omega arith
-
--- ---- characters of a line, one after another
-
-pub columns_more : (line rest later so_far : List ℕ) (c : ℕ) → IsUtf8 rest → chars line ≡ so_far ++ chars rest → rest ≡ encode_utf8 c ++ later
-    → chars line ≡ (so_far ++ c ∷ []) ++ chars later
-columns_more line rest later so_far c utf8 split off =
-    split ∙ ap (λ cs. so_far ++ cs) (chars_past_char rest later c utf8 off) ∙ sym (append_assoc so_far (c ∷ []) (chars later))
-
-pub columns_taken : (all so_far later : List ℕ) (n : ℕ) → all ≡ so_far ++ later → length so_far ≤ n → take n all ≡ so_far ++ take (n - length so_far) later
-columns_taken all so_far later n split within =
-    let sum : n ≡ length so_far + (n - length so_far) = omega (arith, within) in
-    ap (take n) split ∙ ap (λ k. take k (so_far ++ later)) sum ∙ take-append-add so_far later (n - length so_far)
-
-pub columns_all : (all so_far later : List ℕ) (n : ℕ) → all ≡ so_far ++ later → length so_far ≤ n → (length so_far ≡ n) ⊎ (later ≡ [])
-    → take n all ≡ so_far
-columns_all all so_far later n split within (inl full) =
-    let none : n - length so_far ≡ 0 = omega (arith, full) in
-    columns_taken all so_far later n split within ∙ ap (λ k. so_far ++ take k later) none ∙ append-nil so_far
-columns_all all so_far later n split within (inr ended) =
-    columns_taken all so_far later n split within ∙ ap (λ l. so_far ++ take (n - length so_far) l) ended
-    ∙ ap (λ l. so_far ++ l) (take-nil (n - length so_far)) ∙ append-nil so_far
-  where
-    take-nil : (k : ℕ) → take {A = ℕ} k [] ≡ []
-    take-nil zero = refl
-    take-nil (suc k) = refl
-
 pub no_characters : (xs : List ℕ) → length xs ≡ 0 → chars xs ≡ []
 no_characters xs e = ap chars (nil_from_length xs e) ∙ chars-nil
+
+pub ruleset same_count = (chars_from_encodes, chars-IsAscii)
 
 -- ---- the pieces of a report, one behind another
 
@@ -114,42 +85,33 @@ frame_length file number column line = simp (length-append, length-replicate) (o
 underline_length : (line : List ℕ) (span : Span) → length (underline line span) ≡ min span.start_col (length (chars line)) + width span
 underline_length line span = simp (length-append, length-map, length-take, length-replicate)
 
-pub place_length : (file number column line : List ℕ) (span : Span) (under : ℕ) → number ≡ decimal span.start_line → column ≡ decimal (span.start_col + 1)
-    → under ≡ min span.start_col (length (chars line))
-    → length (shown_place file line span)
-    ≡ sum (13 ∷ length file ∷ length number ∷ length column ∷ length number ∷ length number ∷ length line ∷ length number ∷ under ∷ width span ∷ [])
-place_length file number column line span under n c u =
-    let whole = ap length (place_whole file number column line span n c) in
+pub place_length : (file line : List ℕ) (span : Span) → length (shown_place file line span)
+    ≡ (let number = length (decimal span.start_line) in
+    sum (13 ∷ length file ∷ number ∷ length (decimal (span.start_col + 1)) ∷ number ∷ number ∷ length line ∷ number
+    ∷ min span.start_col (length (chars line)) ∷ width span ∷ []))
+place_length file line span =
+    let number = decimal span.start_line in
+    let column = decimal (span.start_col + 1) in
+    let whole = ap length (place_whole file number column line span refl refl) in
     let parts = length-append (frame_text file number column line) (underline line span) in
-    omega (arith, whole, parts, frame_length file number column line, underline_length line span, u)
+    omega (arith, whole, parts, frame_length file number column line, underline_length line span)
 
-pub capped_in : (a b : ℕ) → capped (a + capped b) ≡ capped (a + b)
-capped_in a b = omega arith
+pub note_length : (label file source : List ℕ) (span : Span) → length (note_text (record { label = label; file = file; source = source; span = span }))
+    ≡ 9 + length label + length (shown_place file (numbered_line source span.start_line) span)
+note_length label file source span =
+    let note : Note = record { label = label; file = file; source = source; span = span } in
+    let place = shown_place file (line_of_note note) span in
+    let parts : length ((codes "\n\nnote: " ++ (label ++ (codes " " ++ []))) ++ place) ≡ 9 + length label + length place = simp length-append (omega arith) in
+    sym (ap length (note_whole label file (line_of_note note) note refl refl refl)) ∙ parts
 
-pub note_length : (label file line : List ℕ) (note : Note) → label ≡ note.label → file ≡ note.file → line ≡ line_of_note note
-    → 9 + length label + length (shown_place file line note.span) ≡ length (note_text note)
-note_length label file line note l f s =
-    let place = shown_place file line note.span in
-    let parts : length ((codes "\n\nnote: " ++ (label ++ (codes " " ++ []))) ++ place) ≡ 9 + length label + length place =
-    simp length-append (omega arith) in
-    sym parts ∙ ap length (note_whole label file line note l f s)
-
-pub head_length : (message before file line : List ℕ) (report : Report) → message ≡ report.message → before ≡ margin report.span
-    → file ≡ report.file → line ≡ line_of report
-    → 12 + length message + length before + length (shown_place file line report.span)
-    ≡ length (join_with_byte line_feed (error_lines report))
-head_length message before file line report m b f s =
-    let place = shown_place file line report.span in
+pub head_length : (message file source : List ℕ) (span : Span)
+    → length (join_with_byte line_feed (error_lines (record { message = message; file = file; source = source; span = span; notes = [] })))
+    ≡ 12 + length message + length (decimal span.start_line) + length (shown_place file (numbered_line source span.start_line) span)
+head_length message file source span =
+    let report : Report = record { message = message; file = file; source = source; span = span; notes = [] } in
+    let before = margin span in
+    let place = shown_place file (line_of report) span in
     let parts : length ((codes "error: " ++ (message ++ (codes "\n" ++ (before ++ (codes "--> " ++ []))))) ++ place) ≡ 12 + length message + length before
-    + length place =
-    simp length-append (omega arith) in
-    sym parts ∙ ap length (head_whole message before file line report m b f s)
-
--- one note more
-pub notes_more : {X Y : Type 0} (text : Y → List ℕ) (held : X → Y) (all : List X) (i : ℕ) (x : X) → i < length all → x ≡ get_or all i x
-    → flat_map text (map held (take (i + 1) all)) ≡ flat_map text (map held (take i all)) ++ text (held x)
-notes_more text held all i x within is =
-    ap (λ l. flat_map text (map held l)) (take_more all i x within ∙ ap (λ v. take i all ++ v ∷ []) (sym is))
-    ∙ ap (flat_map text) (map-append held (take i all) (x ∷ []))
-    ∙ flat_map-append text (map held (take i all)) (held x ∷ [])
-    ∙ ap (λ l. flat_map text (map held (take i all)) ++ l) (append-nil (text (held x)))
+    + length place = simp length-append (omega arith) in
+    sym (ap length (head_whole message before file (line_of report) report refl refl refl refl)) ∙ parts
+    ∙ ap (λ n. 12 + length message + n + length place) (length-replicate (length (decimal span.start_line)) space)

@@ -228,6 +228,7 @@ impl Note {
     }
 }
 
+#[tactic(auto, using(std::proofs::lemmas::List::map_more))]
 fn copied_notes(alloc: Global, notes: &Vec<Note>) -> Result<Vec<Note>, AllocError>
     ensures { IfOk result (λ copies. map note_of copies.items ≡ map note_of notes.now.items) }
 {

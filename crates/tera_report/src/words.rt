@@ -19,6 +19,7 @@ pub fn put_all<S: Sink>(pieces: &[&str], out: &mut S) -> Result<(), S::Fault>
 }
 
 /// How many characters a text has. Takes no memory.
+#[tactic(auto, using(crate::proofs::ReportLemmas::same_count))]
 pub fn characters(text: &str) -> usize
     ensures { result ≡ length (chars text.now) }
 {

@@ -1,9 +1,10 @@
 -- Characters that come off either end of a text.
-use Rattle.std.specs.Prelude.{◌≡◌, ℕ, ◌<◌, ◌≤◌, ◌⊎◌, Bool, true, false, List, [], ◌∷◌, ◌++◌, reverse, length, get_or, take, drop, slice_get, Option, Some, None}
+use Rattle.std.specs.Prelude.{◌≡◌, ℕ, ◌<◌, ◌≤◌, ◌⊎◌, Bool, true, false, List, [], ◌∷◌, ◌++◌, reverse, length, get_or, slice_get, Option, Some, None}
 use Rattle.std.specs.Prelude.{MatchOption, refl}
 use Rattle.std.proofs.Common.{inl, inr, sym, ◌∙◌, ap, subst, arith, append-nil}
 use Rattle.std.proofs.Math.Seq.{take-append_seam, drop-append_seam}
-use Rattle.std.proofs.lemmas.Iterator.{YieldsList}
+use Rattle.std.proofs.lemmas.Iterator.{YieldsList-from_chars}
+use Rattle.std.proofs.lemmas.Iterator.Adapters.{option_map_id}
 use Rattle.std.proofs.lemmas.Iterator.Splits.{YieldsList-from_shown_while}
 use Rattle.std.proofs.lemmas.Iterator.Consumers.{nth_from_yields_List}
 use Rattle.std.proofs.lemmas.List.{nil_from_length, reverse-append, length-append, length-reverse}
@@ -12,7 +13,6 @@ use Rattle.std.proofs.lemmas.Str.{IsCharBoundary-at_seam}
 use Rattle.std.proofs.str.Laws.{order, one, two, three, four}
 use Rattle.std.specs.Char.{encode_utf8}
 use Rattle.std.specs.Iterator.{SkipsThenYields}
-use Rattle.std.specs.Option.{option_map}
 use Rattle.std.specs.Str.{chars, IsUtf8, IsCharBoundary}
 use Rattle.std.specs.declared.str.Chars.{Chars}
 use Rattle.std.specs.Str.Iter.{chars_rest, chars_steps, chars_steps_back}
@@ -67,27 +67,14 @@ no_chars backwards bs e = ap (chars_from backwards) (nil_from_length bs e) ∙ b
     by false = chars-nil
     by true = ap reverse chars-nil
 
--- what comes off an end of what is left
-module _ {T : Type 0} (now : T → List ℕ) (s t : Chars) (utf8 : IsUtf8 (chars_rest s)) where
-  pub came_front : (r : Option T)
-      → MatchOption r ((length (chars_rest s) ≡ 0) × (t ≡ s)) (λ x. (c : ℕ) × (now x ≡ encode_utf8 c) × (chars_rest s ≡ encode_utf8 c ++ chars_rest t))
-      → MatchOption r ((chars_from false (chars_rest s) ≡ []) × (t ≡ s))
-      (λ x. IsUtf8 (now x) × (c : ℕ) × (now x ≡ encode_utf8 c) × (chars_from false (chars_rest s) ≡ c ∷ chars_from false (chars_rest t)))
-  came_front None ended = (no_chars false (chars_rest s) ended.0, ended.1)
-  came_front (Some x) came =
-      let (c, is, split) = came in
-      let off = first_char (chars_rest s) (chars_rest t) c utf8 split in
-      (subst IsUtf8 (sym is) off.0, c, is, off.2)
-
-  pub came_back : (r : Option T)
-      → MatchOption r ((length (chars_rest s) ≡ 0) × (t ≡ s)) (λ x. (c : ℕ) × (now x ≡ encode_utf8 c) × (chars_rest s ≡ chars_rest t ++ encode_utf8 c))
-      → MatchOption r ((chars_from true (chars_rest s) ≡ []) × (t ≡ s))
-      (λ x. IsUtf8 (now x) × (c : ℕ) × (now x ≡ encode_utf8 c) × (chars_from true (chars_rest s) ≡ c ∷ chars_from true (chars_rest t)))
-  came_back None ended = (no_chars true (chars_rest s) ended.0, ended.1)
-  came_back (Some x) came =
-      let (c, is, split) = came in
-      let off = last_char (chars_rest s) (chars_rest t) c utf8 split in
-      (subst IsUtf8 (sym is) off.0, c, is, off.2)
+-- what comes off an end of what is left, where a character at that end may be split off
+pub came : {T : Type 0} (now : T → List ℕ) (s t : Chars) (backwards : Bool) (Split : ℕ → Type 0)
+    → ((c : ℕ) → Split c → IsUtf8 (encode_utf8 c) × IsUtf8 (chars_rest t) × (chars_from backwards (chars_rest s) ≡ c ∷ chars_from backwards (chars_rest t)))
+    → (r : Option T) → MatchOption r ((length (chars_rest s) ≡ 0) × (t ≡ s)) (λ x. (c : ℕ) × (now x ≡ encode_utf8 c) × Split c)
+    → MatchOption r ((chars_from backwards (chars_rest s) ≡ []) × (t ≡ s))
+    (λ x. IsUtf8 (now x) × (c : ℕ) × (now x ≡ encode_utf8 c) × (chars_from backwards (chars_rest s) ≡ c ∷ chars_from backwards (chars_rest t)))
+came now s t backwards Split off None ended = (no_chars backwards (chars_rest s) ended.0, ended.1)
+came now s t backwards Split off (Some x) (c, is, split) = let h = off c split in (subst IsUtf8 (sym is) h.0, c, is, h.2)
 
 -- no text has more characters than bytes
 pub chars_le_bytes : (backwards : Bool) (bs : List ℕ) → IsUtf8 bs → length (chars_from backwards bs) ≤ length bs
@@ -96,18 +83,8 @@ chars_le_bytes true bs u = omega (arith, length-le-encodes (chars bs), ap length
 
 -- the character that `nth` and `nth_back` give
 module _ (s u : Chars) (bs : List ℕ) (r : Option ℕ) (n : ℕ) (rest : chars_rest s ≡ bs) (utf8 : IsUtf8 bs) where
-  kept : (o : Option ℕ) → option_map (λ c. c) o ≡ o
-  kept None = refl
-  kept (Some c) = refl
-
   pub nth_forwards : SkipsThenYields chars_steps s n r u → r ≡ slice_get (chars bs) n
-  nth_forwards ran =
-      let yields = YieldsList-from_shown_while chars_steps (λ c. c) (λ t. chars (chars_rest t)) (λ t. IsUtf8 (chars_rest t))
-      (λ t v text ended. ap length (no_chars false (chars_rest t) ended.0.0))
-      (λ t c v text split. let off = first_char (chars_rest t) (chars_rest v) c text split.0 in (off.1, off.2))
-      s (subst IsUtf8 (sym rest) utf8)
-      in
-      sym (kept r) ∙ nth_from_yields_List r u n ran yields ∙ ap (λ l. slice_get (chars l) n) rest
+  nth_forwards ran = sym (option_map_id r) ∙ nth_from_yields_List r u n ran (YieldsList-from_chars bs utf8 rest)
 
   pub nth_backwards : SkipsThenYields chars_steps_back s n r u → r ≡ slice_get (reverse (chars bs)) n
   nth_backwards ran =
@@ -116,4 +93,4 @@ module _ (s u : Chars) (bs : List ℕ) (r : Option ℕ) (n : ℕ) (rest : chars_
       (λ t c v text split. let off = last_char (chars_rest t) (chars_rest v) c text split in (off.1, off.2))
       s (subst IsUtf8 (sym rest) utf8)
       in
-      sym (kept r) ∙ nth_from_yields_List r u n ran yields ∙ ap (λ l. slice_get (reverse (chars l)) n) rest
+      sym (option_map_id r) ∙ nth_from_yields_List r u n ran yields ∙ ap (λ l. slice_get (reverse (chars l)) n) rest

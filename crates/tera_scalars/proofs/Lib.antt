@@ -1,6 +1,5 @@
 mod CharLemmas
 mod Checked
-pub mod DigitLaws
 mod LossyLemmas
 mod PlaceLemmas
 pub mod PositionLaws

@@ -1,6 +1,5 @@
 -- The text of bytes is that of its chunks in turn.
-use Rattle.std.proofs.Common.{◌≡◌, ℕ, ◌<◌, List, [], ◌∷◌, ◌++◌, length, drop, IsUtf8, refl, sym, ap, subst, ◌∙◌, arith, append_assoc, append-nil, drop_at, None}
-use Rattle.std.proofs.lemmas.List.{nil_from_length}
+use Rattle.std.proofs.Common.{◌≡◌, ℕ, ◌<◌, List, [], ◌∷◌, ◌++◌, length, drop, IsUtf8, refl, sym, ap, subst, ◌∙◌, arith, append-nil, drop_at, None}
 use Rattle.std.proofs.lemmas.Str.{utf8_lossy_chunk, utf8_lossy-IsUtf8, utf8_lossy_empty, utf8_valid_len-IsValidUpTo}
 use Rattle.std.specs.Str.{IsValidUpTo}
 use Rattle.std.specs.Str.Lossy.{utf8_lossy, utf8_valid_len, utf8_invalid_len, replacement_bytes}
@@ -23,33 +22,14 @@ faulty_chunk bs valid invalid rest parts some up_to size =
     ∙ ap (λ k. utf8_invalid_len (drop k bs)) front in
     utf8_lossy_chunk bs valid invalid rest parts front gone some
 
--- the last chunk, where it is all text
-last_chunk : (bs valid invalid rest : List ℕ) → bs ≡ valid ++ (invalid ++ rest) → IsUtf8 valid → length invalid ≡ 0
-    → length rest ≡ 0
-    → utf8_lossy bs ≡ valid ++ utf8_lossy rest
-last_chunk bs valid invalid rest parts text none end =
-    let whole : bs ≡ valid = parts ∙ ap (λ l. valid ++ (l ++ rest)) (nil_from_length invalid none)
-    ∙ ap (λ l. valid ++ l) (nil_from_length rest end) ∙ append-nil valid in
-    ap utf8_lossy whole ∙ utf8_lossy-IsUtf8 valid text ∙ sym (append-nil valid)
-    ∙ ap (λ l. valid ++ l) (sym (utf8_lossy_empty rest end))
-
-chunk_text : (bs valid invalid rest : List ℕ) → bs ≡ valid ++ (invalid ++ rest) → IsUtf8 valid
+pub chunk_text : (bs valid invalid rest : List ℕ) → bs ≡ valid ++ (invalid ++ rest) → IsUtf8 valid
     → (length invalid ≡ 0 → length rest ≡ 0)
     → (0 < length invalid → IsValidUpTo bs (length valid))
     → (0 < length invalid → length invalid ≡ (decoded (invalid ++ rest)).size)
-    → utf8_lossy bs ≡ valid ++ (stand_in invalid ++ utf8_lossy rest)
-chunk_text bs valid [] rest parts text end up_to size = last_chunk bs valid [] rest parts text refl (end refl)
-chunk_text bs valid (b ∷ invalid) rest parts text end up_to size = faulty_chunk bs valid (b ∷ invalid) rest parts (omega arith) (up_to (omega arith))
-    (size (omega arith))
-
--- one more chunk is put
-pub chunk_more : (bytes bs done valid invalid rest : List ℕ) → done ++ utf8_lossy bs ≡ utf8_lossy bytes
-    → bs ≡ valid ++ (invalid ++ rest) → IsUtf8 valid
-    → (length invalid ≡ 0 → length rest ≡ 0)
-    → (0 < length invalid → IsValidUpTo bs (length valid))
-    → (0 < length invalid → length invalid ≡ (decoded (invalid ++ rest)).size)
-    → ((done ++ valid) ++ stand_in invalid) ++ utf8_lossy rest ≡ utf8_lossy bytes
-chunk_more bytes bs done valid invalid rest before parts text end up_to size =
-    append_assoc (done ++ valid) (stand_in invalid) (utf8_lossy rest)
-    ∙ append_assoc done valid (stand_in invalid ++ utf8_lossy rest)
-    ∙ ap (λ l. done ++ l) (sym (chunk_text bs valid invalid rest parts text end up_to size)) ∙ before
+    → valid ++ (stand_in invalid ++ utf8_lossy rest) ≡ utf8_lossy bs
+chunk_text bs valid [] [] parts text end up_to size =
+    let whole : bs ≡ valid = parts ∙ append-nil valid in
+    ap (λ l. valid ++ l) (utf8_lossy_empty [] refl) ∙ append-nil valid ∙ sym (ap utf8_lossy whole ∙ utf8_lossy-IsUtf8 valid text)
+chunk_text bs valid [] (b ∷ rest) parts text end up_to size = let none = end refl in absurd (omega arith)
+chunk_text bs valid (b ∷ invalid) rest parts text end up_to size = sym (faulty_chunk bs valid (b ∷ invalid) rest parts (omega arith) (up_to (omega arith))
+    (size (omega arith)))

@@ -1,7 +1,8 @@
 -- A walk over places that fit machine integers takes the slice between the bounds that it was made of.
-use Rattle.std.specs.Prelude.{◌≡◌, ◌≢◌, ◌⊎◌, ◌<◌, ◌≤◌, ◌+◌, ◌-◌, ◌*◌, ◌^◌, min, ℕ, zero, suc, ℤ, pos, negsuc, Bool, true, false, ◌||◌, List, [], ◌∷◌, length}
+use Rattle.std.specs.Prelude.{◌≡◌, ◌≢◌, ◌⊎◌, ◌<◌, ◌≤◌, ◌+◌, ◌-◌, ◌*◌, ◌^◌, min, ℕ, zero, suc, ℤ, pos, negsuc, false, ◌||◌, List, [], ◌∷◌, length}
 use Rattle.std.specs.Prelude.{take, drop, slice_get, Option, None, Some}
-use Rattle.std.proofs.Common.{refl, sym, ap, ◌∙◌, subst, arith, inl, inr}
+use Rattle.std.proofs.Common.{refl, ap, subst, arith, inl, inr}
+use Rattle.std.proofs.Math.Nat.{mul-le-mul_left}
 use Rattle.std.proofs.lemmas.Bool.{cases_lt, or_parts}
 use Rattle.std.proofs.lemmas.Int.{ints, clamps}
 use Rattle.tera_meaning.specs.SliceRule.{IsSliceOf, start_place, end_place}
@@ -13,20 +14,15 @@ module _ {X : Type 0} where
   -- a step that passes the end wherever it starts takes the same as a greater one
   widened : (xs ys : List X) (from until by step : ℕ) → by ≤ step → until ≤ by → IsStrided xs from until by ys
       → IsStrided xs from until step ys
-  widened xs [] from until by step less far h = record {
-    reached = let e = h.reached in omega arith;
-    before = λ k b. absurd (omega arith);
-    taken = λ k b. absurd (omega arith);
+  widened xs ys from until by step less far h = record {
+    reached = let more = mul-le-mul_left (length ys) less in omega (arith, h.reached);
+    before = λ k b. subst (λ m. from + m < until) (place k b) (h.before k b);
+    taken = λ k b. subst (λ m. slice_get ys k ≡ slice_get xs (from + m)) (place k b) (h.taken k b);
   }
-  widened xs (y ∷ []) from until by step less far h = record {
-    reached = omega arith;
-    before = λ k b. let e = h.before 0 (omega arith) in let first : k ≡ 0 = omega arith in subst (λ i. from + i * step < until) (sym first) (omega arith);
-    taken = λ k b.
-        let first : k ≡ 0 = omega arith in
-        let same : from + 0 * by ≡ from + 0 * step = omega arith in
-        subst (λ i. slice_get (y ∷ []) i ≡ slice_get xs (from + i * step)) (sym first) (h.taken 0 (omega arith) ∙ ap (slice_get xs) same);
-  }
-  widened xs (y ∷ z ∷ ys) from until by step less far h = let e = h.before 1 (omega arith) in absurd (omega arith)
+    where
+      place : (k : ℕ) → k < length ys → k * by ≡ k * step
+      place zero b = omega arith
+      place (suc k) b = let e = h.before (suc k) b in absurd (omega arith)
 
   paced : (xs ys : List X) (from until by : ℕ) (step : ℤ) → until < 2 ^ 64 → by ≡ min (suc (pause step)) (2 ^ 64 - 1)
       → IsStrided xs from until by ys → IsStrided xs from until (suc (pause step)) ys
@@ -46,15 +42,11 @@ module _ {X : Type 0} where
   -- a walk that starts behind the last item takes what one does that starts there
   settled : (xs ys : List X) (from until by m : ℕ) → until ≤ m → IsStrided xs from until by ys
       → IsStrided xs (min from m) until by ys
-  settled xs [] from until by m within h = record {
-    reached = let e = h.reached in omega arith;
-    before = λ k b. absurd (omega arith);
-    taken = λ k b. absurd (omega arith);
+  settled xs ys from until by m within h = record {
+    reached = omega (arith, h.reached);
+    before = λ k b. omega (arith, h.before k b);
+    taken = λ k b. subst (λ i. slice_get ys k ≡ slice_get xs i) (omega (arith, h.before k b)) (h.taken k b);
   }
-  settled xs (y ∷ ys) from until by m within h =
-      let e = h.before 0 (omega arith) in
-      let same : from ≡ min from m = omega arith in
-      subst (λ n. IsStrided xs n until by (y ∷ ys)) same h
 
 start_uncounted : (step : ℤ) (start : Option ℤ) (n m from : ℕ) → m ≤ n → counts_from_afar step start ≡ false
     → place_behind step n from ≡ start_place step n start → place_behind step m (min from m) ≡ start_place step m start
@@ -92,13 +84,9 @@ module _ {X : Type 0} where
             let both = or_parts (counts_from_afar step start) (counts_from_afar step end) near in
             (start_uncounted step start n m from less both.0 s, end_uncounted step end n m until less both.1 e)
         | inr same ↦
-            let first : from ≡ min from m = omega arith in
-            let last : until ≡ min until m = omega arith in (
-              subst (λ d. place_behind step m d ≡ start_place step m start) first
-                  (subst (λ k. place_behind step k from ≡ start_place step k start) same s),
-              subst (λ d. place_behind step m d ≡ end_place step m end) last
-                  (subst (λ k. place_behind step k until ≡ end_place step k end) same e),
-            )
+            let first : min from m ≡ from = omega arith in
+            let last : min until m ≡ until = omega arith in
+            (rw first (rw same at s), rw last (rw same at e))
       ]
       in
       let walk : IsStrided (directed step xs) from (min until m) by ys =
@@ -109,19 +97,11 @@ module _ {X : Type 0} where
       stride_slices xs ys start end step (min from m) (min until m) by nonzero (omega arith) (omega arith) places.0 places.1 pace
       (settled (directed step xs) ys from (min until m) by m (omega arith) walk)
 
-  none_taken : (p n : ℕ) → walked {X = X} p 0 (take n []) ≡ []
-  none_taken p zero = refl
-  none_taken p (suc n) = refl
-
   -- to wait at the front is to walk over what stands behind
-  pub walked_behind : (p waits until : ℕ) (xs : List X)
-      → walked p 0 (take (until - waits) (drop waits xs)) ≡ walked p waits (take until xs)
-  walked_behind p zero until xs = let e : until - 0 ≡ until = omega arith in ap (λ n. walked p 0 (take n xs)) e
-  walked_behind p (suc waits) zero xs = let e : 0 - suc waits ≡ 0 = omega arith in ap (λ n. walked p 0 (take n (drop (suc waits) xs))) e
-  walked_behind p (suc waits) (suc until) [] = none_taken p (suc until - suc waits)
-  walked_behind p (suc waits) (suc until) (x ∷ xs) =
-      let e : suc until - suc waits ≡ until - waits = omega arith in
-      ap (λ n. walked p 0 (take n (drop waits xs))) e ∙ walked_behind p waits until xs
+  pub walked_on : (p waits : ℕ) (xs : List X) → walked p waits xs ≡ walked p 0 (drop waits xs)
+  walked_on p zero xs = refl
+  walked_on p (suc waits) [] = refl
+  walked_on p (suc waits) (x ∷ xs) = walked_on p waits xs
 
   -- a walk by one takes each item
   pub walked_whole : (xs : List X) → walked 0 0 xs ≡ xs

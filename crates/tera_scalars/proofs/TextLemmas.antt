@@ -1,12 +1,12 @@
 -- Walks over the characters of a text, from either end.
-use Rattle.std.specs.Prelude.{◌≡◌, ◌≢◌, ◌⊎◌, ◌<◌, ◌≤◌, ◌+◌, ◌-◌, ◌^◌, min, Bool, true, false, ℕ, zero, suc, ℤ, pos, negsuc, int_lt, List, [], ◌∷◌, ◌++◌}
-use Rattle.std.specs.Prelude.{reverse, length, take, drop, slice_get, Option, Some, Result, Ok, Err, IfOk}
+use Rattle.std.specs.Prelude.{◌≡◌, ◌⊎◌, ◌<◌, ◌≤◌, ◌+◌, ◌-◌, ◌^◌, min, Bool, true, false, ℕ, zero, suc, ℤ, pos, negsuc, int_lt, List, [], ◌∷◌, ◌++◌}
+use Rattle.std.specs.Prelude.{reverse, length, take, drop, slice_get, Some}
 use Rattle.std.proofs.Common.{refl, sym, ap, ap₂, ◌∙◌, subst, arith, inl, inr, ltb-true, append_assoc, append-nil}
 use Rattle.std.proofs.lemmas.Bool.{cases_lt}
-use Rattle.std.proofs.lemmas.List.{reverse-append, reverse-reverse, length-reverse, length-take, length-drop, drop-drop, take-append-drop, take_at, drop_at}
-use Rattle.std.proofs.lemmas.List.{take_all, drop_all}
+use Rattle.std.proofs.lemmas.List.{reverse-append, length-reverse, length-take, length-drop, drop-drop, take-append-drop, take_at, drop_at}
+use Rattle.std.proofs.lemmas.List.{drop_all, take_min, drop-take, length-append}
 use Rattle.std.proofs.lemmas.Str.{encodes-append, encodes-chars, chars-append, chars-IsAscii, IsUtf8-take, IsUtf8-from_ascii, IsCharBoundary-from_drop}
-use Rattle.std.proofs.lemmas.Str.{IsCharBoundary-from_take}
+use Rattle.std.proofs.lemmas.Str.{IsCharBoundary-at_seam}
 use Rattle.std.proofs.lemmas.Str.Ascii.{IsAscii-cons, IsAscii-nil}
 use Rattle.std.specs.Char.{encode_utf8}
 use Rattle.std.specs.Str.{chars, encode_utf8_all, IsAscii, IsUtf8, IsCharBoundary}
@@ -15,7 +15,7 @@ use Rattle.tera_meaning.specs.Slice.{directed, walked}
 use Rattle.tera_scalars.specs.Ends.{near, far, chars_from}
 use Rattle.tera_scalars.specs.Positions.{turned}
 use Rattle.tera_scalars.proofs.CharLemmas.{chars_le_bytes}
-use Rattle.tera_scalars.proofs.PositionLaws.{walked_behind, walked_whole}
+use Rattle.tera_scalars.proofs.PositionLaws.{walked_on, walked_whole}
 
 pub length_turned : {X : Type 0} (backwards : Bool) (xs : List X) → length (turned backwards xs) ≡ length xs
 length_turned false xs = refl
@@ -29,10 +29,9 @@ turned_directed true (negsuc n) cs e = refl
 
 -- no more are taken than there are
 pub take_most : {X : Type 0} (n m : ℕ) (xs : List X) → length xs ≤ m → take (min n m) xs ≡ take n xs
-take_most n m xs within = elim (cases_lt n m) [
-  | inl less ↦ let same : min n m ≡ n = omega arith in ap (λ k. take k xs) same
-  | inr more ↦ take_all (min n m) xs (omega arith) ∙ sym (take_all n xs (omega arith))
-]
+take_most n m xs within =
+    let same : min (min n m) (length xs) ≡ min n (length xs) = omega arith in
+    sym (take_min (min n m) xs) ∙ ap (λ k. take k xs) same ∙ take_min n xs
 
 -- ---- ASCII bytes at an end of a text
 
@@ -43,38 +42,26 @@ ascii_onto (x ∷ xs) ys h i = ascii_onto xs (x ∷ ys) (λ k. h (suc k)) (IsAsc
 pub ascii_reversed : (bs : List ℕ) → IsAscii bs → IsAscii (reverse bs)
 ascii_reversed bs ascii = ascii_onto bs [] ascii IsAscii-nil
 
-module _ (bs : List ℕ) (count : ℕ) (utf8 : IsUtf8 bs) (within : count ≤ length bs) where
-  -- the bytes are the characters there, and the others are those of the other bytes
-  ascii_front : IsAscii (take count bs) → (take count bs ≡ take count (chars bs)) × (chars (drop count bs) ≡ drop count (chars bs))
-  ascii_front ascii =
-      let whole : take count bs ++ chars (drop count bs) ≡ chars bs =
-      ap (λ xs. xs ++ chars (drop count bs)) (sym (chars-IsAscii (take count bs) ascii))
-      ∙ sym (chars-append (take count bs) (drop count bs) (IsUtf8-from_ascii (take count bs) ascii)) ∙ ap chars (take-append-drop count bs)
-      in
-      let many : length (take count bs) ≡ count = omega (arith, length-take count bs) in (
-        sym (take_at (take count bs) (chars (drop count bs)) count many) ∙ ap (take count) whole,
-        sym (drop_at (take count bs) (chars (drop count bs)) count many) ∙ ap (drop count) whole,
-      )
+-- two parts are what is taken and what is left
+sides : (n : ℕ) (xs ys zs : List ℕ) → xs ++ ys ≡ zs → length xs ≡ n → (xs ≡ take n zs) × (ys ≡ drop n zs)
+sides n xs ys zs whole long = (sym (take_at xs ys n long) ∙ ap (take n) whole, sym (drop_at xs ys n long) ∙ ap (drop n) whole)
 
-  ascii_back : (before : ℕ) → before ≡ length bs - count → IsAscii (drop before bs)
-      → (reverse (drop before bs) ≡ take count (reverse (chars bs))) × (reverse (chars (take before bs)) ≡ drop count (reverse (chars bs)))
-  ascii_back before at ascii =
-      let left = IsUtf8-take bs before utf8 (IsCharBoundary-from_drop bs before (omega arith) (IsUtf8-from_ascii (drop before bs) ascii)) in
-      let last = reverse (drop before bs) in
-      let others = reverse (chars (take before bs)) in
-      let whole : last ++ others ≡ reverse (chars bs) =
-      ap (λ xs. reverse xs ++ others) (sym (chars-IsAscii (drop before bs) ascii))
-      ∙ sym (reverse-append (chars (take before bs)) (chars (drop before bs)))
-      ∙ ap reverse (sym (chars-append (take before bs) (drop before bs) left) ∙ ap chars (take-append-drop before bs))
-      in
-      let many : length last ≡ count = omega (arith, length-reverse (drop before bs), length-drop before bs) in
-      (sym (take_at last others count many) ∙ ap (take count) whole, sym (drop_at last others count many) ∙ ap (drop count) whole)
-
-  pub ascii_near : (backwards : Bool) → IsAscii (near backwards count bs)
-      → (turned backwards (near backwards count bs) ≡ take count (chars_from backwards bs))
-      × (chars_from backwards (far backwards count bs) ≡ drop count (chars_from backwards bs))
-  ascii_near false ascii = ascii_front ascii
-  ascii_near true ascii = ascii_back (length bs - count) refl ascii
+-- the bytes are the characters there, and the others are those of the other bytes
+pub ascii_near : (bs : List ℕ) (count : ℕ) → IsUtf8 bs → count ≤ length bs → (backwards : Bool) → IsAscii (near backwards count bs)
+    → (turned backwards (near backwards count bs) ≡ take count (chars_from backwards bs))
+    × (chars_from backwards (far backwards count bs) ≡ drop count (chars_from backwards bs))
+ascii_near bs count utf8 within false ascii =
+    sides count (take count bs) (chars (drop count bs)) (chars bs)
+    (ap (λ xs. xs ++ chars (drop count bs)) (sym (chars-IsAscii _ ascii)) ∙ sym (chars-append _ _ (IsUtf8-from_ascii _ ascii))
+    ∙ ap chars (take-append-drop count bs)) (omega (arith, length-take count bs))
+ascii_near bs count utf8 within true ascii =
+    let before = length bs - count in
+    let left = IsUtf8-take bs before utf8 (IsCharBoundary-from_drop bs before (omega arith) (IsUtf8-from_ascii _ ascii)) in
+    let others = chars (take before bs) in
+    sides count (reverse (drop before bs)) (reverse others) (reverse (chars bs))
+    (ap (λ xs. reverse xs ++ reverse others) (sym (chars-IsAscii _ ascii)) ∙ sym (reverse-append others (chars (drop before bs)))
+    ∙ ap reverse (sym (chars-append _ _ left) ∙ ap chars (take-append-drop before bs)))
+    (omega (arith, length-reverse (drop before bs), length-drop before bs))
 
 -- ASCII bytes at an end, so many or all, are the characters there
 pub bytes_taken : (backwards : Bool) (bytes bs : List ℕ) (count most : ℕ) → IsUtf8 bs → most ≡ min count (length bs)
@@ -83,23 +70,26 @@ bytes_taken backwards bytes bs count most utf8 at are ascii =
     ap (turned backwards) are ∙ (ascii_near bs most utf8 (omega arith) backwards (subst IsAscii are ascii)).0
     ∙ ap (λ n. take n (chars_from backwards bs)) at ∙ take_most count (length bs) _ (chars_le_bytes backwards bs utf8)
 
--- a text before what is left of it once so many characters are off its front
+-- what stands before what is left of a text once so many characters are off its front
 pub before_left : (bs left : List ℕ) (count : ℕ) → IsUtf8 bs → IsUtf8 left → chars left ≡ drop count (chars bs)
-    → bs ≡ encode_utf8_all (take count (chars bs)) ++ left
+    → let at = length bs - length left in
+    (length left ≤ length bs) × IsCharBoundary bs at × (take at bs ≡ encode_utf8_all (take count (chars bs)))
 before_left bs left count utf8 text off =
     let front = encode_utf8_all (take count (chars bs)) in
-    sym (encodes-chars bs utf8) ∙ ap encode_utf8_all (sym (take-append-drop count (chars bs)))
+    let seam : bs ≡ front ++ left = sym (encodes-chars bs utf8) ∙ ap encode_utf8_all (sym (take-append-drop count (chars bs)))
     ∙ encodes-append (take count (chars bs)) (drop count (chars bs))
-    ∙ ap (λ cs. front ++ encode_utf8_all cs) (sym off) ∙ ap (λ xs. front ++ xs) (encodes-chars left text)
+    ∙ ap (λ cs. front ++ encode_utf8_all cs) (sym off) ∙ ap (λ xs. front ++ xs) (encodes-chars left text) in
+    let long = ap length seam ∙ length-append front left in
+    let at : length front ≡ length bs - length left = omega (arith, long) in (
+      omega (arith, long),
+      subst (IsCharBoundary bs) at (IsCharBoundary-at_seam bs front left seam text),
+      ap (take (length bs - length left)) seam ∙ take_at front left _ at,
+    )
 
 -- ---- walks
 
 module _ {X : Type 0} where
-  -- one item more is off, or none is left
-  pub off_one : (all rest later : List X) (x : X) (turn : ℕ) → rest ≡ x ∷ later → rest ≡ drop turn all → later ≡ drop (turn + 1) all
-  off_one all rest later x turn off so_far =
-      ap (drop 1) (sym off ∙ so_far) ∙ drop-drop 1 turn all
-
+  -- where none is left
   pub none_left : (all : List X) (turn count : ℕ) → turn ≤ count → [] ≡ drop turn all → [] ≡ drop count all
   none_left all turn count more none =
       let none_more : length all ≤ turn = omega (arith, ap length none, length-drop turn all) in
@@ -134,11 +124,22 @@ pub all_put : (p waits n : ℕ) (rest made all : List ℕ) → (n ≡ 0) ⊎ (re
 all_put p waits n rest made all ended so_far =
     sym (append-nil made) ∙ ap (λ xs. made ++ encode_utf8_all (walked p waits xs)) (sym (taken_none n rest ended)) ∙ so_far
 
+drop-taken : (from until : ℕ) (xs : List ℕ) → drop from (take until xs) ≡ take (until - from) (drop from xs)
+drop-taken from until xs = elim (cases_lt until from) [
+  | inl short ↦
+      let none : 0 ≡ until - from = omega arith in
+      drop_all from (take until xs) (omega (arith, length-take until xs)) ∙ ap (λ n. take n (drop from xs)) none
+  | inr long ↦
+      let whole : until ≡ from + (until - from) = omega arith in
+      ap (λ n. drop from (take n xs)) whole ∙ drop-take from (until - from) xs
+]
+
 -- to walk behind the first ones is to wait for them
 pub walks_behind : (p from until count : ℕ) (rest all : List ℕ) → count ≡ until - from → rest ≡ drop from all
     → encode_utf8_all (walked p 0 (take count rest)) ≡ encode_utf8_all (walked p from (take until all))
 walks_behind p from until count rest all many behind =
-    ap₂ (λ n xs. encode_utf8_all (walked p 0 (take n xs))) many behind ∙ ap encode_utf8_all (walked_behind p from until all)
+    ap₂ (λ n xs. encode_utf8_all (walked p 0 (take n xs))) many behind
+    ∙ ap encode_utf8_all (ap (walked p 0) (sym (drop-taken from until all)) ∙ sym (walked_on p from (take until all)))
 
 -- the same of a walk by one, which takes each
 pub whole_behind : (from until count by : ℕ) (rest all : List ℕ) → count ≡ until - from → rest ≡ drop from all → by ≡ 1
@@ -151,11 +152,6 @@ whole_behind from until count by rest all many behind one =
 -- ---- a walk over ASCII bytes
 
 module _ {X : Type 0} where
-  walked_on : (p waits : ℕ) (xs : List X) → walked p waits xs ≡ walked p 0 (drop waits xs)
-  walked_on p zero xs = refl
-  walked_on p (suc waits) [] = refl
-  walked_on p (suc waits) (x ∷ xs) = walked_on p waits xs
-
   behind_next : (xs : List X) (n : ℕ) (x : X) → slice_get xs n ≡ Some x → drop n xs ≡ x ∷ drop (suc n) xs
   behind_next [] n x e = cc
   behind_next (y ∷ ys) zero x e = let same : y ≡ x = cc in ap (λ z. z ∷ ys) same
@@ -193,10 +189,3 @@ pub put_all : (p : ℕ) (cs made : List ℕ) (place : ℕ) → length cs ≤ pla
     → made ≡ encode_utf8_all (walked p 0 cs)
 put_all p cs made place ended so_far =
     sym (append-nil made) ∙ ap (λ ds. made ++ encode_utf8_all (walked p 0 ds)) (sym (drop_all place cs ended)) ∙ so_far
-
--- what is found spells these characters, and they are such as is asked for
-pub found_such : {T E : Type 0} (spelled : T → List ℕ) (r : Result T E) (given : Type 0) (such : List ℕ → Type 0) (cs : List ℕ)
-    → (given → such cs) → IfOk r (λ t. spelled t ≡ encode_utf8_all cs)
-    → IfOk r (λ t. given → (ds : List ℕ) × such ds × (spelled t ≡ encode_utf8_all ds))
-found_such spelled (Ok t) given such cs is e = λ g. (cs, is g, e)
-found_such spelled (Err e) given such cs is h = h

@@ -87,6 +87,7 @@ fn copied(alloc: Global, text: &String) -> Result<String, AllocError>
     String::from_str(alloc, text.as_str())
 }
 
+#[tactic(auto, using(std::proofs::lemmas::List::map_more))]
 fn all_copied(alloc: Global, texts: &Vec<String>) -> Result<Vec<String>, AllocError>
     ensures { IfOk result (λ copies.
         map string_bytes copies.items ≡ map string_bytes texts.now.items) }

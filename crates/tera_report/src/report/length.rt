@@ -14,6 +14,7 @@ use itoa::Buffer;
 impl ReportError {
     /// How many bytes the report is long, whose line is given, or usize's greatest where it is
     /// longer.
+    #[tactic(auto, using(crate::proofs::ReportLemmas::head_length))]
     pub(super) fn report_len(&self, line: &str) -> usize
         requires { line.now ≡ line_of (report_of self.now) }
         ensures { result ≡ capped (length (report_text (report_of self.now))) }
@@ -26,6 +27,7 @@ impl ReportError {
     }
 }
 
+#[tactic(auto, using(std::proofs::lemmas::List::map_more))]
 fn notes_len(notes: &[Note]) -> usize
     ensures { result ≡ capped (length (flat_map note_text (map note_of notes.now))) }
 {
@@ -36,6 +38,7 @@ fn notes_len(notes: &[Note]) -> usize
     total
 }
 
+#[tactic(auto, using(crate::proofs::ReportLemmas::note_length))]
 fn note_len(note: &Note) -> usize
     ensures { result ≡ capped (length (note_text (note_of note.now))) }
 {
@@ -44,6 +47,7 @@ fn note_len(note: &Note) -> usize
     capped_sum(&["\n\nnote:  ".len(), note.label.as_str().len(), place])
 }
 
+#[tactic(auto, using(crate::proofs::ReportLemmas::place_length))]
 fn place_len(file: &str, line: &str, span: &Span) -> usize
     ensures { result ≡ capped (length (shown_place file.now line.now span.now)) }
 {

@@ -33,6 +33,7 @@ pub fn from_line(source: &str, number: usize) -> Option<&str>
 }
 
 // What stands before the first line feed, or all where there is none.
+#[tactic(auto, using(crate::proofs::PartLaws::first_line, crate::proofs::PartLaws::only_line))]
 fn first_line(text: &str) -> &str
     ensures { result.now ≡ numbered_line text.now 1 }
 {

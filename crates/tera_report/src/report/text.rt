@@ -1,5 +1,6 @@
 //! The text of a report, put piece by piece.
-ghost use Rattle.std.specs.Prelude.{◌≡◌, ◌≤◌, ◌++◌, ◌∷◌, length, map, replicate, take};
+ghost use Rattle.std.specs.Prelude.{◌≡◌, ◌≤◌, ◌++◌, [], ◌∷◌, length, map, replicate};
+ghost use Rattle.std.specs.Prelude.{take};
 ghost use Rattle.std.specs.List.{flat_map};
 ghost use Rattle.std.specs.Str.{chars};
 ghost use Rattle.tera_report.specs.Errors.{note_of, report_of};
@@ -151,9 +152,16 @@ fn put_columns<S: Sink>(line: &str, count: usize, out: &mut S) -> Result<(), S::
         let Some(c) = rest.next() else {
             break;
         };
-        out.put(if c == '\t' { "\t" } else { " " })?;
+        out.put(mark(c))?;
     }
     Ok(())
+}
+
+// What stands under a character.
+fn mark(c: char) -> &'static str
+    ensures { result.now ≡ under c ∷ [] }
+{
+    if c == '\t' { "\t" } else { " " }
 }
 
 // Puts so many carets.

@@ -1,10 +1,10 @@
-use Rattle.std.proofs.Common.{[], ◌≡◌, ℕ, List, refl, sym, ap, subst, ◌∙◌, drop, arith}
-use Rattle.std.proofs.lemmas.List.{drop_all}
+use Rattle.std.proofs.Common.{[], ◌≡◌, refl, sym, ap, subst, ◌∙◌, drop, arith}
+use Rattle.std.proofs.lemmas.List.{drop_all, drop-drop}
 use Rattle.std.specs.Str.{IsAscii}
 use Rattle.std.specs.Str.Iter.{chars_rest}
 use Rattle.tera_scalars.specs.Ends.{chars_from}
 use Rattle.tera_scalars.proofs.CharLemmas.{no_chars, chars_le_bytes}
-use Rattle.tera_scalars.proofs.TextLemmas.{ascii_near, off_one, none_left}
+use Rattle.tera_scalars.proofs.TextLemmas.{ascii_near, none_left}
 use Rattle.tera_scalars.proofs.text.behind.Goals as goal
 use Rattle.tera_scalars.proofs.text.behind.Goals.{else-loop-turn-test, then-loop-turn-test+in_default}
 
@@ -20,8 +20,7 @@ returns-then-is_ascii c =
 pub loop-turn-preserved : goal.loop-turn-preserved
 loop-turn-preserved c =
     let (text, next, is, off) = c.in-Some.ensures in
-    let left = λ (bs : List ℕ). chars_from c.args.backwards bs in
-    off_one (left c.args.text.now) (left (chars_rest c.loop-turn.rest)) (left (chars_rest c.take_next.new.rest)) next c.loop-turn.turn off c.loop-turn.invariant
+    ap (drop 1) (sym off ∙ c.loop-turn.invariant) ∙ drop-drop 1 c.loop-turn.turn _
 
 pub returns : goal.returns
 returns c =

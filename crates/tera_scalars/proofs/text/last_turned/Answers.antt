@@ -1,5 +1,5 @@
-use Rattle.std.proofs.Common.{◌≡◌, ℕ, List, IfOk, true, take, min, length, arith, ap, subst, ◌∙◌, reverse}
-use Rattle.std.specs.Str.{chars, encode_utf8_all, IsAscii}
+use Rattle.std.proofs.Common.{◌≡◌, ℕ, List, IfOk, true, subst}
+use Rattle.std.specs.Str.{encode_utf8_all}
 use Rattle.std.specs.String.{string_bytes}
 use Rattle.tera_scalars.proofs.PositionLaws.{walked_whole}
 use Rattle.tera_scalars.proofs.TextLemmas.{bytes_taken}

@@ -1,8 +1,13 @@
-use Rattle.tera_scalars.proofs.CharLemmas.{came_front, came_back}
+use Rattle.std.proofs.Common.{true, false}
+use Rattle.tera_scalars.proofs.CharLemmas.{came, first_char, last_char}
 use Rattle.tera_scalars.proofs.text.take_next.Goals as goal
 
 pub returns-then-backwards : goal.returns-then-backwards
-returns-then-backwards c = rw c.if-backwards.true (came_back (λ x. x.now) _ _ c.take_back.ensures.text c.take_back.result c.take_back.ensures.taken)
+returns-then-backwards c =
+    let h = c.take_back.ensures in
+    rw c.if-backwards.true (came (λ x. x.now) _ _ true _ (λ d. last_char _ _ d h.text) c.take_back.result h.taken)
 
 pub returns-else-backwards : goal.returns-else-backwards
-returns-else-backwards c = rw c.if-backwards.false (came_front (λ x. x.now) _ _ c.take_front.ensures.text c.take_front.result c.take_front.ensures.taken)
+returns-else-backwards c =
+    let h = c.take_front.ensures in
+    rw c.if-backwards.false (came (λ x. x.now) _ _ false _ (λ d. first_char _ _ d h.text) c.take_front.result h.taken)

@@ -8,9 +8,6 @@ returns-clause-text c (message words) = refl
 returns-clause-text c (number_out_of_range number target) = refl
 returns-clause-text c refusal = refl
 
-pub returns-clause-message : goal.returns-clause-message
-returns-clause-message c = refl
-
 pub returns-clause-range : goal.returns-clause-range
 unfolding digits
 returns-clause-range c = refl

@@ -1,71 +1,55 @@
-use Rattle.std.proofs.Common.{rules, ◌≡◌, ◌⊎◌, inl, inr, ◌-◌, ◌≤◌, ◌++◌, ◌∷◌, [], ℕ, length, map, take, arith, refl, sym, ap, ◌∙◌, subst, length-append, ne_eqb}
-use Rattle.std.proofs.lemmas.List.{map-append}
-use Rattle.std.proofs.lemmas.Str.{IsUtf8-past_char}
-use Rattle.std.specs.Prelude.{if◌then◌else◌}
+use Rattle.std.proofs.Common.{rules, ◌≡◌, ◌⊎◌, inl, inr, ◌-◌, ◌+◌, ◌++◌, ◌∷◌, [], ℕ, zero, suc, List, map, take, arith, refl, sym, ap, ◌∙◌, subst}
+use Rattle.std.proofs.lemmas.Str.{IsUtf8-past_char, chars_past_char}
+use Rattle.std.specs.Char.{encode_utf8}
 use Rattle.std.specs.Str.{IsUtf8, chars}
 use Rattle.std.specs.Str.Iter.{chars_rest}
-use Rattle.tera_report.specs.Report.{space, tab, under}
-use Rattle.tera_report.proofs.ReportLemmas.{columns_more, columns_taken, columns_all, no_characters}
+use Rattle.tera_report.specs.Report.{under}
+use Rattle.tera_report.proofs.PutLaws.{none_so_far, more_so_far, all_so_far, broke_so_far}
+use Rattle.tera_report.proofs.ReportLemmas.{no_characters}
 use Rattle.tera_report.proofs.report.text.put_columns.Goals as goal
-use Rattle.tera_report.proofs.report.text.put_columns.Goals.{then-c-eq9, else-c-eq9, else-loop-column-test, then-loop-column-test+in_default}
+use Rattle.tera_report.proofs.report.text.put_columns.Goals.{else-loop-column-test, then-loop-column-test+in_default}
 
-tab_under : (c : ℕ) → c ≡ 9 → 9 ∷ [] ≡ under c ∷ []
-tab_under c is = ap (λ n. under n ∷ []) (sym is)
+-- the next character
+next : (rest later mark : List ℕ) (c n m : ℕ) → IsUtf8 rest → rest ≡ encode_utf8 c ++ later → mark ≡ under c ∷ [] → n ≡ suc m
+    → mark ++ map under (take m (chars later)) ≡ map under (take n (chars rest))
+next rest later mark c n m utf8 off is more =
+    ap (λ l. l ++ map under (take m (chars later))) is ∙ sym (λ i. map under (take (more i) (chars_past_char rest later c utf8 off i)))
 
-space_under : (c : ℕ) → (c ≡ 9 → ⊥) → 32 ∷ [] ≡ under c ∷ []
-space_under c other = ap (λ b. (if b then tab else space) ∷ []) (sym (ne_eqb c 9 other))
+none_left : (n : ℕ) (xs : List ℕ) → (n ≡ 0) ⊎ (xs ≡ []) → map under (take n xs) ≡ []
+none_left zero xs ended = refl
+none_left (suc n) [] ended = refl
+none_left (suc n) (x ∷ xs) (inl e) = absurd (cc)
+none_left (suc n) (x ∷ xs) (inr e) = absurd (cc)
 
 pub loop-column-init : goal.loop-column-init
 loop-column-init g c =
-    let same = sym c.chars-rest.ensures.rest in
-    ([], subst IsUtf8 same c.utf8.line, ap chars same, refl, g.met.S.Sink.nothing _)
+    let same = c.chars-rest.ensures.rest in
+    let all : c.args.count ≡ c.args.count - 0 = omega arith in (
+      subst IsUtf8 (sym same) c.utf8.line,
+      rw (same, ← all) (none_so_far g.S.Sink.takes _ _ (g.met.S.Sink.nothing _)),
+    )
 
 pub loop-column-preserved : goal.loop-column-preserved
 loop-column-preserved g c =
-    let (so_far, utf8, split, many, took) = c.loop-column.invariant in
-    let off = c.in-Some.ensures.steps.0 in
-    let mark : c.if-c-eq9.put.now ≡ under c.in-Some.c ∷ [] = elim c.if-c-eq9.branch [
-      | then-c-eq9 w ↦ ap (λ b. b.now) w.put-is ∙ tab_under c.in-Some.c w.if-c-eq9.true
-      | else-c-eq9 w ↦ ap (λ b. b.now) w.put-is ∙ space_under c.in-Some.c w.if-c-eq9.false
-    ]
-    in
-    let whole = ap (λ l. map under so_far ++ l) mark ∙ sym (map-append under so_far (c.in-Some.c ∷ [])) in (
-      so_far ++ c.in-Some.c ∷ [],
+    let (utf8, so_far) = c.loop-column.invariant in
+    let off = c.in-Some.ensures.steps.0 in (
       IsUtf8-past_char _ _ c.in-Some.c utf8 off,
-      columns_more c.args.line.now _ _ so_far c.in-Some.c utf8 split off,
-      omega (arith, many, length-append so_far (c.in-Some.c ∷ [])),
-      subst (λ l. g.S.Sink.takes c.args.out.now l c.put.new.self) whole (g.met.S.Sink.joined _ _ _ _ _ took c.in_ok-put.ensures),
+      more_so_far g.S.Sink.takes g.met.S.Sink.joined _ _ so_far (next _ _ _ c.in-Some.c _ _ utf8 off c.mark.ensures (omega arith)) c.in_ok-put.ensures,
     )
 
 pub returns-in_err-put : goal.returns-in_err-put
 returns-in_err-put g c =
-    let (so_far, utf8, split, many, took) = c.loop-column.invariant in
-    let off = c.in-Some.ensures.steps.0 in
-    let next = so_far ++ c.in-Some.c ∷ [] in
-    let mark : c.if-c-eq9.put.now ≡ under c.in-Some.c ∷ [] = elim c.if-c-eq9.branch [
-      | then-c-eq9 w ↦ ap (λ b. b.now) w.put-is ∙ tab_under c.in-Some.c w.if-c-eq9.true
-      | else-c-eq9 w ↦ ap (λ b. b.now) w.put-is ∙ space_under c.in-Some.c w.if-c-eq9.false
-    ]
-    in
-    let later = chars (chars_rest c.next.new.self) in
-    let others = take (c.args.count - length next) later in
-    let many_next : length next ≤ c.args.count = omega (arith, many, c.loop-column-test.true, length-append so_far (c.in-Some.c ∷ [])) in
-    let taken = columns_taken (chars c.args.line.now) next later c.args.count (columns_more c.args.line.now _ _ so_far c.in-Some.c utf8 split off) many_next in
-    let whole : (map under so_far ++ c.if-c-eq9.put.now) ++ map under others ≡ map under (take c.args.count (chars c.args.line.now)) =
-    ap (λ l. (map under so_far ++ l) ++ map under others) mark
-    ∙ ap (λ l. l ++ map under others) (sym (map-append under so_far (c.in-Some.c ∷ [])))
-    ∙ sym (map-append under next others) ∙ ap (map under) (sym taken) in
-    let refused = g.met.S.Sink.failed_later _ _ _ _ _ took c.in_err-put.ensures in
-    let bad = subst (λ l. g.S.Sink.fails c.args.out.now l c.put.new.self) whole (g.met.S.Sink.failed_early _ _ _ (map under others) refused) in
+    let (utf8, so_far) = c.loop-column.invariant in
+    let left = next _ _ _ c.in-Some.c (c.args.count - c.loop-column.column) (c.args.count - (c.loop-column.column + 1)) utf8 c.in-Some.ensures.steps.0
+    c.mark.ensures (omega arith) in
+    let bad = broke_so_far g.S.Sink.takes g.S.Sink.fails g.met.S.Sink.failed_early g.met.S.Sink.failed_later _ _ so_far left c.in_err-put.ensures in
     search rules
 
 pub returns : goal.returns
 returns g c =
-    let (so_far, utf8, split, many, took) = c.loop-column.invariant in
-    let full : (length so_far ≡ c.args.count) ⊎ (chars (chars_rest c.loop-column.rest) ≡ []) = elim c.loop-column-test.branch [
+    let ended : (c.args.count - c.loop-column.column ≡ 0) ⊎ (chars (chars_rest c.loop-column.rest) ≡ []) = elim c.loop-column-test.branch [
       | else-loop-column-test w ↦ inl (omega arith)
       | then-loop-column-test+in_default w ↦ inr (no_characters _ w.in_default.ensures.steps.0.0)
     ]
     in
-    let is = columns_all (chars c.args.line.now) so_far _ c.args.count split (omega (arith, many)) full in
-    subst (λ l. g.S.Sink.takes c.args.out.now (map under l) c.loop-column.out) (sym is) took
+    all_so_far g.S.Sink.takes c.loop-column.invariant.1 (none_left _ _ ended)
