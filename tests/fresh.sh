@@ -1,7 +1,7 @@
-# Whether a program stands that is newer than all that it is built from, and no file of it has come or gone since. Read
-# by `./replay`, tools/prove.py and tests/program.sh, in which `top` is the repository's folder.
+# Whether a program or an archive stands that is newer than all that it is built from, and no file of it has come or gone
+# since. Read by `./replay`, tools/prove.py, tests/program.sh and tests/border.py, in which `top` is the repository's folder.
 is_fresh() {
-    [ -x "$1" ] || return 1
+    [ -f "$1" ] || return 1
     [ -z "$(find "$top/crates" "$top/crates.txt" -path '*/out' -prune -o \
         \( -name '*.rt' -o -name '*.antt' -o -name crates.txt -o -type d -path '*/src*' -o -type d -path '*/specs*' \
         -o -type d -path '*/proofs*' \) -newer "$1" -print | head -n 1)" ]

@@ -48,7 +48,8 @@ BAD_LINES = [
     'slice a _ _ 170141183460469231731687303715884105728', 'slice a 1,2,3', 'slice a _ _ _-> b',
     'slice a -170141183460469231731687303715884105729 _ _', 'read a u8', 'read u9 a', 'read bool a', 'read U8 a',
     'read u8', 'floor-div a b', 'floordiv a b', 'div a b', 'neg a', 'negate a b', 'mark_safe', 'is_safe a -> b',
-    'kind a b', 'fields', 'extend', 'extend []', 'extend {1: 2}', 'extend {"a": 1, true: 2}', 'extend {s"a": 1}',
+    'kind a b', 'fields', 'walk', 'walk a b', 'walk a -> b', 'walk {}', 'walk 1', 'walks a', 'WALK a',
+    'extend', 'extend []', 'extend {1: 2}', 'extend {"a": 1, true: 2}', 'extend {s"a": 1}',
     'extend {"a": 1} -> b', 'extend{"a": 1}', 'extend a', 'extend {"a": 1,}', 'extend none', 'extend {"a": {1: 2}} {}',
     'extend {"a": 1, 1: {}}', 'set a"x"', 'set a[]', 'set a nonesuch', 'set a None', 'set a "x', 'set a x"',
     'set a "a"b"', 'set a s "x"', "set a 'x'", 'set a "\\a"', 'set a "\\x41"', 'set a "\\u{}"', 'set a "\\u{1234567}"',
@@ -80,7 +81,7 @@ class Maker:
         self.makers = {
             self.arithmetic_lines: 11, self.two_lines: 12, self.item_lines: 11, self.contains_lines: 7,
             self.slice_lines: 11, self.path_lines: 12, self.read_lines: 8, self.shown_lines: 20, self.set_lines: 7,
-            self.extend_lines: 3 * with_extend, self.odd_lines: 2, self.skipped_lines: 4}
+            self.order_lines: 5, self.extend_lines: 3 * with_extend, self.odd_lines: 2, self.skipped_lines: 4}
         self.names = {}
         self.bad_lines = []
 
@@ -215,8 +216,8 @@ class Maker:
     def spell_pairs(self, value):
         pairs = list(value.items())
         self.chance.shuffle(pairs)
-        for key, _ in list(pairs) if self.often(12) else []:
-            pairs.insert(0, (key, self.leaf()))  # written over by a later pair
+        for place in reversed(range(len(pairs))) if self.often(15) else []:
+            pairs.insert(self.chance.randint(0, place), (pairs[place][0], self.leaf()))  # written over by a later pair
         return [self.spell_key(key) + self.blanks() + ":" + self.blanks() + self.spell(one) for key, one in pairs]
 
     def bracketed(self, begin, parts, end):
@@ -398,7 +399,7 @@ class Maker:
     def shown_lines(self):
         """Calls of one name."""
         word = self.chance.choice(self.of_one_name)
-        of, _, lines = self.holder(*([dict] if word == "fields" else [dict, tuple, Text, bytes]))
+        of, _, lines = self.holder(*([dict] if word in ("fields", "walk") else [dict, tuple, Text, bytes]))
         of, lines = (of, lines) if self.often(70) else (self.name(), [])
         if word == "mark_safe" and self.often(40):
             of = self.chance.choice(NEVER_SET)
@@ -418,6 +419,13 @@ class Maker:
             word = self.pick(*shows.get(words[0], ["get", "get", "kind", "is_safe"]))
             after = [self.joined(word, into)]
         return [line.rstrip(" \t") + self.blanks(1) + "->" + self.blanks(1) + into, *after]
+
+    def order_lines(self):
+        """A map, the same in another order, and what tells the order and what does not."""
+        value = self.map(2)
+        lines = [self.set_line(name, value) for name in "ab"]
+        lines += [self.joined(self.pick("walk", "print", "get", "escape", "fields"), name) for name in "ab"]
+        return lines + [self.joined(self.pick("eq", "cmp"), "a", "b"), self.joined("walk", "a")]
 
     def skipped_lines(self):
         return [self.chance.choice(SKIPPED)]

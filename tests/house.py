@@ -8,6 +8,8 @@ behind a 'FAIL ..' each place that breaks it. The last line is 'house: end'.
   wrong body
 - imports: a crate imports a lower crate's proofs by its files of laws alone (docs/ARCHITECTURE.md says which these are)
 - lemmas: each is cited, and no two have one statement up to the names of variables
+- memory: each public call that takes memory has a row in tests/calls.py, by which its requests are refused, or a test
+  that tests/calls.py names for it; and each test that docs/TESTS.md names is there
 - lengths: no file of src/, specs/ or proofs/ is longer than its bound, and no line is wider
 - docs: each path, module and name that README.md and docs/ write as code is there
 """
@@ -19,7 +21,9 @@ import subprocess
 import sys
 
 sys.dont_write_bytecode = True  # no folder beside this file
+import calls as memory_calls
 import fuzz
+import hostile
 import second
 
 TOP = os.path.dirname(os.path.dirname(os.path.abspath(__file__)))
@@ -269,6 +273,79 @@ def spelled(lemma, homes):
     return re.sub(WORD, lambda it: names.get(it[0], homes.get(it[0], it[0])), text)
 
 
+# ---- memory
+
+LIBRARIES = "tera_report tera_scalars tera_values tera_conversions tera_arguments tera_context tera_script tera_replies".split()
+HEADED = re.compile(r"(?m)^(?P<block>(?:impl|pub trait)\b[^{;]*)\{|^ *(?P<public>pub )?fn (?P<name>\w+)(?P<rest>[^;{]*?)(?=\n\s*(?:requires|ensures)\b|[{;])|^(?P<end>\})")
+
+
+def plain_type(text):
+    """A type as rows name it: without lifetimes and parameters."""
+    text = re.sub(r"<.*>", "", re.sub(r"'\w+ ?", "", text.replace("'static", ""))).strip()
+    return {"KwargsOf": "Kwargs"}.get(text, text)
+
+
+def public_calls(crate):
+    """Each public call of a library that is given an allocator, or whose answer may be want of memory."""
+    names = read(f"crates/{crate}/src/lib.rt")
+    modules = set(re.findall(r"pub mod (\w+)", names))
+    homes = [names, *(read(f"crates/{crate}/src/{module}.rt") for module in sorted(modules))]
+    shown = set(re.findall(r"\w+", " ".join(it for home in homes for it in re.findall(r"pub use ([^;]*);", home))))
+    for path in below("src", end=".rt"):
+        if path.split("/")[1] != crate:
+            continue
+        text, block = re.sub(r"(?m)//.*", "", read(path)), ""
+        module = path.split("/src/")[1].removesuffix(".rt").split("/")[0]
+        for macro in re.findall(r"#\[macro_export\]\s*macro_rules! (\w+)", text):
+            yield path, f"{macro}!"
+        for found in HEADED.finditer(text):
+            if found["block"] or found["end"]:
+                block = re.sub(r"\s+", " ", found["block"] or "").strip()
+                continue
+            trait, _, of = re.sub(r"^impl(<(?:[^<>]|<[^<>]*>)*>)? ", "", block).partition(" for ")
+            own = plain_type(re.split(r" where\b", of or trait)[0])
+            # what a trait declares is called at its types; what stands in no public item of a library is no one's to call
+            if block.startswith("pub trait") or not (found["public"] or of):
+                continue
+            if not of and module not in modules and (own if block else found["name"]) not in shown:
+                continue
+            params, _, answer = found["rest"].rpartition("->")
+            if re.search(r"\balloc: Global", found["rest"]) or re.search(r"TeraResult|AllocError", answer) and "_alloc: Global" not in params:
+                own = plain_type(trait) if own == "T" else own
+                yield path, f"{own}::{found['name']}" if block else f"{module}::{found['name']}" if module in modules else found["name"]
+
+
+def memory():
+    rows = {row.name.split()[0] for row in memory_calls.rows(2)}
+    tests = tests_there()
+    found = set()
+    for crate in LIBRARIES:
+        for path, name in public_calls(crate):
+            found.add(name)
+            if name not in rows | set(memory_calls.ELSEWHERE) | memory_calls.FREE:
+                yield f"{path}: `{name}` takes memory, and tests/calls.py has no row that refuses it"
+    for name in sorted((rows | set(memory_calls.ELSEWHERE) | memory_calls.FREE) - found - memory_calls.BESIDE):
+        yield f"tests/calls.py: `{name}` is no public call that takes memory"
+    for name, shown in memory_calls.ELSEWHERE.items():
+        if shown not in rows and shown not in tests:
+            yield f"tests/calls.py: `{name}` is shown by `{shown}`, which is no row and no test"
+    page = read("docs/TESTS.md")
+    for line in page.split("\n"):
+        cells = [it.strip() for it in line.split("|")[1:-1]]
+        if len(cells) == 2 and cells[0] not in ("what is shown", "a wrong body", "---"):
+            for name in re.findall(r'"([^"]+)"|`(\w+::\w+)`', cells[1]) or [("nothing", "")]:
+                if (name[0] or name[1]) not in tests:
+                    yield f"docs/TESTS.md: no test `{name[0] or name[1]}`"
+
+
+def tests_there():
+    """The names of all tests: those of tests/hostile.py and tests/program.sh, and those of crates with their crate."""
+    named = set(hostile.TESTS) | set(re.findall(r'(?m)^ *tell "([^"$]+)"', read("tests/program.sh")))
+    for path in below("src", end=".rt"):
+        named.update(f"{path.split('/')[1]}::{it}" for it in re.findall(r"#\[test\]\s*fn (\w+)", read(path)))
+    return named
+
+
 # ---- lengths
 
 
@@ -332,6 +409,7 @@ RULES = {
     "each call has its scripts, its row and its lines": calls,
     "a lower crate's proofs are imported by their laws alone": imports,
     "each lemma is cited, and stated once": lemmas,
+    "each call that takes memory has a row that refuses it": memory,
     "files and lines keep their lengths": lengths,
     "what the documents name is there": docs,
 }

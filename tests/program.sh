@@ -161,6 +161,8 @@ set a -170141183460469231731687303715884105729
 slice a 1 2
 slice a _ _ 170141183460469231731687303715884105728
 eq a b -> c
+walk a -> b
+walk
 get a ->
 path a s"x"
 LINES
@@ -255,8 +257,8 @@ tell "each line on operands of 0, 1 and 1,000 parts, with ample memory" $?
 python3 tests/fuzz.py "$program" --seed 1 --lines 20000 >"$work/out" 2>"$work/err"
 tell "a second implementation answers 20,000 lines in the same way" $?
 
-python3 tests/fuzz.py "$program" --seconds 30 --seed 2 --keep "$work" >"$work/out" 2>"$work/err"
-tell "thirty seconds of large scripts, cut and in pieces, answered as by a second implementation" $?
+python3 tests/fuzz.py "$program" --seconds 60 --seed 2 --keep "$work" >"$work/out" 2>"$work/err"
+tell "sixty seconds of large scripts, cut and in pieces, answered as by a second implementation" $?
 
 python3 -c 'print("set l [0]\npath l \"" + ".".join(["0"] * 10000) + "\"")' >"$work/script"
 printf 'ok\nnothing\n' >"$work/wanted"
@@ -290,7 +292,7 @@ step_refused
 tell "a step's want of memory is its answer where standard error fails" $?
 python3 tests/refused.py "$program" "$work/refuse.so" >"$work/out" 2>"$work/err"
 tell "every call with each request for memory refused in turn" $?
-for script in first calls maps look_ups slices arithmetic worked extends; do
+for script in first calls maps walks look_ups slices arithmetic worked extends; do
     script=examples/$script.replay
     python3 tests/refused.py "$program" "$work/refuse.so" "$script" >"$work/out" 2>"$work/err"
     tell "$script with each request for memory refused in turn" $?
@@ -319,79 +321,11 @@ bad_line_refused() {
 bad_line_refused
 tell "a bad line with each request for memory refused in turn" $?
 
-# Cut at any byte, a script answers its whole lines as before, and ends with status 0 or 2.
-cut_anywhere() {
-    size=$(wc -c <"$1.replay")
-    at=0
-    while [ "$at" -le "$size" ]; do
-        head -c "$at" "$1.replay" >"$work/script"
-        "$program" <"$work/script" >"$work/out" 2>"$work/err"
-        status=$?
-        [ "$status" -eq 0 ] || [ "$status" -eq 2 ] || return 1
-        calls=$(head -n "$(wc -l <"$work/script")" "$work/script" | grep -c '^[^#]')
-        head -n "$calls" "$1.answers" >"$work/wanted"
-        head -n "$calls" "$work/out" | cmp -s - "$work/wanted" || return 1
-        at=$((at + 1))
-    done
-}
-cut_anywhere examples/worked
-tell "the worked script cut at every byte" $?
-
-# Builds the calls that take memory, where they are not built.
+# Builds the calls in hostile surroundings, where they are not built. Its tests tell themselves.
 calls=crates/memory_calls/out/memory_calls
-calls_answers=crates/memory_calls/stdout
 is_fresh "$calls" || (cd crates/memory_calls && rt run && touch out/memory_calls) </dev/null >"$work/build" 2>&1
-"$calls" </dev/null >"$work/out" 2>"$work/err"
-cmp -s "$work/out" "$calls_answers"
-tell "the calls that take memory are answered" $?
-
-# Each line is the answer or want of memory, which so many lines at most are, and none is left out.
-is_answered() {
-    awk -v most="$1" 'NR == FNR { wanted[NR] = $0; count = NR; next }
-        $0 == wanted[FNR] { next }
-        $0 == "error: Out of memory" { wants++; next }
-        { bad = 1 }
-        END { exit bad || wants > most || FNR != count }' "$calls_answers" "$work/out"
-}
-
-# Each request for memory is refused in turn, until a run meets no refusal: one answer at most is
-# want of memory, and in the end each was so once. What takes no memory is answered as ever.
-calls_refused() {
-    : >"$work/refused_lines"
-    turn=1
-    while [ "$turn" -le 2000 ]; do
-        rm -f "$work/refused"
-        LD_PRELOAD="$work/refuse.so" REFUSE=$turn REFUSED="$work/refused" \
-            "$calls" >"$work/out" 2>"$work/err" && is_answered 1 || return 1
-        if [ ! -e "$work/refused" ]; then
-            cmp -s "$work/out" "$calls_answers" || return 1
-            [ "$(sort -u "$work/refused_lines" | wc -l)" -eq "$(wc -l <"$calls_answers")" ]
-            return
-        fi
-        grep -n '^error: Out of memory$' "$work/out" >>"$work/refused_lines"
-        turn=$((turn + 1))
-    done
-    return 1
-}
-calls_refused
-tell "the calls that take memory with each request for it refused in turn" $?
-
-# From each request on all are refused: from the line of the first on, no more lines are answered
-# than before, and what takes no memory is answered as ever.
-all_refused() {
-    lines=$(wc -l <"$calls_answers")
-    turn=1
-    while [ "$turn" -le 2000 ]; do
-        rm -f "$work/refused"
-        LD_PRELOAD="$work/refuse.so" REFUSE=$turn ONWARDS=1 REFUSED="$work/refused" \
-            "$calls" >"$work/out" 2>"$work/err" && is_answered "$lines" || return 1
-        [ -e "$work/refused" ] || return 0
-        turn=$((turn + 1))
-    done
-    return 1
-}
-all_refused
-tell "the calls that take memory with all memory refused from a request on" $?
+python3 tests/hostile.py "$program" "$calls" "$work/refuse.so" 2>"$work/err"
+tell "tests of hostile surroundings end" $?
 
 wait "$first"
 tell "the first answer of a fresh clone, with its status and both streams" $?

@@ -6,11 +6,11 @@ one shows what the model (tests/second.py) says:
 
 - The program itself found no memory: standard error says so, the status is 1, and whole answers from the first on are out.
 - Else a step did: its answer is want of memory, the status is 1, and all other answers are those of the script without
-  that step. Of an `extend`, some first names of its source by their bytes, fewer than all, are taken over.
+  that step. An `extend` too has taken over nothing: more than its clauses say, which let some first names be taken over.
 
 Behind each script come lines that ask for every name, its kind and its mark, so that what a refused step left is seen.
 Without scripts there is one of every call, with and without a name for what is found. Each line of it that may want
-memory has to meet a refusal, its long `extend` with several beginnings taken over; those that take none never do.
+memory has to meet a refusal; those that take none never do.
 """
 import os
 import subprocess
@@ -31,12 +31,12 @@ FINDS = ["get l", "path m \"other.in\"", "attr m \"k\"", "item m one", "item l n
          "slice l _ _ 0", "reverse l", "reverse t", "reverse b", "reverse n", "negate n", "negate t", "read u8 n", "read u8 u",
          "read i128 u", "read usize t", "mark_safe t", "mark_safe l", "get absent", "attr m \"absent\"", "path absent \"a\"",
          *[f"{word} {left} {right}" for word in second.OPERATORS for left, right in (("n", "n"), ("n", "z"), ("u", "n"), ("t", "n"))]]
-ASKS = ["has l", "len m", "truthy m", "fields m", "fields l", "kind m", "is_safe s", "print m", "print t", "escape t", "escape m",
+ASKS = ["has l", "len m", "truthy m", "fields m", "fields l", "walk m", "walk l", "walk absent", "kind m", "is_safe s", "print m", "print t", "escape t", "escape m",
         "escape s", "eq m copy", "eq l l", "cmp m copy", "cmp l l", "try_cmp l l", "try_cmp l n", "contains m key", "contains m one",
         "contains l item", "contains t key", "contains n one", "contains t n", "print absent", "escape absent"]
 MANY = ", ".join(f'"n{number:02}": [{number}, s"x"]' for number in range(60, 0, -1))
 CHANGES = ["remove n", "remove absent", "extend {}", f'extend {{{MANY}, "t": "another text, longer than twenty bytes"}}',
-           "mark_safe t", "set l [[[1]]]", 'set m {"k": 1, "k": 2}']
+           "mark_safe t", "set l [[[1]]]", 'set m {"k": 1, "j": "no less than twenty bytes", "k": 2}']
 # no line of these takes memory, wherever the script stands
 FREE = ("has", "len", "truthy", "kind", "is_safe", "eq", "cmp", "try_cmp", "remove")
 
@@ -59,37 +59,20 @@ def with_questions(lines):
     return lines + [f"{word} {name}" for name in asked for word in ("get", "kind", "is_safe")]
 
 
-def beginnings(source):
-    """The proper beginnings of what an `extend` takes over, in the order of the names' bytes."""
-    names = sorted(source, key=str.encode)
-    return [{name: source[name] for name in names[:count]} for count in range(len(names))]
-
-
-def answers(lines, refused=None, part=None):
-    """The model's answers, where the step of this number found no memory and had taken over this part of its source."""
-    names, given = {}, []
-    for number, line in enumerate(lines):
-        if number == refused:
-            names.update(part or {})
-            given.append(WANT)
-        else:
-            given.append(second.step(names, line))
-    return given
-
-
-def parts_of(line):
-    word, operands, _ = second.read_call(line)
-    return beginnings(operands[0]) if word == "extend" and operands[0] else [{}]
+def answers(lines, refused=None):
+    """The model's answers, where the step of this number found no memory."""
+    names = {}
+    return [WANT if number == refused else second.step(names, line) for number, line in enumerate(lines)]
 
 
 class Runs:
-    """The runs of one script, and which of its steps were seen to want memory, with what part taken over."""
+    """The runs of one script, and which of its steps were seen to want memory."""
 
     def __init__(self, program, library, lines):
         self.program, self.library, self.lines = program, library, lines
         self.given = "".join(f"{line}\n" for line in lines).encode()
         self.whole = answers(lines)
-        self.wanting, self.parts = set(), set()
+        self.wanting = set()
 
     def run(self, number, told):
         if os.path.exists(told):
@@ -111,11 +94,9 @@ class Runs:
         wants = [at for at, answer in enumerate(out) if answer == WANT]
         if len(wants) != 1:
             return f"{len(wants)} answers are want of memory"
-        parts = [part for part in parts_of(self.lines[wants[0]]) if answers(self.lines, wants[0], part) == out]
-        if not parts:
+        if answers(self.lines, wants[0]) != out:
             return f"`{self.lines[wants[0]]}` wanted memory, and the rest is not as if it was left out"
         self.wanting.add(wants[0])
-        self.parts.add((wants[0], len(parts[0])))
         return None
 
     def all(self):
@@ -134,14 +115,10 @@ class Runs:
         held = [line for at, line in enumerate(self.lines) if self.must_want(at, line) and at not in self.wanting]
         return held + [line for at, line in enumerate(self.lines) if free[at] and at in self.wanting]
 
-    def beginnings(self):
-        """How many beginnings of a source were seen, that of no name left out."""
-        return sum(count > 0 for _, count in self.parts)
-
     def must_want(self, at, line):
         """What is found and copied, shown as a text, or refused with a text takes memory for it."""
         word, answer = line.split()[0], self.whole[at]
-        shows = word in ("print", "escape", "fields") and answer not in ("text ", "fields []")
+        shows = word in ("print", "escape", "fields", "walk") and answer not in ("text ", "fields []", "walk []")
         copies = word in ("get", "path", "attr", "item", "slice", "reverse") and '"' in answer and "-> " not in line
         return shows or copies or answer.startswith("error: ")
 
@@ -157,10 +134,7 @@ def main():
         missing = [] if script else runs.missing()
         if missing:
             sys.exit("\n".join(["these lines wanted no memory, or may not have:", *missing]))
-        if not script and runs.beginnings() < 3:
-            sys.exit("fewer than three beginnings of a source were taken over")
-        print(f"refused: {script or 'every call'}, {count} requests, {len(runs.wanting)} of {len(runs.lines)} steps wanted memory, "
-              f"{runs.beginnings()} beginnings of a source were left")
+        print(f"refused: {script or 'every call'}, {count} requests, {len(runs.wanting)} of {len(runs.lines)} steps wanted memory")
     print("refused: end")
 
 

@@ -4,7 +4,8 @@
 status. As a program it does what tera_replay does: `python3 tests/second.py < SCRIPT`.
 
 A value is UNDEFINED, NONE, a truth value, a Number, a Text, bytes, a tuple (an array) or a dict (a map). A map goes
-from `key_of` a key to the value: the width of a number that is a key shows nowhere.
+from `key_of` a key to the value, and keeps the order in which its keys were first put: the width of a number that is a
+key shows nowhere.
 """
 import re
 import sys
@@ -283,7 +284,7 @@ def printed(value):
     if isinstance(value, bytes):
         return value.decode("utf-8", "replace")
     if isinstance(value, dict):
-        return "{" + ", ".join(f"{printed_key(key, quoted)}: {inside(value[key])}" for key in sorted(value)) + "}"
+        return "{" + ", ".join(f"{printed_key(key, quoted)}: {inside(one)}" for key, one in value.items()) + "}"
     if is_array(value):
         return "[" + ", ".join(map(inside, value)) + "]"
     return printed_key(key_of(value))
@@ -471,9 +472,12 @@ def is_safe(value):
     return value.safe if isinstance(value, Text) else not is_sized(value)
 
 
-def fields(value):
-    keys = {printed_key(key) for key in value} if isinstance(value, dict) else ()
-    return "fields [" + ", ".join(map(quoted, sorted(keys))) + "]"
+def printed_keys(value):
+    return [printed_key(key) for key in value] if isinstance(value, dict) else []
+
+
+def listed(texts):
+    return "[" + ", ".join(map(quoted, texts)) + "]"
 
 
 def escaped(text):
@@ -498,7 +502,8 @@ CALLS = {
     "contains": ("vv", contains),
     "len": ("v", lambda value: f"size {size(value)}" if is_sized(value) else "nothing"),
     "truthy": ("v", lambda value: truth(is_truthy(value))),
-    "fields": ("v", fields),
+    "fields": ("v", lambda value: "fields " + listed(sorted(set(printed_keys(value))))),
+    "walk": ("v", lambda value: "walk " + listed(printed_keys(value))),
     **{word: ("vv>", binary(word)) for word in OPERATORS},
     "negate": ("v>", negate),
     "eq": ("vv", lambda left, right: truth(meaning(left) == meaning(right))),

@@ -31,7 +31,7 @@ import time
 from concurrent.futures import ThreadPoolExecutor
 
 PUBLIC = r"( *)(?:pub(?:\([^)]*\))? )?(?:unsafe )?"
-FUNCTION = re.compile(PUBLIC + r"(?:const )?fn (\w+)")
+FUNCTION = re.compile(PUBLIC + r'(?:const )?(?:extern "C" )?fn (\w+)')
 ITEM = re.compile(PUBLIC + r"(?:const|static|struct|enum|trait|type|impl)\b")
 BLOCK = re.compile(PUBLIC + r"(?:impl|trait)\b")
 IMPL = re.compile(r"impl(<(?:[^<>]|<[^<>]*>)*>)? (?:(.*) for )?(.*)")
@@ -391,7 +391,8 @@ def shares(edits, most=200):
 
 
 class Gate:
-    """A run of `rt ci` beside this one, by its log; or none, and then all crates are proved already."""
+    """A run of `rt ci` beside this one, by its log; or none, and then all crates are proved already. What an earlier run
+    on this machine has proved is kept, and so is proved."""
 
     def __init__(self, log, lanes):
         self.log, self.lanes = log, threading.BoundedSemaphore(max(1, lanes // 2))
@@ -404,7 +405,7 @@ class Gate:
 
     def proves(self, crate):
         """Waits until the crate is proved, or the gate has ended without that."""
-        proved = re.compile(rf"(?m)^rt: {crate.name} proved$")
+        proved = re.compile(rf"(?m)^rt: {crate.name} (?:proved$|is kept: )")
         while not proved.search(self.told()):
             if self.has_ended():
                 return bool(proved.search(self.told()))
@@ -420,10 +421,13 @@ def tried(rt, edits, given):
         if given.gate and not gate.proves(crate):
             print(f"FAIL {crate.name}: it is not proved, so its {len(some)} wrong bodies were not tried", flush=True)
             return [0, len(some)]
-        if gate.has_ended():
-            return counted_now(crate, some, kept)
-        with gate.lanes:
-            return counted_now(crate, some, kept)
+        while not gate.has_ended():
+            if gate.lanes.acquire(timeout=2):
+                try:
+                    return counted_now(crate, some, kept)
+                finally:
+                    gate.lanes.release()
+        return counted_now(crate, some, kept)
 
     def counted_now(crate, some, kept):
         if not os.path.isdir(kept) and os.path.isdir(f"{crate.folder}/out/incremental"):

@@ -1,4 +1,5 @@
-"""Proves the libraries that a program stands on, and then proves and builds the program: `prove.py PROGRAM`.
+"""Proves the libraries that a program or a static library stands on, and then proves and builds it: `prove.py NAME COMMAND`,
+where COMMAND is what runs this.
 
 A crate starts once all that it stands on is proved, beside others where cores are idle; crates.txt says what stands on
 what. What is proved stays so: nothing of it is proved again, and after an interrupt it goes on where it was.
@@ -13,13 +14,13 @@ import time
 
 TOP = os.path.dirname(os.path.dirname(os.path.realpath(__file__)))
 CRATES = f"{TOP}/crates"
-PROGRAM = sys.argv[1]
-OUT = f"{CRATES}/{PROGRAM}/out"
+TARGET, COMMAND = sys.argv[1:]
+OUT = f"{CRATES}/{TARGET}/out"
 CORES = len(os.sched_getaffinity(0))
 
 
 def tell(line):
-    print(f"replay: {line}", file=sys.stderr, flush=True)
+    print(f"{os.path.basename(COMMAND.split()[0])}: {line}", file=sys.stderr, flush=True)
 
 
 def crates(count):
@@ -34,6 +35,8 @@ def lines_of_crates():
 
 
 LINES = lines_of_crates()
+KIND = "library" if "staticlib" in LINES[TARGET].partition(":")[0].split() else "program"
+MADE = f"{OUT}/{TARGET}" if KIND == "program" else f"{OUT}/lib{TARGET}.a"
 # The crates that each crate uses, without those of the kit.
 USES = {name: [it for it in line.partition(":")[2].split() if it in LINES] for name, line in LINES.items()}
 
@@ -59,7 +62,7 @@ class Proof:
         if is_beside and self.locks(folder):
             self.apart = f"{OUT}/beside/{name}"
             folder = set_apart(name, self.apart)
-        words = ["rt", "run" if name == PROGRAM else "lib", *(["--jobs", str(jobs)] if jobs else [])]
+        words = ["rt", "run" if name == TARGET and KIND == "program" else "lib", *(["--jobs", str(jobs)] if jobs else [])]
         with open(self.log, "wb") as log:
             self.run = subprocess.Popen(words, cwd=folder, stdin=subprocess.DEVNULL, stdout=log, stderr=log)
 
@@ -113,13 +116,13 @@ def put_back(name, apart):
 
 
 def is_fresh():
-    words = ["sh", "-c", 'top=$1; . "$top/tests/fresh.sh"; is_fresh "$2"', "", TOP, f"{OUT}/{PROGRAM}"]
+    words = ["sh", "-c", 'top=$1; . "$top/tests/fresh.sh"; is_fresh "$2"', "", TOP, MADE]
     return subprocess.run(words).returncode == 0
 
 
 def prove_all(running, signals):
     """Proves all crates, and returns the status. What runs stands in `running`; a signal in `signals` ends it."""
-    left = [*below(PROGRAM), PROGRAM]
+    left = [*below(TARGET), TARGET]
     proved = set()
     tell(f"{crates(len(left))} to prove; the prover's words are in {OUT}/prove")
     while left:
@@ -129,12 +132,12 @@ def prove_all(running, signals):
         # A crate that is alone gets as many jobs as `rt` finds fit.
         jobs = None if at_once == 1 else max(CORES // at_once, 1)
         for name in ready[: CORES - len(running)]:
-            tell(f"{name}: being {'proved and built' if name == PROGRAM else 'proved'}; {crates(len(left))} left")
+            tell(f"{name}: being {'proved and built' if name == TARGET else 'proved'}; {crates(len(left))} left")
             running.append(Proof(name, jobs, is_beside=bool(running)))
         time.sleep(0.1)
         ended = [it for it in running if it.run.poll() is not None]
         if signals:
-            tell("stopped; what is proved stays so, and `./replay --prove` goes on from there")
+            tell(f"stopped; what is proved stays so, and `{COMMAND}` goes on from there")
             return 128 + signals[0]
         for it in ended:
             if it.run.returncode:
@@ -156,7 +159,7 @@ def main():
         tell("Rattle's kit is needed, and no `rt` is on the path")
         return 1
     if is_fresh():
-        tell("the proved program stands")
+        tell(f"the proved {KIND} stands")
         return 0
     os.makedirs(f"{OUT}/prove", exist_ok=True)
     # An earlier run that was killed may have left these.
@@ -169,12 +172,12 @@ def main():
             it.end()
     if status:
         return status
-    # A source that was edited since this began is newer than the program, which may not have it.
-    os.utime(f"{OUT}/{PROGRAM}", (began, began))
+    # A source that was edited since this began is newer than what was built, which may not have it.
+    os.utime(MADE, (began, began))
     if not is_fresh():
-        tell("a source was changed meanwhile: `./replay --prove` again makes the program of what stands now")
+        tell(f"a source was changed meanwhile: `{COMMAND}` again makes the {KIND} of what stands now")
         return 1
-    tell(f"the proved program stands, after {time.time() - began:.0f} s")
+    tell(f"the proved {KIND} stands, after {time.time() - began:.0f} s")
     return 0
 
 

@@ -18,6 +18,8 @@ mod made;
 #[cfg(test)]
 mod named;
 #[cfg(test)]
+mod orders;
+#[cfg(test)]
 mod parts;
 #[cfg(test)]
 mod results;

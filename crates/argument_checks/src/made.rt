@@ -1,5 +1,6 @@
 //! What is given and taken in the tests. Where memory is wanting a part is left out, so that the
 //! test which looks at it fails.
+use indexmap::IndexMap;
 use std::alloc::Global;
 use std::collections::{BTreeMap, BTreeSet, HashMap};
 use std::fmt::Display;
@@ -78,6 +79,20 @@ pub fn table_of<K: Eq + Hash + Drop, T: Drop>(alloc: Global, key: K, value: T) -
     map
 }
 
+/// A map of two pairs, in the order in which they are put.
+pub fn row_of<K: Eq + Hash + Drop, T: Drop>(
+    alloc: Global,
+    first: (K, T),
+    second: (K, T),
+) -> IndexMap<K, T> {
+    let mut map = IndexMap::new(alloc);
+    let (key, value) = first;
+    let _ = map.insert(key, value);
+    let (key, value) = second;
+    let _ = map.insert(key, value);
+    map
+}
+
 /// So many numbers, rising from 0, each at a text past ASCII with it, in the order of keys.
 pub fn many_in_tree(alloc: Global, count: i64) -> BTreeMap<String, i64> {
     let mut map = BTreeMap::new(alloc);
@@ -90,6 +105,15 @@ pub fn many_in_tree(alloc: Global, count: i64) -> BTreeMap<String, i64> {
 /// The same in a hashed map.
 pub fn many_in_table(alloc: Global, count: i64) -> HashMap<String, i64> {
     let mut map = HashMap::new(alloc);
+    for number in 0..count {
+        let _ = map.insert(numbered(alloc, number), number);
+    }
+    map
+}
+
+/// The same in the order in which they are put.
+pub fn many_in_row(alloc: Global, count: i64) -> IndexMap<String, i64> {
+    let mut map = IndexMap::new(alloc);
     for number in 0..count {
         let _ = map.insert(numbered(alloc, number), number);
     }

@@ -7,11 +7,11 @@ use std::alloc::Global;
 use std::collections::BTreeSet;
 use tera_arguments::{ArgFromValue, Kwargs, KwargsIter, KwargsOf, Parts};
 use tera_report::TeraResult;
-use tera_values::{Key, Value, maps};
+use tera_values::{Key, Map, Value};
 
 // The arguments of a map, and none of what is no map.
 fn arguments(alloc: Global, of: Value) -> Kwargs {
-    Kwargs::new(of.into_map().unwrap_or(maps::new(alloc)))
+    Kwargs::new(of.into_map().unwrap_or(Map::new(alloc)))
 }
 
 // One argument.
@@ -155,7 +155,7 @@ where
 #[test]
 fn what_has_to_be_there_is_told(rt: HostRuntime) {
     let alloc = rt.alloc();
-    let none = Kwargs::new(maps::new(alloc));
+    let none = Kwargs::new(Map::new(alloc));
     let text_at_n = one_argument(alloc, "n", text(alloc, "x"));
     let missing = "Missing keyword argument `n`";
     let wrong = "Invalid type for the value, expected `u8` but got `string`";
@@ -173,8 +173,8 @@ fn what_has_to_be_there_is_told(rt: HostRuntime) {
 }
 
 // What was made of pairs, or no argument.
-fn or_none(alloc: Global, made: TeraResult<Kwargs>) -> Kwargs {
-    made.unwrap_or(Kwargs::new(maps::new(alloc)))
+pub fn or_none(alloc: Global, made: TeraResult<Kwargs>) -> Kwargs {
+    made.unwrap_or(Kwargs::new(Map::new(alloc)))
 }
 
 // The arguments of two numbers.
@@ -218,7 +218,7 @@ fn of_equal_keys_the_first_key_stands(rt: HostRuntime) {
 }
 
 // The arguments show that.
-fn is_shown(alloc: Global, of: Kwargs, wanted: &str) -> bool {
+pub fn is_shown(alloc: Global, of: Kwargs, wanted: &str) -> bool {
     let is_so = shows(alloc, &of, wanted);
     drop(of);
     is_so
@@ -315,7 +315,7 @@ fn arguments_of_any_size(rt: HostRuntime) {
 }
 
 // The arguments of 1,000 pairs, each a number at its own, which falls.
-fn thousand_pairs(alloc: Global) -> Kwargs {
+pub fn thousand_pairs(alloc: Global) -> Kwargs {
     let pairs: [(u128, Value); 1000] = std::array::from_fn(|place| (
         999u128.saturating_sub(place as u128),
         Value::from(place),
@@ -364,7 +364,7 @@ fn copies_keep_kinds_and_flags(rt: HostRuntime) {
     let alloc = rt.alloc();
     let marked = one_argument(alloc, "é", safe(alloc, "é<"));
     let wide = one_argument(alloc, "n", Value::from(7u128));
-    let none = Kwargs::new(maps::new(alloc));
+    let none = Kwargs::new(Map::new(alloc));
     let shown = "KwargsOf { values: Value { inner: \
         Map({Str(\"é\"): Value { inner: String(\"é<\", true) }}) } }";
     let told = "KwargsOf { values: Value { inner: \

@@ -3,10 +3,12 @@ use crate::given::is_held;
 use crate::held::hold;
 use crate::made::{none_of, one_of, owned, two_of};
 use crate::taken::{is_no, one_pair_of, refuses, taken, takes};
-use made_values::{bytes, no_items, no_pairs, numbers, one_item, or_undefined, text, two_items};
+use made_values::{
+    at_texts, bytes, no_items, no_pairs, numbers, one_item, or_undefined, text, two_items,
+};
 use std::alloc::Global;
 use tera_report::TeraResult;
-use tera_values::{Map, Value, maps};
+use tera_values::{Key, Map, Value};
 
 // The copy of the map that is taken.
 pub fn copied_map(alloc: Global, value: &Value) -> TeraResult<Value> {
@@ -31,9 +33,27 @@ fn lends_map(alloc: Global, value: Value, key: &str, wanted: i64) -> bool {
     is_so
 }
 
+// In the map that is lent, the first key is that text.
+fn lends_first(alloc: Global, value: Value, key: &str) -> bool {
+    let is_so = match taken::<Value, &Map>(alloc, &value).ok() {
+        Some(map) => has_first(map, key),
+        None => false,
+    };
+    drop(value);
+    is_so
+}
+
+// The first key of the map is that text.
+fn has_first(map: &Map, key: &str) -> bool {
+    match map.get_index(0) {
+        Some((first, _)) => first.as_str() == Some(key),
+        None => false,
+    }
+}
+
 // In the map a text has that number.
 fn has_number(map: &Map, key: &str, wanted: i64) -> bool {
-    match maps::get_text(map, key) {
+    match map.get(&Key::Str(key)) {
         Some(found) => found.as_i64() == Some(wanted),
         None => false,
     }
@@ -43,12 +63,17 @@ fn has_number(map: &Map, key: &str, wanted: i64) -> bool {
 fn maps_are_copied_or_lent(rt: HostRuntime) {
     let alloc = rt.alloc();
     let map = "Map({Str(\"é\"): Value { inner: I64(7) }})";
+    let falling = "Map({Str(\"b\"): Value { inner: I64(1) }, \
+        Str(\"a\"): Value { inner: I64(2) }})";
+    let pairs = [("b", 1), ("a", 2)];
     let items = no_items(alloc);
     hold(
         &rt,
         &[
             copies_map(alloc, one_pair_of(alloc), map),
+            copies_map(alloc, at_texts(alloc, &pairs), falling),
             lends_map(alloc, one_pair_of(alloc), "é", 7),
+            lends_first(alloc, at_texts(alloc, &pairs), "b"),
             copies_map(alloc, no_pairs(alloc), "Map({})"),
             is_no::<Value, Map>(alloc, &items, "Map", "array"),
             is_no::<Value, &Map>(alloc, &items, "Map", "array"),

@@ -1,13 +1,13 @@
 //! What functions of templates answer.
 use crate::given::is_held;
 use crate::held::hold;
-use crate::made::{displays, one_of, owned, set_of, table_of, tree_of};
-use made_values::{or_undefined, safe};
+use crate::made::{displays, one_of, owned, row_of, set_of, table_of, tree_of};
+use made_values::{or_undefined, safe, with};
 use std::alloc::Global;
 use std::borrow::CowStr;
 use tera_conversions::FunctionResult;
 use tera_report::{Error, TeraResult};
-use tera_values::{Key, Number, Value};
+use tera_values::{Key, Map, Number, Value};
 
 // It answers a value that is held so.
 fn answers<F: FunctionResult>(alloc: Global, answer: F, wanted: &str) -> bool {
@@ -68,6 +68,12 @@ fn collections_are_answered(rt: HostRuntime) {
             answers(alloc, b"a".as_slice(), "Bytes([97])"),
             answers(alloc, table_of(alloc, "a", 1u8), pair),
             answers(alloc, tree_of(alloc, "a", 1u8), pair),
+            answers(alloc, row_of(alloc, ("a", 0u8), ("a", 1u8)), pair),
+            answers(
+                alloc,
+                with(Map::new(alloc), Key::Str("a"), Value::from(1u8)),
+                pair,
+            ),
         ],
     );
     drop(values);

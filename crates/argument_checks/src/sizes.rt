@@ -1,7 +1,7 @@
 //! What is given and taken of values without parts, with one and with 1,000.
 use crate::held::{all, hold};
 use crate::inputs::rendered;
-use crate::made::{falling_set, many_in_table, many_in_tree, owned, rising};
+use crate::made::{falling_set, many_in_row, many_in_table, many_in_tree, owned, rising};
 use crate::parts::copied_map;
 use crate::taken::{is_lent, is_owned, taken, takes};
 use made_values::{bytes, many_items, many_pairs, numbers_below, or_undefined, repeated};
@@ -9,7 +9,7 @@ use std::alloc::Global;
 use std::borrow::CowStr;
 use tera_conversions::{FunctionResult, ToKey, ToValue};
 use tera_report::TeraResult;
-use tera_values::{Key, Map, Value, ValueKind, maps};
+use tera_values::{Key, Map, Value, ValueKind};
 
 // The two are held alike, in the words of Debug, which tell the kind and the flag of each part.
 fn are_alike(alloc: Global, found: &Value, wanted: &Value) -> bool {
@@ -139,7 +139,7 @@ fn is_owned_text_and_i64(key: &Key<'static>, value: &Value) -> bool {
 
 // Each pair of the map is one of a text that the key owns, and of a number with a sign.
 fn are_texts_and_numbers(map: &Map) -> bool {
-    for (key, value) in maps::entries(map) {
+    for (key, value) in map.iter() {
         if !is_owned_text_and_i64(key, value) {
             return false;
         }
@@ -161,9 +161,18 @@ fn gives_maps(alloc: Global, count: i64) -> bool {
     let rows = [
         gives_map(alloc, many_in_tree(alloc, count), &wanted),
         gives_map(alloc, many_in_table(alloc, count), &wanted),
+        gives_map(alloc, many_in_row(alloc, count), &wanted),
+        gives_map(alloc, map_of(alloc, many_pairs(alloc, count)), &wanted),
+        gives_alike(alloc, many_in_row(alloc, count), &wanted),
+        gives_alike(alloc, map_of(alloc, many_pairs(alloc, count)), &wanted),
     ];
     drop(wanted);
     all(&rows)
+}
+
+// The map that it is, or one of no pair.
+fn map_of(alloc: Global, of: Value) -> Map {
+    of.into_map().unwrap_or(Map::new(alloc))
 }
 
 // It gives that map.
@@ -180,7 +189,7 @@ fn is_whole_map(found: Value, wanted: &Value) -> bool {
 // How many pairs the map has that is lent.
 fn lent_count(alloc: Global, value: &Value) -> Option<usize> {
     match taken::<Value, &Map>(alloc, value).ok() {
-        Some(map) => Some(maps::len(map)),
+        Some(map) => Some(map.len()),
         None => None,
     }
 }

@@ -130,6 +130,7 @@ fn prints_as(alloc: Global, value: Value, wanted: &str) -> bool {
 fn texts_are_printed(rt: HostRuntime) {
     let alloc = rt.alloc();
     let mixed = two_items(alloc, Value::from(1u8), text(alloc, "é"));
+    let falling = at_texts(alloc, &[("é", 2), ("a", 1)]);
     hold(
         &rt,
         &[
@@ -141,6 +142,7 @@ fn texts_are_printed(rt: HostRuntime) {
             prints_as(alloc, bytes(alloc, b"a\xff"), "a\u{fffd}"),
             prints_as(alloc, mixed, "[1, \"é\"]"),
             prints_as(alloc, one_pair_of(alloc), "{\"é\": 7}"),
+            prints_as(alloc, falling, "{\"é\": 2, \"a\": 1}"),
         ],
     );
 }

@@ -39,7 +39,8 @@ fn asked(alloc: Global, steps: Vec<Step>) -> Vec<Step> {
     let steps = and(steps, plain(Call::Kind { of: a(alloc) }));
     let steps = and(steps, plain(Call::Print { of: a(alloc) }));
     let steps = and(steps, plain(Call::Escape { of: a(alloc) }));
-    and(steps, plain(Call::Fields { of: a(alloc) }))
+    let steps = and(steps, plain(Call::Fields { of: a(alloc) }));
+    and(steps, plain(Call::Walk { of: a(alloc) }))
 }
 
 // How it is weighed with itself, and what is computed of it.

@@ -1,7 +1,7 @@
 //! Calls on the values of a context, and what they keep.
 use crate::held::hold;
 use crate::made::{answers, equal, has, kept, name, plain, with};
-use made_values::text;
+use made_values::{at_texts, text};
 use std::alloc::Global;
 use tera_context::{Call, Context};
 use tera_values::Value;
@@ -117,6 +117,35 @@ fn a_length_is_kept_nowhere(rt: HostRuntime) {
     let size = kept(alloc, len(alloc, "a"), "c");
     assert!(rt; answers(alloc, &mut context, size, "Ok(Size(None))"));
     assert!(rt; answers(alloc, &mut context, has(alloc, "c"), "Ok(Truth(false))"));
+    drop(context);
+}
+
+fn walk(alloc: Global, of: &str) -> Call {
+    let of = name(alloc, of);
+    Call::Walk { of }
+}
+
+#[test]
+fn a_walk_goes_along_the_pairs_and_is_kept_nowhere(rt: HostRuntime) {
+    let alloc = rt.alloc();
+    let pairs = at_texts(alloc, &[("b", 1), ("a", 2), ("b", 3)]);
+    let mut context = with(alloc, "m", pairs);
+    let walked = "Ok(Walked([\"b\", \"a\"]))";
+    let into = kept(alloc, walk(alloc, "m"), "c");
+    hold(
+        &rt,
+        &[
+            answers(alloc, &mut context, plain(walk(alloc, "m")), walked),
+            answers(alloc, &mut context, into, walked),
+            answers(
+                alloc,
+                &mut context,
+                plain(walk(alloc, "c")),
+                "Ok(Walked([]))",
+            ),
+            answers(alloc, &mut context, has(alloc, "c"), "Ok(Truth(false))"),
+        ],
+    );
     drop(context);
 }
 

@@ -104,6 +104,7 @@ fn calls_that_ask_show_the_name(rt: HostRuntime) {
             call_shows(alloc, Call::Print { of: a(alloc) }, "Print { of: \"a\" }"),
             call_shows(alloc, Call::Escape { of: a(alloc) }, "Escape { of: \"a\" }"),
             call_shows(alloc, Call::Fields { of: a(alloc) }, "Fields { of: \"a\" }"),
+            call_shows(alloc, Call::Walk { of: a(alloc) }, "Walk { of: \"a\" }"),
         ],
     );
 }
@@ -208,4 +209,23 @@ fn calls_that_find_show_their_operands(rt: HostRuntime) {
             call_shows(alloc, read(alloc), "Read { of: \"a\", to: U8 }"),
         ],
     );
+}
+
+#[test]
+fn names_stand_in_the_order_of_their_bytes(rt: HostRuntime) {
+    let alloc = rt.alloc();
+    let mut context = Context::new(alloc);
+    for name in ["b", "é", "", "ab", "z"] {
+        let _ = context.insert_value(name, Value::none());
+    }
+    let _ = context.remove("z");
+    let none = "Value { inner: None }";
+    let pairs = format!(in alloc;
+        "\"\": {none}, \"ab\": {none}, \"b\": {none}, \"é\": {none}"
+    ).unwrap_or(String::new(alloc));
+    let wanted = format!(in alloc; "Context {{ alloc: Global, values: {{{pairs}}} }}").unwrap_or(
+        String::new(alloc),
+    );
+    hold(&rt, &[shows(alloc, &context, wanted.as_str())]);
+    drop(context);
 }

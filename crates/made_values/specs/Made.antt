@@ -1,10 +1,9 @@
 -- What is made, where memory may be wanting: all that was asked for, or some of it left out.
 use Rattle.std.specs.Prelude.{◌≡◌, ◌⊎◌, ◌++◌, ℕ, ℤ, List, [], ◌∷◌, map}
-use Rattle.std.specs.BTreeMap.{insert_entry}
 use Rattle.tera_meaning.specs.Form.{Form}
 use Rattle.tera_meaning.specs.Integer.{i64}
 use Rattle.tera_meaning.specs.KeyMeaning.{KeyForm, text_key, borrowed}
-use Rattle.tera_meaning.specs.Pairs.{key_form_order}
+use Rattle.tera_meaning.specs.Pairs.{key_form_order, put}
 use Rattle.tera_meaning.specs.Tree.{array, object, items, members}
 use Rattle.tera_values.specs.Key.{integer_key}
 use Rattle.tera_values.specs.View.{integer}
@@ -18,7 +17,7 @@ Appended held (x ∷ xs) made = Appended (held ++ x ∷ []) xs made ⊎ Appended
 abbrev pub Inserted : List (KeyForm × Form) → List (KeyForm × Form) → List (KeyForm × Form) → Type 0
 Inserted held [] made = made ≡ held
 Inserted held (p ∷ ps) made =
-    Inserted (insert_entry key_form_order held p.0 p.1) ps made ⊎ Inserted held ps made
+    Inserted (put key_form_order held p.0 p.1) ps made ⊎ Inserted held ps made
 
 -- an array of these items, or of some of them
 abbrev pub IsArrayOf : List Form → Form → Type 0

@@ -7,7 +7,6 @@ ghost use Rattle.std.specs.Result.{result_unwrap_or};
 ghost use Rattle.tera_meaning.specs.Tree.{undefined, array, object, items, no_items, no_members};
 ghost use Rattle.tera_meaning.specs.Tree.{bytes};
 ghost use Rattle.tera_values.specs.Key.{key_form};
-ghost use Rattle.tera_values.specs.Map.{pairs_in};
 ghost use Rattle.tera_values.specs.View.{marked};
 ghost use Rattle.made_values.specs.Made.{Inserted, IsArrayOf, IsMapOf, numbered};
 ghost use Rattle.made_values.specs.Made.{at_text, at_number};
@@ -16,7 +15,7 @@ use std::alloc::Global;
 use std::fmt::Debug;
 use std::rc::RcStr;
 use tera_report::TeraResult;
-use tera_values::{Key, Map, Value, maps};
+use tera_values::{Key, Map, Value};
 
 /// What was made, or undefined.
 pub fn or_undefined(made: TeraResult<Value>) -> Value
@@ -125,10 +124,10 @@ pub fn no_pairs(alloc: Global) -> Value
 
 /// The map with that pair.
 pub fn with(map: Map, key: Key<'static>, value: Value) -> Map
-    ensures { Inserted (pairs_in map.entry) ((key_form key.entry, value) ∷ []) (pairs_in result) }
+    ensures { Inserted map ((key_form key.entry, value) ∷ []) result }
 {
     let mut map = map;
-    let _ = maps::insert(&mut map, key, value);
+    let _ = map.insert(key, value);
     map
 }
 
@@ -136,14 +135,14 @@ pub fn with(map: Map, key: Key<'static>, value: Value) -> Map
 pub fn one_pair(alloc: Global, key: Key<'static>, value: Value) -> Value
     ensures { IsMapOf ((key_form key.entry, value) ∷ []) result }
 {
-    Value::of_map(with(maps::new(alloc), key, value))
+    Value::of_map(with(Map::new(alloc), key, value))
 }
 
 /// A map of a number at each of these texts.
 pub fn at_texts(alloc: Global, pairs: &[(&'static str, i64)]) -> Value
     ensures { IsMapOf (map (λ p. at_text p.0.now p.1) pairs.now) result }
 {
-    let mut map = maps::new(alloc);
+    let mut map = Map::new(alloc);
     for (key, number) in pairs {
         map = with(map, Key::Str(*key), Value::from(*number));
     }
@@ -154,7 +153,7 @@ pub fn at_texts(alloc: Global, pairs: &[(&'static str, i64)]) -> Value
 pub fn at_numbers(alloc: Global, pairs: &[(i64, i64)]) -> Value
     ensures { IsMapOf (map (λ p. at_number p.0 p.1) pairs.now) result }
 {
-    let mut map = maps::new(alloc);
+    let mut map = Map::new(alloc);
     for (key, number) in pairs {
         map = with(map, Key::I64(*key), Value::from(*number));
     }
@@ -163,7 +162,7 @@ pub fn at_numbers(alloc: Global, pairs: &[(i64, i64)]) -> Value
 
 /// A map of so many pairs, the number of each, which rises from 0, at a text past ASCII with it.
 pub fn many_pairs(alloc: Global, count: i64) -> Value {
-    let mut map = maps::new(alloc);
+    let mut map = Map::new(alloc);
     for number in 0..count {
         if let Ok(key) = numbered(alloc, number) {
             map = with(map, key, Value::from(number));

@@ -1,61 +1,41 @@
-//! Errors that hold texts.
-use crate::answers::{tell, tell_refusal};
-use crate::reports::sample;
+//! Errors that hold texts, their kinds, and texts that are escaped.
+use crate::answers::{tell, tell_error};
+use crate::made::{Made, names, span};
 use std::alloc::Global;
-use std::io;
 use tera_report::{Error, ErrorKind, TeraResult, escape_text};
 
 /// Refusals of values and arguments.
-pub fn tell_refusals(rt: &(impl Print + AllocGlobal)) -> io::Result<()> {
-    let alloc = rt.alloc();
-    tell_refusal(rt, Error::message(alloc, "no é"))?;
-    tell_refusal(rt, Error::message_of(alloc, &["no", " é"]))?;
-    tell_refusal(rt, Error::invalid_arg_type(alloc, "é", "none"))?;
-    tell_refusal(rt, Error::out_of_range_arg(alloc, "300", "u8"))?;
-    tell_refusal(rt, Error::missing_arg(alloc, "é"))
+pub fn tell_refusals(rt: &(impl Print + AllocGlobal), made: &Made) -> TeraResult<()> {
+    let (alloc, text) = (rt.alloc(), made.text.as_str());
+    tell_error(rt, "Error::message", Error::message(alloc, text))?;
+    tell_error(
+        rt,
+        "Error::message_of",
+        Error::message_of(alloc, &[text, text]),
+    )?;
+    let cause = anyhow::Error::msg("a cause");
+    tell(rt, "Error::chain", caused(Error::chain(alloc, text, cause)))?;
+    tell_error(
+        rt,
+        "Error::invalid_arg_type",
+        Error::invalid_arg_type(alloc, text, text),
+    )?;
+    tell_error(
+        rt,
+        "Error::out_of_range_arg",
+        Error::out_of_range_arg(alloc, text, text),
+    )?;
+    tell_error(rt, "Error::missing_arg", Error::missing_arg(alloc, text))?;
+    tell(rt, "escape_text", escape_text(alloc, text))
 }
 
-/// Refusals of templates.
-pub fn tell_templates(rt: &(impl Print + AllocGlobal)) -> io::Result<()> {
-    let alloc = rt.alloc();
-    tell_refusal(rt, circular_extend(alloc))?;
-    tell_refusal(rt, circular_include(alloc))?;
-    tell_refusal(rt, Error::missing_parent(alloc, "a", "é"))?;
-    tell_refusal(rt, Error::template_not_found(alloc, "é"))?;
-    tell_refusal(rt, Error::component_not_found(alloc, "é"))
-}
-
-// Two names.
-fn names(alloc: Global) -> TeraResult<Vec<String>> {
-    let first = String::from_str(alloc, "a")?;
-    let second = String::from_str(alloc, "é")?;
-    Ok(vec![in alloc; first, second]?)
-}
-
-fn circular_extend(alloc: Global) -> Error {
-    match names(alloc) {
-        Ok(names) => Error::circular_extend(alloc, "b", names),
-        Err(error) => error,
+// The error itself, where there was no memory for it.
+fn caused(error: Error) -> TeraResult<Error> {
+    if is_want(&error) {
+        Err(error)
+    } else {
+        Ok(error)
     }
-}
-
-fn circular_include(alloc: Global) -> Error {
-    match names(alloc) {
-        Ok(names) => Error::circular_include(alloc, "b", names),
-        Err(error) => error,
-    }
-}
-
-/// Kinds that are copied, and an escaped text.
-pub fn tell_copies(rt: &(impl Print + AllocGlobal)) -> io::Result<()> {
-    let alloc = rt.alloc();
-    tell(rt, chain(alloc))?;
-    tell(rt, report(alloc))?;
-    tell(rt, escape_text(alloc, "é<"))
-}
-
-fn chain(alloc: Global) -> TeraResult<ErrorKind> {
-    copied(alloc, circular_extend(alloc))
 }
 
 /// Whether it tells that there is no memory.
@@ -63,19 +43,58 @@ pub fn is_want(error: &Error) -> bool {
     matches!(error.kind(), ErrorKind::OutOfMemory)
 }
 
-// The error itself, where there was no memory for it, and else a copy of its kind.
-fn copied(alloc: Global, error: Error) -> TeraResult<ErrorKind> {
-    if is_want(&error) {
-        return Err(error);
-    }
-    let copy = error.kind().clone(alloc);
-    drop(error);
-    copy
+/// Refusals of templates.
+pub fn tell_templates(rt: &(impl Print + AllocGlobal), made: &Made) -> TeraResult<()> {
+    let (alloc, text) = (rt.alloc(), made.text.as_str());
+    tell_error(rt, "Error::circular_extend", chained(alloc, made)?)?;
+    let chain = names(alloc, made.count)?;
+    tell_error(
+        rt,
+        "Error::circular_include",
+        Error::circular_include(alloc, text, chain),
+    )?;
+    tell_error(
+        rt,
+        "Error::missing_parent",
+        Error::missing_parent(alloc, text, text),
+    )?;
+    tell_error(
+        rt,
+        "Error::template_not_found",
+        Error::template_not_found(alloc, text),
+    )?;
+    tell_error(
+        rt,
+        "Error::component_not_found",
+        Error::component_not_found(alloc, text),
+    )?;
+    tell(rt, "Error::syntax_error", caused(syntax(alloc, made)?))
 }
 
-fn report(alloc: Global) -> TeraResult<ErrorKind> {
-    let kind = ErrorKind::SyntaxError(Box::new(alloc, sample(alloc)?)?);
-    let copy = kind.clone(alloc);
-    drop(kind);
-    copy
+fn chained(alloc: Global, made: &Made) -> TeraResult<Error> {
+    let chain = names(alloc, made.count)?;
+    Ok(Error::circular_extend(alloc, made.text.as_str(), chain))
+}
+
+fn syntax(alloc: Global, made: &Made) -> TeraResult<Error> {
+    let message = String::from_str(alloc, made.text.as_str())?;
+    Ok(Error::syntax_error(alloc, message, &span()))
+}
+
+/// Kinds that are copied.
+pub fn tell_copies(rt: &(impl Print + AllocGlobal), made: &Made) -> TeraResult<()> {
+    let alloc = rt.alloc();
+    tell_copy(rt, "ErrorKind::clone of a chain", chained(alloc, made)?)?;
+    tell_copy(rt, "ErrorKind::clone of a report", syntax(alloc, made)?)?;
+    let text = made.text.as_str();
+    let two = Error::out_of_range_arg(alloc, text, text);
+    tell_copy(rt, "ErrorKind::clone of two texts", two)
+}
+
+// What could not be made is told as an operand that could not.
+fn tell_copy(rt: &(impl Print + AllocGlobal), name: &str, error: Error) -> TeraResult<()> {
+    let error = caused(error)?;
+    let told = tell(rt, name, error.kind().clone(rt.alloc()));
+    drop(error);
+    told
 }

@@ -1,111 +1,116 @@
 //! Values, keys and results that are given.
-use crate::answers::tell;
+use crate::answers::{tell, tell_value};
+use crate::made::{Made, item, items, name, names};
+use indexmap::IndexMap;
 use std::alloc::Global;
 use std::borrow::CowStr;
 use std::collections::{BTreeMap, BTreeSet, HashMap};
-use std::io;
+use std::rc::RcStr;
 use tera_conversions::{FunctionResult, ToKey, ToValue};
 use tera_report::{Error, TeraResult};
 use tera_values::{Key, Value};
 
 /// Single values that take memory.
-pub fn tell_values(rt: &(impl Print + AllocGlobal)) -> io::Result<()> {
-    let alloc = rt.alloc();
-    tell(rt, 'é'.to_value(alloc))?;
-    tell(rt, "é<".to_value(alloc))?;
-    tell(rt, CowStr::Borrowed("é<").to_value(alloc))?;
-    tell(rt, Key::Str("é<").to_value(alloc))?;
-    tell(rt, (&'é').to_value(alloc))?;
-    tell(rt, (&"é<").to_value(alloc))?;
-    tell(rt, lent_text(alloc))?;
-    tell(rt, lent_value(alloc))
-}
-
-// A text of its own, lent.
-fn lent_text(alloc: Global) -> TeraResult<Value> {
-    let text = String::from_str(alloc, "é<")?;
-    (&text).to_value(alloc)
-}
-
-// A value, lent.
-fn lent_value(alloc: Global) -> TeraResult<Value> {
-    let value = Value::safe_string(alloc, "é<")?;
-    let copy = (&value).to_value(alloc);
-    drop(value);
-    copy
+pub fn tell_values(rt: &(impl Print + AllocGlobal), made: &Made) -> TeraResult<()> {
+    let (alloc, text) = (rt.alloc(), made.text.as_str());
+    tell_value(rt, "char::to_value", 'é'.to_value(alloc))?;
+    tell_value(rt, "&str::to_value", text.to_value(alloc))?;
+    tell_value(
+        rt,
+        "CowStr::to_value",
+        CowStr::Borrowed(text).to_value(alloc),
+    )?;
+    let key = Key::String(RcStr::from_str(alloc, text)?);
+    tell_value(rt, "Key::to_value", key.to_value(alloc))?;
+    tell_value(rt, "&char::to_value", (&'é').to_value(alloc))?;
+    tell_value(rt, "&&str::to_value", (&text).to_value(alloc))?;
+    tell_value(rt, "&String::to_value", (&made.text).to_value(alloc))?;
+    tell_value(rt, "&Value::to_value", (&made.list).to_value(alloc))?;
+    tell_value(rt, "&[u8]::to_value", text.as_bytes().to_value(alloc))?;
+    tell_value(rt, "Option::to_value", Some(text).to_value(alloc))
 }
 
 /// Collections.
-pub fn tell_collections(rt: &(impl Print + AllocGlobal)) -> io::Result<()> {
-    let alloc = rt.alloc();
-    tell(rt, list(alloc))?;
-    tell(rt, set(alloc))?;
-    tell(rt, slice(alloc))?;
-    tell(rt, b"a\xff".as_slice().to_value(alloc))?;
-    tell(rt, table(alloc))?;
-    tell(rt, tree(alloc))?;
-    tell(rt, lists(alloc))
+pub fn tell_collections(rt: &(impl Print + AllocGlobal), made: &Made) -> TeraResult<()> {
+    let (alloc, count) = (rt.alloc(), made.count);
+    tell_value(rt, "Vec::to_value", names(alloc, count)?.to_value(alloc))?;
+    tell_value(rt, "BTreeSet::to_value", set(alloc, count)?.to_value(alloc))?;
+    tell_slice(rt, items(alloc, count)?)?;
+    tell_value(
+        rt,
+        "HashMap::to_value",
+        table(alloc, count)?.to_value(alloc),
+    )?;
+    tell_value(
+        rt,
+        "BTreeMap::to_value",
+        tree(alloc, count)?.to_value(alloc),
+    )?;
+    tell_value(
+        rt,
+        "IndexMap::to_value",
+        index(alloc, count)?.to_value(alloc),
+    )?;
+    tell_value(
+        rt,
+        "FunctionResult::into_result",
+        names(alloc, count)?.into_result(alloc),
+    )?;
+    let answer: TeraResult<Vec<String>> = Ok(names(alloc, count)?);
+    tell_value(rt, "Result::into_result", answer.into_result(alloc))?;
+    let failed: TeraResult<u8> = Err(Error::message(alloc, made.text.as_str()));
+    tell_value(
+        rt,
+        "Result::into_result of an error",
+        failed.into_result(alloc),
+    )
 }
 
-fn list(alloc: Global) -> TeraResult<Value> {
-    vec![in alloc; "a", "é"]?.to_value(alloc)
+fn tell_slice(rt: &(impl Print + AllocGlobal), items: Vec<Value>) -> TeraResult<()> {
+    let value = items.as_slice().to_value(rt.alloc());
+    drop(items);
+    tell_value(rt, "&[Value]::to_value", value)
 }
 
-fn set(alloc: Global) -> TeraResult<Value> {
+fn set(alloc: Global, count: usize) -> TeraResult<BTreeSet<usize>> {
     let mut set = BTreeSet::new(alloc);
-    set.insert(2u8)?;
-    set.insert(1u8)?;
-    set.to_value(alloc)
+    for number in 0..count {
+        set.insert(number)?;
+    }
+    Ok(set)
 }
 
-fn slice(alloc: Global) -> TeraResult<Value> {
-    let values = vec![in alloc; Value::safe_string(alloc, "é")?, Value::none()]?;
-    let copy = values.as_slice().to_value(alloc);
-    drop(values);
-    copy
-}
-
-fn table(alloc: Global) -> TeraResult<Value> {
+fn table(alloc: Global, count: usize) -> TeraResult<HashMap<String, usize>> {
     let mut map = HashMap::new(alloc);
-    map.insert("é", 'a')?;
-    map.to_value(alloc)
+    for number in 0..count {
+        map.insert(name(alloc, number)?, number)?;
+    }
+    Ok(map)
 }
 
-fn tree(alloc: Global) -> TeraResult<Value> {
+fn tree(alloc: Global, count: usize) -> TeraResult<BTreeMap<String, Value>> {
     let mut map = BTreeMap::new(alloc);
-    let (key, list) = (String::from_str(alloc, "é")?, vec![in alloc; -1i128]?);
-    map.insert(key, list)?;
-    map.to_value(alloc)
+    for number in 0..count {
+        map.insert(name(alloc, number)?, item(alloc, number)?)?;
+    }
+    Ok(map)
 }
 
-fn lists(alloc: Global) -> TeraResult<Value> {
-    vec![in alloc; Some(vec![in alloc; 1u8]?), None]?.to_value(alloc)
+// The numbers under their names, from the last name down.
+fn index(alloc: Global, count: usize) -> TeraResult<IndexMap<String, usize>> {
+    let mut map = IndexMap::new(alloc);
+    for number in (0..count).rev() {
+        map.insert(name(alloc, number)?, number)?;
+    }
+    Ok(map)
 }
 
-/// Keys and results.
-pub fn tell_keys(rt: &(impl Print + AllocGlobal)) -> io::Result<()> {
-    let alloc = rt.alloc();
-    tell(rt, key(alloc))?;
-    tell(rt, CowStr::Borrowed("é").to_key(alloc))?;
-    tell(rt, owned_key(alloc))?;
-    tell(rt, answered(alloc).into_result(alloc))?;
-    tell(rt, failed(alloc).into_result(alloc))
-}
-
-fn key(alloc: Global) -> TeraResult<Key<'static>> {
-    String::from_str(alloc, "é")?.to_key(alloc)
-}
-
-fn owned_key(alloc: Global) -> TeraResult<Key<'static>> {
-    CowStr::Owned(String::from_str(alloc, "é")?).to_key(alloc)
-}
-
-// What a function answers.
-fn answered(alloc: Global) -> TeraResult<Vec<&'static str>> {
-    Ok(vec![in alloc; "a", "é"]?)
-}
-
-// What a function answers that fails.
-fn failed(alloc: Global) -> TeraResult<u8> {
-    Err(Error::message(alloc, "no such é"))
+/// Keys.
+pub fn tell_keys(rt: &(impl Print + AllocGlobal), made: &Made) -> TeraResult<()> {
+    let (alloc, text) = (rt.alloc(), made.text.as_str());
+    let owned = String::from_str(alloc, text)?;
+    tell(rt, "String::to_key", owned.to_key(alloc))?;
+    tell(rt, "CowStr::to_key", CowStr::Borrowed(text).to_key(alloc))?;
+    let owned = CowStr::Owned(String::from_str(alloc, text)?);
+    tell(rt, "CowStr::to_key of its own", owned.to_key(alloc))
 }

@@ -1,29 +1,87 @@
-//! Calls that take memory, each with its answer on a line: run with one request for memory refused,
-//! no line but one differs.
+//! Public calls in hostile surroundings: standard input says what is done, and tests/hostile.py
+//! what is to come of it.
+//!
+//! - A number, and 2 where nothing is said: each call that takes memory, on operands of so many
+//!   parts. A line for each has its name, its answer, and what is still held of what it may change.
+//! - `run`: lists of steps, with lines `--` between them, each of which is run over one context.
+//! - `write`: each value that a line sets is written, in each way that a text goes to a writer, to
+//!   writers that fail at each place, that take a byte at a time, are interrupted or take nothing.
 #![tactic(auto)]
 
 mod answers;
+mod arguments;
+mod contexts;
 mod errors;
 mod given;
+mod made;
 mod named;
+mod numbers;
+mod paper;
 mod reports;
-mod taken;
+mod runs;
+mod shelf;
+mod values;
+mod writes;
 
+use made::Made;
 use std::io;
+use std::process::ExitCode;
+use tera_report::{Error, TeraResult};
 
-fn main(rt: HostRuntime) -> io::Result<()> {
-    given::tell_values(&rt)?;
-    given::tell_collections(&rt)?;
-    given::tell_keys(&rt)?;
-    taken::tell_texts(&rt)?;
-    taken::tell_copies(&rt)?;
-    taken::tell_refusals(&rt)?;
-    named::tell_arguments(&rt)?;
-    named::tell_inputs(&rt)?;
-    reports::tell_reports(&rt)?;
-    reports::tell_changes(&rt)?;
-    reports::tell_texts(&rt)?;
-    errors::tell_refusals(&rt)?;
-    errors::tell_templates(&rt)?;
-    errors::tell_copies(&rt)
+fn main(rt: HostRuntime) -> ExitCode {
+    match started(&rt) {
+        Ok(()) => ExitCode::from(0),
+        Err(error) => ended(&rt, error),
+    }
+}
+
+// What ended it early, which is want of memory for an operand, or a script that is none.
+fn ended(rt: &HostRuntime, error: Error) -> ExitCode {
+    let _ = eprintln!(rt; "error: {error}");
+    drop(error);
+    ExitCode::from(1)
+}
+
+fn started(rt: &HostRuntime) -> TeraResult<()> {
+    let given = io::read_to_string(rt.alloc(), rt.stdin())?;
+    let (what, rest) = given.split_once("\n").unwrap_or(("", ""));
+    if what == "run" {
+        return runs::tell_runs(rt, rest);
+    }
+    if what == "write" {
+        return writes::tell_writes(rt, rest);
+    }
+    tell_calls(rt, what.parse::<usize>().unwrap_or(2))
+}
+
+fn tell_calls(rt: &HostRuntime, count: usize) -> TeraResult<()> {
+    let made = Made::of(rt.alloc(), count)?;
+    let told = tell_each(rt, &made);
+    drop(made);
+    told
+}
+
+fn tell_each(rt: &HostRuntime, made: &Made) -> TeraResult<()> {
+    errors::tell_refusals(rt, made)?;
+    errors::tell_templates(rt, made)?;
+    errors::tell_copies(rt, made)?;
+    reports::tell_reports(rt, made)?;
+    reports::tell_changes(rt, made)?;
+    paper::tell_papers(rt, made)?;
+    values::tell_makers(rt, made)?;
+    values::tell_copies(rt, made)?;
+    values::tell_look_ups(rt, made)?;
+    values::tell_maps(rt, made)?;
+    numbers::tell_refusals(rt, made)?;
+    numbers::tell_scalars(rt, made)?;
+    given::tell_values(rt, made)?;
+    given::tell_collections(rt, made)?;
+    given::tell_keys(rt, made)?;
+    arguments::tell_taken(rt, made)?;
+    arguments::tell_refused(rt, made)?;
+    arguments::tell_integers(rt, made)?;
+    named::tell_named(rt, made)?;
+    named::tell_inputs(rt, made)?;
+    contexts::tell_contexts(rt, made)?;
+    contexts::tell_lines(rt, made)
 }

@@ -1,10 +1,11 @@
 //! Arguments by their names, and texts as they are shown.
 ghost use Rattle.tera_report.specs.Errors.{IsOutOfMemory};
 
-use crate::answers::tell;
-use crate::taken::taken;
+use crate::answers::{tell, tell_error, tell_value};
+use crate::arguments::taken;
+use crate::made::{Made, map};
 use std::alloc::Global;
-use std::io;
+use std::borrow::CowStr;
 use tera_arguments::{Autoescape, Kwargs, StringInput};
 use tera_report::{TeraResult, escape_text, one_spelling};
 use tera_values::Value;
@@ -33,76 +34,83 @@ impl Autoescape for Page {
     }
 }
 
-// Two arguments.
-fn arguments(alloc: Global) -> TeraResult<Kwargs> {
-    let text = Value::normal_string(alloc, "é<")?;
-    Kwargs::from_pairs(alloc, [("n", text), ("n", Value::from(300u16))])
-}
-
 /// Arguments by their names.
-pub fn tell_arguments(rt: &(impl Print + AllocGlobal)) -> io::Result<()> {
+pub fn tell_named(rt: &(impl Print + AllocGlobal), made: &Made) -> TeraResult<()> {
     let alloc = rt.alloc();
-    tell(rt, arguments(alloc))?;
-    tell(rt, copied(alloc))?;
-    tell(rt, argument(alloc))?;
-    tell(rt, wrong(alloc))?;
-    tell(rt, missing(alloc))
+    let text = made.plain.clone(alloc)?;
+    let pairs = Kwargs::from_pairs(alloc, [("m", text), ("n", Value::from(300u16))]);
+    tell_pairs(rt, "Kwargs::from_pairs", pairs)?;
+    tell_copy(rt, Kwargs::new(map(alloc, made.count)?))?;
+    tell_taken(rt, Kwargs::new(map(alloc, 2)?))
 }
 
-fn copied(alloc: Global) -> TeraResult<Kwargs> {
-    let of = arguments(alloc)?;
-    let answer = of.clone(alloc);
-    drop(of);
-    answer
+// The pairs of the arguments.
+fn tell_pairs(rt: &impl Print, name: &str, answer: TeraResult<Kwargs>) -> TeraResult<()> {
+    match answer {
+        Ok(of) => tell_held(rt, name, of),
+        Err(refused) => tell_error(rt, name, refused),
+    }
 }
 
-fn argument(alloc: Global) -> TeraResult<Option<String>> {
-    let of = arguments(alloc)?;
-    let answer = of.get(alloc, "n");
+fn tell_held(rt: &impl Print, name: &str, of: Kwargs) -> TeraResult<()> {
+    let told = tell_each(rt, name, &of);
     drop(of);
-    answer
+    told
 }
 
-fn wrong(alloc: Global) -> TeraResult<u8> {
-    let of = arguments(alloc)?;
-    let answer = of.must_get(alloc, "n");
-    drop(of);
-    answer
+fn tell_each(rt: &impl Print, name: &str, of: &Kwargs) -> TeraResult<()> {
+    print!(rt; "{name}: ok map ")?;
+    for (key, value) in of.iter() {
+        print!(rt; "{key:?}: {value:?}, ")?;
+    }
+    Ok(println!(rt)?)
 }
 
-fn missing(alloc: Global) -> TeraResult<u8> {
-    let of = arguments(alloc)?;
-    let answer = of.must_get(alloc, "é");
+fn tell_copy(rt: &(impl Print + AllocGlobal), of: Kwargs) -> TeraResult<()> {
+    let copy = of.clone(rt.alloc());
     drop(of);
-    answer
+    tell_pairs(rt, "Kwargs::clone", copy)
+}
+
+// What an argument is taken as, that is there or not.
+fn tell_taken(rt: &(impl Print + AllocGlobal), of: Kwargs) -> TeraResult<()> {
+    let told = tell_gets(rt, &of);
+    drop(of);
+    told
+}
+
+fn tell_gets(rt: &(impl Print + AllocGlobal), of: &Kwargs) -> TeraResult<()> {
+    let alloc = rt.alloc();
+    tell(rt, "Kwargs::get", of.get::<String>(alloc, "k1000"))?;
+    tell(
+        rt,
+        "Kwargs::get of another type",
+        of.get::<bool>(alloc, "k1001"),
+    )?;
+    tell(
+        rt,
+        "Kwargs::must_get",
+        of.must_get::<String>(alloc, "k1001"),
+    )?;
+    tell(
+        rt,
+        "Kwargs::must_get of no argument",
+        of.must_get::<u8>(alloc, "absent"),
+    )
 }
 
 /// Texts, copied and shown.
-pub fn tell_inputs(rt: &(impl Print + AllocGlobal)) -> io::Result<()> {
+pub fn tell_inputs(rt: &(impl Print + AllocGlobal), made: &Made) -> TeraResult<()> {
     let alloc = rt.alloc();
-    tell(rt, input_copied(alloc))?;
-    tell(rt, rendered(alloc))
+    let input: StringInput<'_> = taken(alloc, &made.plain)?;
+    tell(rt, "StringInput::rendered", shown(alloc, &input))?;
+    tell_value(rt, "StringInput::into_value", input.into_value(alloc))
 }
 
-fn input_copied(alloc: Global) -> TeraResult<Value> {
-    let value = Value::safe_string(alloc, "é<")?;
-    let copy = copy_of(alloc, taken(alloc, &value));
-    drop(value);
-    copy
-}
-
-fn copy_of(alloc: Global, input: TeraResult<StringInput<'_>>) -> TeraResult<Value> {
-    input?.into_value(alloc)
-}
-
-fn rendered(alloc: Global) -> TeraResult<String> {
-    let value = Value::normal_string(alloc, "é<")?;
-    let shown = shown(alloc, taken(alloc, &value));
-    drop(value);
-    shown
-}
-
-fn shown(alloc: Global, input: TeraResult<StringInput<'_>>) -> TeraResult<String> {
-    let shown = input?.rendered(alloc, &Page)?;
-    Ok(shown.into_owned(alloc)?)
+// The text, where it is one of its own.
+fn shown(alloc: Global, input: &StringInput<'_>) -> TeraResult<Option<String>> {
+    match input.rendered(alloc, &Page)? {
+        CowStr::Owned(text) => Ok(Some(text)),
+        CowStr::Borrowed(_) => Ok(None),
+    }
 }

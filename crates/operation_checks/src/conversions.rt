@@ -76,32 +76,52 @@ fn ends_of_integer_types(rt: HostRuntime) {
     );
 }
 
-// Both numbers are refused, which the type has not.
-fn has_neither<T>(below: i128, above: u128) -> bool
+// Both numbers are refused, told as they print, which the type of that name has not.
+fn has_neither<T>(alloc: Global, name: &str, below: i128, above: u128) -> bool
 where
     T: TryFrom<Value, Error = ConversionRefused> + Drop,
 {
-    is_refused::<T>(Value::from(below)) && is_refused::<T>(Value::from(above))
+    is_outside::<T>(alloc, name, below) && is_above::<T>(alloc, name, above)
+}
+
+fn is_outside<T>(alloc: Global, name: &str, number: i128) -> bool
+where
+    T: TryFrom<Value, Error = ConversionRefused> + Drop,
+{
+    let told = format!(in alloc; "Value `{number}` is out of range for `{name}`");
+    let told = told.unwrap_or(String::new(alloc));
+    is_told::<T>(alloc, Value::from(number), told.as_str())
+}
+
+fn is_above<T>(alloc: Global, name: &str, number: u128) -> bool
+where
+    T: TryFrom<Value, Error = ConversionRefused> + Drop,
+{
+    let told = format!(in alloc; "Value `{number}` is out of range for `{name}`");
+    let told = told.unwrap_or(String::new(alloc));
+    is_told::<T>(alloc, Value::from(number), told.as_str())
 }
 
 #[test]
 fn numbers_past_the_ends_of_integer_types(rt: HostRuntime) {
+    let alloc = rt.alloc();
     let above_i128 = 170141183460469231731687303715884105728u128;
     hold(
         &rt,
         &[
-            has_neither::<u8>(-1, 256),
-            has_neither::<u16>(-1, 65536),
-            has_neither::<u32>(-1, 4294967296),
-            has_neither::<u64>(-1, 18446744073709551616),
-            has_neither::<usize>(-1, 18446744073709551616),
-            is_refused::<u128>(Value::from(-1i128)),
-            has_neither::<i8>(-129, 128),
-            has_neither::<i16>(-32769, 32768),
-            has_neither::<i32>(-2147483649, 2147483648),
-            has_neither::<i64>(-9223372036854775809, 9223372036854775808),
-            has_neither::<isize>(-9223372036854775809, 9223372036854775808),
-            is_refused::<i128>(Value::from(above_i128)),
+            has_neither::<u8>(alloc, "u8", -1, 256),
+            has_neither::<u16>(alloc, "u16", -1, 65536),
+            has_neither::<u32>(alloc, "u32", -1, 4294967296),
+            has_neither::<u64>(alloc, "u64", -1, 18446744073709551616),
+            has_neither::<usize>(alloc, "usize", -1, 18446744073709551616),
+            is_outside::<u128>(alloc, "u128", -1),
+            has_neither::<i8>(alloc, "i8", -129, 128),
+            has_neither::<i16>(alloc, "i16", -32769, 32768),
+            has_neither::<i32>(alloc, "i32", -2147483649, 2147483648),
+            has_neither::<i64>(alloc, "i64", -9223372036854775809, 9223372036854775808),
+            has_neither::<isize>(alloc, "isize", -9223372036854775809, 9223372036854775808),
+            is_above::<i128>(alloc, "i128", above_i128),
+            is_above::<i128>(alloc, "i128", u128::MAX),
         ],
     );
 }
@@ -135,9 +155,12 @@ fn error_displays(alloc: Global, error: Error, wanted: &str) -> bool {
     is_so
 }
 
-// The conversion to `u8` is refused by this text.
-fn is_told(alloc: Global, of: Value, text: &str) -> bool {
-    match u8::try_from(of) {
+// The conversion is refused by this text.
+fn is_told<T>(alloc: Global, of: Value, text: &str) -> bool
+where
+    T: TryFrom<Value, Error = ConversionRefused> + Drop,
+{
+    match T::try_from(of) {
         Err(refused) => tells(alloc, refused, text),
         Ok(_) => false,
     }
@@ -151,8 +174,8 @@ fn numbers_outside_are_told(rt: HostRuntime) {
     hold(
         &rt,
         &[
-            is_told(alloc, Value::from(300u64), past),
-            is_told(alloc, Value::from(-1i8), below),
+            is_told::<u8>(alloc, Value::from(300u64), past),
+            is_told::<u8>(alloc, Value::from(-1i8), below),
         ],
     );
 }
@@ -165,8 +188,8 @@ fn other_kinds_are_told(rt: HostRuntime) {
     hold(
         &rt,
         &[
-            is_told(alloc, text(alloc, "x"), of_text),
-            is_told(alloc, Value::none(), of_none),
+            is_told::<u8>(alloc, text(alloc, "x"), of_text),
+            is_told::<u8>(alloc, Value::none(), of_none),
         ],
     );
 }

@@ -1,9 +1,9 @@
 //! What look-ups find and refuse.
 use crate::held::hold;
 use crate::refused::is_refused;
-use made_values::{at_numbers, at_texts, one_item, one_pair, safe, text, two_items};
+use made_values::{at_numbers, at_texts, one_item, one_pair, safe, text, two_items, with};
 use std::alloc::Global;
-use tera_values::{Key, Value};
+use tera_values::{Key, Map, Value};
 
 // What was found is that part.
 fn is(found: Option<&Value>, part: i64) -> bool {
@@ -305,6 +305,56 @@ fn fields_are_named(rt: HostRuntime) {
         &[
             field_count(alloc, at_numbers(alloc, &pairs)) == Some(2),
             fields_are(alloc, at_numbers(alloc, &pairs), "20", "3"),
+        ],
+    );
+}
+
+// A walk along its pairs tells these texts.
+pub fn walks(alloc: Global, of: Value, wanted: &[&str]) -> bool {
+    let texts = of.walk(alloc);
+    drop(of);
+    let Ok(texts) = texts else {
+        return false;
+    };
+    let is_so = are_these(texts.as_slice(), wanted);
+    drop(texts);
+    is_so
+}
+
+// The texts are these.
+fn are_these(texts: &[String], wanted: &[&str]) -> bool {
+    if texts.len() != wanted.len() {
+        return false;
+    }
+    for place in 0..texts.len() {
+        if texts[place].as_str() != wanted[place] {
+            return false;
+        }
+    }
+    true
+}
+
+// Keys of each rank, the last first.
+fn ranks(alloc: Global) -> Value {
+    let last = with(Map::new(alloc), Key::Str("1"), Value::from(3u8));
+    let later = with(last, Key::U64(1), Value::from(2u8));
+    Value::of_map(with(later, Key::Bool(true), Value::from(1u8)))
+}
+
+// A walk tells each key, as it prints by itself, and fields tell each name once.
+#[test]
+fn walks_tell_each_key_in_its_place(rt: HostRuntime) {
+    let alloc = rt.alloc();
+    let quoted = at_texts(alloc, &[("b\"é", 1), ("a", 2), ("b\"é", 3)]);
+    hold(
+        &rt,
+        &[
+            walks(alloc, ranks(alloc), &["1", "1", "true"]),
+            fields_are(alloc, ranks(alloc), "1", "true"),
+            field_count(alloc, ranks(alloc)) == Some(2),
+            walks(alloc, quoted, &["b\"é", "a"]),
+            walks(alloc, Value::undefined(), &[]),
+            walks(alloc, ten_and_twenty(alloc), &[]),
         ],
     );
 }

@@ -82,12 +82,25 @@ const WORKED_ANSWERS: &[u8] =
 error: Invalid type for the value, expected `u8` but got `string`\nok\n\
 error: Value `300` is out of range for `u8`\nfields []\nundecided\nok\nvalue -300\n";
 
+const INSERTED: &[u8] = b"set a {\"other\": 2, \"hello\": \"world\"}\nprint a\n\
+set b {\"hello\": \"world\", \"other\": 2}\neq a b\ncmp a b\n\
+set k {\"1\": 3, 1: 2, true: 1}\nprint k\nwalk k\nfields k\n\
+set e {\"b\": 1, \"a\": 2, \"b\": 3}\nprint e\nwalk e\nwalk nope\n\
+set x {\"b\": 0, \"a\": 2}\nset y {\"a\": 1, \"c\": 0}\ncmp x y\n";
+
+const INSERTED_ANSWERS: &[u8] = b"ok\ntext {\"other\": 2, \"hello\": \"world\"}\n\
+ok\ntrue\nequal\n\
+ok\ntext {\"1\": 3, 1: 2, true: 1}\nwalk [\"1\", \"1\", \"true\"]\nfields [\"1\", \"true\"]\n\
+ok\ntext {\"b\": 3, \"a\": 2}\nwalk [\"b\", \"a\"]\nwalk []\n\
+ok\nok\ngreater\n";
+
 #[test]
 fn scripts_are_answered_in_any_pieces(rt: HostRuntime) -> std::result::Result<(), Fail> {
     let alloc = rt.alloc();
     for (script, answers, report, want) in [
         (FIRST, FIRST_ANSWERS, b"".as_slice(), 0),
         (WORKED, WORKED_ANSWERS, b"", 0),
+        (INSERTED, INSERTED_ANSWERS, b"", 0),
         (b"", b"", b"", 0),
         (b"# note", b"", b"", 0),
         (b"# \xff\n \t \n", b"", b"", 0),
@@ -116,7 +129,7 @@ fn scripts_are_answered_in_any_pieces(rt: HostRuntime) -> std::result::Result<()
         (b"set t \"a\\nb\"\nprint t\n", b"ok\ntext a\nb\n", b"", 0),
         (
             b"set m {1u64: \"a\", true: [{}], 1: s\"b\"}\nprint m\n",
-            b"ok\ntext {true: [{}], 1: \"b\"}\n",
+            b"ok\ntext {1: \"b\", true: [{}]}\n",
             b"",
             0,
         ),

@@ -10,7 +10,7 @@ use Rattle.tera_meaning.specs.Arithmetic.{and_then, small}
 use Rattle.tera_meaning.specs.Form.{Form, MarkedText}
 use Rattle.tera_meaning.specs.KeyMeaning.{KeyForm}
 use Rattle.tera_meaning.specs.Lookup.{name_of}
-use Rattle.tera_meaning.specs.Meaning.{plain}
+use Rattle.tera_meaning.specs.Meaning.{layout}
 use Rattle.tera_meaning.specs.Read.{number_in, text_in, items_in, members_in}
 use Rattle.tera_meaning.specs.Tree.{undefined, none, truth, number, text, bytes, array, object}
 use Rattle.tera_report.specs.Errors.{Raises}
@@ -62,7 +62,7 @@ as_marked_text value = wanted (codes "string") (marked_text_in value) value
 -- a text lent as it is, or any other value printed
 abbrev pub TakesText : {Z : Type 0} → Form → CowStr Z → Type 0
 TakesText value t = MatchOption (text_in value)
-    (IsOwnedStr t × Prints (plain value) (cow_str_bytes t))
+    (IsOwnedStr t × Prints (layout value) (cow_str_bytes t))
     (λ held. ¬ IsOwnedStr t × (cow_str_bytes t ≡ held))
 
 module _ {V X : Type 0} (items : V → Option (List V)) (takes : V → X → Type 0) where

@@ -7,12 +7,11 @@ ghost use Rattle.tera_arguments.specs.Taken.{TakesText, TakesItems, DeniesItems}
 ghost use Rattle.tera_conversions.specs.Given.{PartsRefuse};
 ghost use Rattle.tera_meaning.specs.Conversion.{IntegerType, as_truth, number_of};
 ghost use Rattle.tera_meaning.specs.Form.{Form};
-ghost use Rattle.tera_meaning.specs.Meaning.{plain};
+ghost use Rattle.tera_meaning.specs.Meaning.{layout};
 ghost use Rattle.tera_meaning.specs.Read.{iterable_in, text_in};
 ghost use Rattle.tera_scalars.specs.Number.{number_value};
 ghost use Rattle.tera_report.specs.Errors.{IsOutOfMemory, Refuses};
 ghost use Rattle.tera_report.specs.declared.errors.Error.{Error};
-ghost use Rattle.tera_values.specs.Map.{pairs_in};
 ghost use Rattle.tera_meaning.specs.Printed.{Prints};
 ghost use Rattle.tera_values.specs.Print.{PrintsNothing};
 
@@ -21,7 +20,7 @@ use crate::private::Sealed;
 use std::alloc::Global;
 use std::borrow::CowStr;
 use tera_report::{Error, TeraResult};
-use tera_values::{Map, Number, Value, maps};
+use tera_values::{Map, Number, Value};
 
 /// What a value can be handed to a filter or a function as. Mirrors `tera::ArgFromValue`. It is
 /// sealed: no other crate implements it.
@@ -83,9 +82,9 @@ impl<'k> ArgFromValue<'k, Value> for &'k str {
 impl<'k> ArgFromValue<'k, Value> for String {
     type Output = String;
 
-    ghost takes = { λ value t. Prints (plain value) (string_bytes t) };
+    ghost takes = { λ value t. Prints (layout value) (string_bytes t) };
 
-    ghost denies = { λ value e. ¬ PrintsNothing (plain value) × IsOutOfMemory e };
+    ghost denies = { λ value e. ¬ PrintsNothing (layout value) × IsOutOfMemory e };
 
     fn from_value(alloc: Global, value: &'k Value) -> TeraResult<String> {
         value.to_text(alloc)
@@ -100,7 +99,7 @@ impl<'k> ArgFromValue<'k, Value> for CowStr<'k> {
     ghost takes = { TakesText };
 
     ghost denies = { λ value e. (text_in value ≡ None)
-        × (¬ PrintsNothing (plain value)) × IsOutOfMemory e };
+        × (¬ PrintsNothing (layout value)) × IsOutOfMemory e };
 
     fn from_value(alloc: Global, value: &'k Value) -> TeraResult<CowStr<'k>> {
         match value.as_str() {
@@ -155,18 +154,19 @@ impl<'k> ArgFromValue<'k, Value> for Number {
     }
 }
 
-/// A copy of the map, deep. Takes memory. Refuses every other value with ``Invalid type for the
-/// value, expected `Map` but got `N` ``, N being the name of its kind, without the last blank.
+/// A copy of the map, deep, its pairs in their order. Takes memory. Refuses every other value with
+/// ``Invalid type for the value, expected `Map` but got `N` ``, N being the name of its kind,
+/// without the last blank.
 impl<'k> ArgFromValue<'k, Value> for Map {
     type Output = Map;
 
-    ghost takes = { λ value map. as_pairs value ≡ Ok (pairs_in map) };
+    ghost takes = { λ value map. as_pairs value ≡ Ok map };
 
     ghost denies = { λ value e. Refuses (as_pairs value) e };
 
     fn from_value(alloc: Global, value: &'k Value) -> TeraResult<Map> {
         match value.as_map() {
-            Some(map) => maps::clone(alloc, map),
+            Some(map) => map.clone(alloc),
             None => Err(Error::invalid_arg_type(alloc, "Map", value.name())),
         }
     }
@@ -177,7 +177,7 @@ impl<'k> ArgFromValue<'k, Value> for Map {
 impl<'k> ArgFromValue<'k, Value> for &'k Map {
     type Output = &'k Map;
 
-    ghost takes = { λ value map. as_pairs value ≡ Ok (pairs_in map.now) };
+    ghost takes = { λ value map. as_pairs value ≡ Ok map.now };
 
     ghost denies = { λ value e. Denies (as_pairs value) e };
 

@@ -1,12 +1,11 @@
 //! The named arguments of a filter or a function.
 ghost use Rattle.std.specs.Prelude.{◌≡◌, ◌⊎◌, IfOk, IfErr, MatchOption};
-ghost use Rattle.std.specs.List.Sorted.{IsPermutation};
 ghost use Rattle.std.specs.Option.{IsSomeAnd};
 ghost use Rattle.tera_arguments.specs.Named.{TakesArgument, pairs_held};
+ghost use Rattle.tera_meaning.specs.Pairs.{HasDistinctKeys, key_form_order};
 ghost use Rattle.tera_meaning.specs.Tree.{object, members};
 ghost use Rattle.tera_report.specs.Errors.{IsOutOfMemory, Raises};
 ghost use Rattle.tera_report.specs.Refusal.{missing_argument};
-ghost use Rattle.tera_values.specs.Map.{pairs_in};
 
 use crate::ArgFromValue;
 use crate::parts::Parts;
@@ -14,8 +13,7 @@ use std::alloc::Global;
 use std::marker::Model;
 use tera_conversions::ToKey;
 use tera_report::{Error, TeraResult};
-use tera_values::maps::EntriesLeft;
-use tera_values::{Key, Map, Value, maps};
+use tera_values::{Key, Map, Pairs, Value};
 
 /// The named arguments of a filter or a function. Mirrors `tera::Kwargs`.
 pub type Kwargs = KwargsOf<Value>;
@@ -33,8 +31,9 @@ impl<V> Model for KwargsOf<V> {
 }
 
 impl<V: Parts> KwargsOf<V> {
-    /// These pairs, by what can be made their keys. Of two with equal keys the first key and the
-    /// later value stand. Mirrors `From<[(&'static str, Value); N]>` of `tera::Kwargs`.
+    /// These pairs in their order, by what can be made their keys. Of two with equal keys the first
+    /// key and its place and the later value stand. Mirrors `From<[(&'static str, Value); N]>` of
+    /// `tera::Kwargs`.
     ///
     /// Takes memory; the first error of a key is passed on.
     pub fn from_pairs<K: ToKey + Drop, const N: usize>(
@@ -92,24 +91,26 @@ impl<V: Parts> KwargsOf<V> {
 }
 
 impl KwargsOf<Value> {
-    /// The pairs of a map. Mirrors `Kwargs::new`. Takes no memory.
+    /// The pairs of a map, in their order. Mirrors `Kwargs::new`. Takes no memory.
     pub fn new(values: Map) -> Kwargs
-        ensures { result ≡ object (members (pairs_in values.entry)) }
+        ensures { result ≡ object (members values) }
     {
         Kwargs {
             values: Value::of_map(values),
         }
     }
 
-    /// The pairs, each lent once, in whatever order. Mirrors `Kwargs::iter`. Takes no memory.
+    /// The pairs, lent one after another in their order; no two keys are equal. Mirrors
+    /// `Kwargs::iter`. Takes no memory.
     pub fn iter(&self) -> KwargsIter<'_>
-        ensures { IsPermutation result (pairs_held self.now) }
+        ensures pairs { result ≡ pairs_held self.now }
+        ensures distinct { HasDistinctKeys key_form_order (pairs_held self.now) }
     {
-        KwargsIter {
-            entries: match self.values.as_map() {
-                Some(map) => Some(maps::entries(map)),
-                None => None,
+        match self.values.as_map() {
+            Some(map) => KwargsIter {
+                pairs: Some(map.iter()),
             },
+            None => KwargsIter { pairs: None },
         }
     }
 
@@ -129,7 +130,7 @@ impl KwargsOf<Value> {
 /// The named arguments that are left of a walk over them.
 #[derive(Drop)]
 pub struct KwargsIter<'a> {
-    entries: Option<EntriesLeft<'a, Value>>,
+    pairs: Option<Pairs<'a>>,
 }
 
 impl<'a> Model for KwargsIter<'a> {
@@ -142,7 +143,7 @@ impl<'a> Model for KwargsIter<'a> {
 
     ghost coded = { coded_pairs };
 
-    ghost view = { λ k. unwrap_or k.entries [] };
+    ghost view = { λ k. unwrap_or k.pairs [] };
 }
 
 impl<'a> Iterator for KwargsIter<'a> {
@@ -156,8 +157,8 @@ impl<'a> Iterator for KwargsIter<'a> {
     ghost remaining = { item_count (λ s. s) };
 
     fn next(&mut self) -> Option<(&'a Key<'static>, &'a Value)> {
-        match &mut self.entries {
-            Some(entries) => entries.next(),
+        match &mut self.pairs {
+            Some(pairs) => pairs.next(),
             None => None,
         }
     }

@@ -12,7 +12,7 @@ use crate::private::SealedParts;
 use std::alloc::Global;
 use tera_conversions::ToKey;
 use tera_report::{Error, TeraResult};
-use tera_values::{Value, maps};
+use tera_values::{Map, Value};
 
 /// What holds arguments by their names, and items. It is sealed, and `Value` alone implements it:
 /// what is generic in it takes arguments for a lifetime, which no call does whose signature names
@@ -34,7 +34,8 @@ pub trait Parts: SealedParts + Sized + Drop {
     ghost no_map: { (K : Type 0) → (K → KeyForm → Type 0) → (K → Error → Type 0)
         → List (K × Self) → Error → Type 0 };
 
-    /// The map of these pairs. Of two with equal keys the first key and the later value stand.
+    /// The map of these pairs, in their order. Of two with equal keys the first key and its place
+    /// and the later value stand.
     ///
     /// Takes memory, but for no pair; the first error of a key is passed on.
     fn of_pairs<K: ToKey + Drop>(alloc: Global, pairs: Vec<(K, Self)>) -> TeraResult<Self>
@@ -72,9 +73,9 @@ impl Parts for Value {
         ensures err { IfErr result (PartsRefuse (GivesPair K.gives_key (λ given v. v ≡ given))
             (λ pair. K.refuses_key pair.0) pairs.items) }
     {
-        let mut made = maps::new(alloc);
+        let mut made = Map::new(alloc);
         for (key, value) in pairs {
-            maps::insert(&mut made, key.to_key(alloc)?, value)?;
+            drop(made.insert(key.to_key(alloc)?, value)?);
         }
         Ok(Value::of_map(made))
     }

@@ -50,6 +50,7 @@ request_of (call.Contains name needle) = weigh Weighing.contains (string_bytes n
 request_of (call.Print name) = ask Question.print (string_bytes name)
 request_of (call.Escape name) = ask Question.escape (string_bytes name)
 request_of (call.Fields name) = ask Question.fields (string_bytes name)
+request_of (call.Walk name) = ask Question.walk (string_bytes name)
 
 abbrev pub command_of : Step → Command
 command_of step = record {
@@ -66,3 +67,4 @@ answer_of (answer.Size n) = Answer.size n
 answer_of (answer.Kind k) = Answer.kind (kind_form k)
 answer_of (answer.Text t) = Answer.text (string_bytes t)
 answer_of (answer.Texts ts) = Answer.texts (map string_bytes ts.items)
+answer_of (answer.Walked ts) = Answer.walked (map string_bytes ts.items)

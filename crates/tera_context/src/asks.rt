@@ -102,3 +102,14 @@ pub(crate) fn fields(context: &Context, name: &str) -> TeraResult<Answer>
     let names = value_at(context, name, &absent).available_fields(context.allocator())?;
     Ok(Answer::Texts(names))
 }
+
+/// What the keys of the value of a name print, pair by pair.
+#[inline(never)]
+pub(crate) fn walk(context: &Context, name: &str) -> TeraResult<Answer>
+    ensures { ShowsOneOf result (λ outcome.
+        IsStep context.now (asking (ask Question.walk name.now)) outcome context.now) }
+{
+    let absent = absent_value();
+    let names = value_at(context, name, &absent).walk(context.allocator())?;
+    Ok(Answer::Walked(names))
+}

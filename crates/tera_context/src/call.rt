@@ -139,6 +139,11 @@ pub enum Call {
     Fields {
         of: String,
     },
+    /// What the keys of a map print, one for each pair and in the order of the pairs. Answers
+    /// `Walked`.
+    Walk {
+        of: String,
+    },
 }
 
 /// What a call answers.
@@ -152,4 +157,5 @@ pub enum Answer {
     Kind(ValueKind),
     Text(String),
     Texts(Vec<String>),
+    Walked(Vec<String>),
 }

@@ -1,6 +1,6 @@
 //! The values that a template's names stand for.
-ghost use Rattle.std.specs.Prelude.{◌≡◌, ◌⊎◌, ◌↔◌, IfOk, IfErr, IsOk, IsTrue, MatchOption, None};
-ghost use Rattle.std.specs.Prelude.{Some, OnOk, OnErr};
+ghost use Rattle.std.specs.Prelude.{◌≡◌, ◌⊎◌, ◌↔◌, ◌+◌, ◌<◌, ◌≤◌, IfOk, IfErr, IsOk, IsTrue};
+ghost use Rattle.std.specs.Prelude.{MatchOption, None, Some, OnOk, OnErr};
 ghost use Rattle.std.specs.FinMap.{empty, get, contains_key, insert, remove};
 ghost use Rattle.std.specs.String.{string_bytes};
 ghost use Rattle.tera_meaning.specs.Alike.{MeanTheSame};
@@ -10,21 +10,22 @@ ghost use Rattle.tera_meaning.specs.State.{State, extended, IsProperBeginning, s
 ghost use Rattle.tera_meaning.specs.Step.{marking};
 ghost use Rattle.tera_meaning.specs.WellMade.{IsWellMadeState};
 ghost use Rattle.tera_report.specs.Errors.{IsOutOfMemory};
-ghost use Rattle.tera_context.specs.Context.{equal_laws};
+ghost use Rattle.indexmap.specs.IndexMap.{spare};
+ghost use Rattle.tera_context.specs.Context.{equal_laws, state_of};
 
+use indexmap::IndexMap;
 use std::alloc::{AllocError, Global};
-use std::collections::BTreeMap;
 use std::marker::Model;
-use std::mem;
+use std::{fmt, mem};
 use tera_conversions::ToValue;
 use tera_report::TeraResult;
 use tera_values::{Value, is_well_made};
 
 /// Finitely many names, and a value for each. Mirrors `tera::Context`.
-#[derive(Debug, Drop)]
+#[derive(Drop)]
 pub struct Context {
     alloc: Global,
-    values: BTreeMap<String, Value>,
+    values: IndexMap<String, Value>,
 }
 
 impl Model for Context {
@@ -52,8 +53,52 @@ impl PartialEq for Context {
         ensures value { result ≡ states_equal self.now other.now }
         ensures meaning { IsTrue result ↔ MeanTheSame self.now other.now }
     {
-        self.values.len() == other.values.len() && self.values == other.values
+        self.values == other.values
     }
+}
+
+/// As a struct shows itself whose names stand in the order of their bytes.
+impl fmt::Debug for Context {
+    fn fmt<W: fmt::Write>(&self, f: &mut fmt::Formatter<W>) -> fmt::Result {
+        f.debug_struct("Context")
+            .field("alloc", &self.alloc)
+            .field("values", &ByName(&self.values))
+            .finish()
+    }
+}
+
+// Shows the names in the order of their bytes, with their values. It takes no memory, and looks
+// for each next name among all.
+#[derive(Drop)]
+struct ByName<'a>(&'a IndexMap<String, Value>);
+
+impl<'a> fmt::Debug for ByName<'a> {
+    fn fmt<W: fmt::Write>(&self, f: &mut fmt::Formatter<W>) -> fmt::Result {
+        let mut shown = f.debug_map();
+        let mut last = None;
+        for _ in 0..self.0.len() {
+            if let Some((name, value)) = first_behind(self.0, last) {
+                shown.entry(name, value);
+                last = Some(name);
+            }
+        }
+        shown.finish()
+    }
+}
+
+// The first name behind the last one, by their bytes, and its value.
+fn first_behind<'a>(
+    values: &'a IndexMap<String, Value>,
+    last: Option<&'a String>,
+) -> Option<(&'a String, &'a Value)> {
+    let mut first: Option<(&'a String, &'a Value)> = None;
+    for (name, value) in values {
+        let is_behind = last.is_none_or(|last| name > last);
+        if is_behind && first.is_none_or(|found| name < found.0) {
+            first = Some((name, value));
+        }
+    }
+    first
 }
 
 impl Context {
@@ -64,7 +109,7 @@ impl Context {
     {
         Context {
             alloc,
-            values: BTreeMap::new(alloc),
+            values: IndexMap::new(alloc),
         }
     }
 
@@ -117,8 +162,11 @@ impl Context {
             × (self.new ≡ extended self.old part)) }
         ensures nothing { source ≡ empty → IsOk result }
     {
-        for (name, value) in source.values {
-            self.keep(name, value)?;
+        // Once there is room for all of them, no name wants memory.
+        let taken = source.values;
+        self.values.reserve(taken.len())?;
+        for (name, value) in taken {
+            put(&mut self.values, name, value)?;
         }
         Ok(())
     }
@@ -131,12 +179,15 @@ impl Context {
         ensures err { IfErr result IsOutOfMemory }
         ensures nothing { self.now ≡ empty → IsOk result }
     {
-        let mut copy = Context::new(self.alloc);
+        let mut values = IndexMap::with_capacity(self.alloc, self.values.len())?;
         for (name, value) in &self.values {
-            let value = value.clone(self.alloc)?;
-            copy.insert_value(name, value)?;
+            let value = value.copy(self.alloc)?;
+            put(&mut values, name.clone()?, value)?;
         }
-        Ok(copy)
+        Ok(Context {
+            alloc: self.alloc,
+            values,
+        })
     }
 
     /// The value of a name, lent. Mirrors `Context::get`. Takes no memory.
@@ -160,7 +211,7 @@ impl Context {
         ensures result { result ≡ get self.old name.now }
         ensures state { self.new ≡ remove self.old name.now }
     {
-        self.values.remove(name)
+        self.values.swap_remove(name)
     }
 
     /// Each name that a context holds spells characters in UTF-8, and each value is well made. It
@@ -203,14 +254,29 @@ impl Context {
         ensures unchanged { OnErr result (self.new ≡ self.old) }
         ensures absent { OnErr result (get self.old (string_bytes name) ≡ None) }
     {
-        self.values.insert(name, value)?;
-        Ok(())
+        put(&mut self.values, name, value)
     }
 
     /// The allocator that new values take their memory from.
     pub(crate) fn allocator(&self) -> Global {
         self.alloc
     }
+}
+
+// Puts the value under the name, in the place of what was there. A name that is there takes no
+// memory, nor does one that there is room for.
+fn put(values: &mut IndexMap<String, Value>, name: String, value: Value) -> Result<(), AllocError>
+    ensures ok { OnOk result (state_of values.new.entries
+        ≡ insert (state_of values.old.entries) (string_bytes name) value) }
+    ensures unchanged { OnErr result
+        (state_of values.new.entries ≡ state_of values.old.entries) }
+    ensures absent { OnErr result
+        (get (state_of values.old.entries) (string_bytes name) ≡ None) }
+    ensures room { spare values.old ≤ spare values.new + 1 }
+    ensures succeeds { 0 < spare values.old → IsOk result }
+{
+    values.insert(name, value)?;
+    Ok(())
 }
 
 // Marks the value safe where it is.

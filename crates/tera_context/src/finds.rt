@@ -1,6 +1,6 @@
 //! What is found in a context, and may be kept there.
-// Each function matches the one result that it takes: `?` would move it twice more, and a result is
-// as large as an error.
+// Each function matches the one result that it takes, since `?` would move it twice more. What is
+// lent is copied by `copy`, whose result is small: an `Error` is made where it is answered.
 ghost use Rattle.std.specs.Prelude.{◌≡◌, Ok, Some};
 ghost use Rattle.std.specs.Option.{option_map};
 ghost use Rattle.std.specs.String.{string_bytes};
@@ -13,7 +13,7 @@ ghost use Rattle.tera_context.specs.Steps.{ShowsOneOf};
 use crate::asks::{absent_value, value_at};
 use crate::call::Answer;
 use crate::context::Context;
-use tera_report::TeraResult;
+use tera_report::{Error, TeraResult};
 use tera_values::Value;
 
 /// Finds the value of a name.
@@ -26,9 +26,9 @@ pub(crate) fn get(context: &mut Context, name: &str, into: Option<String>) -> Te
     let Some(held) = context.get(name) else {
         return Ok(Answer::Found(None));
     };
-    match held.clone(context.allocator()) {
+    match held.copy(context.allocator()) {
         Ok(copy) => keep_or_answer(copy, context, into),
-        Err(error) => Err(error),
+        Err(want) => Err(Error::from(want)),
     }
 }
 
@@ -50,9 +50,9 @@ pub(crate) fn path(
     let Some(part) = value_at(context, of, &absent).get_from_path(path) else {
         return Ok(Answer::Found(None));
     };
-    match part.clone(context.allocator()) {
+    match part.copy(context.allocator()) {
         Ok(copy) => keep_or_answer(copy, context, into),
-        Err(error) => Err(error),
+        Err(want) => Err(Error::from(want)),
     }
 }
 
@@ -74,9 +74,9 @@ pub(crate) fn attr(
     let Some(part) = value_at(context, of, &absent).get_attr(attr) else {
         return Ok(Answer::Found(None));
     };
-    match part.clone(context.allocator()) {
+    match part.copy(context.allocator()) {
         Ok(copy) => keep_or_answer(copy, context, into),
-        Err(error) => Err(error),
+        Err(want) => Err(Error::from(want)),
     }
 }
 

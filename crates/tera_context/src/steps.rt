@@ -12,7 +12,7 @@ ghost use Rattle.tera_context.specs.Call.{command_of};
 ghost use Rattle.tera_context.specs.Steps.{ShowsOutcome, ShowsOneOf};
 
 use crate::asks::{
-    absent_value, compare, contains, equal, escape, fields, print, try_compare, value_at,
+    absent_value, compare, contains, equal, escape, fields, print, try_compare, value_at, walk,
 };
 use crate::call::{Answer, Call, Step};
 use crate::computes::{calculate, negate, read};
@@ -26,9 +26,9 @@ use tera_values::Value;
 /// the order of their bytes, and nothing else.
 ///
 /// `Out of memory` may be answered by `Set` and `Extend`, by `MarkSafe` where `into` is given, by
-/// what finds something (`Get`, `Path`, `Attr`, `Item`, `Slice`, `Reverse`), by `Print`, `Escape`
-/// and `Fields`; and by `Contains`, `Binary`, `Negate` and `Read` for the text of a refusal, by
-/// the last three also where `into` is given. The other calls take no memory.
+/// what finds something (`Get`, `Path`, `Attr`, `Item`, `Slice`, `Reverse`), by `Print`, `Escape`,
+/// `Fields` and `Walk`; and by `Contains`, `Binary`, `Negate` and `Read` for the text of a refusal,
+/// by the last three also where `into` is given. The other calls take no memory.
 pub fn step(context: &mut Context, step: Step) -> TeraResult<Answer>
     ensures { ShowsOneOf result (λ outcome.
         IsStep context.old (command_of step) outcome context.new) }
@@ -48,6 +48,7 @@ pub fn step(context: &mut Context, step: Step) -> TeraResult<Answer>
         Call::Print { of } => print(context, &of),
         Call::Escape { of } => escape(context, &of),
         Call::Fields { of } => fields(context, &of),
+        Call::Walk { of } => walk(context, &of),
         Call::Equal { left, right } => Ok(Answer::Truth(equal(context, &left, &right))),
         Call::Compare { left, right } => Ok(Answer::Order(Some(compare(context, &left, &right)))),
         Call::TryCompare { left, right } => Ok(Answer::Order(try_compare(context, &left, &right))),
@@ -97,7 +98,7 @@ fn mark_safe(context: &mut Context, name: &str, into: Option<String>) -> TeraRes
     match into {
         Some(into) => {
             let absent = absent_value();
-            let value = value_at(context, name, &absent).clone(context.allocator())?;
+            let value = value_at(context, name, &absent).copy(context.allocator())?;
             context.keep(into, value.mark_safe())?;
             Ok(Answer::Done)
         }
@@ -113,6 +114,9 @@ fn mark_safe(context: &mut Context, name: &str, into: Option<String>) -> TeraRes
 /// The list of answers takes its memory first: where that is refused, `Out of memory` is the answer
 /// to the whole run and nothing was done. A run of no steps takes none. A step that finds no memory
 /// answers so in its place.
+///
+/// The answers depend on what the names mean: those of `Print`, `Escape` and `Walk` also on the
+/// order of pairs in maps, and those of `Kind` and `IsSafe` on kinds of integers and safe flags.
 pub fn run(context: &mut Context, steps: Vec<Step>) -> TeraResult<Vec<TeraResult<Answer>>>
     ensures run { IfOk result (λ answers. (outcomes : List Outcome)
         × AllZip ShowsOutcome answers.items outcomes

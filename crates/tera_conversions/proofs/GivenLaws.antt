@@ -1,15 +1,16 @@
 -- What parts give and refuse, one after another.
-use Rattle.std.specs.Prelude.{◌≡◌, ◌⊎◌, ◌<◌, List, [], ◌∷◌, ◌++◌, length}
+use Rattle.std.specs.Prelude.{◌≡◌, ◌⊎◌, List, [], ◌∷◌, ◌++◌, length}
 use Rattle.std.specs.List.{AllZip}
 use Rattle.std.proofs.Common.{inl, inr, subst, ap, sym, refl, ◌∙◌, arith}
 use Rattle.std.proofs.lemmas.List.{reverse-append, length-append}
+use Rattle.std.proofs.lemmas.List.Sums.{fold_push}
 use Rattle.std.specs.BTreeMap.{insert_entry}
-use Rattle.std.specs.Prelude.{true, false, Result, Ok, Err, IfErr, IsOk, OnOk}
+use Rattle.std.specs.Prelude.{true, false, Result, Ok, Err, IfErr, IsOk}
 use Rattle.std.specs.Result.{IsErrAnd}
-use Rattle.tera_conversions.specs.Given.{FirstRefuses, PartsRefuse, GivesPair, PutsPairs}
+use Rattle.tera_conversions.specs.Given.{FirstRefuses, PartsRefuse, GivesPair, PutsPairs, PutsRising}
 use Rattle.tera_meaning.specs.Form.{Form}
 use Rattle.tera_meaning.specs.KeyMeaning.{KeyForm}
-use Rattle.tera_meaning.specs.Pairs.{key_form_order, pairs_of}
+use Rattle.tera_meaning.specs.Pairs.{key_form_order, pairs_of, put}
 use Rattle.tera_report.specs.Errors.{IsOutOfMemory}
 use Rattle.tera_report.specs.declared.errors.Error.{Error}
 
@@ -56,23 +57,25 @@ module _ {X Y : Type 0} (R : X → Y → Type 0) where
 module _ {K X : Type 0} (key : K → KeyForm → Type 0) (gives : X → Form → Type 0) where
   -- one more pair is put
   pub puts_on : (before : List (K × X)) (pairs : List (KeyForm × Form)) (entry : K × X) (pair : KeyForm × Form)
-      (put : List (KeyForm × Form)) → PutsPairs key gives before pairs → GivesPair key gives entry pair
-      → put ≡ insert_entry key_form_order pairs pair.0 pair.1 → PutsPairs key gives (before ++ (entry ∷ [])) put
-  puts_on before pairs entry pair put puts is_pair is_put = (
+      (made : List (KeyForm × Form)) → PutsPairs key gives before pairs → GivesPair key gives entry pair
+      → made ≡ put key_form_order pairs pair.0 pair.1 → PutsPairs key gives (before ++ (entry ∷ [])) made
+  puts_on before pairs entry pair made puts is_pair is_put = (
+    puts.0 ++ (pair ∷ []),
+    zipped_on (GivesPair key gives) before puts.0 entry pair puts.1 is_pair,
+    is_put ∙ ap (λ ps. put key_form_order ps pair.0 pair.1) puts.2
+        ∙ sym (fold_push (λ ps e. put key_form_order ps e.0 e.1) [] puts.0 pair),
+  )
+
+  -- the same in the place of its key
+  pub places_on : (before : List (K × X)) (pairs : List (KeyForm × Form)) (entry : K × X) (pair : KeyForm × Form)
+      (made : List (KeyForm × Form)) → PutsRising key gives before pairs → GivesPair key gives entry pair
+      → made ≡ insert_entry key_form_order pairs pair.0 pair.1 → PutsRising key gives (before ++ (entry ∷ [])) made
+  places_on before pairs entry pair made puts is_pair is_put = (
     puts.0 ++ (pair ∷ []),
     zipped_on (GivesPair key gives) before puts.0 entry pair puts.1 is_pair,
     is_put ∙ ap (λ ps. insert_entry key_form_order ps pair.0 pair.1) puts.2
         ∙ ap (λ given. pairs_of given) (sym (reverse-append puts.0 (pair ∷ []))),
   )
-
-  -- the pair of an entry, where it was put
-  pub pair_put : {Z : Type 0} (entry : K × X) (k : KeyForm) (v : Form) (r : Result Z Error)
-      (before put : List (KeyForm × Form)) → key entry.0 k → gives entry.1 v
-      → OnOk r (put ≡ insert_entry key_form_order before k v)
-      → OnOk r ((pair : KeyForm × Form) × GivesPair key gives entry pair
-      × (put ≡ insert_entry key_form_order before pair.0 pair.1))
-  pair_put entry k v (Ok x) before put is_key is_value is_put = ((k, v), (is_key, is_value), is_put)
-  pair_put entry k v (Err e) before put is_key is_value nothing = tt
 
 -- what is refused only where something is not, is refused where it is not
 pub refused_where : {X : Type 0} (P : Type 0) (Q : Error → Type 0) (r : Result X Error) → (P → IsOk r) → IfErr r Q

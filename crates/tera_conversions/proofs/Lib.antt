@@ -1,2 +1,3 @@
 mod EntryLemmas
 pub mod GivenLaws
+mod SortedLemmas

@@ -4,7 +4,7 @@ use Rattle.std.specs.Prelude.{Err, reverse}
 use Rattle.std.specs.List.{AllZip}
 use Rattle.tera_meaning.specs.Form.{Form}
 use Rattle.tera_meaning.specs.KeyMeaning.{KeyForm}
-use Rattle.tera_meaning.specs.Pairs.{pairs_of}
+use Rattle.tera_meaning.specs.Pairs.{key_form_order, pairs_of, put_all}
 use Rattle.tera_meaning.specs.Tree.{none, array, object, items, members}
 use Rattle.tera_report.specs.Errors.{IsOutOfMemory}
 use Rattle.tera_report.specs.declared.errors.Error.{Error}
@@ -42,11 +42,22 @@ module _ {K X : Type 0} (key : K → KeyForm → Type 0) (gives : X → Form →
   -- the pair list of a map into which the entries' pairs are put one after another
   abbrev pub PutsPairs : List (K × X) → List (KeyForm × Form) → Type 0
   PutsPairs entries pairs = (given : List (KeyForm × Form)) × AllZip GivesPair entries given
-      × (pairs ≡ pairs_of (reverse given))
+      × (pairs ≡ put_all key_form_order [] given)
 
   -- that map
   abbrev pub GivesMap : List (K × X) → Form → Type 0
   GivesMap entries v = (pairs : List (KeyForm × Form)) × PutsPairs entries pairs
+      × (v ≡ object (members pairs))
+
+  -- the entries' pairs in rising order of their keys: each is put into the place of its key, one
+  -- after another
+  abbrev pub PutsRising : List (K × X) → List (KeyForm × Form) → Type 0
+  PutsRising entries pairs = (given : List (KeyForm × Form)) × AllZip GivesPair entries given
+      × (pairs ≡ pairs_of (reverse given))
+
+  -- the map of these
+  abbrev pub GivesRisingMap : List (K × X) → Form → Type 0
+  GivesRisingMap entries v = (pairs : List (KeyForm × Form)) × PutsRising entries pairs
       × (v ≡ object (members pairs))
 
 module _ {K X : Type 0} (no_key : K → Error → Type 0) (refuses : X → Error → Type 0) where

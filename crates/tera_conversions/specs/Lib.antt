@@ -1,2 +1,3 @@
-pub mod Given
 pub mod Apart
+pub mod Given
+pub mod inner

@@ -9,6 +9,6 @@ mod to_key;
 mod to_value;
 
 pub use function_result::FunctionResult;
-pub use maps::maps_hold_each_entry;
+pub use maps::{maps_hold_each_entry, maps_keep_the_order_of_entries};
 pub use to_key::ToKey;
 pub use to_value::ToValue;

@@ -1,5 +1,5 @@
 -- Answers depend on meanings alone.
-use Rattle.tera_meaning.proofs.PlainLemmas.{is_there}
+use Rattle.tera_meaning.proofs.ReadLemmas.{is_there}
 use Rattle.std.specs.Prelude.{◌≡◌, ℕ, suc, length, Bool, true, false, cond, List, [], ◌∷◌, Option, Some, None, Result, Ok, Err, is_some, refl}
 use Rattle.std.proofs.Common.{sym, ◌∙◌, ap, subst}
 use Rattle.std.specs.Option.{option_map, unwrap_or}
@@ -10,7 +10,7 @@ use Rattle.tera_report.specs.Escaping.{Spells}
 use Rattle.tera_report.specs.Refusal.{Refusal, shape as refusal_shape}
 use Rattle.tera_report.proofs.EscapeLaws.{one_spelling_each}
 use Rattle.tera_meaning.specs.Form.{Form}
-use Rattle.tera_meaning.specs.Meaning.{Meaning, plain}
+use Rattle.tera_meaning.specs.Meaning.{Layout, Meaning, layout, meaning}
 use Rattle.tera_meaning.specs.Printed.{printed, IsExact, Prints}
 use Rattle.tera_meaning.specs.Read.{marked_safe, size_in, truthy_in}
 use Rattle.tera_meaning.specs.State.{State, read, form_at}
@@ -19,7 +19,7 @@ use Rattle.tera_meaning.specs.Answer
 use Rattle.tera_meaning.specs.Search.{Found, found_at}
 use Rattle.tera_meaning.specs.Lookup.{holds, seen_by}
 use Rattle.tera_meaning.proofs.ContainsLemmas.{holds_by_meaning}
-use Rattle.tera_meaning.proofs.PlainLemmas.{fields_by_meaning}
+use Rattle.tera_meaning.proofs.ReadLemmas.{fields_by_meaning}
 use Rattle.tera_meaning.proofs.Owed.{found_shape, read_alike, meaning_alike}
 use Rattle.tera_meaning.proofs.found.{owed}
 use Rattle.tera_meaning.specs.Outcome.{Outcome, shape}
@@ -32,18 +32,18 @@ use Rattle.tera_meaning.specs.Tree.{undefined, text}
 use Rattle.tera_meaning.specs.Weighing.{Weighing, weighed, truth_told}
 
 -- marking changes no meaning
-pub plain_marked : (value : Form) → plain (marked_safe value) ≡ plain value
-plain_marked (text t) = refl
-plain_marked v = refl
+pub meaning_marked : (value : Form) → meaning (marked_safe value) ≡ meaning value
+meaning_marked (text t) = refl
+meaning_marked v = refl
 
-pub some_one : (v w : Form) → option_map plain (Some v) ≡ option_map plain (Some w) → plain v ≡ plain w
+pub some_one : (v w : Form) → option_map meaning (Some v) ≡ option_map meaning (Some w) → meaning v ≡ meaning w
 some_one v w e = ap (λ o. unwrap_or o undefined) e
 
-held_alike : (o p : Option Form) → option_map plain o ≡ option_map plain p → is_some o ≡ is_some p
-held_alike o p e = sym (is_there plain o) ∙ ap is_some e ∙ is_there plain p
+held_alike : (o p : Option Form) → option_map meaning o ≡ option_map meaning p → is_some o ≡ is_some p
+held_alike o p e = sym (is_there meaning o) ∙ ap is_some e ∙ is_there meaning p
 
-same_found : (o p : Option Form) → ◌≡◌ {A = Result (Option Meaning) Refusal} (Ok (option_map plain o)) (Ok (option_map plain p))
-    → option_map plain o ≡ option_map plain p
+same_found : (o p : Option Form) → ◌≡◌ {A = Result (Option Meaning) Refusal} (Ok (option_map meaning o)) (Ok (option_map meaning p))
+    → option_map meaning o ≡ option_map meaning p
 same_found o p e = cc
 
 kept_shape : (into : Option (List ℕ)) (found also : Found) → found_shape found ≡ found_shape also
@@ -55,8 +55,8 @@ kept_shape None (Err r) (Err q) e = let same : refusal_shape r ≡ refusal_shape
 kept_shape (Some into) (Err r) (Err q) e = let same : refusal_shape r ≡ refusal_shape q = cc in λ i. Err (same i)
 kept_shape into found also e = cc
 
-text_alike : (x y : Meaning) (s t : List ℕ) → x ≡ y → Prints x s → Prints y t → IsExact x → s ≡ t
-text_alike x y s t e p q exact = p exact ∙ ap printed e ∙ sym (q (subst IsExact e exact))
+text_alike : (x y : Layout) (s t : List ℕ) → (x ≡ y) × IsExact x → Prints x s → Prints y t → s ≡ t
+text_alike x y s t (e, exact) p q = p exact ∙ ap printed e ∙ sym (q (subst IsExact e exact))
 
 pub word_alike : (v w s t : List ℕ) → s ≡ t → Spells v s → Spells w t → v ≡ w
 word_alike v w s t e p q = one_spelling_each v w t (subst (Spells v) e p) q
@@ -66,20 +66,20 @@ both : {o p a b : Outcome} → o ≡ a → p ≡ b → shape a ≡ shape b → s
 both e f s = ap shape e ∙ s ∙ sym (ap shape f)
 
 -- what is asked of values of one meaning
-asked_alike : (question : Question) (held also : Option Form) (o p : Outcome) → option_map plain held ≡ option_map plain also
-    → IsAnswered question held o → IsAnswered question also p → IsSettledAnswer question (plain (read held))
+asked_alike : (question : Question) (held also : Option Form) (o p : Outcome) → option_map meaning held ≡ option_map meaning also
+    → IsAnswered question held o → IsAnswered question also p → IsSettledAnswer question (layout (read held)) (layout (read also))
     → shape o ≡ shape p
 asked_alike Question.has held also o p h e d s = both e d (λ i. Ok (Answer.truth (held_alike held also h i)))
 asked_alike Question.truthy held also o p h e d s =
     both e d (λ i. Ok (Answer.truth (truthy_in (read_alike held also h i))))
 asked_alike Question.len held also o p h e d s = both e d (λ i. Ok (Answer.size (size_in (read_alike held also h i))))
 asked_alike Question.print held also o p h (t, prints, e) (u, again, d) s =
-    both e d (λ i. Ok (Answer.text (text_alike (plain (read held)) (plain (read also)) t u (read_alike held also h) prints again s i)))
+    both e d (λ i. Ok (Answer.text (text_alike (layout (read held)) (layout (read also)) t u s prints again i)))
 asked_alike Question.escape held also o p h (t, v, prints, spells, e) (u, w, again, spelled, d) s =
-    both e d (λ i. Ok (Answer.text (word_alike v w t u (text_alike (plain (read held)) (plain (read also)) t u (read_alike held also h) prints again s) spells
-    spelled i)))
+    both e d (λ i. Ok (Answer.text (word_alike v w t u (text_alike (layout (read held)) (layout (read also)) t u s prints again) spells spelled i)))
 asked_alike Question.fields held also o p h e d s =
     both e d (λ i. Ok (Answer.texts (fields_by_meaning (read held) (read also) (read_alike held also h) i)))
+asked_alike Question.walk held also o p h e d s = absurd s
 asked_alike Question.is_safe held also o p h e d s = absurd s
 asked_alike Question.kind held also o p h e d s = absurd s
 
@@ -91,7 +91,7 @@ truth_alike (Ok a) (Err q) e = cc
 truth_alike (Err r) (Ok b) e = cc
 
 -- how values of one meaning are weighed
-weighed_alike : (weighing : Weighing) (v w x y : Form) → plain v ≡ plain x → plain w ≡ plain y
+weighed_alike : (weighing : Weighing) (v w x y : Form) → meaning v ≡ meaning x → meaning w ≡ meaning y
     → shape (weighed weighing v w) ≡ shape (weighed weighing x y)
 weighed_alike Weighing.equal v w x y e d = rw (e, d) refl
 weighed_alike Weighing.contains v w x y e d = truth_alike (holds v w) (holds x y) (holds_by_meaning v x w y e d)
@@ -99,7 +99,7 @@ weighed_alike weighing v w x y e d = rw (e, d) refl
 
 module _ (f g : State) (h : MeanTheSame f g) where
   outcomes_same : (request : Request) (into : Option (List ℕ)) (o p : Outcome) → ComesTo f request into o
-      → ComesTo g request into p → IsSettled f request → shape o ≡ shape p
+      → ComesTo g request into p → IsSettled f g request → shape o ≡ shape p
   outcomes_same (remove name) into o p e d s = both e d (λ i. Ok (Answer.found (h name i)))
   outcomes_same (ask question name) into o p e d s =
       asked_alike question (held_at f name) (held_at g name) o p (h name) e d s
@@ -111,28 +111,28 @@ module _ (f g : State) (h : MeanTheSame f g) where
   outcomes_same v into o p e d s = both e d refl
 
   outcomes_alike : (q r : Request) (into : Option (List ℕ)) (o p : Outcome) → RequestTheSame q r → ComesTo f q into o
-      → ComesTo g r into p → IsSettled f q → shape o ≡ shape p
+      → ComesTo g r into p → IsSettled f g q → shape o ≡ shape p
   outcomes_alike (set m v) (set n w) into o p a e d s = both e d refl
   outcomes_alike (extend source) (extend other) into o p a e d s = both e d refl
   outcomes_alike q r into o p a e d s = outcomes_same q into o p e (subst (λ k. ComesTo g k into p) (sym a) d) s
 
-chosen_alike : (b : Bool) (o p u w : Option Form) → option_map plain u ≡ option_map plain w
-    → option_map plain o ≡ option_map plain p → option_map plain (cond b u o) ≡ option_map plain (cond b w p)
+chosen_alike : (b : Bool) (o p u w : Option Form) → option_map meaning u ≡ option_map meaning w
+    → option_map meaning o ≡ option_map meaning p → option_map meaning (cond b u o) ≡ option_map meaning (cond b w p)
 chosen_alike true o p u w e h = e
 chosen_alike false o p u w e h = h
 
-set_alike : (f g : State) (name : List ℕ) (v w : Form) → MeanTheSame f g → plain v ≡ plain w
+set_alike : (f g : State) (name : List ℕ) (v w : Form) → MeanTheSame f g → meaning v ≡ meaning w
     → MeanTheSame (insert f name v) (insert g name w)
 set_alike f g name v w h values other =
-    ap (option_map plain) (get-insert nat_list_cmp_total f name v other)
+    ap (option_map meaning) (get-insert nat_list_cmp_total f name v other)
     ∙ chosen_alike (eq_by_cmp (slice_cmp nat_cmp) other name) (held_at f other) (held_at g other) (Some v) (Some w) (λ i. Some (values i)) (h other)
-    ∙ sym (ap (option_map plain) (get-insert nat_list_cmp_total g name w other))
+    ∙ sym (ap (option_map meaning) (get-insert nat_list_cmp_total g name w other))
 
 removed_alike : (f g : State) (name : List ℕ) → MeanTheSame f g → MeanTheSame (without f name) (without g name)
 removed_alike f g name h other =
-    ap (option_map plain) (get-remove nat_list_cmp_total f name other)
+    ap (option_map meaning) (get-remove nat_list_cmp_total f name other)
     ∙ chosen_alike (eq_by_cmp (slice_cmp nat_cmp) other name) (held_at f other) (held_at g other) None None refl (h other)
-    ∙ sym (ap (option_map plain) (get-remove nat_list_cmp_total g name other))
+    ∙ sym (ap (option_map meaning) (get-remove nat_list_cmp_total g name other))
 
 module _ (f g : State) (h : MeanTheSame f g) where
   kept_alike : (into : Option (List ℕ)) (found also : Found) → found_shape found ≡ found_shape also
@@ -144,11 +144,11 @@ module _ (f g : State) (h : MeanTheSame f g) where
   kept_alike (Some into) (Err r) (Err q) e = h
   kept_alike into found also e = cc
 
-  marked_held_alike : (name : List ℕ) (o p : Option Form) → option_map plain o ≡ option_map plain p
+  marked_held_alike : (name : List ℕ) (o p : Option Form) → option_map meaning o ≡ option_map meaning p
       → MeanTheSame (marking f name o) (marking g name p)
   marked_held_alike name None None e = h
   marked_held_alike name (Some v) (Some w) e =
-      set_alike f g name (marked_safe v) (marked_safe w) h (plain_marked v ∙ some_one v w e ∙ sym (plain_marked w))
+      set_alike f g name (marked_safe v) (marked_safe w) h (meaning_marked v ∙ some_one v w e ∙ sym (meaning_marked w))
   marked_held_alike name o p e = cc
 
   marked_alike : (name : List ℕ) (into : Option (List ℕ))
@@ -156,7 +156,7 @@ module _ (f g : State) (h : MeanTheSame f g) where
   marked_alike name None = marked_held_alike name (held_at f name) (held_at g name) (h name)
   marked_alike name (Some into) =
       set_alike f g into (marked_safe (form_at f name)) (marked_safe (form_at g name)) h
-      (plain_marked (form_at f name) ∙ meaning_alike f g h name ∙ sym (plain_marked (form_at g name)))
+      (meaning_marked (form_at f name) ∙ meaning_alike f g h name ∙ sym (meaning_marked (form_at g name)))
 
   states_same : (request : Request) (into : Option (List ℕ)) → MeanTheSame (leaves f request into) (leaves g request into)
   states_same (set name value) into = set_alike f g name value value h refl
@@ -174,7 +174,7 @@ module _ (f g : State) (h : MeanTheSame f g) where
   states_left_alike q r into a = subst (λ k. MeanTheSame (leaves f q into) (leaves g k into)) a (states_same q into)
 
   pub outcome_alike : (c d : Command) (o p : Outcome) → AskTheSame c d → IsOutcome f c o → IsOutcome g d p
-      → IsSettled f c.request → shape o ≡ shape p
+      → IsSettled f g c.request → shape o ≡ shape p
   outcome_alike c d o p a e i s =
       outcomes_alike f g h c.request d.request c.into o p a.0 e (subst (λ into. ComesTo g d.request into p) (sym a.1) i) s
 
@@ -197,7 +197,7 @@ all_ask_the_same [] = tt
 all_ask_the_same (command ∷ commands) = (asks_the_same command, all_ask_the_same commands)
 
 pub all_outcomes_alike : (f g : State) (cs ds : List Command) (os ps : List Outcome) → MeanTheSame f g
-    → AllAskTheSame cs ds → AreOutcomes f cs os → AreOutcomes g ds ps → AreAlike f cs os ps
+    → AllAskTheSame cs ds → AreOutcomes f cs os → AreOutcomes g ds ps → AreAlike f g cs ds os ps
 all_outcomes_alike f g [] [] [] [] h a e i = tt
 all_outcomes_alike f g (c ∷ cs) (d ∷ ds) (o ∷ os) (p ∷ ps) h a e i =
     (outcome_alike f g h c d o p a.0 e.0 i.0, all_outcomes_alike (state_after f c) (state_after g d) cs ds os ps (state_alike f g h c d a.0) a.1 e.1 i.1)
@@ -216,10 +216,10 @@ states_alike f g (c ∷ cs) (d ∷ ds) h a =
 states_alike f g cs ds h a = absurd a
 
 -- outcomes that are alike are as many as the commands
-pub as_many : (state : State) (cs : List Command) (os ps : List Outcome) → AreAlike state cs os ps
-    → (length cs ≡ length os) × (length os ≡ length ps)
-as_many state [] [] [] h = (refl, refl)
-as_many state (c ∷ cs) (o ∷ os) (p ∷ ps) h =
-    let rest : (length cs ≡ length os) × (length os ≡ length ps) = as_many (state_after state c) cs os ps h.1 in
-    (ap suc rest.0, ap suc rest.1)
-as_many state cs os ps h = absurd h
+pub as_many : (f g : State) (cs ds : List Command) (os ps : List Outcome) → AreAlike f g cs ds os ps
+    → (length cs ≡ length os) × (length os ≡ length ps) × (length ds ≡ length ps)
+as_many f g [] [] [] [] h = (refl, refl, refl)
+as_many f g (c ∷ cs) (d ∷ ds) (o ∷ os) (p ∷ ps) h =
+    let rest : (length cs ≡ length os) × (length os ≡ length ps) × (length ds ≡ length ps) = as_many (state_after f c) (state_after g d) cs ds os ps h.1 in
+    (ap suc rest.0, ap suc rest.1, ap suc rest.2)
+as_many f g cs ds os ps h = absurd h

@@ -12,7 +12,7 @@ use Rattle.std.proofs.lemmas.Bool.{true≢false}
 use Rattle.std.proofs.lemmas.Str.{IsUtf8-append, IsUtf8-from_ascii}
 use Rattle.std.proofs.lemmas.Str.Ascii.{IsAscii-nil, IsAscii-cons}
 use Rattle.tera_meaning.specs.Form.{Form}
-use Rattle.tera_meaning.specs.Meaning.{Meaning, plain}
+use Rattle.tera_meaning.specs.Meaning.{Meaning, meaning}
 use Rattle.tera_meaning.specs.Order.{same}
 use Rattle.tera_meaning.specs.State.{State, form_at, meaning_at}
 use Rattle.tera_meaning.specs.Answer
@@ -37,8 +37,8 @@ same_truth : (a b : Bool) (o p : Outcome) → o ≡ Ok (Answer.truth a) → p �
 unfolding truth_of
 same_truth a b o p e i s = sym (ap (λ q. truth_of (shape q)) e) ∙ ap truth_of s ∙ ap (λ q. truth_of (shape q)) i
 
-held_one : (o p : Option Form) → is_some o ≡ is_some p → plain (unwrap_or o undefined) ≡ plain (unwrap_or p undefined)
-    → option_map plain o ≡ option_map plain p
+held_one : (o p : Option Form) → is_some o ≡ is_some p → meaning (unwrap_or o undefined) ≡ meaning (unwrap_or p undefined)
+    → option_map meaning o ≡ option_map meaning p
 held_one None None s e = refl
 held_one (Some v) (Some w) s e = λ i. Some (e i)
 held_one o p s e = cc
@@ -52,7 +52,7 @@ probe_equal state name value =
     same (meaning_at (insert state (0 ∷ name) value) name) (meaning_at (insert state (0 ∷ name) value) (0 ∷ name))
 
 probed : (state : State) (name : List ℕ) (value : Form)
-    → probe_equal state name value ≡ same (meaning_at state name) (plain value)
+    → probe_equal state name value ≡ same (meaning_at state name) (meaning value)
 unfolding probe_equal
 probed state name value =
     λ i. same (meaning_other state (0 ∷ name) value name (not_longer name) i) (meaning_set state (0 ∷ name) value i)
@@ -68,7 +68,7 @@ module _ (f g : State) (name : List ℕ) where
 
   -- states that answer the probe with a name's own value alike hold the same meaning at the name
   pub by_answers : (os ps : List Outcome) → AreOutcomes f (probe name (form_at f name)) os
-      → AreOutcomes g (probe name (form_at f name)) ps → AreAlike f (probe name (form_at f name)) os ps
+      → AreOutcomes g (probe name (form_at f name)) ps → AreAlike f g (probe name (form_at f name)) (probe name (form_at f name)) os ps
       → meaning_held f name ≡ meaning_held g name
   unfolding probe_equal
   by_answers (a ∷ b ∷ c ∷ []) (k ∷ l ∷ m ∷ []) e i s =
@@ -116,7 +116,7 @@ runs_apart_at f g name n os ps f' g' run other =
     (ample_outcomes g (probe name (form_at f name)) ps g' other)
 
 -- where the states are well made the commands that tell them apart bring what is
-one_holds : (o p : Option Form) → option_map plain o ≢ option_map plain p → IsSome o ⊎ IsSome p
+one_holds : (o p : Option Form) → option_map meaning o ≢ option_map meaning p → IsSome o ⊎ IsSome p
 one_holds (Some v) p n = inl refl
 one_holds None (Some w) n = inr refl
 one_holds None None n = absurd (n refl)
@@ -134,15 +134,15 @@ probe_brings f g name h k n =
     let other : IsUtf8 (0 ∷ name) = IsUtf8-append (0 ∷ []) name (IsUtf8-from_ascii (0 ∷ []) (IsAscii-cons 0 [] (omega arith) IsAscii-nil)) utf8 in
     (utf8, ((tt, tt), (((other, form_at_well f h name), tt), ((tt, tt), tt))))
 
-decided : (b : Bool) (v w : Form) → same (plain v) (plain w) ≡ b
-    → (option_map plain (Some v) ≡ option_map plain (Some w)) ⊎ (option_map plain (Some v) ≢ option_map plain (Some w))
-decided true v w e = inl (λ i. Some ((same_is (plain v) (plain w)).0 e i))
-decided false v w e = inr (λ h. true≢false (sym ((same_is (plain v) (plain w)).1 (some_one v w h)) ∙ e))
+decided : (b : Bool) (v w : Form) → same (meaning v) (meaning w) ≡ b
+    → (option_map meaning (Some v) ≡ option_map meaning (Some w)) ⊎ (option_map meaning (Some v) ≢ option_map meaning (Some w))
+decided true v w e = inl (λ i. Some ((same_is (meaning v) (meaning w)).0 e i))
+decided false v w e = inr (λ h. true≢false (sym ((same_is (meaning v) (meaning w)).1 (some_one v w h)) ∙ e))
 
 held_decided : (o p : Option Form)
-    → (option_map plain o ≡ option_map plain p) ⊎ (option_map plain o ≢ option_map plain p)
+    → (option_map meaning o ≡ option_map meaning p) ⊎ (option_map meaning o ≢ option_map meaning p)
 held_decided None None = inl refl
-held_decided (Some v) (Some w) = decided (same (plain v) (plain w)) v w refl
+held_decided (Some v) (Some w) = decided (same (meaning v) (meaning w)) v w refl
 held_decided None (Some w) = inr (λ e. cc)
 held_decided (Some v) None = inr (λ e. cc)
 
@@ -184,7 +184,7 @@ module _ (f g : State) where
   unfolding Agree
   agree_held name (Some v) p d e one other = one refl
   agree_held name None (Some w) d e one other = other refl
-  agree_held name None None d e one other = ap (option_map plain) d ∙ sym (ap (option_map plain) e)
+  agree_held name None None d e one other = ap (option_map meaning) d ∙ sym (ap (option_map meaning) e)
 
   agree_everywhere : AllByRecursion Agree (keys f) → AllByRecursion Agree (keys g) → MeanTheSame f g
   unfolding Agree

@@ -11,14 +11,14 @@ use Rattle.std.specs.declared.cmp.Ordering.TheVariants.{Less, Equal, Greater}
 use Rattle.tera_meaning.specs.Form.{Form}
 use Rattle.tera_meaning.proofs.KeyLaws.{key_total}
 use Rattle.tera_meaning.specs.KeyMeaning.{KeyForm, KeyMeaning, key_meaning, key_order}
-use Rattle.tera_meaning.specs.Meaning.{Meaning, plain}
-use Rattle.tera_meaning.specs.Order.{compare}
+use Rattle.tera_meaning.specs.Meaning.{Meaning, meaning, pair_meaning, map_meaning}
+use Rattle.tera_meaning.specs.Order.{compare, pair_order}
 use Rattle.tera_meaning.proofs.OrderLaws.{members_exact, members_by_first_difference, compare_same, compare_tie}
-use Rattle.tera_meaning.specs.Pairs.{Rises, rising, value_at, entry_order, AgreeEverywhere, IsLeastDifference, order_at, key_form_order, pairs_of, pair_meaning}
-use Rattle.tera_meaning.specs.Pairs.{map_meaning}
+use Rattle.tera_meaning.specs.Pairs.{Rises, rising, value_at, entry_order, AgreeEverywhere, IsLeastDifference, order_at, key_form_order, pairs_of}
 use Rattle.tera_meaning.specs.Tree.{object, members, members_list}
-use Rattle.tera_meaning.proofs.TreeLaws.{members_relabeled, list_of_members}
-use Rattle.tera_meaning.proofs.PairLaws.{rising_rises}
+use Rattle.tera_meaning.proofs.TreeLaws.{list_of_members}
+use Rattle.tera_meaning.proofs.MeaningLaws.{map_means}
+use Rattle.tera_meaning.proofs.PairLaws.{rising_rises, rising_itself}
 use Rattle.tera_meaning.proofs.DifferenceLaws.{difference_decides, agreeing_tie, agree_rising, entries_decide, entries_tie, least_or_none}
 
 -- ---- keys and values read through functions
@@ -51,39 +51,37 @@ module _ {J K U V : Type 0} (f : J → K) (g : U → V) (order : K → K → Ord
   slice_read values [] (y ∷ ys) = refl
   slice_read values (x ∷ xs) [] = refl
 
--- ---- what maps mean
-
-plain_map : (pairs : List (KeyForm × Form)) → plain (object (members pairs)) ≡ object (members (map pair_meaning pairs))
-plain_map pairs = ap object (members_relabeled (λ n. n.value) (λ t. t.spelled) key_meaning pairs)
-
-pub map_means : (entries : List (KeyForm × Form)) → map_meaning entries ≡ object (members (rising key_order (map pair_meaning entries)))
-map_means entries = plain_map (pairs_of entries) ∙ ap (λ ps. object (members ps)) (rising_read key_meaning plain key_order entries)
-
 -- ---- how maps compare
 
 pub maps_decide : (ps qs : List (KeyMeaning × Meaning)) (k : KeyMeaning) → Rises key_order ps → Rises key_order qs → IsLeastDifference key_order compare ps qs k
     → compare (object (members ps)) (object (members qs)) ≡ order_at key_order compare ps qs k
 maps_decide ps qs k h g least = members_by_first_difference ps qs ∙ difference_decides key_order key_total compare ps qs k h g least
 
-compare_forms : (xs ys : List (KeyForm × Form)) → compare (plain (object (members xs))) (plain (object (members ys)))
-    ≡ slice_cmp (entry_order key_form_order (on plain compare)) xs ys
-compare_forms xs ys =
-    (λ i. compare (plain_map xs i) (plain_map ys i))
-    ∙ members_by_first_difference (map pair_meaning xs) (map pair_meaning ys)
-    ∙ slice_read key_meaning plain key_order compare xs ys
+pub rising_means : (es : List (KeyForm × Form)) → map pair_meaning (pairs_of es) ≡ rising key_order (map pair_meaning es)
+rising_means es = rising_read key_meaning meaning key_order es
 
-pub forms_decide : (es fs : List (KeyForm × Form)) (k : KeyForm) → IsLeastDifference key_form_order (on plain compare) es fs k
-    → compare (map_meaning es) (map_meaning fs) ≡ order_at key_form_order (on plain compare) es fs k
+compare_forms : (es fs : List (KeyForm × Form)) → compare (map_meaning es) (map_meaning fs)
+    ≡ slice_cmp (entry_order key_form_order (on meaning compare)) (pairs_of es) (pairs_of fs)
+compare_forms es fs =
+    (λ i. compare (map_means es i) (map_means fs i))
+    ∙ members_by_first_difference (rising key_order (map pair_meaning es)) (rising key_order (map pair_meaning fs))
+    ∙ (λ i. slice_cmp pair_order (sym (rising_means es) i) (sym (rising_means fs) i))
+    ∙ slice_read key_meaning meaning key_order compare (pairs_of es) (pairs_of fs)
+
+pub forms_decide : (es fs : List (KeyForm × Form)) (k : KeyForm) → IsLeastDifference key_form_order (on meaning compare) es fs k
+    → compare (map_meaning es) (map_meaning fs) ≡ order_at key_form_order (on meaning compare) es fs k
 forms_decide es fs k least =
-    compare_forms (pairs_of es) (pairs_of fs) ∙ entries_decide key_form_order (on_total key_meaning key_total) (on plain compare) es fs k least
+    compare_forms es fs ∙ entries_decide key_form_order (on_total key_meaning key_total) (on meaning compare) es fs k least
 
-pub forms_tie : (es fs : List (KeyForm × Form)) → AgreeEverywhere key_form_order (on plain compare) es fs ↔ (compare (map_meaning es) (map_meaning fs) ≡ Equal)
+pub forms_tie : (es fs : List (KeyForm × Form))
+    → AgreeEverywhere key_form_order (on meaning compare) es fs ↔ (compare (map_meaning es) (map_meaning fs) ≡ Equal)
 forms_tie es fs =
-    let tie : AgreeEverywhere key_form_order (on plain compare) es fs ↔ (slice_cmp (entry_order key_form_order (on plain compare)) (pairs_of es) (pairs_of fs)
-    ≡ Equal) = entries_tie key_form_order (on_total key_meaning key_total) (on plain compare) es fs in
-    (λ agree. compare_forms (pairs_of es) (pairs_of fs) ∙ tie.0 agree, λ e. tie.1 (sym (compare_forms (pairs_of es) (pairs_of fs)) ∙ e))
+    let tie : AgreeEverywhere key_form_order (on meaning compare) es fs
+    ↔ (slice_cmp (entry_order key_form_order (on meaning compare)) (pairs_of es) (pairs_of fs) ≡ Equal) =
+    entries_tie key_form_order (on_total key_meaning key_total) (on meaning compare) es fs in
+    (λ agree. compare_forms es fs ∙ tie.0 agree, λ e. tie.1 (sym (compare_forms es fs) ∙ e))
 
-pub forms_equal : (es fs : List (KeyForm × Form)) → AgreeEverywhere key_form_order (on plain compare) es fs ↔ (map_meaning es ≡ map_meaning fs)
+pub forms_equal : (es fs : List (KeyForm × Form)) → AgreeEverywhere key_form_order (on meaning compare) es fs ↔ (map_meaning es ≡ map_meaning fs)
 forms_equal es fs =
     let tie : (compare (map_meaning es) (map_meaning fs) ≡ Equal) ↔ (map_meaning es ≡ map_meaning fs) = compare_tie (map_meaning es) (map_meaning fs) in
     (λ agree. tie.0 ((forms_tie es fs).0 agree), λ e. (forms_tie es fs).1 (tie.1 e))
@@ -102,22 +100,35 @@ maps_differ ps qs h g n =
     (least_or_none key_order key_total compare ps qs h g)
 
 pub forms_differ : (es fs : List (KeyForm × Form)) → map_meaning es ≢ map_meaning fs → (k : KeyForm)
-    × IsLeastDifference key_form_order (on plain compare) es fs k
+    × IsLeastDifference key_form_order (on meaning compare) es fs k
 forms_differ es fs n =
     let total : IsTotalOrder key_form_order = on_total key_meaning key_total in
-    let found : (k : KeyForm) × IsLeastDifference key_form_order (on plain compare) (pairs_of es) (pairs_of fs) k =
+    let found : (k : KeyForm) × IsLeastDifference key_form_order (on meaning compare) (pairs_of es) (pairs_of fs) k =
     the_other (λ agree. n ((compare_tie (map_meaning es) (map_meaning fs)).0
-    (compare_forms (pairs_of es) (pairs_of fs) ∙ (agreeing_tie key_form_order total (on plain compare) (pairs_of es) (pairs_of fs)
+    (compare_forms es fs ∙ (agreeing_tie key_form_order total (on meaning compare) (pairs_of es) (pairs_of fs)
     (rising_rises key_form_order total es) (rising_rises key_form_order total fs)).0 agree)))
-    (least_or_none key_form_order total (on plain compare) (pairs_of es) (pairs_of fs) (rising_rises key_form_order total es)
+    (least_or_none key_form_order total (on meaning compare) (pairs_of es) (pairs_of fs) (rising_rises key_form_order total es)
     (rising_rises key_form_order total fs)) in (
       found.0,
       (
-        sym (agree_rising key_form_order total (on plain compare) es fs found.0)
+        sym (agree_rising key_form_order total (on meaning compare) es fs found.0)
             ∙ found.1.0,
-        λ l m. sym (agree_rising key_form_order total (on plain compare) es fs l) ∙ found.1.1 l m,
+        λ l m. sym (agree_rising key_form_order total (on meaning compare) es fs l) ∙ found.1.1 l m,
       ),
     )
+
+-- ---- the order in which the entries stand does not count
+
+pub in_places : (es : List (KeyForm × Form)) → map_meaning (pairs_of es) ≡ map_meaning es
+in_places es =
+    map_means (pairs_of es)
+    ∙ ap (λ qs. object (members (rising key_order qs))) (rising_means es)
+    ∙ ap (λ qs. object (members qs))
+    (rising_itself key_order key_total (rising key_order (map pair_meaning es)) (rising_rises key_order key_total (map pair_meaning es)))
+    ∙ sym (map_means es)
+
+pub reordered : (es fs : List (KeyForm × Form)) → pairs_of es ≡ pairs_of fs → map_meaning es ≡ map_meaning fs
+reordered es fs same = sym (in_places es) ∙ ap map_meaning same ∙ in_places fs
 
 -- ---- pair lists that find the same
 

@@ -11,10 +11,10 @@ use Rattle.std.specs.FinMap.Entries.{below_all, same_entries}
 use Rattle.std.specs.Str.{bytes_eq}
 use Rattle.tera_meaning.specs.Alike.{MeanTheSame, meaning_held}
 use Rattle.tera_meaning.specs.Form.{Form}
-use Rattle.tera_meaning.specs.Meaning.{Meaning, plain}
+use Rattle.tera_meaning.specs.Meaning.{Meaning, meaning}
 use Rattle.tera_meaning.specs.Order.{same}
 use Rattle.tera_meaning.proofs.OrderLaws.{same_is, same_partial_equivalence}
-use Rattle.tera_meaning.proofs.PlainLemmas.{picked}
+use Rattle.tera_meaning.proofs.MeaningLaws.{picked}
 use Rattle.tera_meaning.specs.State.{State, states_equal}
 use Rattle.tera_meaning.proofs.StateLaws.{name_exact}
 
@@ -22,21 +22,21 @@ abbrev Pair : Type 0
 Pair = List ℕ × Form
 
 abbrev pub same_pair : Pair → Pair → Bool
-same_pair p q = bytes_eq p.0 q.0 && same (plain p.1) (plain q.1)
+same_pair p q = bytes_eq p.0 q.0 && same (meaning p.1) (meaning q.1)
 
 pub states_equal_laws : IsPartialEquivalence states_equal
 states_equal_laws =
     on_per entries (lists_per (and_per (on_per (λ (p : Pair). p.0) (partial_equiv_from_equiv nat_list_eq_equiv))
-    (on_per (λ (p : Pair). plain p.1) same_partial_equivalence)))
+    (on_per (λ (p : Pair). meaning p.1) same_partial_equivalence)))
 
 -- pairs by what they mean
 abbrev meant : List Pair → List (List ℕ × Meaning)
-meant pairs = map (λ p. (p.0, plain p.1)) pairs
+meant pairs = map (λ p. (p.0, meaning p.1)) pairs
 
-pair_same : (p q : Pair) → IsTrue (same_pair p q) → (p.0 ≡ q.0) × (plain p.1 ≡ plain q.1)
+pair_same : (p q : Pair) → IsTrue (same_pair p q) → (p.0 ≡ q.0) × (meaning p.1 ≡ meaning q.1)
 pair_same p q h = (
   (bytes_decides p.0 q.0).0 ((and_parts (bytes_eq p.0 q.0) _ h).0),
-  (same_is (plain p.1) (plain q.1)).0 ((and_parts (bytes_eq p.0 q.0) _ h).1),
+  (same_is (meaning p.1) (meaning q.1)).0 ((and_parts (bytes_eq p.0 q.0) _ h).1),
 )
 
 same_meant : (ps qs : List Pair) → IsTrue (pointwise same_pair ps qs) → meant ps ≡ meant qs
@@ -51,21 +51,21 @@ same_meant (p ∷ ps) [] h = cc
 meant_same : (ps qs : List Pair) → meant ps ≡ meant qs → IsTrue (pointwise same_pair ps qs)
 meant_same [] [] e = refl
 meant_same (p ∷ ps) (q ∷ qs) e =
-    let first : ◌≡◌ {A = List ℕ × Meaning} (p.0, plain p.1) (q.0, plain q.1) = cc in
+    let first : ◌≡◌ {A = List ℕ × Meaning} (p.0, meaning p.1) (q.0, meaning q.1) = cc in
     let names : p.0 ≡ q.0 = ap (λ x. x.0) first in
-    let values : plain p.1 ≡ plain q.1 = ap (λ x. x.1) first in
+    let values : meaning p.1 ≡ meaning q.1 = ap (λ x. x.1) first in
     let rest : meant ps ≡ meant qs = cc in
-    and_from (same_pair p q) _ (and_from (bytes_eq p.0 q.0) _ ((bytes_decides p.0 q.0).1 names) ((same_is (plain p.1) (plain q.1)).1 values))
+    and_from (same_pair p q) _ (and_from (bytes_eq p.0 q.0) _ ((bytes_decides p.0 q.0).1 names) ((same_is (meaning p.1) (meaning q.1)).1 values))
     (meant_same ps qs rest)
 meant_same [] (q ∷ qs) e = cc
 meant_same (p ∷ ps) [] e = cc
 
 find_meant : (name : List ℕ) (ps : List Pair)
-    → find (slice_cmp nat_cmp) name (meant ps) ≡ option_map plain (find (slice_cmp nat_cmp) name ps)
+    → find (slice_cmp nat_cmp) name (meant ps) ≡ option_map meaning (find (slice_cmp nat_cmp) name ps)
 find_meant name [] = refl
 find_meant name (p ∷ ps) =
-    ap (cond (eq_by_cmp (slice_cmp nat_cmp) name p.0) (Some (plain p.1))) (find_meant name ps)
-    ∙ sym (picked plain (eq_by_cmp (slice_cmp nat_cmp) name p.0) p.1 (find (slice_cmp nat_cmp) name ps))
+    ap (cond (eq_by_cmp (slice_cmp nat_cmp) name p.0) (Some (meaning p.1))) (find_meant name ps)
+    ∙ sym (picked meaning (eq_by_cmp (slice_cmp nat_cmp) name p.0) p.1 (find (slice_cmp nat_cmp) name ps))
 
 below_meant : (name : List ℕ) (ps : List Pair) → below_all (slice_cmp nat_cmp) name (meant ps) ≡ below_all (slice_cmp nat_cmp) name ps
 below_meant name [] = refl
@@ -78,7 +78,7 @@ sorted_meant (p ∷ ps) = λ i. below_meant p.0 ps i && sorted_meant ps i
 held_meant : (state : State) (name : List ℕ)
     → meaning_held state name ≡ find (slice_cmp nat_cmp) name (meant (entries state))
 held_meant state name =
-    ap (option_map plain) (get-entries state name) ∙ sym (find_meant name (entries state))
+    ap (option_map meaning) (get-entries state name) ∙ sym (find_meant name (entries state))
 
 rises_meant : (state : State) → T (is_sorted (slice_cmp nat_cmp) (meant (entries state)))
 rises_meant state = subst T (sym (sorted_meant (entries state))) (entries_sorted state)

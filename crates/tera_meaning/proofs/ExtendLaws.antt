@@ -7,15 +7,15 @@ use Rattle.std.specs.Option.{option_map, option_or}
 use Rattle.std.specs.Ordering.{nat_cmp, eq_by_cmp, is_eq, is_lt, ordering_reverse}
 use Rattle.std.specs.Cmp.Lexicographic.{slice_cmp, nat_list_cmp_total}
 use Rattle.std.specs.FinMap.{get, find, insert, entries, from_entries, from_sorted, is_sorted, get-entries, get-insert, get-from_entries, get-from_sorted}
-use Rattle.std.specs.FinMap.{entries-from_sorted, from_entries_push, len, len-entries, entries_sorted}
+use Rattle.std.specs.FinMap.{entries-from_sorted, len, len-entries, entries_sorted}
 use Rattle.std.specs.FinMap.Entries.{below_all}
 use Rattle.std.specs.declared.cmp.Ordering.{Ordering}
 use Rattle.std.specs.declared.cmp.Ordering.TheVariants.{Less, Equal, Greater}
 use Rattle.tera_meaning.specs.Alike.{MeanTheSame}
 use Rattle.tera_meaning.specs.Form.{Form}
-use Rattle.tera_meaning.specs.Meaning.{plain}
+use Rattle.tera_meaning.specs.Meaning.{meaning}
 use Rattle.tera_meaning.specs.State.{State, extended, IsProperBeginning}
-use Rattle.tera_meaning.proofs.StateLaws.{same_state, name_exact}
+use Rattle.tera_meaning.proofs.StateLaws.{same_state}
 
 -- ---- lists of pairs
 
@@ -72,18 +72,18 @@ others_kept state source name absent =
 
 -- ---- meanings
 
-mapped_or : (o p : Option Form) → option_map plain (option_or o p) ≡ option_or (option_map plain o) (option_map plain p)
+mapped_or : (o p : Option Form) → option_map meaning (option_or o p) ≡ option_or (option_map meaning o) (option_map meaning p)
 mapped_or None p = refl
 mapped_or (Some value) p = refl
 
 pub extended_alike : (f g source other : State) → MeanTheSame f g → MeanTheSame source other
     → MeanTheSame (extended f source) (extended g other)
 extended_alike f g source other h also name =
-    ap (option_map plain) (get_extended f source name)
+    ap (option_map meaning) (get_extended f source name)
     ∙ mapped_or (get source name) (get f name)
     ∙ (λ i. option_or (also name i) (h name i))
     ∙ sym (mapped_or (get other name) (get g name))
-    ∙ sym (ap (option_map plain) (get_extended g other name))
+    ∙ sym (ap (option_map meaning) (get_extended g other name))
 
 -- ---- a beginning of a source
 
@@ -113,14 +113,6 @@ entries_of_rising pairs h =
     ap entries (same_state (from_entries pairs) (from_sorted pairs) (λ name.
     get-from_entries nat_list_cmp_total pairs name ∙ sym (get-from_sorted (slice_cmp nat_cmp) pairs name h)))
     ∙ entries-from_sorted (slice_cmp nat_cmp) pairs h
-
--- to take over pairs and then one more
-pub extended_on : (state : State) (pairs : List (List ℕ × Form)) (name : List ℕ) (value : Form)
-    → find (slice_cmp nat_cmp) name pairs ≡ None
-    → extended state (from_entries (pairs ++ (name, value) ∷ [])) ≡ insert (extended state (from_entries pairs)) name value
-extended_on state pairs name value new =
-    ap (extended state) (from_entries_push nat_list_cmp_total name_exact pairs name value new)
-    ∙ extended_insert state (from_entries pairs) name value
 
 above_first : (name : List ℕ) (pairs later : List (List ℕ × Form))
     → T (below_all (slice_cmp nat_cmp) name (pairs ++ later)) → T (below_all (slice_cmp nat_cmp) name pairs)

@@ -14,17 +14,20 @@ pub mod ExtendLaws
 pub mod FieldLaws
 pub mod KeyLaws
 pub mod LookupLaws
+pub mod MeaningLaws
 mod MeantLemmas
 pub mod OrderLaws
 mod Owed
 pub mod PairLaws
 mod PathLemmas
-mod PlainLemmas
 pub mod PowerLaws
 mod PrintedLemmas
+pub mod PutLaws
+mod ReadLemmas
 pub mod RefusalLaws
 mod RunLemmas
 pub mod SliceLaws
+mod SortedLemmas
 mod SoundLemmas
 pub mod StateLaws
 pub mod StepLaws

@@ -7,7 +7,7 @@ use Rattle.std.specs.Str.{IsUtf8}
 use Rattle.tera_report.specs.Refusal.{Refusal, memory_refused, shape as refusal_shape}
 use Rattle.tera_meaning.specs.Alike.{MeanTheSame}
 use Rattle.tera_meaning.specs.Form.{Form}
-use Rattle.tera_meaning.specs.Meaning.{Meaning, plain}
+use Rattle.tera_meaning.specs.Meaning.{Meaning, meaning}
 use Rattle.tera_meaning.specs.Search.{Found, one_found}
 use Rattle.tera_meaning.specs.SliceRule.{shape_of}
 use Rattle.tera_meaning.specs.State.{State, read, form_at, meaning_at}
@@ -17,7 +17,7 @@ use Rattle.tera_meaning.proofs.ArithmeticLemmas.{IsNoWant}
 
 -- what is found, by its meaning
 abbrev pub found_shape : Found → Result (Option Meaning) Refusal
-found_shape (Ok value) = Ok (option_map plain value)
+found_shape (Ok value) = Ok (option_map meaning value)
 found_shape (Err refusal) = Err (refusal_shape refusal)
 
 -- in states of one meaning the same is found, up to meaning; it is no want of memory; and it is well made
@@ -28,12 +28,12 @@ pub record Owes (found : State → Found) : Type 0 where
 
 -- ---- the forms at names
 
-read_plain : (o : Option Form) → plain (read o) ≡ unwrap_or (option_map plain o) undefined
-read_plain None = refl
-read_plain (Some value) = refl
+read_meant : (o : Option Form) → meaning (read o) ≡ unwrap_or (option_map meaning o) undefined
+read_meant None = refl
+read_meant (Some value) = refl
 
-pub read_alike : (o p : Option Form) → option_map plain o ≡ option_map plain p → plain (read o) ≡ plain (read p)
-read_alike o p e = read_plain o ∙ ap (λ q. unwrap_or q undefined) e ∙ sym (read_plain p)
+pub read_alike : (o p : Option Form) → option_map meaning o ≡ option_map meaning p → meaning (read o) ≡ meaning (read p)
+read_alike o p e = read_meant o ∙ ap (λ q. unwrap_or q undefined) e ∙ sym (read_meant p)
 
 pub meaning_alike : (f g : State) → MeanTheSame f g → (name : List ℕ) → meaning_at f name ≡ meaning_at g name
 meaning_alike f g h name = read_alike (held_at f name) (held_at g name) (h name)
@@ -56,7 +56,7 @@ value_well name (Some value) well = well.1
 -- ---- a value, or its refusal
 
 some_alike : (a b : Result Form Refusal) → shape_of a ≡ shape_of b → found_shape (one_found a) ≡ found_shape (one_found b)
-some_alike (Ok v) (Ok w) e = let same : plain v ≡ plain w = cc in λ i. Ok (Some (same i))
+some_alike (Ok v) (Ok w) e = let same : meaning v ≡ meaning w = cc in λ i. Ok (Some (same i))
 some_alike (Err r) (Err q) e = let same : refusal_shape r ≡ refusal_shape q = cc in λ i. Err (same i)
 some_alike (Ok v) (Err q) e = cc
 some_alike (Err r) (Ok w) e = cc
@@ -80,7 +80,7 @@ held_owes name = record {
 
 -- that finds a part of the form at a name, which may be absent
 pub finds : (name : List ℕ) (call : Form → Option Form)
-    → ((v w : Form) → plain v ≡ plain w → option_map plain (call v) ≡ option_map plain (call w))
+    → ((v w : Form) → meaning v ≡ meaning w → option_map meaning (call v) ≡ option_map meaning (call w))
     → ((v : Form) → IsWellMade v → IfSome (call v) IsWellMade)
     → Owes (λ state. Ok (call (form_at state name)))
 finds name call alike well = record {
@@ -91,7 +91,7 @@ finds name call alike well = record {
 
 -- that makes a value of the form at a name, or refuses it
 pub makes : (name : List ℕ) (call : Form → Result Form Refusal)
-    → ((v w : Form) → plain v ≡ plain w → shape_of (call v) ≡ shape_of (call w))
+    → ((v w : Form) → meaning v ≡ meaning w → shape_of (call v) ≡ shape_of (call w))
     → ((v : Form) → IfErr (call v) IsNoWant)
     → ((v : Form) → IsWellMade v → IfOk (call v) IsWellMade)
     → Owes (λ state. one_found (call (form_at state name)))
@@ -103,7 +103,7 @@ makes name call alike wants well = record {
 
 -- that makes a value of the forms at two names, or refuses them
 pub makes_of_two : (left right : List ℕ) (call : Form → Form → Result Form Refusal)
-    → ((v w x y : Form) → plain v ≡ plain x → plain w ≡ plain y → shape_of (call v w) ≡ shape_of (call x y))
+    → ((v w x y : Form) → meaning v ≡ meaning x → meaning w ≡ meaning y → shape_of (call v w) ≡ shape_of (call x y))
     → ((v w : Form) → IfErr (call v w) IsNoWant)
     → ((v w : Form) → IsWellMade v → IfOk (call v w) IsWellMade)
     → Owes (λ state. one_found (call (form_at state left) (form_at state right)))

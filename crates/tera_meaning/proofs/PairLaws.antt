@@ -20,11 +20,11 @@ or_turned true true c = refl
 or_turned true false c = refl
 or_turned false b c = refl
 
-shadowed : {X : Type 0} (b : Bool) (x y z : X) → cond b x z ≡ cond b x (cond b y z)
+pub shadowed : {X : Type 0} (b : Bool) (x y z : X) → cond b x z ≡ cond b x (cond b y z)
 shadowed true x y z = refl
 shadowed false x y z = refl
 
-swapped : {X : Type 0} (a b : Bool) (x y z : X) → (a ≡ true → b ≡ true → ⊥)
+pub swapped : {X : Type 0} (a b : Bool) (x y z : X) → (a ≡ true → b ≡ true → ⊥)
     → cond a x (cond b y z) ≡ cond b y (cond a x z)
 swapped true true x y z apart = absurd (apart refl refl)
 swapped true false x y z apart = refl
@@ -38,7 +38,7 @@ module _ {K : Type 0} (order : K → K → Ordering) (total : IsTotalOrder order
   turned k l p = total.antisymm l k ∙ ap ordering_reverse p
 
   -- two keys that both tie with a third tie
-  joined : (q k l : K) → eq_by_cmp order q k ≡ true → eq_by_cmp order q l ≡ true → order k l ≡ Equal
+  pub joined : (q k l : K) → eq_by_cmp order q k ≡ true → eq_by_cmp order q l ≡ true → order k l ≡ Equal
   joined q k l a b = sym (total.congr q k l ((Equal-is (order q k)).0 a)) ∙ (Equal-is (order q l)).0 b
 
 -- ---- the entries in their places
@@ -93,6 +93,16 @@ module _ {K V : Type 0} (order : K → K → Ordering) (total : IsTotalOrder ord
             ∙ swapped (eq_by_cmp order q e.0) (eq_by_cmp order q k) (Some e.1) (Some v) (value_at order es q)
             (λ a b. equal_greater (sym (joined order total q k e.0 b a) ∙ p))
       ] refl
+
+  -- what is below all entries goes before them, so a list that rises is its own rising list
+  insert_first : (k : K) (v : V) (es : List (K × V)) → Below order k es → insert_entry order es k v ≡ (k, v) ∷ es
+  insert_first k v [] h = refl
+  insert_first k v (e ∷ es) h = ap (λ r. match_ordering r ((k, v) ∷ e ∷ es) ((e.0, v) ∷ es) (e ∷ insert_entry order es k v)) h.0
+
+  pub rising_itself : (es : List (K × V)) → Rises order es → rising order es ≡ es
+  unfolding IsStrictlySortedBy
+  rising_itself [] h = refl
+  rising_itself (e ∷ es) h = ap (λ qs. insert_entry order qs e.0 e.1) (rising_itself es h.1) ∙ insert_first e.0 e.1 es h.0
 
   -- a look-up in the pair list is one in the entries
   pub found_rising : (es : List (K × V)) (q : K) → value_at order (rising order es) q ≡ value_at order es q

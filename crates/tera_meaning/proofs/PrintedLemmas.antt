@@ -1,4 +1,4 @@
--- Equal meanings print alike, and what is exact is so by its parts.
+-- Values that are laid out alike print alike, and what is exact is so by its parts.
 use Rattle.std.proofs.lemmas.Bool.{and_parts, and_from}
 use Rattle.std.specs.Prelude.{◌≡◌, ◌↔◌, ℕ, suc, ◌&&◌, IsTrue, List, [], ◌∷◌, refl}
 use Rattle.std.proofs.Common.{sym, ◌∙◌, ap, subst, ltb-true}
@@ -10,31 +10,24 @@ use Rattle.std.proofs.lemmas.List.Elements.{All-from_recursion, recursion_from_A
 use Rattle.std.proofs.lemmas.Str.Ascii.{IsAscii-nil, IsAscii-cons}
 use Rattle.tera_meaning.specs.Form.{Form}
 use Rattle.tera_meaning.specs.KeyMeaning.{KeyMeaning}
-use Rattle.tera_meaning.specs.Meaning.{Meaning, plain}
-use Rattle.tera_meaning.specs.Order.{same}
-use Rattle.tera_meaning.proofs.OrderLaws.{same_is}
+use Rattle.tera_meaning.specs.Meaning.{Layout, layout}
 use Rattle.tera_meaning.specs.Printed.{IsExact, IsExactInside, IsExactKey, Prints, PrintsInside, are_exact_items, are_exact_members, is_exact_inside}
-use Rattle.tera_meaning.specs.Printed.{is_exact_key, printed}
+use Rattle.tera_meaning.specs.Printed.{is_exact_key, printed, printed_with}
+use Rattle.tera_report.specs.Quoted.{quoted}
 use Rattle.tera_meaning.specs.Tree.{items, members}
 
-pub prints_alike : (v w : Form) (written other : List ℕ) → IsTrue (same (plain v) (plain w))
-    → IsExact (plain v) → Prints (plain v) written → Prints (plain w) other → written ≡ other
-prints_alike v w written other equal exact prints =
-    subst (λ x. Prints x other → written ≡ other) ((same_is (plain v) (plain w)).0 equal) (λ alike. prints exact ∙ sym (alike exact))
+-- what holds of one of two values that are laid out alike holds of the other
+module _ (v w : Form) (same : layout v ≡ layout w) where
+  pub holds_of_both : (P : Layout → Type 0) → P (layout v) ↔ P (layout w)
+  holds_of_both P = (subst P same, subst P (sym same))
 
-pub prints_alike_inside : (v w : Form) (written other : List ℕ) → IsTrue (same (plain v) (plain w))
-    → IsTrue (is_exact_inside (plain v)) → PrintsInside (plain v) written → PrintsInside (plain w) other → written ≡ other
-prints_alike_inside v w written other equal exact prints =
-    subst (λ x. PrintsInside x other → written ≡ other) ((same_is (plain v) (plain w)).0 equal) (λ alike. prints exact ∙ sym (alike exact))
+  pub prints_alike : (written other : List ℕ) → IsExact (layout v) → Prints (layout v) written → Prints (layout w) other → written ≡ other
+  prints_alike written other exact prints alike = prints exact ∙ ap printed same ∙ sym (alike ((holds_of_both IsExact).0 exact))
 
--- what holds of one of two equal meanings holds of the other
-module _ (v w : Form) (equal : IsTrue (same (plain v) (plain w))) where
-  pub printed_one : printed (plain v) ≡ printed (plain w)
-  printed_one = ap printed ((same_is (plain v) (plain w)).0 equal)
-
-  pub holds_of_both : (P : Meaning → Type 0) → P (plain v) ↔ P (plain w)
-  holds_of_both P =
-      let one : plain v ≡ plain w = (same_is (plain v) (plain w)).0 equal in (subst P one, subst P (sym one))
+  pub prints_alike_inside : (written other : List ℕ) → IsExactInside (layout v) → PrintsInside (layout v) written → PrintsInside (layout w) other
+      → written ≡ other
+  prints_alike_inside written other exact prints alike =
+      prints exact ∙ ap (printed_with quoted) same ∙ sym (alike ((holds_of_both IsExactInside).0 exact))
 
 -- ---- what is exact by its parts
 
@@ -52,21 +45,21 @@ ascii_tells (b ∷ t) h =
 pub ascii_is : (t : List ℕ) → IsTrue (list_all is_ascii t) ↔ IsAscii t
 ascii_is t = (ascii_told t, ascii_tells t)
 
-items_told : (xs : List Meaning) → IsTrue (are_exact_items (items xs)) → AllByRecursion IsExactInside xs
+items_told : (xs : List Layout) → IsTrue (are_exact_items (items xs)) → AllByRecursion IsExactInside xs
 items_told [] h = tt
 items_told (x ∷ xs) h =
     let both : IsExactInside x × IsTrue (are_exact_items (items xs)) = and_parts (is_exact_inside x) (are_exact_items (items xs)) h in
     (both.0, items_told xs both.1)
 
-items_tell : (xs : List Meaning) → AllByRecursion IsExactInside xs → IsTrue (are_exact_items (items xs))
+items_tell : (xs : List Layout) → AllByRecursion IsExactInside xs → IsTrue (are_exact_items (items xs))
 items_tell [] h = refl
 items_tell (x ∷ xs) h = and_from (is_exact_inside x) (are_exact_items (items xs)) h.0 (items_tell xs h.1)
 
-pub exact_items : (xs : List Meaning) → IsTrue (are_exact_items (items xs)) ↔ All IsExactInside xs
+pub exact_items : (xs : List Layout) → IsTrue (are_exact_items (items xs)) ↔ All IsExactInside xs
 exact_items xs =
     (λ h. All-from_recursion IsExactInside xs (items_told xs h), λ h. items_tell xs (recursion_from_All IsExactInside xs h))
 
-members_told : (ps : List (KeyMeaning × Meaning)) → IsTrue (are_exact_members (members ps)) → AllByRecursion (λ p. IsExactKey p.0 × IsExactInside p.1) ps
+members_told : (ps : List (KeyMeaning × Layout)) → IsTrue (are_exact_members (members ps)) → AllByRecursion (λ p. IsExactKey p.0 × IsExactInside p.1) ps
 members_told [] h = tt
 members_told (p ∷ ps) h =
     let key : IsExactKey p.0 × IsTrue (is_exact_inside p.1 && are_exact_members (members ps)) =
@@ -74,13 +67,13 @@ members_told (p ∷ ps) h =
     let both : IsExactInside p.1 × IsTrue (are_exact_members (members ps)) = and_parts (is_exact_inside p.1) (are_exact_members (members ps)) key.1 in
     ((key.0, both.0), members_told ps both.1)
 
-members_tell : (ps : List (KeyMeaning × Meaning)) → AllByRecursion (λ p. IsExactKey p.0 × IsExactInside p.1) ps → IsTrue (are_exact_members (members ps))
+members_tell : (ps : List (KeyMeaning × Layout)) → AllByRecursion (λ p. IsExactKey p.0 × IsExactInside p.1) ps → IsTrue (are_exact_members (members ps))
 members_tell [] h = refl
 members_tell (p ∷ ps) h =
     and_from (is_exact_key p.0) (is_exact_inside p.1 && are_exact_members (members ps)) h.0.0
     (and_from (is_exact_inside p.1) (are_exact_members (members ps)) h.0.1 (members_tell ps h.1))
 
-pub exact_members : (ps : List (KeyMeaning × Meaning)) → IsTrue (are_exact_members (members ps)) ↔ All (λ p. IsExactKey p.0 × IsExactInside p.1) ps
+pub exact_members : (ps : List (KeyMeaning × Layout)) → IsTrue (are_exact_members (members ps)) ↔ All (λ p. IsExactKey p.0 × IsExactInside p.1) ps
 exact_members ps = (
   λ h. All-from_recursion (λ p. IsExactKey p.0 × IsExactInside p.1) ps (members_told ps h),
   λ h. members_tell ps

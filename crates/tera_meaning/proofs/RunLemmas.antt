@@ -7,7 +7,7 @@ use Rattle.tera_report.proofs.EscapeLaws.{Spells-escaped}
 use Rattle.tera_meaning.specs.Answer
 use Rattle.tera_meaning.specs.Search.{Found, found_at}
 use Rattle.tera_meaning.specs.Form.{Form}
-use Rattle.tera_meaning.specs.Meaning.{plain}
+use Rattle.tera_meaning.specs.Meaning.{layout}
 use Rattle.tera_meaning.specs.Outcome.{Outcome, out_of_memory, is_want}
 use Rattle.tera_meaning.specs.Printed.{printed}
 use Rattle.tera_meaning.specs.Question.{Question, IsAnswered, IsFixedAnswer}
@@ -53,9 +53,9 @@ never_wanted state v into e = cc
 -- each request comes to some outcome
 some_answer : (question : Question) (held : Option Form) → (outcome : Outcome) × IsAnswered question held outcome
 some_answer Question.print held =
-    let t : List ℕ = printed (plain (read held)) in (Ok (Answer.text t), (t, (λ exact. refl), refl))
+    let t : List ℕ = printed (layout (read held)) in (Ok (Answer.text t), (t, (λ exact. refl), refl))
 some_answer Question.escape held =
-    let t : List ℕ = printed (plain (read held)) in
+    let t : List ℕ = printed (layout (read held)) in
     (Ok (Answer.text (escaped t)), (t, escaped t, (λ exact. refl), Spells-escaped t, refl))
 some_answer question held = (_, refl)
 
@@ -65,7 +65,7 @@ some_outcome state (ask question name) into = some_answer question _
 some_outcome state v into = (_, refl)
 
 -- and to one alone, where what is printed is exact
-one_answer : (question : Question) (held : Option Form) (o p : Outcome) → IsFixedAnswer question (plain (read held))
+one_answer : (question : Question) (held : Option Form) (o p : Outcome) → IsFixedAnswer question (layout (read held))
     → IsAnswered question held o → IsAnswered question held p → o ≡ p
 one_answer Question.print held o p f (t, prints, e) (u, also, d) =
     e ∙ ap (λ s. Ok (Answer.text s)) (prints f ∙ sym (also f)) ∙ sym d
@@ -206,7 +206,7 @@ ample_one old commands outcomes others new also fixed run other =
 -- two runs of commands of equal meaning from states of equal meaning, in which no step wants memory
 module _ (f g : State) (commands also : List Command) (outcomes others : List Outcome) (f' g' : State) (means : MeanTheSame f g)
     (asks : AllAskTheSame commands also) (run : IsAmpleRun f commands outcomes f') (other : IsAmpleRun g also others g') where
-  pub run_outcomes_alike : AreAlike f commands outcomes others
+  pub run_outcomes_alike : AreAlike f g commands also outcomes others
   run_outcomes_alike =
       all_outcomes_alike f g commands also outcomes others means asks (ample_outcomes f commands outcomes f' run) (ample_outcomes g also others g' other)
 

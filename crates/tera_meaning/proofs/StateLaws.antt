@@ -9,7 +9,7 @@ use Rattle.std.specs.Option.{unwrap_or}
 use Rattle.std.specs.FinMap.{empty, get, insert, remove, get-empty, get-insert, get-remove, same_map, IsAntisymmetric, nat_cmp-IsAntisymmetric}
 use Rattle.std.specs.FinMap.{slice_cmp-IsAntisymmetric}
 use Rattle.tera_meaning.specs.Form.{Form}
-use Rattle.tera_meaning.specs.Meaning.{plain}
+use Rattle.tera_meaning.specs.Meaning.{meaning}
 use Rattle.tera_meaning.specs.State.{State, meaning_at}
 use Rattle.tera_meaning.specs.Tree.{undefined}
 
@@ -44,16 +44,16 @@ pub same_state : (f g : State) → ((name : List ℕ) → get f name ≡ get g n
 same_state f g is = same_map nat_list_cmp_total name_exact f g is
 
 pub meaning_set : (state : State) (name : List ℕ) (value : Form)
-    → meaning_at (insert state name value) name ≡ plain value
-meaning_set state name value = ap (λ o. plain (unwrap_or o undefined)) (get_set state name value)
+    → meaning_at (insert state name value) name ≡ meaning value
+meaning_set state name value = ap (λ o. meaning (unwrap_or o undefined)) (get_set state name value)
 
 pub meaning_other : (state : State) (name : List ℕ) (value : Form) (other : List ℕ) → other ≢ name
     → meaning_at (insert state name value) other ≡ meaning_at state other
-meaning_other state name value other n = ap (λ o. plain (unwrap_or o undefined)) (get_other state name value other n)
+meaning_other state name value other n = ap (λ o. meaning (unwrap_or o undefined)) (get_other state name value other n)
 
 -- in a state that holds nothing each name reads as undefined
 pub meaning_empty : (name : List ℕ) → meaning_at empty name ≡ undefined
-meaning_empty name = ap (λ o. plain (unwrap_or o undefined)) (get-empty {X = Form} (slice_cmp nat_cmp) name)
+meaning_empty name = ap (λ o. meaning (unwrap_or o undefined)) (get-empty {X = Form} (slice_cmp nat_cmp) name)
 
 pub held_empty : (name : List ℕ) → get {X = Form} {R = slice_cmp nat_cmp} empty name ≡ None
 held_empty name = get-empty {X = Form} (slice_cmp nat_cmp) name

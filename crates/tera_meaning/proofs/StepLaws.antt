@@ -10,14 +10,14 @@ use Rattle.tera_report.specs.Escaping.{escaped}
 use Rattle.tera_report.specs.Refusal.{Refusal}
 use Rattle.tera_report.proofs.EscapeLaws.{escaped_from_spelling}
 use Rattle.tera_meaning.specs.Form.{Form}
-use Rattle.tera_meaning.specs.Meaning.{plain}
+use Rattle.tera_meaning.specs.Meaning.{layout, meaning}
 use Rattle.tera_meaning.specs.Order.{compare, same}
 use Rattle.tera_meaning.specs.Printed.{printed, IsExact, shown_in_page}
 use Rattle.tera_meaning.specs.Read.{marked_safe, safe_in}
-use Rattle.tera_meaning.specs.State.{State, form_at, meaning_at}
+use Rattle.tera_meaning.specs.State.{State, form_at, layout_at, meaning_at}
 use Rattle.tera_meaning.proofs.StateLaws.{get_set, meaning_set, meaning_other, name_exact}
 use Rattle.tera_meaning.specs.Alike.{MeanTheSame, meaning_held}
-use Rattle.tera_meaning.proofs.AlikeLemmas.{plain_marked}
+use Rattle.tera_meaning.proofs.AlikeLemmas.{meaning_marked}
 use Rattle.tera_meaning.specs.Answer
 use Rattle.tera_meaning.specs.Search.{Search, found_at}
 use Rattle.tera_meaning.specs.Outcome.{Outcome}
@@ -29,42 +29,42 @@ use Rattle.tera_meaning.specs.Tree.{undefined}
 
 -- what is escaped of a name that holds this form
 pub escapes : (state : State) (name : List ℕ) (o : Option Form) → held_at state name ≡ o
-    → IsExact (plain (unwrap_or o undefined))
-    → ComesOnlyTo state (ask Question.escape name) (Ok (Answer.text (escaped (printed (plain (unwrap_or o undefined))))))
+    → IsExact (layout (unwrap_or o undefined))
+    → ComesOnlyTo state (ask Question.escape name) (Ok (Answer.text (escaped (printed (layout (unwrap_or o undefined))))))
 escapes state name o e exact given (t, w, is, spells, d) =
-    let at : meaning_at state name ≡ plain (unwrap_or o undefined) = ap (λ p. plain (unwrap_or p undefined)) e in
+    let at : layout_at state name ≡ layout (unwrap_or o undefined) = ap (λ p. layout (unwrap_or p undefined)) e in
     d ∙ ap (λ s. Ok (Answer.text s)) (sym (escaped_from_spelling w t spells) ∙ ap escaped (is (subst IsExact (sym at) exact) ∙ ap printed at))
 
 -- what is exact prints one text, and escapes to one
 module _ (state : State) (name : List ℕ) where
-  pub prints_one : IsExact (meaning_at state name)
-      → ComesOnlyTo state (ask Question.print name) (Ok (Answer.text (printed (meaning_at state name))))
+  pub prints_one : IsExact (layout_at state name)
+      → ComesOnlyTo state (ask Question.print name) (Ok (Answer.text (printed (layout_at state name))))
   prints_one exact given (t, is, d) = d ∙ ap (λ s. Ok (Answer.text s)) (is exact)
 
-  pub escapes_one : IsExact (meaning_at state name)
-      → ComesOnlyTo state (ask Question.escape name) (Ok (Answer.text (escaped (printed (meaning_at state name)))))
+  pub escapes_one : IsExact (layout_at state name)
+      → ComesOnlyTo state (ask Question.escape name) (Ok (Answer.text (escaped (printed (layout_at state name)))))
   escapes_one = escapes state name (held_at state name) refl
 
   shown : Bool → List ℕ
-  shown b = if b then printed (meaning_at state name) else escaped (printed (meaning_at state name))
+  shown b = if b then printed (layout_at state name) else escaped (printed (layout_at state name))
 
-  pub shown_as_it_is : safe_in (form_at state name) ≡ true → shown_in_page (form_at state name) ≡ printed (meaning_at state name)
+  pub shown_as_it_is : safe_in (form_at state name) ≡ true → shown_in_page (form_at state name) ≡ printed (layout_at state name)
   unfolding shown
   shown_as_it_is e = ap shown e
 
-  pub shown_escaped : safe_in (form_at state name) ≡ false → shown_in_page (form_at state name) ≡ escaped (printed (meaning_at state name))
+  pub shown_escaped : safe_in (form_at state name) ≡ false → shown_in_page (form_at state name) ≡ escaped (printed (layout_at state name))
   unfolding shown
   shown_escaped e = ap shown e
 
 -- after a value is set, the other side of a comparison means what it meant
 module _ (state : State) (name : List ℕ) (value : Form) (other : List ℕ) (n : other ≢ name) where
   pub equal_after_set : ComesOnlyTo (insert state name value) (weigh Weighing.equal name other)
-      (Ok (Answer.truth (same (plain value) (meaning_at state other))))
+      (Ok (Answer.truth (same (meaning value) (meaning_at state other))))
   equal_after_set given d =
       d ∙ (λ i. Ok (Answer.truth (same (meaning_set state name value i) (meaning_other state name value other n i))))
 
   pub compared_after_set : ComesOnlyTo (insert state name value) (weigh Weighing.compare name other)
-      (Ok (Answer.order (Some (compare (plain value) (meaning_at state other)))))
+      (Ok (Answer.order (Some (compare (meaning value) (meaning_at state other)))))
   compared_after_set given d =
       d ∙ (λ i. Ok (Answer.order (Some (compare (meaning_set state name value i) (meaning_other state name value other n i)))))
 
@@ -72,7 +72,7 @@ module _ (state : State) (name : List ℕ) (value : Form) (other : List ℕ) (n 
 module _ (state : State) (name : List ℕ) where
   pub marked_meaning : (into : List ℕ)
       → meaning_at (state_after state (asking_into (mark_safe name) into)) into ≡ meaning_at state name
-  marked_meaning into = meaning_set state into (marked_safe (form_at state name)) ∙ plain_marked (form_at state name)
+  marked_meaning into = meaning_set state into (marked_safe (form_at state name)) ∙ meaning_marked (form_at state name)
 
   pub marked_absent : (into : List ℕ) → held_at state name ≡ None
       → held_at (state_after state (asking_into (mark_safe name) into)) into ≡ Some undefined
@@ -81,17 +81,17 @@ module _ (state : State) (name : List ℕ) where
 
   marked_one : (value : Form) (other : List ℕ) (b : Bool) → eq_by_cmp (slice_cmp nat_cmp) other name ≡ b
       → held_at state name ≡ Some value
-      → option_map plain (cond b (Some (marked_safe value)) (held_at state other)) ≡ meaning_held state other
+      → option_map meaning (cond b (Some (marked_safe value)) (held_at state other)) ≡ meaning_held state other
   marked_one value other true d e =
-      (λ i. Some (plain_marked value i))
-      ∙ ap (option_map plain) (sym e)
+      (λ i. Some (meaning_marked value i))
+      ∙ ap (option_map meaning) (sym e)
       ∙ sym (ap (meaning_held state) (name_exact other name ((Equal-is (slice_cmp nat_cmp other name)).0 d)))
   marked_one value other false d e = refl
 
   marked_held : (o : Option Form) → held_at state name ≡ o → MeanTheSame (marking state name o) state
   marked_held None e other = refl
   marked_held (Some value) e other =
-      ap (option_map plain) (get-insert nat_list_cmp_total state name (marked_safe value) other)
+      ap (option_map meaning) (get-insert nat_list_cmp_total state name (marked_safe value) other)
       ∙ marked_one value other (eq_by_cmp (slice_cmp nat_cmp) other name) refl e
 
   -- marked in its place, no meaning changes

@@ -1,6 +1,6 @@
 -- A pair list has just the entries, and is the only rising list that has.
 use Rattle.std.proofs.lemmas.Option.{none-some}
-use Rattle.std.specs.Prelude.{◌≡◌, ◌↔◌, ◌⊎◌, false, cond, List, [], ◌∷◌, Some, None, refl}
+use Rattle.std.specs.Prelude.{◌≡◌, ◌↔◌, ◌⊎◌, suc, length, false, cond, List, [], ◌∷◌, Some, None, refl}
 use Rattle.std.proofs.Common.{sym, ◌∙◌, ap, inl, inr}
 use Rattle.std.specs.BTreeMap.{insert_entry}
 use Rattle.std.specs.Cmp.{IsTotalOrder, tied_itself}
@@ -68,6 +68,23 @@ module _ {K V : Type 0} (order : K → K → Ordering) (total : IsTotalOrder ord
   none_tied : (k : K) (es : List (K × V)) → AllByRecursion (λ l. eq_by_cmp order k l ≡ false) (keys_of es) → value_at order es k ≡ None
   none_tied k [] h = refl
   none_tied k (e ∷ es) h = ap (λ b. cond b (Some e.1) (value_at order es k)) h.0 ∙ none_tied k es h.1
+
+  insert_longer : (k : K) (v : V) (es : List (K × V)) → value_at order es k ≡ None → length (insert_entry order es k v) ≡ suc (length es)
+  insert_longer k v [] none = refl
+  insert_longer k v (e ∷ es) none =
+      elim (order k e.0) as (λ r. cond (is_eq r) (Some e.1) (value_at order es k) ≡ None
+      → length (match_ordering r ((k, v) ∷ e ∷ es) ((e.0, v) ∷ es) (e ∷ insert_entry order es k v)) ≡ suc (suc (length es))) [
+        | Less ↦ λ n. refl
+        | Equal ↦ λ n. absurd (none-some e.1 (sym n))
+        | Greater ↦ λ n. ap suc (insert_longer k v es n)
+      ] none
+
+  -- a pair list is as long as its entries are many
+  pub rising_length : (es : List (K × V)) → HasDistinctKeys order es → length (rising order es) ≡ length es
+  unfolding IsDistinct
+  rising_length [] h = refl
+  rising_length (e ∷ es) h =
+      insert_longer e.0 e.1 (rising order es) (found_rising order total es e.0 ∙ none_tied e.0 es h.0) ∙ ap suc (rising_length es h.1)
 
   pub rising_permutes : (es : List (K × V)) → HasDistinctKeys order es → IsPermutation es (rising order es)
   unfolding IsDistinct

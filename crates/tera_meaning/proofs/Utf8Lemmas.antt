@@ -1,4 +1,4 @@
--- What is printed of a well-made meaning is UTF-8.
+-- What is printed of a well-made layout is UTF-8.
 use Rattle.std.specs.Prelude.{ℤ, pos, negsuc, codes}
 use Rattle.std.proofs.Common.{◌≡◌, ℕ, zero, suc, ◌<◌, ◌≤◌, Bool, true, false, ◌&&◌, nat_lt, List, [], ◌∷◌, ◌++◌, length, get_or, take, IsUtf8, inl}
 use Rattle.std.proofs.Common.{inr, refl, sym, ap, ap₂, ◌∙◌, subst, arith, append-nil, ltb-true, ne_eqb, take_all}
@@ -14,13 +14,14 @@ use Rattle.std.proofs.lemmas.Str.{IsUtf8-append, IsUtf8-nil, IsUtf8-encode, IsUt
 use Rattle.std.proofs.lemmas.Str.{utf8_lossy-IsUtf8, utf8_lossy_step}
 use Rattle.std.proofs.str.Lossy.{length-after_first_chunk}
 use lib.Utf8.{scalar, scalars, encode, encodes, low_scalar}
-use Rattle.tera_meaning.specs.KeyMeaning.{KeyMeaning, truth_key, number_key, text_key}
+use Rattle.tera_meaning.specs.KeyMeaning.{KeyMeaning, truth_key, number_key, text_key, key_order}
 use Rattle.tera_meaning.specs.Integer.{IsWide}
-use Rattle.tera_meaning.specs.Meaning.{Meaning}
+use Rattle.tera_meaning.specs.Meaning.{Layout}
+use Rattle.tera_meaning.specs.Pairs.{HasDistinctKeys}
 use Rattle.tera_meaning.specs.Printed.{printed, printed_key, printed_truth, printed_with, printed_items, more_items, printed_members, more_members}
 use Rattle.tera_report.specs.Quoted.{quoted}
 use Rattle.tera_meaning.specs.Tree.{Items, Members, undefined, none, truth, number, text, bytes, array, object, no_items, item, no_members, member}
-use Rattle.tera_meaning.specs.WellMade.{IsWellMadeMeaning, IsWellMadeKeyMeaning, AreWellMadeMeanings, AreWellMadePairs}
+use Rattle.tera_meaning.specs.WellMade.{IsWellMadeLayout, IsWellMadeKeyMeaning, AreMadeOf, ArePairsOf}
 
 ascii_then : (x : ℕ) (xs : List ℕ) → x < 128 → IsUtf8 xs → IsUtf8 (x ∷ xs)
 ascii_then x xs small u =
@@ -40,9 +41,9 @@ escape_ascii : (x : ℕ) → x < 128 → are_ascii (debug_escape 34 x) ≡ true
 unfolding debug_escape digits
 escape_ascii x h = agree_below_at (λ c. are_ascii (debug_escape 34 c)) (λ _. true) 128 x refl h
 
-escape_plain : (x : ℕ) → 128 ≤ x → debug_escape 34 x ≡ x ∷ []
+escape_itself : (x : ℕ) → 128 ≤ x → debug_escape 34 x ≡ x ∷ []
 unfolding debug_escape
-escape_plain x l =
+escape_itself x l =
     rw (
       ne_eqb x 34 (λ e. omega arith),
       ne_eqb x 0 (λ e. omega arith),
@@ -57,7 +58,7 @@ escape_plain x l =
 escape_high : (xs : List ℕ) → ((k : ℕ) → k < length xs → 128 ≤ get_or xs k 0) → flat_map (debug_escape 34) xs ≡ xs
 escape_high [] h = refl
 escape_high (x ∷ xs) h =
-    ap₂ (λ (a b : List ℕ). a ++ b) (escape_plain x (h 0 (omega arith))) (escape_high xs (λ k below. h (suc k) (omega arith)))
+    ap₂ (λ (a b : List ℕ). a ++ b) (escape_itself x (h 0 (omega arith))) (escape_high xs (λ k below. h (suc k) (omega arith)))
 
 one_char : (c : ℕ) → scalar c ≡ true → IsUtf8 (flat_map (debug_escape 34) (encode c))
 one_char c ok = elim (cases_lt c 128) [
@@ -140,8 +141,8 @@ pair_utf8 k value more key u w =
     w
 
 mutual
-  with_utf8 : (show : List ℕ → List ℕ) → ((t : List ℕ) → IsUtf8 t → IsUtf8 (show t)) → (x : Meaning)
-      → IsWellMadeMeaning x → IsUtf8 (printed_with show x)
+  with_utf8 : (show : List ℕ → List ℕ) → ((t : List ℕ) → IsUtf8 t → IsUtf8 (show t)) → (x : Layout)
+      → IsWellMadeLayout x → IsUtf8 (printed_with show x)
   with_utf8 show keeps undefined h = IsUtf8-nil
   with_utf8 show keeps none h = IsUtf8-nil
   with_utf8 show keeps (truth b) h = truth_utf8 b
@@ -154,30 +155,30 @@ mutual
       ascii_then 123 (printed_members ps ++ codes "}") (omega arith) (IsUtf8-append (printed_members ps) (codes "}") (members_utf8 ps h.1)
       (ascii_utf8 (codes "}") refl))
 
-  items_utf8 : (xs : Items ℤ (List ℕ) KeyMeaning) → AreWellMadeMeanings xs → IsUtf8 (printed_items xs)
+  items_utf8 : (xs : Items ℤ (List ℕ) KeyMeaning) → AreMadeOf (HasDistinctKeys key_order) xs → IsUtf8 (printed_items xs)
   items_utf8 no_items h = IsUtf8-nil
   items_utf8 (item x xs) h =
       IsUtf8-append (printed_with quoted x) (more_items xs) (with_utf8 quoted quoted_utf8 x h.0) (more_items_utf8 xs h.1)
 
-  more_items_utf8 : (xs : Items ℤ (List ℕ) KeyMeaning) → AreWellMadeMeanings xs → IsUtf8 (more_items xs)
+  more_items_utf8 : (xs : Items ℤ (List ℕ) KeyMeaning) → AreMadeOf (HasDistinctKeys key_order) xs → IsUtf8 (more_items xs)
   more_items_utf8 no_items h = IsUtf8-nil
   more_items_utf8 (item x xs) h =
       IsUtf8-append (codes ", ") (printed_with quoted x ++ more_items xs) (ascii_utf8 (codes ", ") refl)
       (IsUtf8-append (printed_with quoted x) (more_items xs) (with_utf8 quoted quoted_utf8 x h.0) (more_items_utf8 xs h.1))
 
-  members_utf8 : (ps : Members ℤ (List ℕ) KeyMeaning) → AreWellMadePairs ps → IsUtf8 (printed_members ps)
+  members_utf8 : (ps : Members ℤ (List ℕ) KeyMeaning) → ArePairsOf (HasDistinctKeys key_order) ps → IsUtf8 (printed_members ps)
   members_utf8 no_members h = IsUtf8-nil
   members_utf8 (member k x ps) h =
       pair_utf8 k (printed_with quoted x) (more_members ps) h.0 (with_utf8 quoted quoted_utf8 x h.1) (more_members_utf8 ps h.2)
 
-  more_members_utf8 : (ps : Members ℤ (List ℕ) KeyMeaning) → AreWellMadePairs ps → IsUtf8 (more_members ps)
+  more_members_utf8 : (ps : Members ℤ (List ℕ) KeyMeaning) → ArePairsOf (HasDistinctKeys key_order) ps → IsUtf8 (more_members ps)
   more_members_utf8 no_members h = IsUtf8-nil
   more_members_utf8 (member k x ps) h =
       IsUtf8-append (codes ", ") (printed_key k ++ codes ": " ++ printed_with quoted x ++ more_members ps) (ascii_utf8 (codes ", ") refl)
       (pair_utf8 k (printed_with quoted x) (more_members ps) h.0 (with_utf8 quoted quoted_utf8 x h.1) (more_members_utf8 ps h.2))
 
-pub printed_utf8 : (x : Meaning) → IsWellMadeMeaning x → IsUtf8 (printed x)
+pub printed_utf8 : (x : Layout) → IsWellMadeLayout x → IsUtf8 (printed x)
 printed_utf8 x = with_utf8 (λ t. t) (λ t u. u) x
 
-pub inside_utf8 : (x : Meaning) → IsWellMadeMeaning x → IsUtf8 (printed_with quoted x)
+pub inside_utf8 : (x : Layout) → IsWellMadeLayout x → IsUtf8 (printed_with quoted x)
 inside_utf8 x = with_utf8 quoted quoted_utf8 x

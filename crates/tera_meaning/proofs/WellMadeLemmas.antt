@@ -6,20 +6,20 @@ use Rattle.std.specs.Ordering.{nat_cmp, eq_by_cmp}
 use Rattle.std.specs.Cmp.{Equal-is}
 use Rattle.std.specs.Cmp.Lexicographic.{slice_cmp, nat_list_cmp_total}
 use Rattle.std.specs.FinMap.{empty, get as held_at, insert, remove as without, get-insert, get-remove}
-use Rattle.std.specs.List.{AllByRecursion}
-use Rattle.std.specs.List.Sorted.{IsStrictlySortedBy}
+use Rattle.std.specs.List.{AllByRecursion, IsDistinct}
 use Rattle.std.specs.Map.{keys_of}
 use Rattle.std.specs.Str.{IsUtf8}
-use Rattle.std.specs.declared.cmp.Ordering.TheVariants.{Less}
 use Rattle.tera_meaning.specs.Form.{Form, MarkedText}
 use Rattle.tera_meaning.specs.Integer.{Integer, IntegerKind, u64, i64, u128, i128, IsOfKind, IsWide}
 use Rattle.tera_meaning.specs.KeyMeaning.{KeyForm, truth_key, number_key, text_key, key_meaning, key_order}
-use Rattle.tera_meaning.specs.Meaning.{plain}
+use Rattle.tera_meaning.specs.Meaning.{layout, meaning}
 use Rattle.tera_meaning.specs.Outcome.{Outcome}
-use Rattle.tera_meaning.specs.Pairs.{Rises, key_form_order}
+use Rattle.tera_meaning.specs.Pairs.{HasDistinctKeys, key_form_order}
 use Rattle.tera_meaning.specs.Read.{marked_safe}
 use Rattle.tera_meaning.specs.Run.{IsRun, state_after_all}
 use Rattle.tera_meaning.specs.State.{State, form_at, meaning_at, extended, IsProperBeginning}
+use Rattle.tera_meaning.proofs.MeaningLaws.{layout_items, layout_members}
+use Rattle.tera_meaning.proofs.SortedLemmas.{sorted_well}
 use Rattle.tera_meaning.proofs.StateLaws.{held_empty, name_exact}
 use Rattle.tera_meaning.specs.Search.{Found, found_at}
 use Rattle.tera_meaning.proofs.Owed.{IsHeldWell, form_at_well}
@@ -27,10 +27,9 @@ use Rattle.tera_meaning.proofs.found.{owed}
 use Rattle.tera_meaning.proofs.ExtendLaws.{get_extended, beginning_held}
 use Rattle.tera_meaning.specs.Request.{Command, Request, set, extend, remove, mark_safe, find}
 use Rattle.tera_meaning.specs.Step.{keeping, marking, marking_into, leaves, LeavesInWant, IsStep, state_after}
-use Rattle.tera_meaning.specs.Tree.{Items, Members, number, text, bytes, array, object, no_items, item, no_members, member, members_list, relabeled_items}
-use Rattle.tera_meaning.specs.Tree.{relabeled_members}
-use Rattle.tera_meaning.specs.WellMade.{IsWellMade, IsWellMadeKey, AreWellMade, AreWellMadeMembers, IsWellMadeMeaning, IsWellMadeKeyMeaning}
-use Rattle.tera_meaning.specs.WellMade.{AreWellMadeMeanings, AreWellMadePairs, IsWellMadeState, BringsWellMade, AllBringWellMade}
+use Rattle.tera_meaning.specs.Tree.{Items, Members, number, text, bytes, array, object, no_items, item, no_members, member, members_list}
+use Rattle.tera_meaning.specs.WellMade.{IsWellMade, IsWellMadeKey, AreWellMade, AreWellMadeMembers, IsWellMadeLayout, IsWellMadeMeaning, IsWellMadeKeyMeaning}
+use Rattle.tera_meaning.specs.WellMade.{AreMadeOf, ArePairsOf, IsWellMadeState, BringsWellMade, AllBringWellMade}
 
 pub marked_well : (value : Form) → IsWellMade value → IsWellMade (marked_safe value)
 marked_well (text t) h = h
@@ -142,42 +141,42 @@ wide u128 (negsuc n) h = absurd h
 wide i128 (pos n) h = omega (arith, h)
 wide i128 (negsuc n) h = h
 
+apart_laid_out : (k : KeyForm) (ps : Members Integer MarkedText KeyForm)
+    → AllByRecursion (λ l. eq_by_cmp key_form_order k l ≡ false) (keys_of (members_list ps))
+    → AllByRecursion (λ l. eq_by_cmp key_order (key_meaning k) l ≡ false) (keys_of (members_list (layout_members ps)))
+apart_laid_out k no_members h = tt
+apart_laid_out k (member l x ps) h = (h.0, apart_laid_out k ps h.1)
+
+laid_out_apart : (ps : Members Integer MarkedText KeyForm) → HasDistinctKeys key_form_order (members_list ps)
+    → HasDistinctKeys key_order (members_list (layout_members ps))
+unfolding IsDistinct
+laid_out_apart no_members h = tt
+laid_out_apart (member k x ps) h = (apart_laid_out k ps h.0, laid_out_apart ps h.1)
+
 key_well : (k : KeyForm) → IsWellMadeKey k → IsWellMadeKeyMeaning (key_meaning k)
 key_well (truth_key b) h = tt
 key_well (number_key n) h = wide n.kind n.value h
 key_well (text_key t) h = h
 
--- the keys of what a map means rise where those of the form do
-means_above : (k : KeyForm) (ps : Members Integer MarkedText KeyForm)
-    → AllByRecursion (λ l. key_form_order k l ≡ Less) (keys_of (members_list ps))
-    → AllByRecursion (λ l. key_order (key_meaning k) l ≡ Less) (keys_of (members_list (relabeled_members (λ n. n.value) (λ t. t.spelled) key_meaning ps)))
-means_above k no_members h = tt
-means_above k (member l x ps) h = (h.0, means_above k ps h.1)
-
-means_rising : (ps : Members Integer MarkedText KeyForm) → Rises key_form_order (members_list ps)
-    → Rises key_order (members_list (relabeled_members (λ n. n.value) (λ t. t.spelled) key_meaning ps))
-unfolding IsStrictlySortedBy
-means_rising no_members h = tt
-means_rising (member k x ps) h = (means_above k ps h.0, means_rising ps h.1)
-
 mutual
-  pub meaning_well : (value : Form) → IsWellMade value → IsWellMadeMeaning (plain value)
-  meaning_well (number n) h = wide n.kind n.value h
-  meaning_well (text t) h = h
-  meaning_well (bytes bs) h = h
-  meaning_well (array xs) h = meanings_well xs h
-  meaning_well (object ps) h = (means_rising ps h.0, pairs_well ps h.1)
-  meaning_well v h = tt
+  pub layout_well : (value : Form) → IsWellMade value → IsWellMadeLayout (layout value)
+  layout_well (number n) h = wide n.kind n.value h
+  layout_well (text t) h = h
+  layout_well (bytes bs) h = h
+  layout_well (array xs) h = layouts_well xs h
+  layout_well (object ps) h = (laid_out_apart ps h.0, pairs_well ps h.1)
+  layout_well v h = tt
 
-  meanings_well : (xs : Items Integer MarkedText KeyForm) → AreWellMade xs
-      → AreWellMadeMeanings (relabeled_items (λ n. n.value) (λ t. t.spelled) key_meaning xs)
-  meanings_well no_items h = tt
-  meanings_well (item x xs) h = (meaning_well x h.0, meanings_well xs h.1)
+  layouts_well : (xs : Items Integer MarkedText KeyForm) → AreWellMade xs → AreMadeOf (HasDistinctKeys key_order) (layout_items xs)
+  layouts_well no_items h = tt
+  layouts_well (item x xs) h = (layout_well x h.0, layouts_well xs h.1)
 
-  pairs_well : (ps : Members Integer MarkedText KeyForm) → AreWellMadeMembers ps
-      → AreWellMadePairs (relabeled_members (λ n. n.value) (λ t. t.spelled) key_meaning ps)
+  pairs_well : (ps : Members Integer MarkedText KeyForm) → AreWellMadeMembers ps → ArePairsOf (HasDistinctKeys key_order) (layout_members ps)
   pairs_well no_members h = tt
-  pairs_well (member k x ps) h = (key_well k h.0, meaning_well x h.1, pairs_well ps h.2)
+  pairs_well (member k x ps) h = (key_well k h.0, layout_well x h.1, pairs_well ps h.2)
+
+pub meaning_well : (value : Form) → IsWellMade value → IsWellMadeMeaning (meaning value)
+meaning_well value h = sorted_well (layout value) (layout_well value h)
 
 pub meaning_at_well : (state : State) (name : List ℕ) → IsWellMadeState state → IsWellMadeMeaning (meaning_at state name)
 meaning_at_well state name h = meaning_well (form_at state name) (form_at_well state h name)

@@ -4,20 +4,20 @@ use Rattle.std.specs.List.{AllZip}
 use Rattle.std.specs.Option.{option_map}
 use Rattle.std.specs.FinMap.{get as held_at}
 use Rattle.tera_meaning.specs.Form.{Form}
-use Rattle.tera_meaning.specs.Meaning.{Meaning, plain}
+use Rattle.tera_meaning.specs.Meaning.{Meaning, meaning}
 use Rattle.tera_meaning.specs.Outcome.{Outcome, shape}
 use Rattle.tera_meaning.specs.Question
 use Rattle.tera_meaning.specs.Question.{IsSettledAnswer}
 use Rattle.tera_meaning.specs.Request.{Request, set, extend, remove, mark_safe, ask, weigh, find}
 use Rattle.tera_meaning.specs.Request.{Command, asking}
 use Rattle.tera_meaning.specs.Run.{AreOutcomes, IsAmpleRun}
-use Rattle.tera_meaning.specs.State.{State, meaning_at}
+use Rattle.tera_meaning.specs.State.{State, layout_at}
 use Rattle.tera_meaning.specs.Step.{state_after}
 use Rattle.tera_meaning.specs.Weighing
 
 -- what is held at a name, by its meaning
 abbrev pub meaning_held : State → List ℕ → Option Meaning
-meaning_held state name = option_map plain (held_at state name)
+meaning_held state name = option_map meaning (held_at state name)
 
 -- the same names are held, and each means the same
 abbrev pub MeanTheSame : State → State → Type 0
@@ -25,7 +25,7 @@ MeanTheSame f g = (name : List ℕ) → meaning_held f name ≡ meaning_held g n
 
 -- the same request; and where it keeps values, these of the same meaning
 abbrev pub RequestTheSame : Request → Request → Type 0
-RequestTheSame (set m v) (set n w) = (m ≡ n) × (plain v ≡ plain w)
+RequestTheSame (set m v) (set n w) = (m ≡ n) × (meaning v ≡ meaning w)
 RequestTheSame (extend source) (extend other) = MeanTheSame source other
 RequestTheSame request also = request ≡ also
 
@@ -37,47 +37,49 @@ AskTheSame command also = RequestTheSame command.request also.request × (comman
 abbrev pub AllAskTheSame : List Command → List Command → Type 0
 AllAskTheSame asked also = AllZip AskTheSame asked also
 
--- meanings alone settle the outcome, where it is one
-abbrev pub IsSettled : State → Request → Type 0
-IsSettled state (set name value) = ⊤
-IsSettled state (extend source) = ⊤
-IsSettled state (remove name) = ⊤
-IsSettled state (mark_safe name) = ⊤
-IsSettled state (ask question name) = IsSettledAnswer question (meaning_at state name)
-IsSettled state (weigh weighing left right) = ⊤
-IsSettled state (find search) = ⊤
+-- from two states of equal meaning the outcomes are of one shape: of what is printed this holds
+-- where the layouts are equal and exact
+abbrev pub IsSettled : State → State → Request → Type 0
+IsSettled f g (set name value) = ⊤
+IsSettled f g (extend source) = ⊤
+IsSettled f g (remove name) = ⊤
+IsSettled f g (mark_safe name) = ⊤
+IsSettled f g (ask question name) = IsSettledAnswer question (layout_at f name) (layout_at g name)
+IsSettled f g (weigh weighing left right) = ⊤
+IsSettled f g (find search) = ⊤
 
--- two lists of outcomes of the commands have the same shapes, one for one, wherever meanings settle
--- them
-abbrev pub AreAlike : State → List Command → List Outcome → List Outcome → Type 0
-AreAlike state [] [] [] = ⊤
-AreAlike state (command ∷ commands) (outcome ∷ outcomes) (other ∷ others) =
-    (IsSettled state command.request → shape outcome ≡ shape other)
-    × AreAlike (state_after state command) commands outcomes others
-AreAlike _ _ _ _ = ⊥
+-- the outcomes of two lists of commands from two states have the same shapes, one for one, wherever
+-- these are settled
+abbrev pub AreAlike : State → State → List Command → List Command → List Outcome → List Outcome
+    → Type 0
+AreAlike f g [] [] [] [] = ⊤
+AreAlike f g (command ∷ commands) (also ∷ more) (outcome ∷ outcomes) (other ∷ others) =
+    (IsSettled f g command.request → shape outcome ≡ shape other)
+    × AreAlike (state_after f command) (state_after g also) commands more outcomes others
+AreAlike _ _ _ _ _ _ = ⊥
 
--- from these states the same commands come to outcomes of the same shapes, wherever meanings settle
--- them
+-- from these states the same commands come to outcomes of the same shapes, wherever these are
+-- settled
 abbrev pub AnswerAlike : State → State → Type 0
 AnswerAlike f g =
     (commands also : List Command) (outcomes others : List Outcome) → AllAskTheSame commands also
     → AreOutcomes f commands outcomes → AreOutcomes g also others
-    → AreAlike f commands outcomes others
+    → AreAlike f g commands also outcomes others
 
--- whatever the commands come to from these states, the shapes of some outcome that meanings settle
+-- whatever the commands come to from these states, the shapes of some outcome that is settled
 -- differ
 abbrev pub AreToldApartBy : List Command → State → State → Type 0
 AreToldApartBy commands f g =
     (outcomes others : List Outcome) → AreOutcomes f commands outcomes
     → AreOutcomes g commands others
-    → AreAlike f commands outcomes others → ⊥
+    → AreAlike f g commands commands outcomes others → ⊥
 
 -- runs of the commands from these states, in which no step wants memory, come to outcomes that are
 -- not alike
 abbrev pub RunsAreToldApart : List Command → State → State → Type 0
 RunsAreToldApart commands f g =
     (outcomes others : List Outcome) (f' g' : State) → IsAmpleRun f commands outcomes f'
-    → IsAmpleRun g commands others g' → AreAlike f commands outcomes others → ⊥
+    → IsAmpleRun g commands others g' → AreAlike f g commands commands outcomes others → ⊥
 
 -- commands that compare what a name holds with a value: whether it holds one; and the value is set
 -- under another name and compared with it

@@ -13,3 +13,4 @@ pub data AnswerOf (V : Type 0) : Type 0 where
   kind : Kind → AnswerOf V
   text : List ℕ → AnswerOf V
   texts : List (List ℕ) → AnswerOf V
+  walked : List (List ℕ) → AnswerOf V

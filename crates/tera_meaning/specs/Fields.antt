@@ -15,7 +15,7 @@ use Rattle.tera_meaning.specs.Tree.{members_list}
 abbrev pub shown_keys : {V : Type 0} → List (KeyForm × V) → List (List ℕ)
 shown_keys ps = map (λ p. shown_key (key_meaning p.0)) ps
 
--- what the keys of a map print; nothing of other values
+-- what the keys of a map print, one text for each pair and along them; nothing of other values
 abbrev pub shown_in : Form → List (List ℕ)
 shown_in undefined = []
 shown_in none = []

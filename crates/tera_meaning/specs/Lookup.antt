@@ -12,7 +12,7 @@ use Rattle.tera_report.specs.Refusal.{not_a_map_key, not_an_index, not_a_contain
 use Rattle.tera_meaning.specs.Form.{Form, MarkedText}
 use Rattle.tera_meaning.specs.Kind.{kind_in, kind_name}
 use Rattle.tera_meaning.specs.KeyMeaning.{KeyForm, truth_key, number_key, text_key, owned, borrowed}
-use Rattle.tera_meaning.specs.Meaning.{plain}
+use Rattle.tera_meaning.specs.Meaning.{meaning}
 use Rattle.tera_meaning.specs.Order.{same}
 use Rattle.tera_meaning.specs.Pairs.{key_form_order, value_at}
 use Rattle.tera_meaning.specs.Read.{number_in, text_in}
@@ -113,7 +113,7 @@ holds (truth b) x = Err (not_a_container (name_of (truth b)))
 holds (number n) x = Err (not_a_container (name_of (number n)))
 holds (text t) x = Ok (text_holds t.spelled (text_in x))
 holds (bytes bs) x = Err (not_a_container (name_of (bytes bs)))
-holds (array xs) x = Ok (list_any (λ y. same (plain y) (plain x)) (items_list xs))
+holds (array xs) x = Ok (list_any (λ y. same (meaning y) (meaning x)) (items_list xs))
 holds (object ps) x = Ok (is_some (paired (members_list ps) (key_in x)))
 
 -- what is given, seen by a function of it, or the shape of what is refused

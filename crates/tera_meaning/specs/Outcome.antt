@@ -5,7 +5,7 @@ use Rattle.tera_report.specs.Refusal.{Refusal, memory_refused, shape as refusal_
 use Rattle.tera_meaning.specs.Answer
 use Rattle.tera_meaning.specs.Answer.{AnswerOf}
 use Rattle.tera_meaning.specs.Form.{Form}
-use Rattle.tera_meaning.specs.Meaning.{Meaning, plain}
+use Rattle.tera_meaning.specs.Meaning.{Meaning, meaning}
 
 abbrev pub OutcomeOf : Type 0 → Type 0
 OutcomeOf V = Result (AnswerOf V) Refusal
@@ -26,11 +26,12 @@ abbrev pub answer_shape : AnswerOf Form → AnswerOf Meaning
 answer_shape Answer.done = Answer.done
 answer_shape (Answer.truth b) = Answer.truth b
 answer_shape (Answer.order o) = Answer.order o
-answer_shape (Answer.found value) = Answer.found (option_map plain value)
+answer_shape (Answer.found value) = Answer.found (option_map meaning value)
 answer_shape (Answer.size n) = Answer.size n
 answer_shape (Answer.kind k) = Answer.kind k
 answer_shape (Answer.text t) = Answer.text t
 answer_shape (Answer.texts ts) = Answer.texts ts
+answer_shape (Answer.walked ts) = Answer.walked ts
 
 -- an outcome with what is found by its meaning, and a refusal without the name of a value's kind
 abbrev pub shape : Outcome → OutcomeOf Meaning

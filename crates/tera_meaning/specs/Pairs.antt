@@ -1,19 +1,16 @@
--- The pairs of maps: lists of entries with strictly rising keys, and the least key at which two of
--- them differ.
+-- The pairs of maps: lists in the order of insertion, lists with strictly rising keys, and the
+-- least key at which two differ.
 use Rattle.std.specs.Prelude.{◌≡◌, Bool, true, false, if◌then◌else◌, List, [], ◌∷◌, Option, Some}
 use Rattle.std.specs.Prelude.{None}
 use Rattle.std.specs.BTreeMap.{insert_entry}
-use Rattle.std.specs.List.{IsDistinct, list_any}
+use Rattle.std.specs.List.{IsDistinct, fold, list_any}
 use Rattle.std.specs.List.Sorted.{IsStrictlySortedBy}
 use Rattle.std.specs.Map.{keys_of, lookup}
 use Rattle.std.specs.Option.{option_eq}
 use Rattle.std.specs.Ordering.{ordering_then, on, eq_by_cmp, is_lt}
 use Rattle.std.specs.declared.cmp.Ordering.{Ordering}
 use Rattle.std.specs.declared.cmp.Ordering.TheVariants.{Less, Equal, Greater}
-use Rattle.tera_meaning.specs.Form.{Form}
-use Rattle.tera_meaning.specs.KeyMeaning.{KeyForm, KeyMeaning, key_meaning, key_order}
-use Rattle.tera_meaning.specs.Meaning.{Meaning, plain}
-use Rattle.tera_meaning.specs.Tree.{object, members}
+use Rattle.tera_meaning.specs.KeyMeaning.{KeyForm, key_meaning, key_order}
 
 -- lists of entries under an order of keys
 module _ {K V : Type 0} (order : K → K → Ordering) where
@@ -24,6 +21,16 @@ module _ {K V : Type 0} (order : K → K → Ordering) where
   -- no two entries have keys that tie
   abbrev pub HasDistinctKeys : List (K × V) → Type 0
   HasDistinctKeys entries = IsDistinct (eq_by_cmp order) (keys_of entries)
+
+  -- the pairs with a value at a key: in the place of the first pair whose key ties, which keeps the
+  -- key that it has, and else behind all others
+  abbrev pub put : List (K × V) → K → V → List (K × V)
+  put [] k v = (k, v) ∷ []
+  put (p ∷ ps) k v = if eq_by_cmp order k p.0 then (p.0, v) ∷ ps else p ∷ put ps k v
+
+  -- the pairs with the entries, put one after another
+  abbrev pub put_all : List (K × V) → List (K × V) → List (K × V)
+  put_all pairs entries = fold (λ ps e. put ps e.0 e.1) pairs entries
 
   -- the entries, put into the places of their keys one after another
   abbrev pub rising : List (K × V) → List (K × V)
@@ -73,13 +80,6 @@ module _ {K V : Type 0} (order : K → K → Ordering) (values : V → V → Ord
 abbrev pub key_form_order : KeyForm → KeyForm → Ordering
 key_form_order = on key_meaning key_order
 
--- the pair list of a map that holds the entries, in whatever order they stand
+-- the rising list of the entries, in whatever order they stand
 abbrev pub pairs_of : {V : Type 0} → List (KeyForm × V) → List (KeyForm × V)
 pairs_of entries = rising key_form_order entries
-
-abbrev pub pair_meaning : KeyForm × Form → KeyMeaning × Meaning
-pair_meaning pair = (key_meaning pair.0, plain pair.1)
-
--- what a map that holds the entries means
-abbrev pub map_meaning : List (KeyForm × Form) → Meaning
-map_meaning entries = plain (object (members (pairs_of entries)))

@@ -1,4 +1,4 @@
--- What a meaning prints.
+-- What a layout prints.
 use Rattle.std.specs.Prelude.{◌≡◌, ℕ, Bool, true, false, ◌&&◌, if◌then◌else◌, IsTrue, List, []}
 use Rattle.std.specs.Prelude.{◌++◌, ℤ, codes}
 use Rattle.std.specs.Fmt.{signed_decimal}
@@ -7,7 +7,7 @@ use Rattle.tera_report.specs.Escaping.{escaped}
 use Rattle.tera_report.specs.Quoted.{quoted, is_ascii_text}
 use Rattle.tera_meaning.specs.Form.{Form}
 use Rattle.tera_meaning.specs.KeyMeaning.{KeyMeaning, truth_key, number_key, text_key}
-use Rattle.tera_meaning.specs.Meaning.{Meaning, plain}
+use Rattle.tera_meaning.specs.Meaning.{Layout, layout}
 use Rattle.tera_meaning.specs.Read.{safe_in}
 use Rattle.tera_meaning.specs.Tree.{Items, Members, undefined, none, truth, number, text, bytes}
 use Rattle.tera_meaning.specs.Tree.{array, object, no_items, item, no_members, member}
@@ -28,9 +28,10 @@ printed_key (truth_key b) = printed_truth b
 printed_key (number_key z) = signed_decimal z
 printed_key (text_key t) = quoted t
 
--- what is printed where each text prints as `show` says. Undefined and none print nothing
+-- what is printed where each text prints as `show` says: maps along their pairs. Undefined and none
+-- print nothing
 abbrev mutual
-  pub printed_with : (List ℕ → List ℕ) → Meaning → List ℕ
+  pub printed_with : (List ℕ → List ℕ) → Layout → List ℕ
   printed_with show undefined = []
   printed_with show none = []
   printed_with show (truth b) = printed_truth b
@@ -59,7 +60,7 @@ abbrev mutual
       codes ", " ++ printed_key k ++ codes ": " ++ printed_with quoted x ++ more_members ps
 
 -- a text by itself prints as itself; inside arrays and maps texts print in debug form
-abbrev pub printed : Meaning → List ℕ
+abbrev pub printed : Layout → List ℕ
 printed x = printed_with (λ t. t) x
 
 abbrev pub is_exact_key : KeyMeaning → Bool
@@ -67,9 +68,9 @@ is_exact_key (truth_key b) = true
 is_exact_key (number_key z) = true
 is_exact_key (text_key t) = is_ascii_text t
 
--- whether each text that is quoted where the meaning stands in an array or map is ASCII
+-- whether each text that is quoted where the layout stands in an array or map is ASCII
 abbrev mutual
-  pub is_exact_inside : Meaning → Bool
+  pub is_exact_inside : Layout → Bool
   is_exact_inside undefined = true
   is_exact_inside none = true
   is_exact_inside (truth b) = true
@@ -87,9 +88,9 @@ abbrev mutual
   are_exact_members no_members = true
   are_exact_members (member k x ps) = is_exact_key k && (is_exact_inside x && are_exact_members ps)
 
--- whether the meaning has one printed text: a text by itself has, and all else where each text that
+-- whether the layout has one printed text: a text by itself has, and all else where each text that
 -- is quoted is ASCII
-abbrev pub is_exact : Meaning → Bool
+abbrev pub is_exact : Layout → Bool
 is_exact undefined = true
 is_exact none = true
 is_exact (truth b) = true
@@ -99,24 +100,24 @@ is_exact (bytes bs) = true
 is_exact (array xs) = are_exact_items xs
 is_exact (object ps) = are_exact_members ps
 
-abbrev pub IsExact : Meaning → Type 0
+abbrev pub IsExact : Layout → Type 0
 IsExact x = IsTrue (is_exact x)
 
-abbrev pub IsExactInside : Meaning → Type 0
+abbrev pub IsExactInside : Layout → Type 0
 IsExactInside x = IsTrue (is_exact_inside x)
 
 abbrev pub IsExactKey : KeyMeaning → Type 0
 IsExactKey k = IsTrue (is_exact_key k)
 
--- what is printed of a meaning: some bytes, and these where it is exact
-abbrev pub Prints : Meaning → List ℕ → Type 0
+-- what is printed of a layout: some bytes, and these where it is exact
+abbrev pub Prints : Layout → List ℕ → Type 0
 Prints x written = IsExact x → written ≡ printed x
 
--- what is written for a meaning that stands in an array or map, where texts are quoted
-abbrev pub PrintsInside : Meaning → List ℕ → Type 0
+-- what is written for a layout that stands in an array or map, where texts are quoted
+abbrev pub PrintsInside : Layout → List ℕ → Type 0
 PrintsInside x written = IsExactInside x → written ≡ printed_with quoted x
 
 -- what a page shows of a value: what it prints, as it is where the value is safe, and else escaped
 abbrev pub shown_in_page : Form → List ℕ
 shown_in_page value =
-    if safe_in value then printed (plain value) else escaped (printed (plain value))
+    if safe_in value then printed (layout value) else escaped (printed (layout value))

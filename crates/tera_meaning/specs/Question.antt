@@ -5,7 +5,7 @@ use Rattle.tera_meaning.specs.Answer
 use Rattle.tera_meaning.specs.Fields
 use Rattle.tera_meaning.specs.Form.{Form}
 use Rattle.tera_meaning.specs.Kind.{kind_in}
-use Rattle.tera_meaning.specs.Meaning.{Meaning, plain}
+use Rattle.tera_meaning.specs.Meaning.{Layout, layout, meaning}
 use Rattle.tera_meaning.specs.Outcome.{Outcome}
 use Rattle.tera_meaning.specs.Printed.{IsExact, Prints}
 use Rattle.tera_meaning.specs.Read.{safe_in, size_in, truthy_in}
@@ -20,24 +20,27 @@ pub data Question : Type 0 where
   print : Question
   escape : Question
   fields : Question
+  walk : Question
 
 -- what is answered of what a name holds, which reads as undefined where it holds nothing. What is
--- printed is some text, and one text alone where the meaning is exact
+-- printed is some text, and one text alone where the layout is exact. A walk tells what the keys of
+-- a map print, along its pairs
 abbrev pub IsAnswered : Question → Option Form → Outcome → Type 0
 IsAnswered has held outcome = outcome ≡ Ok (Answer.truth (is_some held))
-IsAnswered truthy held outcome = outcome ≡ Ok (Answer.truth (truthy_in (plain (read held))))
+IsAnswered truthy held outcome = outcome ≡ Ok (Answer.truth (truthy_in (meaning (read held))))
 IsAnswered is_safe held outcome = outcome ≡ Ok (Answer.truth (safe_in (read held)))
-IsAnswered len held outcome = outcome ≡ Ok (Answer.size (size_in (plain (read held))))
+IsAnswered len held outcome = outcome ≡ Ok (Answer.size (size_in (meaning (read held))))
 IsAnswered kind held outcome = outcome ≡ Ok (Answer.kind (kind_in (read held)))
 IsAnswered print held outcome =
-    (text : List ℕ) × Prints (plain (read held)) text × (outcome ≡ Ok (Answer.text text))
+    (text : List ℕ) × Prints (layout (read held)) text × (outcome ≡ Ok (Answer.text text))
 IsAnswered escape held outcome =
-    (text word : List ℕ) × Prints (plain (read held)) text × Spells word text
+    (text word : List ℕ) × Prints (layout (read held)) text × Spells word text
     × (outcome ≡ Ok (Answer.text word))
 IsAnswered fields held outcome = outcome ≡ Ok (Answer.texts (Fields.fields (read held)))
+IsAnswered walk held outcome = outcome ≡ Ok (Answer.walked (Fields.shown_in (read held)))
 
 -- the answer is one: what is printed for it, if anything, is exact
-abbrev pub IsFixedAnswer : Question → Meaning → Type 0
+abbrev pub IsFixedAnswer : Question → Layout → Type 0
 IsFixedAnswer has x = ⊤
 IsFixedAnswer truthy x = ⊤
 IsFixedAnswer is_safe x = ⊤
@@ -46,17 +49,20 @@ IsFixedAnswer kind x = ⊤
 IsFixedAnswer print x = IsExact x
 IsFixedAnswer escape x = IsExact x
 IsFixedAnswer fields x = ⊤
+IsFixedAnswer walk x = ⊤
 
--- the meaning alone settles the answer, where it is one: not those that read the form
-abbrev pub IsSettledAnswer : Question → Meaning → Type 0
-IsSettledAnswer is_safe x = ⊥
-IsSettledAnswer kind x = ⊥
-IsSettledAnswer has x = ⊤
-IsSettledAnswer truthy x = ⊤
-IsSettledAnswer len x = ⊤
-IsSettledAnswer print x = IsExact x
-IsSettledAnswer escape x = IsExact x
-IsSettledAnswer fields x = ⊤
+-- of two values of one meaning, laid out so, the answers are equal: what is printed where the
+-- layouts are equal and exact, and not those that read the form or the order of pairs
+abbrev pub IsSettledAnswer : Question → Layout → Layout → Type 0
+IsSettledAnswer is_safe x y = ⊥
+IsSettledAnswer kind x y = ⊥
+IsSettledAnswer walk x y = ⊥
+IsSettledAnswer has x y = ⊤
+IsSettledAnswer truthy x y = ⊤
+IsSettledAnswer len x y = ⊤
+IsSettledAnswer print x y = (x ≡ y) × IsExact x
+IsSettledAnswer escape x y = (x ≡ y) × IsExact x
+IsSettledAnswer fields x y = ⊤
 
 -- the questions whose answers take memory
 abbrev pub TakesMemory : Question → Type 0
@@ -68,3 +74,4 @@ TakesMemory kind = ⊥
 TakesMemory print = ⊤
 TakesMemory escape = ⊤
 TakesMemory fields = ⊤
+TakesMemory walk = ⊤

@@ -9,7 +9,7 @@ use Rattle.tera_report.specs.Refusal.{Refusal, step_of_zero, not_sliceable, not_
 use Rattle.tera_meaning.specs.Form.{Form}
 use Rattle.tera_meaning.specs.Kind.{kind_in, kind_name}
 use Rattle.tera_meaning.specs.Lookup.{seen_by}
-use Rattle.tera_meaning.specs.Meaning.{Meaning, plain}
+use Rattle.tera_meaning.specs.Meaning.{Meaning, meaning}
 use Rattle.tera_meaning.specs.Tree.{text, bytes, array, items, items_list}
 
 -- the least and the greatest place of a bound in n items. A step below 0 may end before the first
@@ -112,4 +112,4 @@ reversed v = Err (not_reversible (kind_name (kind_in v)))
 
 -- a value that is found by its meaning, and a refusal without the name of a value's kind
 abbrev pub shape_of : Result Form Refusal → Result Meaning Refusal
-shape_of outcome = seen_by plain outcome
+shape_of outcome = seen_by meaning outcome

@@ -4,7 +4,7 @@ use Rattle.std.specs.Ordering.{nat_cmp}
 use Rattle.std.specs.Cmp.Lexicographic.{slice_cmp, pointwise}
 use Rattle.std.specs.FinMap.{FinMap, get, entries, from_entries}
 use Rattle.tera_meaning.specs.Form.{Form}
-use Rattle.tera_meaning.specs.Meaning.{Meaning, plain}
+use Rattle.tera_meaning.specs.Meaning.{Layout, Meaning, layout, meaning}
 use Rattle.std.specs.Str.{bytes_eq}
 use Rattle.tera_meaning.specs.Order.{same}
 use Rattle.tera_meaning.specs.Tree.{undefined}
@@ -22,12 +22,16 @@ form_at state name = read (get state name)
 
 -- what a name means
 abbrev pub meaning_at : State → List ℕ → Meaning
-meaning_at state name = plain (form_at state name)
+meaning_at state name = meaning (form_at state name)
+
+-- how what a name holds is laid out
+abbrev pub layout_at : State → List ℕ → Layout
+layout_at state name = layout (form_at state name)
 
 -- whether two states hold the same names, and under each the same meaning
 abbrev pub states_equal : State → State → Bool
 states_equal f g =
-    pointwise (λ p q. bytes_eq p.0 q.0 && same (plain p.1) (plain q.1)) (entries f) (entries g)
+    pointwise (λ p q. bytes_eq p.0 q.0 && same (meaning p.1) (meaning q.1)) (entries f) (entries g)
 
 -- the state with what the source holds: a name that both hold has the source's value
 abbrev pub extended : State → State → State

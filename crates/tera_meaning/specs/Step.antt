@@ -9,7 +9,7 @@ use Rattle.tera_meaning.specs.Question.{IsAnswered, IsFixedAnswer, TakesMemory}
 use Rattle.tera_meaning.specs.Read.{marked_safe}
 use Rattle.tera_meaning.specs.Request.{Request, set, extend, remove, mark_safe, ask, weigh, find}
 use Rattle.tera_meaning.specs.Request.{Command, asking}
-use Rattle.tera_meaning.specs.State.{State, form_at, meaning_at, extended, IsProperBeginning}
+use Rattle.tera_meaning.specs.State.{State, form_at, layout_at, extended, IsProperBeginning}
 use Rattle.tera_meaning.specs.Weighing.{weighed}
 
 -- what is found is kept where a name for it is given, and is else the answer itself. A refusal is
@@ -54,7 +54,7 @@ IsFixed state (set name value) = ⊤
 IsFixed state (extend source) = ⊤
 IsFixed state (remove name) = ⊤
 IsFixed state (mark_safe name) = ⊤
-IsFixed state (ask question name) = IsFixedAnswer question (meaning_at state name)
+IsFixed state (ask question name) = IsFixedAnswer question (layout_at state name)
 IsFixed state (weigh weighing left right) = ⊤
 IsFixed state (find search) = ⊤
 

@@ -3,7 +3,7 @@ use Rattle.std.specs.Prelude.{◌≡◌, ℕ, List, Option, Some, None, Ok}
 use Rattle.std.specs.FinMap.{get as held_at}
 use Rattle.tera_meaning.specs.Answer.{AnswerOf}
 use Rattle.tera_meaning.specs.Form.{Form}
-use Rattle.tera_meaning.specs.Meaning.{plain}
+use Rattle.tera_meaning.specs.Meaning.{layout}
 use Rattle.tera_meaning.specs.Outcome.{Outcome}
 use Rattle.tera_meaning.specs.Printed.{IsExact}
 use Rattle.tera_meaning.specs.Request.{Request}
@@ -16,11 +16,11 @@ HeldAnswers request answer =
     (state : State) (name : List ℕ) (value : Form) → held_at state name ≡ Some value
     → ComesOnlyTo state (request name) (Ok (answer value))
 
--- the same where the value's meaning is exact
+-- the same where the value's layout is exact
 abbrev pub ExactAnswers : (List ℕ → Request) → (Form → AnswerOf Form) → Type 0
 ExactAnswers request answer =
     (state : State) (name : List ℕ) (value : Form) → held_at state name ≡ Some value
-    → IsExact (plain value)
+    → IsExact (layout value)
     → ComesOnlyTo state (request name) (Ok (answer value))
 
 -- of a name that is not held the request has this answer, and no other

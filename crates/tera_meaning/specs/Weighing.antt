@@ -5,7 +5,7 @@ use Rattle.tera_meaning.specs.Answer
 use Rattle.tera_meaning.specs.Decided.{decided}
 use Rattle.tera_meaning.specs.Form.{Form}
 use Rattle.tera_meaning.specs.Lookup.{holds}
-use Rattle.tera_meaning.specs.Meaning.{plain}
+use Rattle.tera_meaning.specs.Meaning.{meaning}
 use Rattle.tera_meaning.specs.Order
 use Rattle.tera_meaning.specs.Outcome.{Outcome}
 
@@ -22,7 +22,7 @@ truth_told (Err refusal) = Err refusal
 
 -- what is answered of two values
 abbrev pub weighed : Weighing → Form → Form → Outcome
-weighed equal v w = Ok (Answer.truth (Order.same (plain v) (plain w)))
-weighed compare v w = Ok (Answer.order (Some (Order.compare (plain v) (plain w))))
-weighed try_compare v w = Ok (Answer.order (decided (plain v) (plain w)))
+weighed equal v w = Ok (Answer.truth (Order.same (meaning v) (meaning w)))
+weighed compare v w = Ok (Answer.order (Some (Order.compare (meaning v) (meaning w))))
+weighed try_compare v w = Ok (Answer.order (decided (meaning v) (meaning w)))
 weighed contains v w = truth_told (holds v w)

@@ -7,8 +7,8 @@ use Rattle.tera_meaning.specs.Form.{Form, MarkedText}
 use Rattle.tera_meaning.specs.Integer.{Integer, IsOfKind, IsWide}
 use Rattle.tera_meaning.specs.KeyMeaning.{KeyForm, KeyMeaning, truth_key, number_key, text_key}
 use Rattle.tera_meaning.specs.KeyMeaning.{key_order, key_text}
-use Rattle.tera_meaning.specs.Meaning.{Meaning}
-use Rattle.tera_meaning.specs.Pairs.{Rises, key_form_order}
+use Rattle.tera_meaning.specs.Meaning.{Layout, Meaning}
+use Rattle.tera_meaning.specs.Pairs.{HasDistinctKeys, Rises, key_form_order}
 use Rattle.tera_meaning.specs.Request.{Command, Request, set, extend, remove, mark_safe, ask, weigh}
 use Rattle.tera_meaning.specs.Request.{find}
 use Rattle.tera_meaning.specs.State.{State}
@@ -24,7 +24,7 @@ IsWellMadeKey (number_key n) = IsOfKind n.kind n.value
 IsWellMadeKey (text_key t) = IsUtf8 (key_text t)
 
 -- each number is one of its kind, each text spells characters in UTF-8, each byte is below 256, and
--- the keys of each map rise strictly
+-- the keys of each map are distinct
 abbrev mutual
   pub IsWellMade : Form → Type 0
   IsWellMade undefined = ⊤
@@ -34,7 +34,7 @@ abbrev mutual
   IsWellMade (text t) = IsUtf8 t.spelled
   IsWellMade (bytes bs) = AllByRecursion IsByte bs
   IsWellMade (array xs) = AreWellMade xs
-  IsWellMade (object ps) = Rises key_form_order (members_list ps) × AreWellMadeMembers ps
+  IsWellMade (object ps) = HasDistinctKeys key_form_order (members_list ps) × AreWellMadeMembers ps
 
   pub AreWellMade : Items Integer MarkedText KeyForm → Type 0
   AreWellMade no_items = ⊤
@@ -50,26 +50,34 @@ IsWellMadeKeyMeaning (number_key z) = IsWide z
 IsWellMadeKeyMeaning (text_key t) = IsUtf8 t
 
 -- each number is one that some kind holds, each text spells characters in UTF-8, each byte is
--- below 256, and the keys of each map rise strictly
-abbrev mutual
-  pub IsWellMadeMeaning : Meaning → Type 0
-  IsWellMadeMeaning undefined = ⊤
-  IsWellMadeMeaning none = ⊤
-  IsWellMadeMeaning (truth b) = ⊤
-  IsWellMadeMeaning (number z) = IsWide z
-  IsWellMadeMeaning (text t) = IsUtf8 t
-  IsWellMadeMeaning (bytes bs) = AllByRecursion IsByte bs
-  IsWellMadeMeaning (array xs) = AreWellMadeMeanings xs
-  IsWellMadeMeaning (object ps) = Rises key_order (members_list ps) × AreWellMadePairs ps
+-- below 256, and the pair list of each map is as it should be
+module _ (IsPairList : List (KeyMeaning × Meaning) → Type 0) where
+  abbrev mutual
+    pub IsMadeOf : Meaning → Type 0
+    IsMadeOf undefined = ⊤
+    IsMadeOf none = ⊤
+    IsMadeOf (truth b) = ⊤
+    IsMadeOf (number z) = IsWide z
+    IsMadeOf (text t) = IsUtf8 t
+    IsMadeOf (bytes bs) = AllByRecursion IsByte bs
+    IsMadeOf (array xs) = AreMadeOf xs
+    IsMadeOf (object ps) = IsPairList (members_list ps) × ArePairsOf ps
 
-  pub AreWellMadeMeanings : Items ℤ (List ℕ) KeyMeaning → Type 0
-  AreWellMadeMeanings no_items = ⊤
-  AreWellMadeMeanings (item x xs) = IsWellMadeMeaning x × AreWellMadeMeanings xs
+    pub AreMadeOf : Items ℤ (List ℕ) KeyMeaning → Type 0
+    AreMadeOf no_items = ⊤
+    AreMadeOf (item x xs) = IsMadeOf x × AreMadeOf xs
 
-  pub AreWellMadePairs : Members ℤ (List ℕ) KeyMeaning → Type 0
-  AreWellMadePairs no_members = ⊤
-  AreWellMadePairs (member k x ps) =
-      IsWellMadeKeyMeaning k × IsWellMadeMeaning x × AreWellMadePairs ps
+    pub ArePairsOf : Members ℤ (List ℕ) KeyMeaning → Type 0
+    ArePairsOf no_members = ⊤
+    ArePairsOf (member k x ps) = IsWellMadeKeyMeaning k × IsMadeOf x × ArePairsOf ps
+
+-- of a layout the keys of each map are distinct
+abbrev pub IsWellMadeLayout : Layout → Type 0
+IsWellMadeLayout x = IsMadeOf (HasDistinctKeys key_order) x
+
+-- of a meaning they rise strictly
+abbrev pub IsWellMadeMeaning : Meaning → Type 0
+IsWellMadeMeaning x = IsMadeOf (Rises key_order) x
 
 -- each name under which a form is held spells characters in UTF-8, and the form is well made
 abbrev pub IsWellMadeState : State → Type 0

@@ -1,5 +1,6 @@
-//! Answers depend on meanings alone: not on the kind of an integer, the safe flag of a text, or how
-//! a key holds its text. Each function here does nothing: its clauses are the law.
+//! Answers depend on meanings alone: not on the kind of an integer, the safe flag of a text, how a
+//! key holds its text, or the order in which a map's pairs were inserted. Each function here does
+//! nothing: its clauses are the law.
 ghost use Rattle.std.specs.Prelude.{◌≡◌, ◌≢◌, ◌↔◌, ℕ, List, length};
 ghost use Rattle.tera_meaning.specs.Alike.{meaning_held, MeanTheSame, AskTheSame, AllAskTheSame};
 ghost use Rattle.tera_meaning.specs.Alike.{AnswerAlike, AreAlike, AreToldApartBy, RunsAreToldApart};
@@ -19,11 +20,12 @@ pub fn commands_ask_the_same_as_themselves()
 {}
 
 /// From states of equal meaning, commands of equal meaning come to outcomes of equal shapes, where
-/// meanings settle them, and leave states of equal meaning.
+/// these are settled, and leave states of equal meaning. What is printed or escaped is settled
+/// where the printed values are laid out alike and this is exact.
 pub fn answers_depend_on_meaning()
     ensures answer { (f g : State) (command also : Command) (outcome other : Outcome)
         → MeanTheSame f g → AskTheSame command also → IsOutcome f command outcome
-        → IsOutcome g also other → IsSettled f command.request → shape outcome ≡ shape other }
+        → IsOutcome g also other → IsSettled f g command.request → shape outcome ≡ shape other }
     ensures state { (f g : State) (command also : Command) → MeanTheSame f g
         → AskTheSame command also → MeanTheSame (state_after f command) (state_after g also) }
 {}
@@ -33,18 +35,20 @@ pub fn answers_depend_on_meaning()
 pub fn all_answers_depend_on_meaning()
     ensures answers { (f g : State) (commands also : List Command) (outcomes others : List Outcome)
         → MeanTheSame f g → AllAskTheSame commands also → AreOutcomes f commands outcomes
-        → AreOutcomes g also others → AreAlike f commands outcomes others }
+        → AreOutcomes g also others → AreAlike f g commands also outcomes others }
     ensures state { (f g : State) (commands also : List Command) → MeanTheSame f g
         → AllAskTheSame commands also
         → MeanTheSame (state_after_all f commands) (state_after_all g also) }
 {}
 
-/// Lists of outcomes that are alike are as long as the list of commands.
+/// Lists of outcomes that are alike are as long as the lists of commands.
 pub fn outcomes_that_are_alike_are_as_many()
-    ensures commands { (state : State) (commands : List Command) (outcomes others : List Outcome)
-        → AreAlike state commands outcomes others → length commands ≡ length outcomes }
-    ensures outcomes { (state : State) (commands : List Command) (outcomes others : List Outcome)
-        → AreAlike state commands outcomes others → length outcomes ≡ length others }
+    ensures commands { (f g : State) (commands also : List Command) (outcomes others : List Outcome)
+        → AreAlike f g commands also outcomes others → length commands ≡ length outcomes }
+    ensures outcomes { (f g : State) (commands also : List Command) (outcomes others : List Outcome)
+        → AreAlike f g commands also outcomes others → length outcomes ≡ length others }
+    ensures also { (f g : State) (commands also : List Command) (outcomes others : List Outcome)
+        → AreAlike f g commands also outcomes others → length also ≡ length others }
 {}
 
 /// States answer alike exactly where they mean the same: the same names are held, and each means

@@ -18,7 +18,7 @@ ghost use Rattle.tera_meaning.specs.Conversion.{held_as, read_as, as_truth};
 ghost use Rattle.tera_meaning.specs.Form.{Form};
 ghost use Rattle.tera_meaning.specs.Integer.{is_small, u64, i64, u128, i128};
 ghost use Rattle.tera_meaning.specs.Lookup.{seen_by};
-ghost use Rattle.tera_meaning.specs.Meaning.{plain};
+ghost use Rattle.tera_meaning.specs.Meaning.{meaning};
 ghost use Rattle.tera_meaning.specs.Read.{number_in};
 ghost use Rattle.tera_meaning.specs.Rows.{integer, least, greatest, normal};
 ghost use Rattle.tera_meaning.specs.Tree.{none, truth};
@@ -93,14 +93,14 @@ pub fn conversions_give_the_numbers_of_a_type()
 /// What arithmetic and conversions answer, and the shape of what they refuse, depends on meanings
 /// alone: kinds of integers do not count.
 pub fn arithmetic_depends_on_meaning()
-    ensures calculated { (operator : Operator) (v w x y : Form) → plain v ≡ plain x
-        → plain w ≡ plain y
-        → seen_by plain (calculated operator v w) ≡ seen_by plain (calculated operator x y) }
-    ensures negated { (v w : Form) → plain v ≡ plain w
-        → seen_by plain (negated v) ≡ seen_by plain (negated w) }
-    ensures converted { (type : IntegerType) (v w : Form) → plain v ≡ plain w
+    ensures calculated { (operator : Operator) (v w x y : Form) → meaning v ≡ meaning x
+        → meaning w ≡ meaning y
+        → seen_by meaning (calculated operator v w) ≡ seen_by meaning (calculated operator x y) }
+    ensures negated { (v w : Form) → meaning v ≡ meaning w
+        → seen_by meaning (negated v) ≡ seen_by meaning (negated w) }
+    ensures converted { (type : IntegerType) (v w : Form) → meaning v ≡ meaning w
         → seen_by (λ z. z) (converted type v) ≡ seen_by (λ z. z) (converted type w) }
-    ensures truth { (v w : Form) → plain v ≡ plain w
+    ensures truth { (v w : Form) → meaning v ≡ meaning w
         → seen_by (λ b. b) (as_truth v) ≡ seen_by (λ b. b) (as_truth w) }
 {}
 

@@ -7,7 +7,7 @@ ghost use Rattle.tera_meaning.specs.Form.{Form};
 ghost use Rattle.tera_meaning.specs.KeyMeaning.{KeyForm, text_key, owned, key_meaning};
 ghost use Rattle.tera_meaning.specs.Lookup.{attr, as_key, item, holds, seen_by, occurs, part_at};
 ghost use Rattle.tera_meaning.specs.Fields.{fields, AreRisingOf, shown_in};
-ghost use Rattle.tera_meaning.specs.Meaning.{plain};
+ghost use Rattle.tera_meaning.specs.Meaning.{meaning};
 ghost use Rattle.tera_meaning.specs.Path.{path, AreElements, elements_of, place, IsPlace};
 ghost use Rattle.std.specs.Option.{option_map};
 ghost use Rattle.tera_meaning.specs.Pairs.{key_form_order, value_at};
@@ -24,17 +24,17 @@ pub fn attributes_are_looked_up_by_text()
 /// What look-ups find, and the shape of what they refuse, depends on meanings alone: kinds of
 /// integers, flags of texts and how keys are held do not count.
 pub fn look_ups_depend_on_meaning()
-    ensures attr { (v w : Form) (name : List ℕ) → plain v ≡ plain w
-        → option_map plain (attr v name) ≡ option_map plain (attr w name) }
-    ensures path { (v w : Form) (p : List ℕ) → plain v ≡ plain w
-        → option_map plain (path v p) ≡ option_map plain (path w p) }
-    ensures item { (v w i j : Form) → plain v ≡ plain w → plain i ≡ plain j
-        → seen_by plain (item v i) ≡ seen_by plain (item w j) }
-    ensures holds { (v w x y : Form) → plain v ≡ plain w → plain x ≡ plain y
+    ensures attr { (v w : Form) (name : List ℕ) → meaning v ≡ meaning w
+        → option_map meaning (attr v name) ≡ option_map meaning (attr w name) }
+    ensures path { (v w : Form) (p : List ℕ) → meaning v ≡ meaning w
+        → option_map meaning (path v p) ≡ option_map meaning (path w p) }
+    ensures item { (v w i j : Form) → meaning v ≡ meaning w → meaning i ≡ meaning j
+        → seen_by meaning (item v i) ≡ seen_by meaning (item w j) }
+    ensures holds { (v w x y : Form) → meaning v ≡ meaning w → meaning x ≡ meaning y
         → seen_by (λ told. told) (holds v x) ≡ seen_by (λ told. told) (holds w y) }
-    ensures key { (v w : Form) → plain v ≡ plain w
+    ensures key { (v w : Form) → meaning v ≡ meaning w
         → seen_by key_meaning (as_key v) ≡ seen_by key_meaning (as_key w) }
-    ensures fields { (v w : Form) → plain v ≡ plain w → fields v ≡ fields w }
+    ensures fields { (v w : Form) → meaning v ≡ meaning w → fields v ≡ fields w }
 {}
 
 /// The elements of a path are the only texts without a dot, one or more, that joined with dots are

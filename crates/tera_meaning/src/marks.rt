@@ -2,7 +2,7 @@
 ghost use Rattle.std.specs.Prelude.{◌≡◌, ℕ, true, List};
 ghost use Rattle.tera_meaning.specs.Alike.{MeanTheSame};
 ghost use Rattle.tera_meaning.specs.Form.{Form, MarkedText};
-ghost use Rattle.tera_meaning.specs.Meaning.{plain};
+ghost use Rattle.tera_meaning.specs.Meaning.{layout, meaning};
 ghost use Rattle.tera_meaning.specs.Read.{marked_safe, safe_in};
 ghost use Rattle.tera_meaning.specs.State.{State, meaning_at};
 ghost use Rattle.tera_meaning.specs.Request.{mark_safe, asking, asking_into};
@@ -13,7 +13,8 @@ ghost use Rattle.tera_meaning.specs.WellMade.{IsWellMade};
 /// A value that is marked means what it meant: it equals the same values and prints the same text.
 /// A text that is marked is safe, and marking twice is marking once. What is well made stays so.
 pub fn marks_change_no_meaning()
-    ensures meaning { (value : Form) → plain (marked_safe value) ≡ plain value }
+    ensures meaning { (value : Form) → meaning (marked_safe value) ≡ meaning value }
+    ensures layout { (value : Form) → layout (marked_safe value) ≡ layout value }
     ensures text { (t : MarkedText) → safe_in (marked_safe (text t)) ≡ true }
     ensures twice { (value : Form) → marked_safe (marked_safe value) ≡ marked_safe value }
     ensures well_made { (value : Form) → IsWellMade value → IsWellMade (marked_safe value) }

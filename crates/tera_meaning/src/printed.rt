@@ -4,30 +4,39 @@ ghost use Rattle.std.specs.List.{All};
 ghost use Rattle.std.specs.Str.{IsAscii, IsUtf8};
 ghost use Rattle.tera_meaning.specs.Form.{Form};
 ghost use Rattle.tera_meaning.specs.KeyMeaning.{KeyMeaning, truth_key, number_key, text_key};
-ghost use Rattle.tera_meaning.specs.Meaning.{Meaning, plain};
+ghost use Rattle.tera_meaning.specs.Meaning.{Layout, layout, meaning};
 ghost use Rattle.tera_meaning.specs.Order.{same};
 ghost use Rattle.tera_meaning.specs.Printed.{IsExact, IsExactInside, IsExactKey, Prints};
 ghost use Rattle.tera_meaning.specs.Printed.{PrintsInside, is_exact_inside, printed, printed_with};
 ghost use Rattle.tera_report.specs.Quoted.{quoted};
 ghost use Rattle.tera_meaning.specs.Tree.{undefined, none, truth, number, text, bytes, array};
 ghost use Rattle.tera_meaning.specs.Tree.{object, items, members};
-ghost use Rattle.tera_meaning.specs.WellMade.{IsWellMadeMeaning};
+ghost use Rattle.tera_meaning.specs.WellMade.{IsWellMade, IsWellMadeLayout};
 
-/// Equal values print equal bytes where each text that is quoted is ASCII, by themselves and inside
-/// arrays and maps: kinds of integers, flags of texts and the order in which entries stand change
-/// no byte. What one of them prints, or may print, the other does.
-pub fn equal_values_print_alike()
-    ensures alone { (v w : Form) (written other : List ℕ) → IsTrue (same (plain v) (plain w))
-        → IsExact (plain v) → Prints (plain v) written → Prints (plain w) other → written ≡ other }
-    ensures inside { (v w : Form) (written other : List ℕ) → IsTrue (same (plain v) (plain w))
-        → IsTrue (is_exact_inside (plain v)) → PrintsInside (plain v) written
-        → PrintsInside (plain w) other → written ≡ other }
-    ensures texts { (v w : Form) → IsTrue (same (plain v) (plain w))
-        → printed (plain v) ≡ printed (plain w) }
-    ensures exact { (v w : Form) → IsTrue (same (plain v) (plain w))
-        → (IsExact (plain v) ↔ IsExact (plain w)) }
-    ensures prints { (v w : Form) (written : List ℕ) → IsTrue (same (plain v) (plain w))
-        → (Prints (plain v) written ↔ Prints (plain w) written) }
+/// Values that are laid out alike print equal bytes where each text that is quoted is ASCII, by
+/// themselves and inside arrays and maps: kinds of integers and flags of texts change no byte. What
+/// one of them prints, or may print, the other does. Such values are equal.
+pub fn equal_layouts_print_alike()
+    ensures alone { (v w : Form) (written other : List ℕ) → layout v ≡ layout w
+        → IsExact (layout v) → Prints (layout v) written → Prints (layout w) other
+        → written ≡ other }
+    ensures inside { (v w : Form) (written other : List ℕ) → layout v ≡ layout w
+        → IsTrue (is_exact_inside (layout v)) → PrintsInside (layout v) written
+        → PrintsInside (layout w) other → written ≡ other }
+    ensures texts { (v w : Form) → layout v ≡ layout w
+        → printed (layout v) ≡ printed (layout w) }
+    ensures exact { (v w : Form) → layout v ≡ layout w
+        → (IsExact (layout v) ↔ IsExact (layout w)) }
+    ensures prints { (v w : Form) (written : List ℕ) → layout v ≡ layout w
+        → (Prints (layout v) written ↔ Prints (layout w) written) }
+    ensures equal { (v w : Form) → layout v ≡ layout w → meaning v ≡ meaning w }
+{}
+
+/// Of equal values that are well made all or none are exact: the order in which pairs stand leaves
+/// open no text.
+pub fn equal_values_are_exact_together()
+    ensures { (v w : Form) → IsWellMade v → IsWellMade w → IsTrue (same (meaning v) (meaning w))
+        → (IsExact (layout v) ↔ IsExact (layout w)) }
 {}
 
 /// By itself each value but an array or a map has one printed text. An array has where its items
@@ -39,8 +48,8 @@ pub fn exactness_comes_from_the_parts()
     ensures number { (z : ℤ) → IsExact (number z) }
     ensures text { (t : List ℕ) → IsExact (text t) }
     ensures bytes { (bs : List ℕ) → IsExact (bytes bs) }
-    ensures array { (xs : List Meaning) → IsExact (array (items xs)) ↔ All IsExactInside xs }
-    ensures map { (ps : List (KeyMeaning × Meaning))
+    ensures array { (xs : List Layout) → IsExact (array (items xs)) ↔ All IsExactInside xs }
+    ensures map { (ps : List (KeyMeaning × Layout))
         → IsExact (object (members ps)) ↔ All (λ p. IsExactKey p.0 × IsExactInside p.1) ps }
 {}
 
@@ -53,17 +62,17 @@ pub fn texts_inside_are_exact_where_they_are_ascii()
     ensures number { (z : ℤ) → IsExactInside (number z) }
     ensures text { (t : List ℕ) → IsExactInside (text t) ↔ IsAscii t }
     ensures bytes { (bs : List ℕ) → IsExactInside (bytes bs) }
-    ensures array { (xs : List Meaning)
+    ensures array { (xs : List Layout)
         → IsExactInside (array (items xs)) ↔ IsExact (array (items xs)) }
-    ensures map { (ps : List (KeyMeaning × Meaning))
+    ensures map { (ps : List (KeyMeaning × Layout))
         → IsExactInside (object (members ps)) ↔ IsExact (object (members ps)) }
     ensures truth_key { (b : Bool) → IsExactKey (truth_key b) }
     ensures number_key { (z : ℤ) → IsExactKey (number_key z) }
     ensures text_key { (t : List ℕ) → IsExactKey (text_key t) ↔ IsAscii t }
 {}
 
-/// What is printed of a well-made meaning is UTF-8, by itself and inside arrays and maps.
+/// What is printed of a well-made layout is UTF-8, by itself and inside arrays and maps.
 pub fn what_is_printed_is_utf8()
-    ensures alone { (x : Meaning) → IsWellMadeMeaning x → IsUtf8 (printed x) }
-    ensures inside { (x : Meaning) → IsWellMadeMeaning x → IsUtf8 (printed_with quoted x) }
+    ensures alone { (x : Layout) → IsWellMadeLayout x → IsUtf8 (printed x) }
+    ensures inside { (x : Layout) → IsWellMadeLayout x → IsUtf8 (printed_with quoted x) }
 {}

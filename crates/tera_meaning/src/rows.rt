@@ -3,16 +3,19 @@
 ghost use Rattle.std.specs.Prelude.{◌≡◌, ℕ, ℤ, Bool, ◌-◌, ◌^◌, codes, true, false, pos, negsuc};
 ghost use Rattle.std.specs.Prelude.{List, [], ◌∷◌, IsTrue};
 ghost use Rattle.tera_report.specs.Escaping.{escaped};
+ghost use Rattle.tera_meaning.specs.Fields.{fields, shown_in};
 ghost use Rattle.tera_meaning.specs.Form.{Form, MarkedText};
 ghost use Rattle.tera_meaning.specs.Integer.{Integer, u64, i64, u128, i128};
 ghost use Rattle.tera_meaning.specs.KeyMeaning.{KeyForm, truth_key, number_key, text_key, owned};
 ghost use Rattle.tera_meaning.specs.KeyMeaning.{borrowed};
 ghost use Rattle.tera_meaning.specs.Kind.{kind_in, kind_name};
-ghost use Rattle.tera_meaning.specs.Meaning.{plain};
+ghost use Rattle.tera_meaning.specs.Meaning.{layout, meaning};
 ghost use Rattle.tera_meaning.specs.Order.{compare, same};
+ghost use Rattle.tera_meaning.specs.Pairs.{key_form_order, put_all};
 ghost use Rattle.tera_meaning.specs.Printed.{is_exact, printed, shown_in_page};
 ghost use Rattle.tera_meaning.specs.Read.{safe_in, size_in, truthy_in};
-ghost use Rattle.tera_meaning.specs.Rows.{count, list_of, map_of, map_at, marked, normal, rises};
+ghost use Rattle.tera_meaning.specs.Rows.{at_name, count, held, key_of, list_of, listed};
+ghost use Rattle.tera_meaning.specs.Rows.{map_at, map_of, mapped, marked, named, normal, rises};
 ghost use Rattle.tera_meaning.specs.Tree.{undefined, none, truth, number, text, bytes, array};
 ghost use Rattle.tera_meaning.specs.Tree.{object, items, members};
 
@@ -68,7 +71,8 @@ pub fn single_values_print()
     ensures bytes { printed (bytes (97 ∷ 255 ∷ 98 ∷ [])) ≡ 97 ∷ 239 ∷ 191 ∷ 189 ∷ 98 ∷ [] }
 {}
 
-/// Inside arrays and maps texts print in debug form, and maps along their pairs.
+/// Inside arrays and maps texts print in debug form, and maps along their pairs, in whatever order
+/// these stand.
 pub fn nested_values_print()
     ensures empty_list { printed (list_of []) ≡ codes "[]" }
     ensures empty_map { printed (map_of []) ≡ codes "{}" }
@@ -81,13 +85,18 @@ pub fn nested_values_print()
         ≡ codes "{\"hello\": \"world\", \"other\": 2}" }
     ensures keys { printed (map_of ((truth_key true, count 1) ∷ (number_key (pos 1), count 2)
         ∷ (text_key (codes "1"), count 3) ∷ [])) ≡ codes "{true: 1, 1: 2, \"1\": 3}" }
+    ensures other { printed (map_of ((text_key (codes "other"), count 2)
+        ∷ (text_key (codes "hello"), text (codes "world")) ∷ []))
+        ≡ codes "{\"other\": 2, \"hello\": \"world\"}" }
+    ensures ranks { printed (map_of ((text_key (codes "1"), count 3) ∷ (number_key (pos 1), count 2)
+        ∷ (truth_key true, count 1) ∷ [])) ≡ codes "{\"1\": 3, 1: 2, true: 1}" }
 {}
 
 /// The texts of bytes are quoted in no array, those of safe texts are, and where no character
 /// stands next in bytes the longest beginning of one is one U+FFFD.
 pub fn texts_and_bytes_print_in_arrays()
-    ensures safe { printed (plain (array (items (text (record { spelled = codes "a"; safe = true })
-        ∷ bytes (104 ∷ 105 ∷ []) ∷ array (items []) ∷ [])))) ≡ codes "[\"a\", hi, []]" }
+    ensures safe { printed (layout (listed (marked (codes "a") ∷ bytes (104 ∷ 105 ∷ [])
+        ∷ listed [] ∷ []))) ≡ codes "[\"a\", hi, []]" }
     ensures lossy { printed (list_of (bytes (226 ∷ 130 ∷ 65 ∷ 240 ∷ 128 ∷ 128 ∷ []) ∷ []))
         ≡ 91 ∷ 239 ∷ 191 ∷ 189 ∷ 65 ∷ 239 ∷ 191 ∷ 189 ∷ 239 ∷ 191 ∷ 189 ∷ 239 ∷ 191 ∷ 189 ∷ 93
         ∷ [] }
@@ -163,6 +172,31 @@ pub fn texts_are_safe_by_their_flags()
     ensures undefined { safe_in undefined ≡ true }
 {}
 
+/// Maps that hold the same pairs in two orders are equal, at every depth, and have the same fields;
+/// but they are walked and print in the orders in which their pairs were inserted. A key that is
+/// inserted again keeps its place and takes the later value.
+pub fn equal_maps_may_stand_in_two_orders()
+    ensures same { compare (meaning (mapped ((named (codes "other"), held u64 2)
+        ∷ (named (codes "hello"), normal (codes "world")) ∷ [])))
+        (meaning (mapped ((named (codes "hello"), normal (codes "world"))
+        ∷ (named (codes "other"), held u64 2) ∷ []))) ≡ Ordering.Equal }
+    ensures nested { compare
+        (meaning (at_name [] (mapped ((named (codes "b"), none) ∷ (named [], none) ∷ []))))
+        (meaning (at_name [] (mapped ((named [], none) ∷ (named (codes "b"), none) ∷ []))))
+        ≡ Ordering.Equal }
+    ensures least { compare
+        (meaning (mapped ((named (codes "b"), held u64 0) ∷ (named (codes "a"), held u64 2) ∷ [])))
+        (meaning (mapped ((named (codes "a"), held u64 1) ∷ (named (codes "c"), held u64 0) ∷ [])))
+        ≡ Ordering.Greater }
+    ensures walk { shown_in (mapped ((named (codes "1"), none) ∷ (key_of u64 1, none)
+        ∷ (truth_key true, none) ∷ [])) ≡ codes "1" ∷ codes "1" ∷ codes "true" ∷ [] }
+    ensures fields { fields (mapped ((named (codes "1"), none) ∷ (key_of u64 1, none)
+        ∷ (truth_key true, none) ∷ [])) ≡ codes "1" ∷ codes "true" ∷ [] }
+    ensures prints { printed (layout (mapped (put_all key_form_order []
+        ((named (codes "b"), held u64 1) ∷ (named (codes "a"), held u64 2)
+        ∷ (named (codes "b"), held u64 3) ∷ [])))) ≡ codes "{\"b\": 3, \"a\": 2}" }
+{}
+
 /// The name of each kind.
 pub fn kinds_have_names()
     ensures undefined { kind_name (kind_in undefined) ≡ codes "undefined" }
@@ -186,14 +220,14 @@ pub fn kinds_have_names()
 /// A form means what it holds: the kind of an integer, the safe flag of a text and how a key is
 /// held are forgotten.
 pub fn kinds_and_flags_are_forgotten()
-    ensures number { plain (number (record { kind = u64; value = pos 1 }))
-        ≡ plain (number (record { kind = i128; value = pos 1 })) }
-    ensures text { plain (text (record { spelled = codes "a"; safe = true }))
-        ≡ plain (text (record { spelled = codes "a"; safe = false })) }
-    ensures key { plain (map_at (text_key (owned (codes "a"))))
-        ≡ plain (map_at (text_key (borrowed (codes "a")))) }
-    ensures key_number { plain (map_at (number_key (record { kind = u64; value = pos 1 })))
-        ≡ plain (map_at (number_key (record { kind = i128; value = pos 1 }))) }
-    ensures told_apart { same (plain (number (record { kind = u64; value = pos 1 })))
-        (plain (text (record { spelled = codes "1"; safe = true }))) ≡ false }
+    ensures number { meaning (number (record { kind = u64; value = pos 1 }))
+        ≡ meaning (number (record { kind = i128; value = pos 1 })) }
+    ensures text { meaning (text (record { spelled = codes "a"; safe = true }))
+        ≡ meaning (text (record { spelled = codes "a"; safe = false })) }
+    ensures key { meaning (map_at (text_key (owned (codes "a"))))
+        ≡ meaning (map_at (text_key (borrowed (codes "a")))) }
+    ensures key_number { meaning (map_at (number_key (record { kind = u64; value = pos 1 })))
+        ≡ meaning (map_at (number_key (record { kind = i128; value = pos 1 }))) }
+    ensures told_apart { same (meaning (number (record { kind = u64; value = pos 1 })))
+        (meaning (text (record { spelled = codes "1"; safe = true }))) ≡ false }
 {}

@@ -61,13 +61,13 @@ pub fn runs_have_outcomes()
 {}
 
 /// Two runs of commands of equal meaning, from states of equal meaning, in which no step wants
-/// memory, come to outcomes of equal shapes wherever meanings settle them, and end in states of
-/// equal meaning.
+/// memory, come to outcomes of equal shapes wherever these are settled, and end in states of equal
+/// meaning.
 pub fn runs_depend_on_meaning()
     ensures outcomes { (f g : State) (commands also : List Command) (outcomes others : List Outcome)
         (f' g' : State) → MeanTheSame f g → AllAskTheSame commands also
         → IsAmpleRun f commands outcomes f'
-        → IsAmpleRun g also others g' → AreAlike f commands outcomes others }
+        → IsAmpleRun g also others g' → AreAlike f g commands also outcomes others }
     ensures state { (f g : State) (commands also : List Command) (outcomes others : List Outcome)
         (f' g' : State) → MeanTheSame f g → AllAskTheSame commands also
         → IsAmpleRun f commands outcomes f' → IsAmpleRun g also others g' → MeanTheSame f' g' }

@@ -7,7 +7,7 @@ ghost use Rattle.tera_report.specs.Refusal.{Refusal, step_of_zero, not_sliceable
 ghost use Rattle.tera_meaning.specs.Form.{Form, MarkedText};
 ghost use Rattle.tera_meaning.specs.Integer.{Integer, u64, i64, i128};
 ghost use Rattle.tera_meaning.specs.KeyMeaning.{KeyForm};
-ghost use Rattle.tera_meaning.specs.Meaning.{plain};
+ghost use Rattle.tera_meaning.specs.Meaning.{meaning};
 ghost use Rattle.tera_meaning.specs.Rows.{held, marked, normal, SlicesTo};
 ghost use Rattle.tera_meaning.specs.Read.{items_in};
 ghost use Rattle.tera_meaning.specs.SliceRule.{IsSliced, reversed, shape_of};
@@ -58,9 +58,9 @@ pub fn slices_backwards_are_the_reversed_value()
 /// a refusal; and so does what is reversed.
 pub fn slices_depend_on_meaning()
     ensures sliced { (v w : Form) (start end step : Option ℤ) (outcome other : Result Form Refusal)
-        → plain v ≡ plain w → IsSliced v start end step outcome → IsSliced w start end step other
-        → shape_of outcome ≡ shape_of other }
-    ensures reversed { (v w : Form) → plain v ≡ plain w
+        → meaning v ≡ meaning w → IsSliced v start end step outcome
+        → IsSliced w start end step other → shape_of outcome ≡ shape_of other }
+    ensures reversed { (v w : Form) → meaning v ≡ meaning w
         → shape_of (reversed v) ≡ shape_of (reversed w) }
 {}
 

@@ -5,7 +5,7 @@ ghost use Rattle.std.specs.FinMap.{empty, get, insert, len, remove};
 ghost use Rattle.std.specs.Ordering.{nat_cmp};
 ghost use Rattle.tera_meaning.specs.Alike.{MeanTheSame};
 ghost use Rattle.tera_meaning.specs.Form.{Form};
-ghost use Rattle.tera_meaning.specs.Meaning.{plain};
+ghost use Rattle.tera_meaning.specs.Meaning.{meaning};
 ghost use Rattle.tera_meaning.specs.State.{State, states_equal, extended, IsProperBeginning};
 ghost use Rattle.tera_meaning.specs.State.{meaning_at};
 ghost use Rattle.tera_meaning.specs.Tree.{undefined};
@@ -32,7 +32,7 @@ pub fn removing_keeps_other_names()
 /// Where nothing is held each name reads as undefined.
 pub fn setting_gives_the_meaning()
     ensures set { (state : State) (name : List ℕ) (value : Form)
-        → meaning_at (insert state name value) name ≡ plain value }
+        → meaning_at (insert state name value) name ≡ meaning value }
     ensures others { (state : State) (name : List ℕ) (value : Form) (other : List ℕ) → other ≢ name
         → meaning_at (insert state name value) other ≡ meaning_at state other }
     ensures empty { (name : List ℕ) → meaning_at empty name ≡ undefined }

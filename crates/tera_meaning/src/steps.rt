@@ -7,9 +7,10 @@ ghost use Rattle.tera_report.specs.Refusal.{Refusal};
 ghost use Rattle.tera_meaning.specs.Answer;
 ghost use Rattle.tera_meaning.specs.Search;
 ghost use Rattle.tera_meaning.specs.Search.{Search, found_at};
+ghost use Rattle.tera_meaning.specs.Fields.{shown_in};
 ghost use Rattle.tera_meaning.specs.Form.{Form};
 ghost use Rattle.tera_meaning.specs.Kind.{kind_in, undefined_kind};
-ghost use Rattle.tera_meaning.specs.Meaning.{plain};
+ghost use Rattle.tera_meaning.specs.Meaning.{layout, meaning};
 ghost use Rattle.tera_meaning.specs.Order.{compare, same};
 ghost use Rattle.tera_meaning.specs.Outcome.{Outcome, out_of_memory};
 ghost use Rattle.tera_meaning.specs.Printed.{IsExact, printed, shown_in_page};
@@ -18,7 +19,7 @@ ghost use Rattle.tera_meaning.specs.Question;
 ghost use Rattle.tera_meaning.specs.Question.{Question, IsAnswered, TakesMemory};
 ghost use Rattle.tera_meaning.specs.Request.{Request, Command, set, remove, mark_safe, ask, weigh};
 ghost use Rattle.tera_meaning.specs.Request.{find, heeds_into, asking, asking_into};
-ghost use Rattle.tera_meaning.specs.State.{State, form_at, meaning_at};
+ghost use Rattle.tera_meaning.specs.State.{State, form_at, layout_at, meaning_at};
 ghost use Rattle.tera_meaning.specs.Step.{ComesTo, ComesOnlyTo, IsOutcome, IsStep};
 ghost use Rattle.tera_meaning.specs.Step.{leaves, LeavesInWant, marking, MayWantMemory};
 ghost use Rattle.tera_meaning.specs.Step.{state_after};
@@ -30,36 +31,37 @@ ghost use Rattle.tera_meaning.specs.Weighing.{Weighing, weighed};
 
 use std::cmp::Ordering;
 
-/// What a name holds is what is found, removed, counted, judged, printed and escaped there.
+/// What a name holds is what is found, removed, counted, judged, printed, escaped and walked there.
 pub fn what_is_held_is_read()
     ensures get { HeldAnswers (λ name. find (Search.get name))
         (λ value. Answer.found (Some value)) }
     ensures remove { HeldAnswers remove (λ value. Answer.found (Some value)) }
     ensures has { HeldAnswers (ask Question.has) (λ value. Answer.truth true) }
-    ensures len { HeldAnswers (ask Question.len) (λ value. Answer.size (size_in (plain value))) }
+    ensures len { HeldAnswers (ask Question.len) (λ value. Answer.size (size_in (meaning value))) }
     ensures truthy { HeldAnswers (ask Question.truthy)
-        (λ value. Answer.truth (truthy_in (plain value))) }
+        (λ value. Answer.truth (truthy_in (meaning value))) }
     ensures kind { HeldAnswers (ask Question.kind) (λ value. Answer.kind (kind_in value)) }
     ensures safe { HeldAnswers (ask Question.is_safe) (λ value. Answer.truth (safe_in value)) }
     ensures print { ExactAnswers (ask Question.print)
-        (λ value. Answer.text (printed (plain value))) }
+        (λ value. Answer.text (printed (layout value))) }
     ensures escape { ExactAnswers (ask Question.escape)
-        (λ value. Answer.text (escaped (printed (plain value)))) }
+        (λ value. Answer.text (escaped (printed (layout value)))) }
+    ensures walk { HeldAnswers (ask Question.walk) (λ value. Answer.walked (shown_in value)) }
 {}
 
-/// Where what a name means is exact, it prints one text, and escapes to one. With what `is_safe`
-/// answers these are what a page shows of it.
+/// Where the layout of what a name holds is exact, it prints one text, and escapes to one. With
+/// what `is_safe` answers these are what a page shows of it.
 pub fn what_is_exact_prints_one_text()
-    ensures print { (state : State) (name : List ℕ) → IsExact (meaning_at state name)
+    ensures print { (state : State) (name : List ℕ) → IsExact (layout_at state name)
         → ComesOnlyTo state (ask Question.print name)
-        (Ok (Answer.text (printed (meaning_at state name)))) }
-    ensures escape { (state : State) (name : List ℕ) → IsExact (meaning_at state name)
+        (Ok (Answer.text (printed (layout_at state name)))) }
+    ensures escape { (state : State) (name : List ℕ) → IsExact (layout_at state name)
         → ComesOnlyTo state (ask Question.escape name)
-        (Ok (Answer.text (escaped (printed (meaning_at state name))))) }
+        (Ok (Answer.text (escaped (printed (layout_at state name))))) }
     ensures safe { (state : State) (name : List ℕ) → safe_in (form_at state name) ≡ true
-        → shown_in_page (form_at state name) ≡ printed (meaning_at state name) }
+        → shown_in_page (form_at state name) ≡ printed (layout_at state name) }
     ensures other { (state : State) (name : List ℕ) → safe_in (form_at state name) ≡ false
-        → shown_in_page (form_at state name) ≡ escaped (printed (meaning_at state name)) }
+        → shown_in_page (form_at state name) ≡ escaped (printed (layout_at state name)) }
 {}
 
 /// What is set is what is compared from then on; the other side of a comparison means what it
@@ -68,11 +70,11 @@ pub fn what_is_set_is_compared()
     ensures equal { (state : State) (name : List ℕ) (value : Form) (other : List ℕ) → other ≢ name
         → ComesOnlyTo (state_after state (asking (set name value)))
         (weigh Weighing.equal name other)
-        (Ok (Answer.truth (same (plain value) (meaning_at state other)))) }
+        (Ok (Answer.truth (same (meaning value) (meaning_at state other)))) }
     ensures compare { (state : State) (name : List ℕ) (value : Form) (other : List ℕ) → other ≢ name
         → ComesOnlyTo (state_after state (asking (set name value)))
         (weigh Weighing.compare name other)
-        (Ok (Answer.order (Some (compare (plain value) (meaning_at state other))))) }
+        (Ok (Answer.order (Some (compare (meaning value) (meaning_at state other))))) }
 {}
 
 /// A name that is not held reads as undefined: nothing is found or printed there, and it stays
@@ -87,6 +89,7 @@ pub fn absent_names_read_as_undefined()
     ensures safe { AbsentAnswers (ask Question.is_safe) (Answer.truth true) }
     ensures print { AbsentAnswers (ask Question.print) (Answer.text []) }
     ensures escape { AbsentAnswers (ask Question.escape) (Answer.text []) }
+    ensures walk { AbsentAnswers (ask Question.walk) (Answer.walked []) }
     ensures equal { BothAbsentAnswer (weigh Weighing.equal) (Answer.truth true) }
     ensures compare { BothAbsentAnswer (weigh Weighing.compare)
         (Answer.order (Some Ordering.Equal)) }

@@ -7,7 +7,7 @@ use Rattle.tera_report.proofs.SentLaws.{sends_put}
 use Rattle.tera_replies.specs.declared.fault.Fault.{Fault}
 use Rattle.tera_replies.specs.declared.fault.Fault.TheVariants.{BadLine, ReadFailed, WriteFailed, OutOfMemory}
 use Rattle.tera_replies.specs.Output.{BrokeOn}
-use Rattle.tera_replies.specs.Stretch.{LineStops, ReplyStops, Runs}
+use Rattle.tera_replies.specs.Stretch.{LineStops, IfWriteFailed, ReplyStops, Runs}
 use Rattle.tera_replies.proofs.BrokenLemmas.{broke_on_put}
 
 module _ {S E : Type 0} (takes fails : S → List ℕ → S → Type 0) where
@@ -44,6 +44,15 @@ line_stops (Err WriteFailed) Replies OutBroke OutStays n old line then (reply, i
     let ran = then reply is in
     (reply, ran.0, ran.1, ran.2, broke)
 line_stops (Err OutOfMemory) Replies OutBroke OutStays n old line then h = absurd h
+
+-- a write that failed left the line run
+pub line_ran : {T : Type 0} (result : Result T Fault) (Replies OutBroke : List ℕ → Type 0) (Ran : Type 0)
+    → ((reply : List ℕ) → Replies reply → Ran) → IfErr result (ReplyStops Replies OutBroke) → IfErr result (IfWriteFailed Ran)
+line_ran (Ok done) Replies OutBroke Ran then h = tt
+line_ran (Err (BadLine report)) Replies OutBroke Ran then h = tt
+line_ran (Err ReadFailed) Replies OutBroke Ran then h = tt
+line_ran (Err WriteFailed) Replies OutBroke Ran then (reply, is, broke) = then reply is
+line_ran (Err OutOfMemory) Replies OutBroke Ran then h = tt
 
 -- a reply was put, or a write failed
 module _ {S : Type 0} (takes fails : S → List ℕ → S → Type 0) (flushes flush_fails : S → S → Type 0) where

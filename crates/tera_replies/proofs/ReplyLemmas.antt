@@ -7,14 +7,14 @@ use Rattle.tera_report.specs.Refusal.{text_of}
 use Rattle.tera_meaning.specs.Answer
 use Rattle.tera_meaning.specs.Form.{Form}
 use Rattle.tera_meaning.specs.Kind.{kind_name}
-use Rattle.tera_meaning.specs.Meaning.{plain}
+use Rattle.tera_meaning.specs.Meaning.{layout}
 use Rattle.tera_meaning.specs.Outcome.{Outcome}
 use Rattle.tera_report.specs.Quoted.{quoted}
 use Rattle.tera_meaning.specs.Printed.{printed_with, is_exact_inside}
 use Rattle.tera_meaning.specs.Tree.{undefined, none, truth, number, text, bytes, array, object}
 use Rattle.tera_report.proofs.PutLaws.{some_text}
 use Rattle.tera_report.proofs.TellLaws.{some_telling, told_known}
-use Rattle.tera_replies.specs.Reply.{IsFormOf, IsReply, IsFixedReply, order_name}
+use Rattle.tera_replies.specs.Reply.{IsFormOf, IsListed, IsReply, IsFixedReply, order_name}
 
 -- the reply to an outcome is that to the same one
 pub same_reply : (outcome other : Outcome) (line : List ℕ) → outcome ≡ other → IsReply other line → IsReply outcome line
@@ -25,12 +25,12 @@ same_reply outcome other line is h =
 pub some_form : (v : Form) → (form : List ℕ) × IsFormOf v form
 some_form undefined = (codes "undefined", refl)
 some_form none = (codes "none", refl)
-some_form (truth b) = (printed_with quoted (plain (truth b)), λ exact. refl)
-some_form (number n) = (printed_with quoted (plain (number n)), λ exact. refl)
-some_form (text t) = (printed_with quoted (plain (text t)), λ exact. refl)
-some_form (bytes bs) = (printed_with quoted (plain (bytes bs)), λ exact. refl)
-some_form (array xs) = (printed_with quoted (plain (array xs)), λ exact. refl)
-some_form (object ps) = (printed_with quoted (plain (object ps)), λ exact. refl)
+some_form (truth b) = (printed_with quoted (layout (truth b)), λ exact. refl)
+some_form (number n) = (printed_with quoted (layout (number n)), λ exact. refl)
+some_form (text t) = (printed_with quoted (layout (text t)), λ exact. refl)
+some_form (bytes bs) = (printed_with quoted (layout (bytes bs)), λ exact. refl)
+some_form (array xs) = (printed_with quoted (layout (array xs)), λ exact. refl)
+some_form (object ps) = (printed_with quoted (layout (object ps)), λ exact. refl)
 
 one_text : (known : Option (List ℕ)) (words other : List ℕ) → IsSome known → IfSome known (λ t. words ≡ t)
     → IfSome known (λ t. other ≡ t) → words ≡ other
@@ -52,9 +52,10 @@ some_reply (Ok (Answer.size (Some n))) = (codes "size " ++ decimal n, refl)
 some_reply (Ok (Answer.kind kind)) = (codes "kind " ++ kind_name kind, refl)
 some_reply (Ok (Answer.text printed)) = (codes "text " ++ printed, refl)
 some_reply (Ok (Answer.texts texts)) = let listed = some_list texts in (codes "fields " ++ listed.0, (listed.0, listed.1, refl))
+some_reply (Ok (Answer.walked texts)) = let listed = some_list texts in (codes "walk " ++ listed.0, (listed.0, listed.1, refl))
 some_reply (Err refusal) = let told = some_telling refusal in (codes "error: " ++ told.0, (told.0, told.1, refl))
 
-one_form : (v : Form) (form other : List ℕ) → IsTrue (is_exact_inside (plain v)) → IsFormOf v form → IsFormOf v other → form ≡ other
+one_form : (v : Form) (form other : List ℕ) → IsTrue (is_exact_inside (layout v)) → IsFormOf v form → IsFormOf v other → form ≡ other
 one_form undefined form other exact h g = h ∙ sym g
 one_form none form other exact h g = h ∙ sym g
 one_form (truth b) form other exact h g = h exact ∙ sym (g exact)
@@ -63,6 +64,11 @@ one_form (text t) form other exact h g = h exact ∙ sym (g exact)
 one_form (bytes bs) form other exact h g = h exact ∙ sym (g exact)
 one_form (array xs) form other exact h g = h exact ∙ sym (g exact)
 one_form (object ps) form other exact h g = h exact ∙ sym (g exact)
+
+one_listed : (word : List ℕ) (texts : List (List ℕ)) (line other : List ℕ) → IsSome (debug_list debug_str texts) → IsListed word texts line
+    → IsListed word texts other → line ≡ other
+one_listed word texts line other fixed h g = h.2 ∙ ap (λ (listed : List ℕ). word ++ listed) (one_text (debug_list debug_str texts) h.0 g.0 fixed h.1 g.1)
+    ∙ sym g.2
 
 pub one_reply : (outcome : Outcome) (line other : List ℕ) → IsFixedReply outcome → IsReply outcome line → IsReply outcome other → line ≡ other
 one_reply (Ok Answer.done) line other fixed h g = h ∙ sym g
@@ -75,7 +81,7 @@ one_reply (Ok (Answer.size None)) line other fixed h g = h ∙ sym g
 one_reply (Ok (Answer.size (Some n))) line other fixed h g = h ∙ sym g
 one_reply (Ok (Answer.kind kind)) line other fixed h g = h ∙ sym g
 one_reply (Ok (Answer.text printed)) line other fixed h g = h ∙ sym g
-one_reply (Ok (Answer.texts texts)) line other fixed h g = h.2 ∙ ap (λ (listed : List ℕ). codes "fields " ++ listed)
-    (one_text (debug_list debug_str texts) h.0 g.0 fixed h.1 g.1) ∙ sym g.2
+one_reply (Ok (Answer.texts texts)) line other fixed h g = one_listed (codes "fields ") texts line other fixed h g
+one_reply (Ok (Answer.walked texts)) line other fixed h g = one_listed (codes "walk ") texts line other fixed h g
 one_reply (Err refusal) line other fixed h g = h.2 ∙ ap (λ (words : List ℕ). codes "error: " ++ words)
     (one_text (text_of refusal) h.0 g.0 fixed (told_known refusal h.0 h.1) (told_known refusal g.0 g.1)) ∙ sym g.2

@@ -10,7 +10,7 @@ use Rattle.tera_report.specs.Refusal.{Tells, text_of}
 use Rattle.tera_meaning.specs.Answer
 use Rattle.tera_meaning.specs.Form.{Form}
 use Rattle.tera_meaning.specs.Kind.{kind_name}
-use Rattle.tera_meaning.specs.Meaning.{plain}
+use Rattle.tera_meaning.specs.Meaning.{layout}
 use Rattle.tera_meaning.specs.Outcome.{Outcome}
 use Rattle.tera_meaning.specs.Printed.{is_exact_inside, PrintsInside}
 use Rattle.tera_meaning.specs.Tree.{undefined, none, truth, number, text, bytes, array, object}
@@ -27,12 +27,16 @@ order_name (Some Greater) = codes "greater"
 abbrev pub IsFormOf : Form → List ℕ → Type 0
 IsFormOf undefined form = form ≡ codes "undefined"
 IsFormOf none form = form ≡ codes "none"
-IsFormOf (truth b) form = PrintsInside (plain (truth b)) form
-IsFormOf (number n) form = PrintsInside (plain (number n)) form
-IsFormOf (text t) form = PrintsInside (plain (text t)) form
-IsFormOf (bytes bs) form = PrintsInside (plain (bytes bs)) form
-IsFormOf (array xs) form = PrintsInside (plain (array xs)) form
-IsFormOf (object ps) form = PrintsInside (plain (object ps)) form
+IsFormOf (truth b) form = PrintsInside (layout (truth b)) form
+IsFormOf (number n) form = PrintsInside (layout (number n)) form
+IsFormOf (text t) form = PrintsInside (layout (text t)) form
+IsFormOf (bytes bs) form = PrintsInside (layout (bytes bs)) form
+IsFormOf (array xs) form = PrintsInside (layout (array xs)) form
+IsFormOf (object ps) form = PrintsInside (layout (object ps)) form
+
+-- some texts are listed in debug form, behind a word
+abbrev pub IsListed : List ℕ → List (List ℕ) → List ℕ → Type 0
+IsListed word texts line = (listed : List ℕ) × QuotesList texts listed × (line ≡ word ++ listed)
 
 -- the reply to a call, without its line feed. A text stands there as it is, line feeds and all
 abbrev pub IsReply : Outcome → List ℕ → Type 0
@@ -47,8 +51,8 @@ IsReply (Ok (Answer.size None)) line = line ≡ codes "nothing"
 IsReply (Ok (Answer.size (Some n))) line = line ≡ codes "size " ++ decimal n
 IsReply (Ok (Answer.kind kind)) line = line ≡ codes "kind " ++ kind_name kind
 IsReply (Ok (Answer.text printed)) line = line ≡ codes "text " ++ printed
-IsReply (Ok (Answer.texts texts)) line =
-    (listed : List ℕ) × QuotesList texts listed × (line ≡ codes "fields " ++ listed)
+IsReply (Ok (Answer.texts texts)) line = IsListed (codes "fields ") texts line
+IsReply (Ok (Answer.walked texts)) line = IsListed (codes "walk ") texts line
 IsReply (Err refusal) line =
     (words : List ℕ) × Tells refusal words × (line ≡ codes "error: " ++ words)
 
@@ -57,6 +61,10 @@ abbrev pub IsReplyLine : Outcome → List ℕ → Type 0
 IsReplyLine outcome written =
     (line : List ℕ) × IsReply outcome line × (written ≡ ended line)
 
+abbrev pub IsListedLine : List ℕ → List (List ℕ) → List ℕ → Type 0
+IsListedLine word texts written =
+    (line : List ℕ) × IsListed word texts line × (written ≡ ended line)
+
 -- the reply is one text alone: but where a value that is found, or a list of texts, quotes a text
 -- past ASCII, and where the text of a refusal is not known
 abbrev pub IsFixedReply : Outcome → Type 0
@@ -64,11 +72,12 @@ IsFixedReply (Ok Answer.done) = ⊤
 IsFixedReply (Ok (Answer.truth b)) = ⊤
 IsFixedReply (Ok (Answer.order order)) = ⊤
 IsFixedReply (Ok (Answer.found None)) = ⊤
-IsFixedReply (Ok (Answer.found (Some value))) = IsTrue (is_exact_inside (plain value))
+IsFixedReply (Ok (Answer.found (Some value))) = IsTrue (is_exact_inside (layout value))
 IsFixedReply (Ok (Answer.size n)) = ⊤
 IsFixedReply (Ok (Answer.kind kind)) = ⊤
 IsFixedReply (Ok (Answer.text printed)) = ⊤
 IsFixedReply (Ok (Answer.texts texts)) = IsSome (debug_list debug_str texts)
+IsFixedReply (Ok (Answer.walked texts)) = IsSome (debug_list debug_str texts)
 IsFixedReply (Err refusal) = IsSome (text_of refusal)
 
 -- one reply with its line feed for each, in order, and nothing else

@@ -95,6 +95,13 @@ LineStops n old line OutStays OutBroke WriteFailed =
     × OutBroke text
 LineStops n old line OutStays OutBroke OutOfMemory = OutStays
 
+-- this stands where a failed write ended one line
+abbrev pub IfWriteFailed : Type 0 → Fault → Type 0
+IfWriteFailed Ran (BadLine report) = Unit {0}
+IfWriteFailed Ran ReadFailed = Unit {0}
+IfWriteFailed Ran WriteFailed = Ran
+IfWriteFailed Ran OutOfMemory = Unit {0}
+
 -- what stands where a fault ended the writing of a reply: a failed write alone does
 abbrev pub ReplyStops : (List ℕ → Type 0) → (List ℕ → Type 0) → Fault → Type 0
 ReplyStops Replies OutBroke (BadLine report) = ⊥

@@ -6,11 +6,11 @@ ghost use Rattle.tera_report.specs.Errors.{kind_of, refusal_of};
 ghost use Rattle.tera_report.specs.Quoted.{QuotesList};
 ghost use Rattle.tera_report.specs.Refusal.{Tells};
 ghost use Rattle.tera_report.specs.Sink.{Puts, PutsThese, Sends};
-ghost use Rattle.tera_meaning.specs.Answer.{found, texts};
+ghost use Rattle.tera_meaning.specs.Answer.{found};
 ghost use Rattle.tera_meaning.specs.Outcome.{is_want};
 ghost use Rattle.tera_context.specs.Call.{answer_of};
 ghost use Rattle.tera_replies.specs.Output.{BrokeOn};
-ghost use Rattle.tera_replies.specs.Reply.{IsFormOf, IsReplyLine, order_name};
+ghost use Rattle.tera_replies.specs.Reply.{IsFormOf, IsListedLine, IsReplyLine, order_name};
 ghost use Rattle.tera_replies.specs.Script.{ended};
 ghost use Rattle.tera_replies.specs.Stated.{outcome_stated};
 ghost use Rattle.tera_replies.specs.Stretch.{ReplyStops};
@@ -70,7 +70,8 @@ fn put_answer<W: Sink>(answer: &Answer, out: &mut W) -> Result<(), WriteError>
         Answer::Size(Some(size)) => put_size(*size, out),
         Answer::Kind(kind) => put_line("kind ", kind.name(), out),
         Answer::Text(text) => put_line("text ", text.as_str(), out),
-        Answer::Texts(names) => put_fields(names.as_slice(), out),
+        Answer::Texts(names) => put_texts("fields ", names.as_slice(), out),
+        Answer::Walked(names) => put_texts("walk ", names.as_slice(), out),
     }
 }
 
@@ -95,14 +96,14 @@ fn put_size<W: Sink>(size: usize, out: &mut W) -> Result<(), WriteError>
     put_line("size ", digits.format(size), out)
 }
 
-// Puts the line for the names of fields.
+// Puts the line for some texts, behind a word.
 #[inline(never)]
-fn put_fields<W: Sink>(names: &[String], out: &mut W) -> Result<(), WriteError>
+fn put_texts<W: Sink>(word: &str, texts: &[String], out: &mut W) -> Result<(), WriteError>
     ensures { Puts W.takes W.fails result
-        (IsReplyLine (Ok (texts (map string_bytes names.now)))) out.old out.new }
+        (IsListedLine word.now (map string_bytes texts.now)) out.old out.new }
 {
-    put("fields ", out)?;
-    put_list(names, out)?;
+    put(word, out)?;
+    put_list(texts, out)?;
     put("\n", out)
 }
 

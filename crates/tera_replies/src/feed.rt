@@ -1,13 +1,15 @@
 //! From pieces of a script to its lines, each answered once it is whole.
-ghost use Rattle.std.specs.Prelude.{◌≡◌, ◌+◌, ◌^◌, ◌<◌, ◌≤◌, ℕ, Bool, ◌||◌, List, [], ◌∷◌, ◌++◌};
+ghost use Rattle.std.specs.Prelude.{◌≡◌, ◌≢◌, ◌+◌, ◌^◌, ◌<◌, ◌≤◌, ℕ, Bool, ◌||◌, List, [], ◌∷◌};
+ghost use Rattle.std.specs.Prelude.{◌++◌};
 ghost use Rattle.std.specs.Prelude.{IfOk, OnOk, IfErr, IfSome, IfNone, length};
 ghost use Rattle.tera_report.specs.Sink.{Sends};
 ghost use Rattle.tera_report.specs.Errors.{report_of};
-ghost use Rattle.tera_replies.specs.declared.fault.Fault.TheVariants.{OutOfMemory};
+ghost use Rattle.tera_replies.specs.declared.fault.Fault.TheVariants.{OutOfMemory, WriteFailed};
 ghost use Rattle.tera_replies.specs.Output.{BrokeOn};
 ghost use Rattle.tera_replies.specs.Replay.{line_report, source_of, whole_line};
 ghost use Rattle.tera_replies.specs.Script.{HasNoLineFeed, without_return, last_line, ended};
-ghost use Rattle.tera_replies.specs.Stretch.{bad_at, Goes, Runs, Stops, LineStops, start};
+ghost use Rattle.tera_replies.specs.Stretch.{bad_at, Goes, IfWriteFailed, Runs, Stops, LineStops};
+ghost use Rattle.tera_replies.specs.Stretch.{start};
 
 use crate::answer::write_answer;
 use crate::fault::Fault;
@@ -150,8 +152,13 @@ impl Feed {
     }
 }
 
-// Answers a line, and says whether the answer was want of memory.
-fn answer_line<W: Sink>(
+/// Answers one line, which comes without its end of line, and says whether the answer was want of
+/// memory. The report of a bad line calls it by the number.
+///
+/// `BadLine` where the line is bad, `OutOfMemory` where no memory is found to read it or to report
+/// it: then nothing has changed. `WriteFailed` where the sink refused a part of the reply: then
+/// the line was run. Takes memory for what the line names and brings, and for its report.
+pub fn answer_line<W: Sink>(
     alloc: Global,
     number: u128,
     line: &[u8],
@@ -164,6 +171,9 @@ fn answer_line<W: Sink>(
     ensures err { IfErr result (LineStops number context.old line.now
         (Sends W.takes W.flushes out.old [] out.new)
         (λ text. BrokeOn W.takes W.fails W.flushes W.flush_fails out.old text out.new)) }
+    ensures unchanged { IfErr result (λ fault. fault ≢ WriteFailed → context.new ≡ context.old) }
+    ensures ran { IfErr result (IfWriteFailed ((text : List ℕ) × (wanted : Bool)
+        × Runs number context.old (line.now ∷ []) text wanted context.new)) }
 {
     match read_line(alloc, line)? {
         Reading::Skipped => Ok(false),

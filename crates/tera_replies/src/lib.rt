@@ -10,5 +10,6 @@ mod source;
 mod terse;
 
 pub use fault::Fault;
+pub use feed::answer_line;
 pub use replays::{replay, replay_from};
 pub use source::{InputPieces, ReadError, Source};

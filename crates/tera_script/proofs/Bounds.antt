@@ -9,12 +9,13 @@ use Rattle.tera_meaning.specs.Integer.{i128, IsOfKind}
 use Rattle.tera_script.specs.declared.bound.Bounds.{Bounds}
 use Rattle.tera_script.specs.Line.{IsBound, SpellsBound, SpellsBounds}
 use Rattle.tera_script.specs.Number.{sign_of, signed}
+use Rattle.tera_script.specs.inner.Command.{Begins}
 use Rattle.tera_script.specs.Readers.{Stops, front, past, gap_at, is_word_byte, digits_at, small_in, bound_in, bound_at, bounds_at}
 use Rattle.tera_script.proofs.Fronts.{empty_list, front_cut, past_stops, front_is, past_is}
 use Rattle.tera_script.proofs.Integers.{magnitude_fits, digits_at_found, digits_at_only}
 use Rattle.tera_script.proofs.Names.{gap_found, gap_only}
 use Rattle.tera_script.proofs.Operands.{gap_ends_word}
-use Rattle.tera_script.proofs.Words.{cut_word, numeral_is_word, word_is_not_blank}
+use Rattle.tera_script.proofs.Words.{numeral_is_word, word_is_not_blank}
 
 -- a number with this sign and no suffix, which i128 holds
 abbrev IsSmallNumber : Bool → List ℕ → ℤ → Type 0
@@ -57,24 +58,17 @@ bound_only word (Some z) (false, d ∷ digits, numeral, spelled, value, small) =
     rw spelled (grind (arith, nat_tests, digit_from_value d numeral.1.0))
 
 -- a bound behind a gap
-pub record HasBound (bytes : List ℕ) (bound : Option ℤ) (rest : List ℕ) : Type 0 where
-  pub part : List ℕ
-  pub spells : SpellsBound part bound
-  pub spelled : bytes ≡ part ++ rest
-  pub stops : Stops is_word_byte rest
-
-pub bound_at_found : (bytes : List ℕ) (bound : Option ℤ) (rest : List ℕ) → bound_at bytes ≡ Some (bound, rest) → HasBound bytes bound rest
+pub bound_at_found : (bytes : List ℕ) (bound : Option ℤ) (rest : List ℕ) → bound_at bytes ≡ Some (bound, rest)
+    → Begins SpellsBound bytes bound rest × Stops is_word_byte rest
 unfolding bound_at
 bound_at_found bytes bound rest e =
     let h : (word : List ℕ) × (gap_at bytes ≡ Some word) × (bound_in (front is_word_byte word) ≡ Some bound) × (past is_word_byte word ≡ rest) = grind arith in
     let gap = gap_found bytes h.0 h.1 in
     let word = front is_word_byte h.0 in
-    record {
-      part = gap.gap ++ word;
-      spells = (gap.gap, word, gap.blanks, bound_found word bound h.2, refl);
-      spelled = gap.spelled ∙ ap (λ xs. gap.gap ++ xs) (front_cut is_word_byte h.0 rest h.3) ∙ sym (append_assoc gap.gap word rest);
-      stops = subst (Stops is_word_byte) h.3 (past_stops is_word_byte h.0);
-    }
+    let spelled = gap.spelled ∙ ap (λ xs. gap.gap ++ xs) (front_cut is_word_byte h.0 rest h.3) ∙ sym (append_assoc gap.gap word rest) in (
+      record { part = gap.gap ++ word; spells = (gap.gap, word, gap.blanks, bound_found word bound h.2, refl); spelled = spelled },
+      subst (Stops is_word_byte) h.3 (past_stops is_word_byte h.0),
+    )
 
 -- the word of a bound can stand in a literal without quotes, and has a byte
 bound_is_word : (word : List ℕ) (bound : Option ℤ) → IsBound word bound → (0 < length word) × (list_all is_word_byte word ≡ true)
@@ -92,27 +86,24 @@ bound_at_only part bound rest h s =
     rw (at_word, front_is is_word_byte h.1 rest all.1 s, past_is is_word_byte h.1 rest all.1 s, bound_only h.1 bound h.3) refl
 
 -- three bounds
-pub record HasBounds (bytes : List ℕ) (bounds : Bounds) (rest : List ℕ) : Type 0 where
-  pub part : List ℕ
-  pub spells : SpellsBounds part bounds
-  pub spelled : bytes ≡ part ++ rest
-  pub stops : Stops is_word_byte rest
-
-pub bounds_found : (bytes : List ℕ) (bounds : Bounds) (rest : List ℕ) → bounds_at bytes ≡ Some (bounds, rest) → HasBounds bytes bounds rest
+pub bounds_found : (bytes : List ℕ) (bounds : Bounds) (rest : List ℕ) → bounds_at bytes ≡ Some (bounds, rest)
+    → Begins SpellsBounds bytes bounds rest × Stops is_word_byte rest
 unfolding bounds_at
 bounds_found bytes bounds rest e =
     let h : (a b : List ℕ) × (bound_at bytes ≡ Some (bounds.start, a)) × (bound_at a ≡ Some (bounds.end, b)) × (bound_at b ≡ Some (bounds.step, rest)) =
     grind arith in
-    let first = bound_at_found bytes bounds.start h.0 h.2 in
-    let second = bound_at_found h.0 bounds.end h.1 h.3 in
-    let third = bound_at_found h.1 bounds.step rest h.4 in
-    record {
-      part = first.part ++ (second.part ++ third.part);
-      spells = (first.part, second.part, third.part, first.spells, second.spells, third.spells, refl);
-      spelled = first.spelled ∙ ap (λ xs. first.part ++ xs) (second.spelled ∙ ap (λ xs. second.part ++ xs) third.spelled
-          ∙ sym (append_assoc second.part third.part rest)) ∙ sym (append_assoc first.part (second.part ++ third.part) rest);
-      stops = third.stops;
-    }
+    let first = (bound_at_found bytes bounds.start h.0 h.2).0 in
+    let second = (bound_at_found h.0 bounds.end h.1 h.3).0 in
+    let last = bound_at_found h.1 bounds.step rest h.4 in
+    let third = last.0 in
+    let behind = second.spelled ∙ ap (λ xs. second.part ++ xs) third.spelled ∙ sym (append_assoc second.part third.part rest) in (
+      record {
+        part = first.part ++ (second.part ++ third.part);
+        spells = (first.part, second.part, third.part, first.spells, second.spells, third.spells, refl);
+        spelled = first.spelled ∙ ap (λ xs. first.part ++ xs) behind ∙ sym (append_assoc first.part (second.part ++ third.part) rest);
+      },
+      last.1,
+    )
 
 -- no word goes on where a bound follows
 pub bound_ends_word : (part : List ℕ) (bound : Option ℤ) (rest : List ℕ) → SpellsBound part bound → Stops is_word_byte (part ++ rest)
@@ -129,13 +120,3 @@ bounds_only part bounds rest h s =
     let second = bound_at_only h.1 bounds.end (h.2 ++ rest) h.4 (bound_ends_word h.2 bounds.step rest h.5) in
     let third = bound_at_only h.2 bounds.step rest h.5 s in
     rw (spelled, first, second, third) refl
-
--- the bound in the bytes of the word behind a gap
-module _ (bytes word rest : List ℕ) (g : gap_at bytes ≡ Some word) (r : rest ≡ past is_word_byte word) where
-  pub bound_none : bound_in (take (length word - length rest) word) ≡ None → bound_at bytes ≡ None
-  unfolding bound_at
-  bound_none e = rw (g, sym (ap bound_in (cut_word word rest r)) ∙ e)
-
-  pub bound_some : (bound : Option ℤ) → bound_in (take (length word - length rest) word) ≡ Some bound → bound_at bytes ≡ Some (bound, rest)
-  unfolding bound_at
-  bound_some bound e = rw (g, sym (ap bound_in (cut_word word rest r)) ∙ e, r)

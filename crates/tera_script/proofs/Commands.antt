@@ -20,7 +20,7 @@ use Rattle.tera_script.specs.inner.Call.{IsOfShape, IsVerbOf, given_in, request_
 use Rattle.tera_script.specs.inner.Command.{Begins, IsGivenAt, EndsIn, AreOperandsOf, IsCommandAt}
 use Rattle.tera_script.proofs.Names.{name_found, name_only}
 use Rattle.tera_script.proofs.Operands.{HasInto, into_found, into_only, into_ends_word}
-use Rattle.tera_script.proofs.Utf8Fronts.{utf8_past_name}
+use Rattle.tera_script.proofs.Utf8.{utf8_past_name}
 use Rattle.tera_script.proofs.Values.{parts_of}
 use Rattle.tera_script.proofs.Verbs.{same_verb, word_is_name}
 

@@ -2,6 +2,8 @@
 use Rattle.std.proofs.Common.{◌≡◌, ◌≢◌, ◌+◌, Option, Some, None, ◌-◌, ◌≤◌, ℕ, Bool, true, false, ◌&&◌, List, [], ◌∷◌, ◌++◌, length, take, drop, refl, ap, sym}
 use Rattle.std.proofs.Common.{◌∙◌, arith, append_assoc, length-append}
 use Rattle.std.proofs.lemmas.List.{take_at, drop_at}
+use Rattle.std.proofs.lemmas.Option.{some_pair_parts}
+use Rattle.std.proofs.lemmas.Str.{encode_ascii}
 use Rattle.std.specs.Borrow.{Bor}
 use Rattle.std.specs.List.{list_all}
 use Rattle.std.specs.Prelude.{◌==◌, MatchOption}
@@ -9,7 +11,7 @@ use Rattle.std.specs.Cmp.Lexicographic.{pointwise}
 use Rattle.std.proofs.lemmas.Slice.Eq.{strip_prefix_is}
 use Rattle.std.proofs.lemmas.Bool.Decides.{nat_tests, Decides-eqb}
 use Rattle.tera_script.specs.Word.{is_blank}
-use Rattle.tera_script.specs.Readers.{Stops, front, past, is_word_byte}
+use Rattle.tera_script.specs.Readers.{Stops, front, past, is_word_byte, behind}
 
 abbrev pub head : List ℕ → ℕ
 head [] = 0
@@ -56,26 +58,40 @@ module _ (p : ℕ → Bool) where
   past_is [] ys h s = past_at_stop ys s
   past_is (b ∷ xs) ys h s = grind (arith, past_is xs ys)
 
-  -- where the bytes are cut that end in what stands behind the front
-  pub length-past : (front' xs bytes : List ℕ) → bytes ≡ front' ++ xs → length (past p xs) ≤ length bytes
-  length-past front' xs bytes e = omega (arith, ap length e, length-append front' xs, ap length (front-past xs), length-append (front p xs) (past p xs))
+  -- where the bytes are cut before those behind the front
+  pub length-past : (xs : List ℕ) → length (past p xs) ≤ length xs
+  length-past xs = omega (arith, ap length (front-past xs), length-append (front p xs) (past p xs))
 
-  cut_at : (front' xs bytes : List ℕ) → bytes ≡ front' ++ xs → bytes ≡ (front' ++ front p xs) ++ past p xs
-  cut_at front' xs bytes e = e ∙ ap (λ ys. front' ++ ys) (sym (front-past xs)) ∙ sym (append_assoc front' (front p xs) (past p xs))
-
-  cut_length : (front' xs bytes : List ℕ) → bytes ≡ front' ++ xs → length (front' ++ front p xs) ≡ length bytes - length (past p xs)
-  cut_length front' xs bytes e = omega (arith, ap length (cut_at front' xs bytes e), length-append (front' ++ front p xs) (past p xs))
-
-  pub take_to_past : (front' xs bytes : List ℕ) → bytes ≡ front' ++ xs → take (length bytes - length (past p xs)) bytes ≡ front' ++ front p xs
-  take_to_past front' xs bytes e = ap (take (length bytes - length (past p xs))) (cut_at front' xs bytes e) ∙ take_at (front' ++ front p xs) (past p xs)
-      (length bytes - length (past p xs)) (cut_length front' xs bytes e)
-
-  pub drop_to_past : (front' xs bytes : List ℕ) → bytes ≡ front' ++ xs → drop (length bytes - length (past p xs)) bytes ≡ past p xs
-  drop_to_past front' xs bytes e = ap (drop (length bytes - length (past p xs))) (cut_at front' xs bytes e) ∙ drop_at (front' ++ front p xs) (past p xs)
-      (length bytes - length (past p xs)) (cut_length front' xs bytes e)
+  pub past_cut : (xs : List ℕ) → (past p xs ≡ past p xs) × (length (past p xs) ≤ length xs) × (take (length xs - length (past p xs)) xs ≡ front p xs)
+      × (drop (length xs - length (past p xs)) xs ≡ past p xs)
+  past_cut xs =
+      let n = length xs - length (past p xs) in
+      let is : length (front p xs) ≡ n = omega (arith, ap length (front-past xs), length-append (front p xs) (past p xs)) in (
+        refl,
+        length-past xs,
+        ap (take n) (sym (front-past xs)) ∙ take_at (front p xs) (past p xs) n is,
+        ap (drop n) (sym (front-past xs)) ∙ drop_at (front p xs) (past p xs) n is,
+      )
 
   pub front_cut : (xs ys : List ℕ) → past p xs ≡ ys → xs ≡ front p xs ++ ys
   front_cut xs ys h = sym (front-past xs) ∙ ap (λ zs. front p xs ++ zs) h
+
+-- the bytes of an ASCII character
+pub ruleset ascii = (encode_ascii)
+
+-- some bytes, and then those that were read
+pub behind_nothing : (read : Option (List ℕ × List ℕ)) → behind [] read ≡ read
+behind_nothing None = refl
+behind_nothing (Some found) = refl
+
+pub behind_both : (xs ys : List ℕ) (read : Option (List ℕ × List ℕ)) → behind xs (behind ys read) ≡ behind (xs ++ ys) read
+behind_both xs ys None = refl
+behind_both xs ys (Some found) = ap (λ zs. Some (zs, found.1)) (sym (append_assoc xs ys found.0))
+
+pub behind_found : (front' : List ℕ) (read : Option (List ℕ × List ℕ)) (t rest : List ℕ) → behind front' read ≡ Some (t, rest)
+    → (u : List ℕ) × (read ≡ Some (u, rest)) × (t ≡ front' ++ u)
+behind_found front' None t rest e = cc
+behind_found front' (Some (u, r)) t rest e = let same = some_pair_parts (front' ++ u) t r rest e in (u, (λ i. Some (u, same.1 i)), sym same.0)
 
 pub blank_ends_word : (b : ℕ) → is_blank b ≡ true → is_word_byte b ≡ false
 blank_ends_word b h = grind (arith, nat_tests)

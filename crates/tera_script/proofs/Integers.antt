@@ -1,28 +1,22 @@
 -- Numbers: what the reader gives is spelled so, and what is spelled so is read.
-use Rattle.std.proofs.Common.{◌≡◌, ◌<◌, ◌^◌, ℕ, zero, suc, ℤ, pos, negsuc, Bool, true, false, ◌&&◌, eqb, ltb, List, [], ◌∷◌, ◌++◌}
-use Rattle.std.proofs.Common.{length, Option, Some, None, refl, ap, sym, ◌∙◌, ◌⊎◌, inl, inr, arith, append_assoc, subst}
-use Rattle.std.specs.Char.{is_ascii_digit}
+use Rattle.std.proofs.Common.{◌≡◌, ◌≢◌, ◌+◌, ◌*◌, ◌<◌, ◌≤◌, ◌^◌, ℕ, zero, suc, ℤ, pos, negsuc, Bool, true, false, ◌&&◌, eqb, ltb, List, [], ◌∷◌, ◌++◌}
+use Rattle.std.proofs.Common.{length, Option, Some, None, refl, ap, sym, ◌∙◌, ◌⊎◌, inl, inr, arith, append_assoc, length-append, subst}
+use Rattle.std.specs.Char.{digit_value, is_ascii_digit}
 use Rattle.std.specs.List.{list_all}
-use Rattle.std.specs.Str.Parse.{AllDigits, IsNumeral, digits_value}
+use Rattle.std.specs.Str.Parse.{AllDigits, IsNumeral, digits_value, digits_value_after}
 use Rattle.std.proofs.lemmas.Bool.Decides.{nat_tests}
 use Rattle.std.proofs.lemmas.Slice.Eq.{bytes_eq-Decides}
 use Rattle.std.proofs.lemmas.Str.Parse.{digit_from_value}
 use Rattle.tera_meaning.specs.Kind.{integer_kind_name}
 use Rattle.tera_meaning.specs.Integer.{IntegerKind, u64, i64, u128, i128, Integer, IsOfKind}
 use Rattle.tera_script.specs.Number.{sign_of, suffix_of, signed, IsSignFor, IsFirstKind, IsKindFor, SpellsNumber}
-use Rattle.tera_script.specs.Readers.{Stops, front, past, digits_at, if_named, suffix_in, is_of_kind, is_sign_for, in_kind, integer_of, unsigned_in, number_in}
-use Rattle.tera_script.proofs.Fronts.{front-past, front_all, past_stops, front_is, past_is, both_pass, front_cut}
-use Rattle.tera_script.proofs.Choices.{chosen}
+use Rattle.tera_script.specs.Readers.{Stops, digits_from, digits_at, if_named, suffix_in, is_of_kind, is_sign_for, in_kind, integer_of, unsigned_in, number_in}
 
 -- the tests and the facts
 pub magnitude_fits : (kind : IntegerKind) (minus : Bool) (m : ℕ) → IsOfKind kind (signed minus m) → m < 2 ^ 128
 magnitude_fits kind minus m h = grind arith
 
--- the word of digits
-digits_found : (bytes : List ℕ) → list_all is_ascii_digit bytes ≡ true → AllDigits 10 bytes
-digits_found [] e = tt
-digits_found (b ∷ bytes) e = grind (arith, nat_tests, digits_found bytes)
-
+-- digits, as a test
 pub digits_only : (bytes : List ℕ) → AllDigits 10 bytes → list_all is_ascii_digit bytes ≡ true
 digits_only [] h = refl
 digits_only (b ∷ bytes) h = grind (arith, nat_tests, digit_from_value, digits_only bytes)
@@ -57,25 +51,49 @@ pub record HasDigits (bytes : List ℕ) (m : ℕ) (rest : List ℕ) : Type 0 whe
   pub spelled : bytes ≡ digits ++ rest
   pub stops : Stops is_ascii_digit rest
 
+digits_found : (n : ℕ) (bytes : List ℕ) (m : ℕ) (rest : List ℕ) → digits_from n bytes ≡ Some (m, rest)
+    → (digits : List ℕ) × AllDigits 10 digits × (m ≡ digits_value_after 10 n digits) × (bytes ≡ digits ++ rest) × Stops is_ascii_digit rest
+digits_found n [] m rest e = grind arith
+digits_found n (b ∷ bytes) m rest e =
+    let h : ((digit_value b < 10) × (digits_from (n * 10 + digit_value b) bytes ≡ Some (m, rest)))
+    ⊎ ((is_ascii_digit b ≡ false) × (m ≡ n) × (b ∷ bytes ≡ rest)) = grind (arith, nat_tests) in
+    elim h [
+      | inl h ↦ let more = digits_found (n * 10 + digit_value b) bytes m rest h.1 in
+          (b ∷ more.0, (h.0, more.1), more.2, ap (λ xs. b ∷ xs) more.3, more.4)
+      | inr h ↦ ([], tt, h.1, h.2, subst (Stops is_ascii_digit) h.2 h.0)
+    ]
+
 pub digits_at_found : (bytes : List ℕ) (m : ℕ) (rest : List ℕ) → digits_at bytes ≡ Some (m, rest) → HasDigits bytes m rest
 unfolding digits_at
 digits_at_found bytes m rest e =
-    let ds = front is_ascii_digit bytes in
-    let h : (0 < length ds) × (m ≡ digits_value 10 ds) × (past is_ascii_digit bytes ≡ rest) = grind (arith, nat_tests) in
+    let h : (digits_from 0 bytes ≡ Some (m, rest)) × (length rest ≢ length bytes) = grind (arith, nat_tests) in
+    let found = digits_found 0 bytes m rest h.0 in
     record {
-      digits = ds;
-      numeral = (h.0, digits_found ds (front_all is_ascii_digit bytes));
-      value = h.1;
-      spelled = front_cut is_ascii_digit bytes rest h.2;
-      stops = subst (Stops is_ascii_digit) h.2 (past_stops is_ascii_digit bytes);
+      digits = found.0;
+      numeral = (omega (arith, h.1, ap length found.3, length-append found.0 rest), found.1);
+      value = found.2;
+      spelled = found.3;
+      stops = found.4;
     }
+
+-- digits make no number smaller
+value_ge : (n : ℕ) (digits : List ℕ) → n ≤ digits_value_after 10 n digits
+value_ge n [] = omega arith
+value_ge n (b ∷ digits) = omega (arith, value_ge (n * 10 + digit_value b) digits)
+
+digits_read : (n : ℕ) (digits rest : List ℕ) → AllDigits 10 digits → digits_value_after 10 n digits < 2 ^ 128 → Stops is_ascii_digit rest
+    → digits_from n (digits ++ rest) ≡ Some (digits_value_after 10 n digits, rest)
+digits_read n [] [] h small s = refl
+digits_read n [] (b ∷ rest) h small s = grind arith
+digits_read n (d ∷ digits) rest h small s =
+    let m = n * 10 + digit_value d in
+    grind (arith, nat_tests, digit_from_value d h.0, value_ge m digits, digits_read m digits rest h.1 small s)
 
 pub digits_at_only : (digits rest : List ℕ) → IsNumeral 10 digits → digits_value 10 digits < 2 ^ 128 → Stops is_ascii_digit rest
     → digits_at (digits ++ rest) ≡ Some (digits_value 10 digits, rest)
 unfolding digits_at
 digits_at_only digits rest n small s =
-    let all = digits_only digits n.1 in
-    rw (front_is is_ascii_digit digits rest all s, past_is is_ascii_digit digits rest all s) (grind (arith, nat_tests, n.0))
+    rw (digits_read 0 digits rest n.1 small s) (grind (arith, nat_tests, n.0, length-append digits rest))
 
 -- whole numbers
 unsigned_found : (minus : Bool) (bytes : List ℕ) (n : Integer) → unsigned_in minus bytes ≡ Some n → SpellsNumber (sign_of minus ++ bytes) n

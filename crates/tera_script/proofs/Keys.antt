@@ -16,7 +16,7 @@ use Rattle.tera_script.specs.Readers.{Stops, front, past, digits_at, unsigned_in
 use Rattle.tera_script.specs.Readers.{IsQuotedAt}
 use Rattle.tera_script.proofs.Fronts.{front-past, front_is, past_stops}
 use Rattle.tera_script.proofs.Integers.{number_found, number_only}
-use Rattle.tera_script.proofs.Words.{number_is_word}
+use Rattle.tera_script.proofs.Words.{number_is_word, other_word}
 use Rattle.tera_script.proofs.Literals.{quoted_some, key_literal}
 use Rattle.tera_script.proofs.Openings.{stands, quoted_utf8, stops_end}
 use Rattle.tera_script.proofs.Shapes.{quoted_bytes}
@@ -31,7 +31,9 @@ key_found word k e = grind (arith, bytes_eq-Decides, number_found)
 
 number_key_only : (word : List ℕ) (n : Integer) → SpellsNumber word n → key_in word ≡ Some (number_key n)
 unfolding key_in number_in unsigned_in digits_at
-number_key_only word n h = let e = number_only word n h in grind (arith, bytes_eq-Decides)
+number_key_only word n h =
+    let e = number_only word n h in
+    rw (other_word word (codes "true") n e refl, other_word word (codes "false") n e refl) (ap (option_map number_key) e)
 
 -- where no word that is a key and no quote stands at the front, no key does
 module _ (xs rest : List ℕ) (n : key_in (front is_word_byte xs) ≡ None) (stops : Stops is_word_byte rest) where

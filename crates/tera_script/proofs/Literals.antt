@@ -19,10 +19,10 @@ use Rattle.tera_script.specs.Readers.{BeginsWithPair, Ends, IsLiteralAt, IsQuote
 use Rattle.tera_script.proofs.Fronts.{head, tail, bracket_or_comma}
 use Rattle.tera_script.proofs.Openings.{Opening, plain, quoted, hex, bracket, brace, opened, IsOpening, opening_is, Stands, stands, stops_end, literal_of}
 use Rattle.tera_script.proofs.Openings.{quoted_utf8}
-use Rattle.tera_script.proofs.Parts.{AreClosedBy, IsOnlyPart, only_all}
+use Rattle.tera_script.proofs.Series.{AreClosedBy, IsOnlyPart, only_all}
 use Rattle.tera_script.proofs.Shapes.{key_tree}
 use Rattle.tera_script.proofs.Texts.{one_reading, text_is_utf8}
-use Rattle.tera_script.proofs.Utf8Texts.{after_byte}
+use Rattle.tera_script.proofs.Utf8.{after_byte}
 use Rattle.tera_script.proofs.Words.{value_is_flat, no_value_nowhere, word_is_value}
 use Rattle.tera_values.specs.Key.{key_value}
 use Rattle.tera_values.specs.View.{marked}

@@ -1,12 +1,12 @@
 -- The pairs of a map: one pair, and the loop over them.
-use Rattle.std.proofs.Common.{◌≡◌, ◌≢◌, ◌≤◌, ℕ, suc, max, List, [], ◌∷◌, ◌++◌, length, map, reverse, Some, None, refl, ap, sym, ◌∙◌, arith, subst}
-use Rattle.std.proofs.lemmas.List.{map-append, reverse-append}
-use Rattle.std.specs.BTreeMap.{insert_entry}
+use Rattle.std.proofs.Common.{◌≡◌, ◌≢◌, ◌≤◌, ℕ, suc, max, List, [], ◌∷◌, ◌++◌, length, map, Some, None, refl, ap, sym, ◌∙◌, arith, subst}
+use Rattle.std.proofs.lemmas.List.{map-append}
+use Rattle.std.proofs.lemmas.List.Sums.{fold-append}
 use Rattle.std.specs.Str.{IsUtf8}
 use Rattle.tera_meaning.specs.Integer.{Integer}
 use Rattle.tera_meaning.specs.Form.{Form, MarkedText}
 use Rattle.tera_meaning.specs.KeyMeaning.{KeyForm}
-use Rattle.tera_meaning.specs.Pairs.{key_form_order, pairs_of}
+use Rattle.tera_meaning.specs.Pairs.{key_form_order, put}
 use Rattle.tera_meaning.specs.Tree.{Members, object, no_members, member, members, members_list, depth, members_depth}
 use Rattle.tera_meaning.proofs.TreeLaws.{list_of_members}
 use Rattle.tera_script.specs.Word.{is_blank}
@@ -16,7 +16,7 @@ use Rattle.tera_script.proofs.Fronts.{tail, bracket_or_comma}
 use Rattle.tera_script.proofs.Literals.{EndsPair, pairs_closed, only_at, only_pair, key_literal, key_ends, only_key}
 use Rattle.tera_script.proofs.Openings.{literal_utf8}
 use Rattle.tera_script.proofs.Series.{ArePartsOf, deepest, IsSoFar, IsNowhere, IsWhole, past_utf8, none_so_far, no_part, no_mark, last_part, one_more}
-use Rattle.tera_script.proofs.Utf8Texts.{after_byte}
+use Rattle.tera_script.proofs.Utf8.{after_byte}
 use Rattle.tera_values.specs.Key.{key_value}
 
 -- ---- one pair
@@ -114,19 +114,19 @@ module _ {deep : ℕ} {inside : List ℕ} {pairs : List (KeyForm × Form)} {rest
       pub no_pair_end : length (past is_blank behind) ≡ 0 → IsMapAt levels inside None
       no_pair_end z = no_pair_mark (λ end e. omega (arith, z, ap length e)) (λ end e. omega (arith, z, ap length e))
 
-      more_pairs : {longer : List (KeyForm × Form)} → longer ≡ insert_entry key_form_order pairs k v
+      more_pairs : {longer : List (KeyForm × Form)} → longer ≡ put key_form_order pairs k v
           → longer ≡ in_places (map pair_value (h.trees ++ (k, read.0) ∷ []))
       more_pairs u =
           let last = map-append pair_value h.trees ((k, read.0) ∷ []) in
-          u ∙ (λ i. insert_entry key_form_order (h.pairs_are i) k (read.1 i))
-          ∙ ap pairs_of (sym (ap reverse last ∙ reverse-append (map pair_value h.trees) (pair_value (k, read.0) ∷ [])))
+          u ∙ (λ i. put key_form_order (h.pairs_are i) k (read.1 i))
+          ∙ sym (ap in_places last ∙ fold-append (λ ps e. put key_form_order ps e.0 e.1) [] (map pair_value h.trees) (pair_value (k, read.0) ∷ []))
 
-      pub last_pair : {longer : List (KeyForm × Form)} {value : Form} {end : List ℕ} → longer ≡ insert_entry key_form_order pairs k v
+      pub last_pair : {longer : List (KeyForm × Form)} {value : Form} {end : List ℕ} → longer ≡ put key_form_order pairs k v
           → value ≡ object (members longer) → past is_blank behind ≡ 125 ∷ end → IsMapAt levels inside (Some (value, end))
       last_pair {longer} {value} {end} u is m =
           whole levels inside (h.trees ++ (k, read.0) ∷ []) longer value end (last_part pair_parts h.so_far l read.2 read.3 read.4 m) (more_pairs u) is
 
-      pub next_pair : {longer : List (KeyForm × Form)} {next after : List ℕ} → longer ≡ insert_entry key_form_order pairs k v
+      pub next_pair : {longer : List (KeyForm × Form)} {next after : List ℕ} → longer ≡ put key_form_order pairs k v
           → past is_blank behind ≡ 44 ∷ next → after ≡ past is_blank next → HasPairs deep inside longer after
       next_pair {longer} {next} {after} u m a = record {
         trees = h.trees ++ (k, read.0) ∷ [];

@@ -9,6 +9,7 @@ use Rattle.std.proofs.lemmas.Bool.Decides.{nat_tests}
 use Rattle.tera_script.specs.Word.{is_blank, IsGap, is_name_start, is_name_byte, IsName}
 use Rattle.tera_script.specs.Line.{SpellsOperand}
 use Rattle.tera_script.specs.Readers.{Stops, front, past, gap_at, name_at, operand_at, named_rest}
+use Rattle.tera_script.specs.inner.Command.{Begins}
 use Rattle.tera_script.proofs.Fronts.{front-past, front_all, past_stops, front_is, past_is, both_pass}
 
 -- a gap stands before the rest
@@ -52,6 +53,10 @@ name_found (b ∷ bytes) name rest e =
       stops = rw (← h.2) (past_stops is_name_byte bytes);
     }
 
+-- what begins a name can stand in one
+pub start_goes_on : (b : ℕ) → is_name_start b ≡ true → is_name_byte b ≡ true
+start_goes_on b h = grind (arith, nat_tests)
+
 -- what a reader of names gives is a name
 pub name_named : (bytes : List ℕ) (found : Option (Bor (List ℕ) × Bor (List ℕ))) → option_map named_rest found ≡ name_at bytes
     → IfSome found (λ pair. IsName pair.0.now)
@@ -62,25 +67,15 @@ pub name_only : (name rest : List ℕ) → IsName name → Stops is_name_byte re
 unfolding name_at
 name_only name rest n s = grind (arith, front_is, past_is)
 
--- an operand stands before the rest
-pub record HasOperand (bytes name rest : List ℕ) : Type 0 where
-  pub operand : List ℕ
-  pub spells : SpellsOperand operand name
-  pub spelled : bytes ≡ operand ++ rest
-  pub stops : Stops is_name_byte rest
-
-pub operand_found : (bytes name rest : List ℕ) → operand_at bytes ≡ Some (name, rest) → HasOperand bytes name rest
+pub operand_found : (bytes name rest : List ℕ) → operand_at bytes ≡ Some (name, rest)
+    → Begins SpellsOperand bytes name rest × Stops is_name_byte rest
 unfolding operand_at
 operand_found bytes name rest e =
     let h : (word : List ℕ) × (gap_at bytes ≡ Some word) × (name_at word ≡ Some (name, rest)) = grind arith in
     let gap = gap_found bytes h.0 h.1 in
     let named = name_found h.0 name rest h.2 in
-    record {
-      operand = gap.gap ++ name;
-      spells = (gap.gap, gap.blanks, named.named, refl);
-      spelled = gap.spelled ∙ ap (λ xs. gap.gap ++ xs) named.spelled ∙ sym (append_assoc gap.gap name rest);
-      stops = named.stops;
-    }
+    let spelled = gap.spelled ∙ ap (λ xs. gap.gap ++ xs) named.spelled ∙ sym (append_assoc gap.gap name rest) in
+    (record { part = gap.gap ++ name; spells = (gap.gap, gap.blanks, named.named, refl); spelled = spelled }, named.stops)
 
 -- no byte that begins a name is blank
 pub name_is_not_blank : (name rest : List ℕ) → IsName name → Stops is_blank (name ++ rest)

@@ -5,17 +5,15 @@ use Rattle.std.proofs.lemmas.Bool.{cond_both}
 use Rattle.tera_meaning.specs.Integer.{Integer}
 use Rattle.tera_meaning.specs.Form.{Form, MarkedText}
 use Rattle.tera_meaning.specs.KeyMeaning.{KeyForm}
-use Rattle.tera_meaning.specs.Tree.{Items, Members, undefined, none, truth, number, text, bytes, array, object}
+use Rattle.tera_meaning.specs.Tree.{Items, Members, text, bytes, array, object}
 use Rattle.tera_script.specs.Literal.{mark_of, SpellsTree}
 use Rattle.tera_script.specs.Readers.{Stops, front, past, number_in, unsigned_in, digits_at, is_word_byte, value_in, hex_at, BeginsWithLiteral, Ends, ItemsAt}
 use Rattle.tera_script.specs.Readers.{PairsAt, IsQuotedAt}
 use Rattle.tera_script.proofs.Fronts.{front_cut, past_stops, front_all}
 use Rattle.tera_script.proofs.HexBytes.{hex_only, hex_found}
 use Rattle.tera_script.proofs.Shapes.{quoted_bytes, items_at, pairs_at, items_spelled, pairs_spelled}
-use Rattle.tera_script.proofs.Utf8Fronts.{utf8_past_word}
-use Rattle.tera_script.proofs.Utf8Texts.{after_byte, around_byte}
-use Rattle.tera_script.proofs.Words.{IsWord, value_found, word_front, word_behind, no_value_nowhere, word_undefined, word_none, word_true, word_false}
-use Rattle.tera_script.proofs.Words.{word_number}
+use Rattle.tera_script.proofs.Utf8.{utf8_past_word, after_byte, around_byte}
+use Rattle.tera_script.proofs.Words.{IsWord, value_found, word_front, word_behind, no_value_nowhere, flat_word}
 
 pub data Opening : Type 0 where
   plain : Opening
@@ -95,29 +93,22 @@ text_stands true ys v rest h = h
 text_stands false ys v rest h = h
 
 stands_so : (literal xs : List ℕ) (v : Form) (rest : List ℕ) → SpellsTree literal v → xs ≡ literal ++ rest → Ends v rest → Stands (opened xs) xs v rest
-stands_so literal xs undefined rest h e s = word_stands xs _ rest undefined word_undefined (e ∙ ap (λ l. l ++ rest) h) s
-stands_so literal xs none rest h e s = word_stands xs _ rest none word_none (e ∙ ap (λ l. l ++ rest) h) s
-stands_so literal xs (truth true) rest h e s = word_stands xs _ rest (truth true) word_true (e ∙ ap (λ l. l ++ rest) h) s
-stands_so literal xs (truth false) rest h e s = word_stands xs _ rest (truth false) word_false (e ∙ ap (λ l. l ++ rest) h) s
-stands_so literal xs (number n) rest h e s = word_stands xs literal rest (number n) (word_number literal n h) e s
 stands_so literal xs (text t) rest h e s =
     rw (e, h.2, quoted_bytes t.safe h.0 rest) (text_stands t.safe (h.0 ++ 34 ∷ rest) (text t) rest (h.0, t.spelled, h.1, refl, refl))
 stands_so literal xs (bytes bs) rest h e s = rw (e, h.2, append_assoc h.0 (34 ∷ []) rest) (bs, refl, hex_only bs h.0 rest h.1)
 stands_so literal xs (array all) rest h e s = rw (e, h.2, append_assoc h.0 (93 ∷ []) rest) (all, refl, items_at all h.0 rest h.1)
 stands_so literal xs (object all) rest h e s = rw (e, h.2, append_assoc h.0 (125 ∷ []) rest) (all, refl, pairs_at all h.0 rest h.1)
+stands_so literal xs v rest h e s = word_stands xs literal rest v (flat_word literal v tt h) e s
 
 pub stands : (xs : List ℕ) (v : Form) (rest : List ℕ) → BeginsWithLiteral xs v rest → Ends v rest → Stands (opened xs) xs v rest
 stands xs v rest b s = stands_so b.literal xs v rest b.spells b.spelled s
 
 pub stops_end : (value : Form) (rest : List ℕ) → Stops is_word_byte rest → Ends value rest
-stops_end undefined rest s = s
-stops_end none rest s = s
-stops_end (truth b) rest s = s
-stops_end (number n) rest s = s
 stops_end (text t) rest s = tt
 stops_end (bytes bs) rest s = tt
 stops_end (array all) rest s = tt
 stops_end (object ps) rest s = tt
+stops_end v rest s = s
 
 -- and back
 pub literal_of : (o : Opening) (xs : List ℕ) (v : Form) (rest : List ℕ) → IsOpening xs o → Stands o xs v rest → BeginsWithLiteral xs v rest × Ends v rest

@@ -11,7 +11,6 @@ use Rattle.tera_script.specs.Readers.{Stops, gap_at, operand_at, one_in, arrow_a
 use Rattle.tera_script.specs.inner.Command.{Before}
 use Rattle.tera_script.proofs.Fronts.{both_pass, blank_ends_word}
 use Rattle.tera_script.proofs.Names.{gap_only, gap_found, operand_found, operand_only}
-use Rattle.tera_script.proofs.Choices.{chosen, some_mapped}
 
 -- where no word goes on, no name does
 word_end_is_name_end : (b : ℕ) → is_word_byte b ≡ false → is_name_byte b ≡ false
@@ -44,17 +43,10 @@ HasOne bytes name = Before (λ operands. SpellsOperand operands name) bytes
 
 one_found : (bytes name : List ℕ) → one_in bytes ≡ Some name → HasOne bytes name
 unfolding one_in
-one_found bytes name e = option_and_then_some (λ (n : List ℕ × List ℕ). cond (list_all is_blank n.1) (Some n.0) None) (operand_at bytes) name e
-    (λ n at_n e'.
-    let h = cond_some (list_all is_blank n.1) n.0 name e' in
-    let operand = operand_found bytes n.0 n.1 at_n in
-    record {
-      part = operand.operand;
-      after = n.1;
-      spells = subst (SpellsOperand operand.operand) h.1 operand.spells;
-      blanks = h.0;
-      spelled = operand.spelled;
-    })
+one_found bytes name e =
+    let h : (rest : List ℕ) × (operand_at bytes ≡ Some (name, rest)) × AreBlanks rest = grind arith in
+    let operand = (operand_found bytes name h.0 h.1).0 in
+    record { part = operand.part; after = h.0; spells = operand.spells; blanks = h.2; spelled = operand.spelled }
 
 one_only : (bytes name : List ℕ) → HasOne bytes name → one_in bytes ≡ Some name
 unfolding one_in
@@ -69,52 +61,38 @@ arrow_found : (xs rest : List ℕ) → arrow_at xs ≡ Some rest → xs ≡ 45 �
 unfolding arrow_at
 arrow_found [] rest e = cc
 arrow_found (b ∷ []) rest e = cc
-arrow_found (b ∷ c ∷ xs) rest e =
-    let h = cond_some (eqb b 45 && eqb c 62) xs rest e in
-    let both = both_pass (λ n. true) (eqb b 45) (eqb c 62) h.0 in
-    λ i. eqb-true b 45 both.0 i ∷ eqb-true c 62 both.1 i ∷ h.1 i
+arrow_found (b ∷ c ∷ xs) rest e = grind (arith, nat_tests)
 
 arrow_only : (rest : List ℕ) → arrow_at (45 ∷ 62 ∷ rest) ≡ Some rest
 unfolding arrow_at
 arrow_only rest = refl
 
 named_into : (bytes name : List ℕ) → option_and_then one_in (option_and_then arrow_at (gap_at bytes)) ≡ Some name → HasInto true bytes (Some name)
-named_into bytes name e = option_and_then_some one_in (option_and_then arrow_at (gap_at bytes)) name e (λ behind at_arrow at_name.
-    option_and_then_some arrow_at (gap_at bytes) behind at_arrow (λ arrow at_gap is_arrow.
-    let gap = gap_found bytes arrow at_gap in
-    let one = one_found behind name at_name in
+named_into bytes name e =
+    let h : (arrow behind : List ℕ) × (gap_at bytes ≡ Some arrow) × (arrow_at arrow ≡ Some behind) × (one_in behind ≡ Some name) = grind arith in
+    let gap = gap_found bytes h.0 h.2 in
+    let one = one_found h.1 name h.4 in
     record {
       part = gap.gap ++ (45 ∷ 62 ∷ one.part);
       after = one.after;
       spells = (gap.gap, one.part, gap.blanks, one.spells, refl);
       blanks = one.blanks;
-      spelled = gap.spelled ∙ ap (λ xs. gap.gap ++ xs) (arrow_found arrow behind is_arrow ∙ ap (λ xs. 45 ∷ 62 ∷ xs) one.spelled)
+      spelled = gap.spelled ∙ ap (λ xs. gap.gap ++ xs) (arrow_found h.0 h.1 h.3 ∙ ap (λ xs. 45 ∷ 62 ∷ xs) one.spelled)
           ∙ sym (append_assoc gap.gap (45 ∷ 62 ∷ one.part) one.after);
-    }))
+    }
 
 no_into : (keeps : Bool) (bytes : List ℕ) → AreBlanks bytes → HasInto keeps bytes None
 no_into keeps bytes h = record { part = []; after = bytes; spells = refl; blanks = h; spelled = refl }
 
 pub into_found : (keeps : Bool) (bytes : List ℕ) (into : Option (List ℕ)) → into_in keeps bytes ≡ Some into → HasInto keeps bytes into
 unfolding into_in
-into_found true bytes into e =
-    elim (chosen {A = Option (Option (List ℕ))} (list_all is_blank bytes) (Some None)
-    (option_map Some (option_and_then one_in (option_and_then arrow_at (gap_at bytes)))) (Some into) e) [
-      | inl h ↦ let nothing : None ≡ into = cc in subst (HasInto true bytes) nothing (no_into true bytes h.0)
-      | inr h ↦ let name = some_mapped (option_and_then one_in (option_and_then arrow_at (gap_at bytes))) into h.1 in
-          subst (HasInto true bytes) (sym name.2) (named_into bytes name.0 name.1)
-    ]
-into_found false bytes into e =
-    let h = cond_some (list_all is_blank bytes) None into e in
-    subst (HasInto false bytes) h.1 (no_into false bytes h.0)
+into_found keeps bytes None e = let h : AreBlanks bytes = grind arith in no_into keeps bytes h
+into_found true bytes (Some name) e = named_into bytes name (grind arith)
+into_found false bytes (Some name) e = absurd (grind arith)
 
 not_all_blanks : (gap rest : List ℕ) → list_all is_blank (gap ++ 45 ∷ rest) ≡ false
 not_all_blanks [] rest = refl
-not_all_blanks (b ∷ gap) rest = both (is_blank b) (not_all_blanks gap rest)
-  where
-    both : (t : Bool) → list_all is_blank (gap ++ 45 ∷ rest) ≡ false → (t && list_all is_blank (gap ++ 45 ∷ rest)) ≡ false
-    both true h = h
-    both false h = refl
+not_all_blanks (b ∷ gap) rest = grind (arith, not_all_blanks gap rest)
 
 pub into_only : (keeps : Bool) (bytes : List ℕ) (into : Option (List ℕ)) → HasInto keeps bytes into → into_in keeps bytes ≡ Some into
 unfolding into_in

@@ -1,90 +1,116 @@
--- Of equal keys that are written in a map the first stands, and the last value.
-use Rattle.std.specs.Prelude.{◌≡◌, Bool, true, false, cond, List, [], ◌∷◌, ◌++◌, reverse, Option, Some, None, refl}
-use Rattle.std.proofs.Common.{sym, ◌∙◌, ap}
+-- Of equal keys that are written in a map the first stands in its place, with the last value.
+use Rattle.std.specs.Prelude.{◌≡◌, Bool, true, false, cond, if◌then◌else◌, List, [], ◌∷◌, ◌++◌, reverse, Option, Some, None, refl}
+use Rattle.std.proofs.Common.{sym, ◌∙◌, ap, append_assoc, append-nil}
 use Rattle.std.proofs.lemmas.List.{reverse-append}
-use Rattle.std.specs.BTreeMap.{insert_entry}
+use Rattle.std.proofs.lemmas.List.Sums.{fold-append}
 use Rattle.std.specs.Cmp.{alike_right, Equal-is}
-use Rattle.std.specs.List.Sorted.{IsStrictlySortedBy}
+use Rattle.std.specs.List.{IsDistinct}
+use Rattle.std.specs.Map.{keys_of}
 use Rattle.std.specs.Option.{option_or}
-use Rattle.std.specs.Ordering.{eq_by_cmp, is_eq, match_ordering}
-use Rattle.std.specs.declared.cmp.Ordering.TheVariants.{Less, Equal, Greater}
+use Rattle.std.specs.Ordering.{eq_by_cmp, is_eq}
 use Rattle.tera_meaning.specs.Form.{Form}
 use Rattle.tera_meaning.specs.KeyMeaning.{KeyForm}
-use Rattle.tera_meaning.specs.Pairs.{Rises, rising, value_at, key_form_order}
-use Rattle.tera_meaning.proofs.PairLaws.{Below, below_less, rising_rises, found_rising}
-use Rattle.tera_values.specs.MapLaws.{form_total}
+use Rattle.tera_meaning.specs.Pairs.{HasDistinctKeys, put, put_all, value_at, key_form_order}
+use Rattle.tera_meaning.proofs.PutLaws.{distinct_put_all, found_put}
+use Rattle.tera_values.proofs.PartsLaws.{form_total}
 use Rattle.tera_script.specs.Literal.{in_places, key_at}
 
 abbrev ties : KeyForm → KeyForm → Bool
 ties = eq_by_cmp key_form_order
 
-or_none : (o : Option KeyForm) → o ≡ option_or o None
+or_none : {X : Type 0} (o : Option X) → o ≡ option_or o None
 or_none None = refl
-or_none (Some k) = refl
+or_none (Some x) = refl
 
-cond_or : (b : Bool) (k : KeyForm) (o p : Option KeyForm) → cond b (Some k) (option_or o p) ≡ option_or (cond b (Some k) o) p
-cond_or true k o p = refl
-cond_or false k o p = refl
+cond_or : {X : Type 0} (b : Bool) (x : X) (o p : Option X) → cond b (Some x) (option_or o p) ≡ option_or (cond b (Some x) o) p
+cond_or true x o p = refl
+cond_or false x o p = refl
 
--- a key that is below all keys is none of them
-not_below : (k q : KeyForm) (es : List (KeyForm × Form)) → Below key_form_order k es → key_form_order q k ≡ Equal → key_at es q ≡ None
-not_below k q [] h t = refl
-not_below k q (e ∷ es) h t = ap (λ r. cond (is_eq r) (Some e.0) (key_at es q)) (form_total.congr q k e.0 t ∙ h.0) ∙ not_below k q es h.1 t
+or_assoc : {X : Type 0} (o p q : Option X) → option_or (option_or o p) q ≡ option_or o (option_or p q)
+or_assoc None p q = refl
+or_assoc (Some x) p q = refl
 
--- a key is there after an insertion where it was there, and else where it was inserted
-key_insert : (q k : KeyForm) (v : Form) (es : List (KeyForm × Form)) → Rises key_form_order es → key_at (insert_entry key_form_order es k v) q
-    ≡ option_or (key_at es q) (cond (ties q k) (Some k) None)
-unfolding IsStrictlySortedBy
-key_insert q k v [] h = refl
-key_insert q k v (e ∷ es) h =
-    elim (key_form_order k e.0) as (λ r. key_form_order k e.0 ≡ r
-    → key_at (match_ordering r ((k, v) ∷ e ∷ es) ((e.0, v) ∷ es) (e ∷ insert_entry key_form_order es k v)) q ≡ option_or (key_at (e ∷ es) q)
-    (cond (ties q k) (Some k) None)) [
-      | Less ↦ λ p. in_front p (ties q k) refl
-      | Equal ↦ λ p. same_key (ties q e.0) ∙ ap (λ r. option_or (key_at (e ∷ es) q) (cond (is_eq r) (Some k) None)) (sym (alike_right form_total k e.0 q p))
-      | Greater ↦ λ p. ap (cond (ties q e.0) (Some e.0)) (key_insert q k v es h.1) ∙ cond_or (ties q e.0) e.0 (key_at es q) (cond (ties q k) (Some k) None)
+-- of two keys that tie a key ties with both or with neither
+tied : (q k l : KeyForm) → ties k l ≡ true → ties q k ≡ ties q l
+tied q k l t = ap is_eq (alike_right form_total k l q ((Equal-is (key_form_order k l)).0 t))
+
+-- ---- one pair that is put
+
+-- a key is there where it was there, and else where it was put
+key_put : (ps : List (KeyForm × Form)) (k : KeyForm) (v : Form) (q : KeyForm)
+    → key_at (put key_form_order ps k v) q ≡ option_or (key_at ps q) (cond (ties q k) (Some k) None)
+key_put [] k v q = refl
+key_put (p ∷ ps) k v q =
+    elim (ties k p.0) as (λ b. ties k p.0 ≡ b → key_at (if b then (p.0, v) ∷ ps else p ∷ put key_form_order ps k v) q
+    ≡ option_or (key_at (p ∷ ps) q) (cond (ties q k) (Some k) None)) [
+      | true ↦ λ t. same_key (ties q p.0) ∙ ap (λ b. option_or (key_at (p ∷ ps) q) (cond b (Some k) None)) (sym (tied q k p.0 t))
+      | false ↦ λ t. ap (cond (ties q p.0) (Some p.0)) (key_put ps k v q) ∙ cond_or (ties q p.0) p.0 (key_at ps q) (cond (ties q k) (Some k) None)
     ] refl
   where
-    in_front : key_form_order k e.0 ≡ Less → (b : Bool) → ties q k ≡ b → cond b (Some k) (key_at (e ∷ es) q) ≡ option_or (key_at (e ∷ es) q)
-        (cond b (Some k) None)
-    in_front p true t = ap (λ o. option_or o (Some k))
-        (sym (not_below k q (e ∷ es) (p, below_less key_form_order form_total k e.0 es p h.0) ((Equal-is (key_form_order q k)).0 t)))
-    in_front p false t = or_none (key_at (e ∷ es) q)
-
-    same_key : (b : Bool) → cond b (Some e.0) (key_at es q) ≡ option_or (cond b (Some e.0) (key_at es q)) (cond b (Some k) None)
+    same_key : (b : Bool) → cond b (Some p.0) (key_at ps q) ≡ option_or (cond b (Some p.0) (key_at ps q)) (cond b (Some k) None)
     same_key true = refl
-    same_key false = or_none (key_at es q)
+    same_key false = or_none (key_at ps q)
 
--- the last key that is equal to this one
-abbrev last_key : List (KeyForm × Form) → KeyForm → Option KeyForm
-last_key [] q = None
-last_key (e ∷ es) q = option_or (last_key es q) (cond (ties q e.0) (Some e.0) None)
+-- a new key stands behind all others, and every other stays in its place
+keys_put : (ps : List (KeyForm × Form)) (k : KeyForm) (v : Form)
+    → (new : List KeyForm) × (keys_of (put key_form_order ps k v) ≡ keys_of ps ++ new)
+keys_put [] k v = (k ∷ [], refl)
+keys_put (p ∷ ps) k v =
+    elim (ties k p.0) as (λ b. (new : List KeyForm) × (keys_of (if b then (p.0, v) ∷ ps else p ∷ put key_form_order ps k v) ≡ keys_of (p ∷ ps) ++ new)) [
+      | true ↦ ([], sym (append-nil (keys_of (p ∷ ps))))
+      | false ↦ let behind = keys_put ps k v in (behind.0, ap (λ ks. p.0 ∷ ks) behind.1)
+    ]
 
-key_rising : (es : List (KeyForm × Form)) (q : KeyForm) → key_at (rising key_form_order es) q ≡ last_key es q
-key_rising [] q = refl
-key_rising (e ∷ es) q =
-    key_insert q e.0 e.1 (rising key_form_order es) (rising_rises key_form_order form_total es)
-    ∙ ap (λ o. option_or o (cond (ties q e.0) (Some e.0) None)) (key_rising es q)
+-- ---- all that are put in turn
 
-last_behind : (xs : List (KeyForm × Form)) (w : KeyForm × Form) (q : KeyForm) → last_key (xs ++ w ∷ []) q ≡ cond (ties q w.0) (Some w.0) (last_key xs q)
-last_behind [] w q = refl
-last_behind (x ∷ xs) w q =
-    ap (λ o. option_or o (cond (ties q x.0) (Some x.0) None)) (last_behind xs w q)
-    ∙ sym (cond_or (ties q w.0) w.0 (last_key xs q) (cond (ties q x.0) (Some x.0) None))
+keys_put_all : (es ps : List (KeyForm × Form)) → (new : List KeyForm) × (keys_of (put_all key_form_order ps es) ≡ keys_of ps ++ new)
+keys_put_all [] ps = ([], sym (append-nil (keys_of ps)))
+keys_put_all (e ∷ es) ps =
+    let one = keys_put ps e.0 e.1 in
+    let more = keys_put_all es (put key_form_order ps e.0 e.1) in
+    (one.0 ++ more.0, more.1 ∙ ap (λ ks. ks ++ more.0) one.1 ∙ append_assoc (keys_of ps) one.0 more.0)
 
-last_reversed : (ws : List (KeyForm × Form)) (q : KeyForm) → last_key (reverse ws) q ≡ key_at ws q
-last_reversed [] q = refl
-last_reversed (w ∷ ws) q =
-    ap (λ l. last_key l q) (reverse-append (w ∷ []) ws)
-    ∙ last_behind (reverse ws) w q
-    ∙ ap (cond (ties q w.0) (Some w.0)) (last_reversed ws q)
+key_put_all : (es ps : List (KeyForm × Form)) (q : KeyForm) → key_at (put_all key_form_order ps es) q ≡ option_or (key_at ps q) (key_at es q)
+key_put_all [] ps q = or_none (key_at ps q)
+key_put_all (e ∷ es) ps q =
+    key_put_all es (put key_form_order ps e.0 e.1) q
+    ∙ ap (λ o. option_or o (key_at es q)) (key_put ps e.0 e.1 q)
+    ∙ or_assoc (key_at ps q) (cond (ties q e.0) (Some e.0) None) (key_at es q)
+    ∙ ap (option_or (key_at ps q)) (sym (cond_or (ties q e.0) e.0 None (key_at es q)))
 
-pub places_rise : (written : List (KeyForm × Form)) → Rises key_form_order (in_places written)
-places_rise written = rising_rises key_form_order form_total (reverse written)
+value_behind : (xs : List (KeyForm × Form)) (e : KeyForm × Form) (q : KeyForm)
+    → value_at key_form_order (xs ++ e ∷ []) q ≡ option_or (value_at key_form_order xs q) (cond (ties q e.0) (Some e.1) None)
+value_behind [] e q = refl
+value_behind (x ∷ xs) e q =
+    ap (cond (ties q x.0) (Some x.1)) (value_behind xs e q)
+    ∙ cond_or (ties q x.0) x.1 (value_at key_form_order xs q) (cond (ties q e.0) (Some e.1) None)
+
+value_put_all : (es ps : List (KeyForm × Form)) (q : KeyForm)
+    → value_at key_form_order (put_all key_form_order ps es) q ≡ option_or (value_at key_form_order (reverse es) q) (value_at key_form_order ps q)
+value_put_all [] ps q = refl
+value_put_all (e ∷ es) ps q =
+    value_put_all es (put key_form_order ps e.0 e.1) q
+    ∙ ap (option_or (value_at key_form_order (reverse es) q))
+    (found_put key_form_order form_total ps e.0 e.1 q ∙ cond_or (ties q e.0) e.1 None (value_at key_form_order ps q))
+    ∙ sym (or_assoc (value_at key_form_order (reverse es) q) (cond (ties q e.0) (Some e.1) None) (value_at key_form_order ps q))
+    ∙ ap (λ o. option_or o (value_at key_form_order ps q)) (sym (value_behind (reverse es) e q))
+    ∙ ap (λ l. option_or (value_at key_form_order l q) (value_at key_form_order ps q)) (sym (reverse-append (e ∷ []) es))
+
+-- ---- what is written
 
 pub last_value : (written : List (KeyForm × Form)) (key : KeyForm) → value_at key_form_order (in_places written) key ≡ value_at key_form_order (reverse written)
     key
-last_value written key = found_rising key_form_order form_total (reverse written) key
+last_value written key = value_put_all written [] key ∙ sym (or_none (value_at key_form_order (reverse written) key))
 
 pub first_key : (written : List (KeyForm × Form)) (key : KeyForm) → key_at (in_places written) key ≡ key_at written key
-first_key written key = key_rising (reverse written) key ∙ last_reversed written key
+first_key written key = key_put_all written [] key
+
+pub places_stay : (written later : List (KeyForm × Form)) → (new : List KeyForm)
+    × (keys_of (in_places (written ++ later)) ≡ keys_of (in_places written) ++ new)
+places_stay written later =
+    let more = keys_put_all later (in_places written) in
+    (more.0, ap keys_of (fold-append (λ ps e. put key_form_order ps e.0 e.1) [] written later) ∙ more.1)
+
+pub keys_distinct : (written : List (KeyForm × Form)) → HasDistinctKeys key_form_order (in_places written)
+unfolding IsDistinct
+keys_distinct written = distinct_put_all key_form_order form_total [] written tt

@@ -2,7 +2,7 @@
 use Rattle.std.proofs.Common.{◌≡◌, ◌≢◌, ◌≤◌, ℕ, zero, suc, pos, true, false, cond, eqb, List, [], ◌∷◌, ◌++◌, Option, Some, None, refl, sym, ap, ◌∙◌, arith}
 use Rattle.std.proofs.Common.{append-nil, append_assoc, subst, lit<, lit≤}
 use borrow.Author.Tests.{eqb_apart}
-use Rattle.std.specs.Prelude.{flat_map, codes}
+use Rattle.std.specs.Prelude.{codes}
 use Rattle.tera_meaning.specs.Form.{Form}
 use Rattle.tera_meaning.specs.Integer.{i64, Integer, IntegerKind}
 use Rattle.tera_meaning.specs.KeyMeaning.{KeyForm, truth_key, text_key, owned}
@@ -17,19 +17,17 @@ use Rattle.tera_script.specs.Nested.{in_brackets, in_arrays, in_turns, in_both}
 use Rattle.tera_script.specs.Number.{SpellsNumber}
 use Rattle.tera_script.specs.Readers.{past, gap_at, name_at, operand_at, names_at, into_in, BeginsWithKey, BeginsWithPair, BeginsWithLiteral, IsPairAt}
 use Rattle.tera_script.specs.Readers.{Ends, Stops, is_word_byte, IsLiteralAt, IsMapAt, is_end_or_comment}
-use Rattle.tera_script.specs.Text.{Token, itself, spelling, IsToken, SpellsText}
+use Rattle.tera_script.specs.Text.{itself}
 use Rattle.tera_script.specs.Verb.{Given, Making, of_name, of_names, shape_of, requested, row_of, word_of}
 use Rattle.tera_script.specs.Word.{is_blank, AreBlanks}
 use Rattle.tera_script.proofs.Commands.{no_given, no_into, answered, command_answer}
-use Rattle.tera_script.proofs.Both.{name_part, both_at}
+use Rattle.tera_script.proofs.Values.{name_part, both_at, value_parts, value_at, names_part}
 use Rattle.tera_script.proofs.Fronts.{head}
 use Rattle.tera_script.proofs.Lines.{bad_command, line_says}
 use Rattle.tera_script.proofs.Literals.{IsOpenedAt, literal_found, only_at}
 use Rattle.tera_script.proofs.Maps.{no_pairs_yet, no_more_pair}
 use Rattle.tera_script.proofs.Openings.{opened, stops_end}
-use Rattle.tera_script.proofs.Tokens.{token_at, token_first}
-use Rattle.tera_script.proofs.Utf8Fronts.{all_ascii, ascii_utf8}
-use Rattle.tera_script.proofs.Values.{value_parts, value_at, names_part}
+use Rattle.tera_script.proofs.Utf8.{all_ascii, ascii_utf8}
 use Rattle.tera_script.specs.inner.Command.{IsGivenAt, AreOperandsOf}
 use Rattle.std.specs.Option.{option_map}
 
@@ -153,14 +151,6 @@ key_a after = key_at (codes "\"a\"") (codes "a", (itself 97 ∷ [], search arith
 pub a_is_one : (rest : List ℕ) → Ends (number (one i64)) rest
     → IsPairAt 63 (codes "\"a\": 1" ++ rest) (Some (text_key (owned (codes "a")), number (one i64), rest))
 a_is_one rest s = (number (one i64), refl, pair_at (key_a (codes ": 1" ++ rest)) refl (tree_at (codes "1") one_spelled refl), s, lit≤ tt)
-
--- bytes that begin with a token begin with the one that their first bytes name, and so do those that spell something
-pub token_there : (bs x : List ℕ) (p : Token) → IsToken p → bs ≡ spelling p ++ x → IsToken (token_at bs).0
-token_there bs x p h e = subst IsToken (sym (ap (λ (pair : Token × List ℕ). pair.0) (ap token_at e ∙ token_first p x h))) h
-
-pub first_token : (b : ℕ) (bs text : List ℕ) → SpellsText (b ∷ bs) text → IsToken (token_at (b ∷ bs)).0
-first_token b bs text ([], h, e, is) = absurd (cc)
-first_token b bs text (p ∷ ps, h, e, is) = token_there (b ∷ bs) (flat_map spelling ps) p h.0 e
 
 pub apart : {b c : ℕ} {xs ys : List ℕ} → eqb b c ≡ false → b ∷ xs ≢ c ∷ ys
 apart {b} {c} n e = eqb_apart b c n (ap head e)

@@ -3,15 +3,15 @@ use Rattle.std.proofs.Common.{◌≡◌, ℕ, Bool, true, false, List, [], ◌�
 use Rattle.tera_meaning.specs.Integer.{Integer}
 use Rattle.tera_meaning.specs.Form.{Form, MarkedText}
 use Rattle.tera_meaning.specs.KeyMeaning.{KeyForm, truth_key, number_key, text_key, owned, borrowed}
-use Rattle.tera_meaning.specs.Tree.{Items, Members, undefined, none, truth, number, text, bytes, array, object, no_items, item, no_members, member, items_list}
+use Rattle.tera_meaning.specs.Tree.{Items, Members, text, bytes, array, object, no_items, item, no_members, member, items_list}
 use Rattle.tera_meaning.specs.Tree.{members_list}
 use Rattle.tera_script.specs.Word.{is_blank, AreBlanks}
 use Rattle.tera_script.specs.Literal.{mark_of, IsPadded, IsPair, SpellsKey, SpellsTree, SpellsItems, SpellsMore, SpellsPairs, SpellsMorePairs}
 use Rattle.tera_script.specs.Readers.{Stops, front, past, BeginsWithLiteral, BeginsWithKey, BeginsWithPair, ItemsAt, MoreAt, PairsAt, MorePairsAt}
 use Rattle.tera_values.specs.Key.{key_value}
 use Rattle.tera_script.proofs.Fronts.{past_is, front_cut, front_all}
-use Rattle.tera_script.proofs.Parts.{StandsBefore, HasMore, no_more_back, more_back, more_in, all_in}
-use Rattle.tera_script.proofs.Words.{word_undefined, word_none, word_true, word_false, word_number, word_stops_blanks}
+use Rattle.tera_script.proofs.Series.{StandsBefore, HasMore, no_more_back, more_back, more_in, all_in}
+use Rattle.tera_script.proofs.Words.{flat_word, word_stops_blanks}
 
 pub quoted_bytes : (safe : Bool) (inner rest : List ℕ) → (mark_of safe ++ (34 ∷ inner) ++ (34 ∷ [])) ++ rest ≡ mark_of safe ++ (34 ∷ (inner ++ 34 ∷ rest))
 quoted_bytes true inner rest = ap (λ xs. 115 ∷ 34 ∷ xs) (append_assoc inner (34 ∷ []) rest)
@@ -23,16 +23,12 @@ mark_stops_blanks false xs = refl
 
 -- no literal begins with a blank
 pub literal_stops_blanks : (literal rest : List ℕ) (value : Form) → SpellsTree literal value → Stops is_blank (literal ++ rest)
-literal_stops_blanks literal rest undefined h = rw h (word_stops_blanks _ rest undefined word_undefined)
-literal_stops_blanks literal rest none h = rw h (word_stops_blanks _ rest none word_none)
-literal_stops_blanks literal rest (truth true) h = rw h (word_stops_blanks _ rest (truth true) word_true)
-literal_stops_blanks literal rest (truth false) h = rw h (word_stops_blanks _ rest (truth false) word_false)
-literal_stops_blanks literal rest (number n) h = word_stops_blanks literal rest (number n) (word_number literal n h)
 literal_stops_blanks literal rest (text t) h = subst (Stops is_blank) (sym (ap (λ l. l ++ rest) h.2 ∙ quoted_bytes t.safe h.0 rest))
     (mark_stops_blanks t.safe (h.0 ++ 34 ∷ rest))
 literal_stops_blanks literal rest (bytes bs) h = rw (h.2) refl
 literal_stops_blanks literal rest (array xs) h = rw (h.2) refl
 literal_stops_blanks literal rest (object ps) h = rw (h.2) refl
+literal_stops_blanks literal rest v h = word_stops_blanks literal rest v (flat_word literal v tt h)
 
 -- a key is spelled as the value that it is
 pub key_tree : (literal : List ℕ) (k : KeyForm) → SpellsKey literal k → SpellsTree literal (key_value k)

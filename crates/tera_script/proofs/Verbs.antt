@@ -1,10 +1,13 @@
--- The look-up of words, tried on the word of each verb.
+-- The look-up of words, tried on the word of each verb and on the name of each type.
 use Rattle.std.proofs.Common.{◌≡◌, ◌<◌, ℕ, List, ◌∷◌, length, refl, ap, sym, ◌∙◌, arith, subst}
 use Rattle.tera_script.specs.declared.verb.Verb.{Verb}
 use Rattle.tera_script.specs.declared.verb.Verb.TheVariants as verb
 use Rattle.tera_script.specs.Word.{IsName}
 use Rattle.tera_script.specs.Verb.{word_of}
 use Rattle.tera_script.specs.inner.Call.{IsLike}
+use Rattle.std.specs.Prelude.{◌≡◌, ℕ, List, [], ◌∷◌, cond, Option, Some, None, refl}
+use Rattle.std.specs.Str.{bytes_eq}
+use Rattle.tera_meaning.specs.Conversion.{IntegerType, type_name, u8, u16, u32, u64, u128, usize, i8, i16, i32, i64, i128, isize}
 
 pub word_is_name : (v : Verb) → IsName (word_of v)
 word_is_name verb.Set = (refl, refl)
@@ -44,3 +47,22 @@ module _ (word behind others : List ℕ) (b c : ℕ) (e : word ≡ b ∷ behind)
       → ¬ (word_of v ≡ word)
   no_other_verb likely like n v is = n
       (ap word_of (one_like likely v (length word) b c like (subst (λ w. IsLike w (length word) b c) (sym is) (is_like word behind others b c e f))) ∙ is)
+
+-- the first of some types that has a name
+abbrev first_named : List ℕ → List IntegerType → Option IntegerType
+first_named name [] = None
+first_named name (type ∷ types) = cond (bytes_eq name (type_name type)) (Some type) (first_named name types)
+
+abbrev named : List ℕ → Option IntegerType
+named name =
+    first_named name (u8 ∷ u16 ∷ u32 ∷ u64 ∷ u128 ∷ usize ∷ i8 ∷ i16 ∷ i32 ∷ i64 ∷ i128 ∷ isize ∷ [])
+
+named_is : (type : IntegerType) → named (type_name type) ≡ Some type
+named_is u8 = refl
+named_is type = refl
+
+some_type : (a b : IntegerType) → Some a ≡ Some b → a ≡ b
+some_type a b e = cc
+
+pub same_type : (a b : IntegerType) → type_name a ≡ type_name b → a ≡ b
+same_type a b e = some_type a b (sym (named_is a) ∙ ap named e ∙ named_is b)

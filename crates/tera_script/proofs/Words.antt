@@ -6,24 +6,32 @@ use Rattle.std.specs.List.{list_all}
 use Rattle.std.proofs.lemmas.Bool.Decides.{nat_tests}
 use Rattle.std.proofs.lemmas.Slice.Eq.{bytes_eq-Decides}
 use Rattle.std.proofs.lemmas.List.Folds.{list_all-append}
+use Rattle.std.specs.Str.{bytes_eq}
 use Rattle.std.specs.Str.Parse.{IsNumeral}
 use Rattle.tera_meaning.specs.Integer.{Integer}
 use Rattle.tera_meaning.specs.Form.{Form}
-use Rattle.tera_meaning.specs.Tree.{undefined, none, truth, number, depth}
+use Rattle.tera_meaning.specs.Tree.{undefined, none, truth, number, text, bytes, array, object, depth}
 use Rattle.tera_script.specs.Number.{sign_of, suffix_of, SpellsNumber}
 use Rattle.tera_script.specs.Literal.{SpellsTree, tree_value}
 use Rattle.tera_script.specs.Word.{is_blank}
-use Rattle.tera_script.specs.Readers.{Stops, front, past, digits_at, unsigned_in, number_in, is_word_byte, value_in}
-use Rattle.tera_script.proofs.Fronts.{front_is, past_is, take_to_past}
+use Rattle.tera_script.specs.Readers.{Stops, front, past, digits_at, unsigned_in, number_in, is_word_byte, number_value, value_in}
+use Rattle.tera_script.proofs.Fronts.{front_is, past_is}
 use Rattle.tera_script.proofs.Integers.{number_found, number_only, digits_only}
 
 pub value_found : (word : List ℕ) (v : Form) → value_in word ≡ Some v → SpellsTree word v
 unfolding value_in
 value_found word v e = grind (arith, bytes_eq-Decides, number_found)
 
+-- a word that spells a number is no other
+pub other_word : (word other : List ℕ) (n : Integer) → number_in word ≡ Some n → number_in other ≡ None → bytes_eq word other ≡ false
+other_word word other n e not = grind (arith, bytes_eq-Decides)
+
 number_value_only : (word : List ℕ) (n : Integer) → SpellsNumber word n → value_in word ≡ Some (number n)
 unfolding value_in number_in unsigned_in digits_at
-number_value_only word n h = let e = number_only word n h in grind (arith, bytes_eq-Decides)
+number_value_only word n h =
+    let e = number_only word n h in
+    let no = λ (other : List ℕ). other_word word other n e in
+    rw (no (codes "undefined") refl, no (codes "none") refl, no (codes "true") refl, no (codes "false") refl) (ap number_value e)
 
 -- the bytes of a number
 digits_are_word : (digits : List ℕ) → list_all is_ascii_digit digits ≡ true → list_all is_word_byte digits ≡ true
@@ -44,24 +52,21 @@ pub record IsWord (literal : List ℕ) (value : Form) : Type 0 where
   pub names : value_in literal ≡ Some value
   pub bytes : list_all is_word_byte literal ≡ true
 
-pub word_undefined : IsWord (codes "undefined") undefined
-unfolding value_in
-word_undefined = record { names = refl; bytes = refl }
+abbrev pub IsFlat : Form → Type 0
+IsFlat (text t) = ⊥
+IsFlat (bytes bs) = ⊥
+IsFlat (array xs) = ⊥
+IsFlat (object ps) = ⊥
+IsFlat v = Unit {0}
 
-pub word_none : IsWord (codes "none") none
+pub flat_word : (literal : List ℕ) (v : Form) → IsFlat v → SpellsTree literal v → IsWord literal v
 unfolding value_in
-word_none = record { names = refl; bytes = refl }
-
-pub word_true : IsWord (codes "true") (truth true)
-unfolding value_in
-word_true = record { names = refl; bytes = refl }
-
-pub word_false : IsWord (codes "false") (truth false)
-unfolding value_in
-word_false = record { names = refl; bytes = refl }
-
-pub word_number : (literal : List ℕ) (n : Integer) → SpellsNumber literal n → IsWord literal (number n)
-word_number literal n h = record { names = number_value_only literal n h; bytes = number_is_word literal n h }
+flat_word literal undefined f h = rw h (record { names = refl; bytes = refl })
+flat_word literal none f h = rw h (record { names = refl; bytes = refl })
+flat_word literal (truth true) f h = rw h (record { names = refl; bytes = refl })
+flat_word literal (truth false) f h = rw h (record { names = refl; bytes = refl })
+flat_word literal (number n) f h = record { names = number_value_only literal n h; bytes = number_is_word literal n h }
+flat_word literal v f h = absurd f
 
 -- a word is what stands at the front
 pub word_front : (xs literal rest : List ℕ) (value : Form) → IsWord literal value → xs ≡ literal ++ rest → Stops is_word_byte rest
@@ -83,9 +88,6 @@ word_is_not_blank (b ∷ word) rest some h = grind (arith, nat_tests)
 pub word_stops_blanks : (literal rest : List ℕ) (value : Form) → IsWord literal value → Stops is_blank (literal ++ rest)
 word_stops_blanks [] rest value w = let n = w.names in let m = no_value_nowhere in cc
 word_stops_blanks (b ∷ literal) rest value w = word_is_not_blank (b ∷ literal) rest (omega arith) w.bytes
-
-pub cut_word : (xs rest : List ℕ) → rest ≡ past is_word_byte xs → take (length xs - length rest) xs ≡ front is_word_byte xs
-cut_word xs rest r = rw r (take_to_past is_word_byte [] xs xs refl)
 
 -- no word spells an array or a map
 pub value_is_flat : (levels : ℕ) (word : List ℕ) (v : Form) → value_in word ≡ Some v → depth v ≤ levels

@@ -1,6 +1,6 @@
 -- Literals: how a script spells a value.
 use Rattle.std.specs.Prelude.{◌≡◌, ◌<◌, ◌+◌, ◌*◌, ℕ, Bool, true, false, List, [], ◌∷◌, ◌++◌}
-use Rattle.std.specs.Prelude.{reverse, cond, Option, None, Some, codes}
+use Rattle.std.specs.Prelude.{cond, Option, None, Some, codes}
 use Rattle.std.specs.Char.{digit_value}
 use Rattle.std.specs.Ordering.{eq_by_cmp}
 use Rattle.tera_meaning.specs.Tree.{Items, Members, undefined, none, truth, number, text, bytes}
@@ -8,7 +8,7 @@ use Rattle.tera_meaning.specs.Tree.{array, object, no_items, item, no_members, m
 use Rattle.tera_meaning.specs.Form.{Form, MarkedText}
 use Rattle.tera_meaning.specs.Integer.{Integer}
 use Rattle.tera_meaning.specs.KeyMeaning.{KeyForm, truth_key, number_key, text_key, owned, borrowed}
-use Rattle.tera_meaning.specs.Pairs.{key_form_order, pairs_of}
+use Rattle.tera_meaning.specs.Pairs.{key_form_order, put_all}
 use Rattle.tera_script.specs.Number.{SpellsNumber}
 use Rattle.tera_script.specs.Text.{SpellsText}
 use Rattle.tera_script.specs.Word.{AreBlanks}
@@ -100,10 +100,10 @@ abbrev mutual
       × IsPair (λ literal. SpellsKey literal k) (λ literal. SpellsTree literal x) first
       × SpellsMorePairs rest ps × (more ≡ 44 ∷ (first ++ rest))
 
--- the pairs of a map from those that are written, in the order of their keys: of equal keys the
--- first stands, and the last value
+-- the pairs of a map from those that are written, put one after another: of equal keys the first
+-- stands in its place, with the last value
 abbrev pub in_places : List (KeyForm × Form) → List (KeyForm × Form)
-in_places written = pairs_of (reverse written)
+in_places written = put_all key_form_order [] written
 
 -- the first key of some pairs that is equal to this one, as it is held
 abbrev pub key_at : List (KeyForm × Form) → KeyForm → Option KeyForm

@@ -7,7 +7,6 @@ use Rattle.std.specs.Option.{option_map}
 use Rattle.std.specs.Char.{digit_value, is_ascii_digit}
 use Rattle.std.specs.List.{list_all}
 use Rattle.std.specs.Str.{bytes_eq, IsUtf8}
-use Rattle.std.specs.Str.Parse.{digits_value}
 use Rattle.tera_meaning.specs.Integer.{IntegerKind, u64, i64, u128, i128, Integer}
 use Rattle.tera_meaning.specs.Form.{Form, MarkedText}
 use Rattle.tera_meaning.specs.Kind.{integer_kind_name}
@@ -71,13 +70,20 @@ name_at (b ∷ bytes) = cond (is_name_start b)
 unfoldable pub operand_at : List ℕ → Option (List ℕ × List ℕ)
 operand_at bytes = gap_at bytes >>= name_at
 
--- the number of the digits at the front, if there are any and 128 bits hold it, and the bytes
--- behind them
+-- the number of some digits and of those at the front, if 128 bits hold it, and the bytes behind
+-- them
+abbrev pub digits_from : ℕ → List ℕ → Option (ℕ × List ℕ)
+digits_from n [] = Some (n, [])
+digits_from n (b ∷ bytes) = cond (is_ascii_digit b)
+    (cond (nat_lt (n * 10 + digit_value b) (2 ^ 128)) (digits_from (n * 10 + digit_value b) bytes)
+    None)
+    (Some (n, b ∷ bytes))
+
+-- the number of the digits at the front, if there are any
 unfoldable pub digits_at : List ℕ → Option (ℕ × List ℕ)
-digits_at bytes =
-    cond (nat_lt 0 (length (front is_ascii_digit bytes))
-    && nat_lt (digits_value 10 (front is_ascii_digit bytes)) (2 ^ 128))
-    (Some (digits_value 10 (front is_ascii_digit bytes), past is_ascii_digit bytes)) None
+digits_at bytes = do
+  digits ← digits_from 0 bytes
+  cond (length digits.1 == length bytes) None (Some digits)
 
 -- the kind, if this is its word, and else what is given
 abbrev pub if_named : List ℕ → IntegerKind → Option (Option IntegerKind)
@@ -208,10 +214,13 @@ IsQuotedAt safe bytes (Some found) = (inner : List ℕ) × (t : List ℕ) × Spe
 IsQuotedAt safe bytes None = (t inner rest : List ℕ) → IsUtf8 inner → SpellsText inner t
     → bytes ≢ inner ++ 34 ∷ rest
 
--- a byte more before what was read
-abbrev pub byte_before : ℕ → ℕ → Option (List ℕ × List ℕ) → Option (List ℕ × List ℕ)
-byte_before high low read =
-    option_map (λ found. ((digit_value high * 16 + digit_value low) ∷ found.0, found.1)) read
+-- some bytes, and then those that were read
+abbrev pub behind : List ℕ → Option (List ℕ × List ℕ) → Option (List ℕ × List ℕ)
+behind bytes read = option_map (λ found. (bytes ++ found.0, found.1)) read
+
+-- the byte of two hexadecimal digits
+abbrev pub byte_of : ℕ → ℕ → ℕ
+byte_of high low = digit_value high * 16 + digit_value low
 
 -- the bytes that the digits up to the closing quote spell, and what stands behind it
 unfoldable pub hex_at : List ℕ → Option (List ℕ × List ℕ)
@@ -219,7 +228,7 @@ hex_at [] = None
 hex_at (high ∷ []) = cond (high == 34) (Some ([], [])) None
 hex_at (high ∷ low ∷ rest) = cond (high == 34) (Some ([], low ∷ rest))
     (cond (nat_lt (digit_value high) 16 && nat_lt (digit_value low) 16)
-    (byte_before high low (hex_at rest)) None)
+    (behind (byte_of high low ∷ []) (hex_at rest)) None)
 
 -- some bytes and a slice, by what they hold
 abbrev pub bytes_rest : {A : Type 0} → Vec ℕ A × Bor (List ℕ) → List ℕ × List ℕ

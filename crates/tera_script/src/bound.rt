@@ -4,7 +4,7 @@ ghost use Rattle.std.specs.Option.{option_map};
 ghost use Rattle.tera_script.specs.Readers.{bound_in, bound_at, bounds_at, small_in, with_rest};
 
 use crate::number::{signed, take_digits};
-use crate::word::{past_gap, past_word};
+use crate::word::{past_gap, split_word};
 
 /// Where a slice starts and ends, and its step, as far as they are given.
 #[derive(Clone, Copy)]
@@ -30,9 +30,8 @@ pub(crate) fn take_bounds(bytes: &[u8]) -> Option<(Bounds, &[u8])>
 fn take_bound(bytes: &[u8]) -> Option<(Option<i128>, &[u8])>
     ensures { option_map with_rest result ≡ bound_at bytes.now }
 {
-    let word = past_gap(bytes)?;
-    let rest = past_word(word);
-    let bound = bound_in(&word[..word.len() - rest.len()])?;
+    let (word, rest) = split_word(past_gap(bytes)?);
+    let bound = bound_in(word)?;
     Some((bound, rest))
 }
 

@@ -1,17 +1,16 @@
 //! Escapes inside the texts of a script.
 #![tactic(auto)]
 
-ghost use Rattle.std.specs.Prelude.{◌≡◌, ℕ, List, ◌∷◌, ◌++◌, IfSome, IfNone, MatchOption};
-ghost use Rattle.std.specs.Prelude.{encode_utf8};
-ghost use Rattle.tera_script.specs.Text.{Token, IsToken, spelling};
-ghost use Rattle.tera_script.specs.TextParts.{BeginsWithEscape, BeginsWithNumber};
+ghost use Rattle.std.specs.Prelude.{◌≡◌, ◌<◌, length, IfSome};
+ghost use Rattle.std.specs.Option.{option_map};
+ghost use Rattle.tera_script.specs.TextParts.{escape_at, at_letter, at_brace, char_rest};
 
 /// The character of an escape, and the bytes after the escape. The bytes begin behind its
 /// backslash. `None` where they begin with no escape.
+#[tactic(auto, using(crate::proofs::Fronts::ascii), unfolding(crate::specs::TextParts::escape_at))]
 pub(crate) fn take_escape(bytes: &[u8]) -> Option<(char, &[u8])>
-    ensures found { IfSome result (λ found. BeginsWithEscape bytes.now found.0 found.1.now) }
-    ensures none { IfNone result ((token : Token) (rest : List ℕ) → IsToken token → 92 ∷ bytes.now
-        ≡ spelling token ++ rest → ⊥) }
+    ensures escape { option_map char_rest result ≡ escape_at bytes.now at_letter }
+    ensures shorter { IfSome result (λ found. length found.1.now < length bytes.now) }
 {
     let (letter, rest) = bytes.split_first()?;
     match *letter {
@@ -28,11 +27,10 @@ pub(crate) fn take_escape(bytes: &[u8]) -> Option<(char, &[u8])>
 
 /// The character whose number stands in braces at the front of the bytes, by one to six hexadecimal
 /// digits, and the bytes after the braces. `None` where they begin with no such number.
+#[tactic(auto, using(crate::proofs::Texts::powers), unfolding(crate::specs::TextParts::escape_at))]
 fn take_number(bytes: &[u8]) -> Option<(char, &[u8])>
-    ensures found { IfSome result
-        (λ found. (digits : List ℕ) × BeginsWithNumber bytes.now digits found.0 found.1.now) }
-    ensures none { IfNone result
-        ((digits rest : List ℕ) (c : ℕ) → BeginsWithNumber bytes.now digits c rest → ⊥) }
+    ensures escape { option_map char_rest result ≡ escape_at bytes.now at_brace }
+    ensures shorter { IfSome result (λ found. length found.1.now < length bytes.now) }
 {
     let (brace, digits) = bytes.split_first()?;
     if *brace != b'{' {

@@ -5,9 +5,9 @@ ghost use Rattle.tera_meaning.specs.KeyMeaning.{number_key};
 ghost use Rattle.tera_script.specs.Readers.{key_in, plain_key_at, key_rest, integer_held, IsKeyAt};
 ghost use Rattle.tera_values.specs.Key.{key_form};
 
-use crate::literal::split_word;
 use crate::number::{Integer, number_in};
 use crate::text::take_text;
+use crate::word::split_word;
 use std::alloc::{AllocError, Global};
 use std::rc::RcStr;
 use tera_values::Key;

@@ -1,8 +1,9 @@
 //! Laws of the grammar of lines. Each function does nothing, and its contract is the law.
-ghost use Rattle.std.specs.Prelude.{◌≡◌, ℕ, List, reverse};
+ghost use Rattle.std.specs.Prelude.{◌≡◌, ℕ, List, ◌++◌, reverse};
+ghost use Rattle.std.specs.Map.{keys_of};
 ghost use Rattle.tera_meaning.specs.Form.{Form};
 ghost use Rattle.tera_meaning.specs.KeyMeaning.{KeyForm};
-ghost use Rattle.tera_meaning.specs.Pairs.{Rises, key_form_order, value_at};
+ghost use Rattle.tera_meaning.specs.Pairs.{HasDistinctKeys, key_form_order, value_at};
 ghost use Rattle.tera_meaning.specs.Request.{Command};
 ghost use Rattle.tera_script.specs.Line.{Says, IsSkipped};
 ghost use Rattle.tera_script.specs.Literal.{SpellsLiteral, in_places, key_at};
@@ -24,10 +25,13 @@ pub fn one_literal()
         SpellsLiteral literal first → SpellsLiteral literal second → first ≡ second }
 {}
 
-/// Of pairs that are written with equal keys a map has the first key and the last value, and its
-/// keys rise.
+/// Of pairs that are written with equal keys a map has the first key and the last value. No two of
+/// its keys tie, and what is written later moves none: a new key stands behind all others.
 pub fn equal_keys_keep_the_first_key_and_the_last_value()
-    ensures rises { (written : List (KeyForm × Form)) → Rises key_form_order (in_places written) }
+    ensures distinct { (written : List (KeyForm × Form)) →
+        HasDistinctKeys key_form_order (in_places written) }
+    ensures places { (written later : List (KeyForm × Form)) → (new : List KeyForm)
+        × (keys_of (in_places (written ++ later)) ≡ keys_of (in_places written) ++ new) }
     ensures values { (written : List (KeyForm × Form)) (key : KeyForm) →
         value_at key_form_order (in_places written) key
         ≡ value_at key_form_order (reverse written) key }

@@ -44,6 +44,7 @@ pub fn read_line(alloc: Global, line: &[u8]) -> Result<Reading, AllocError>
 }
 
 // Whether the bytes are UTF-8. Most lines are ASCII, which is told eight bytes at a time.
+#[tactic(auto, using(crate::proofs::Utf8::ascii_texts))]
 fn is_utf8(bytes: &[u8]) -> bool
     ensures { MatchBool result (IsUtf8 bytes.now) (¬ IsUtf8 bytes.now) }
 {

@@ -1,17 +1,17 @@
 //! Literals: how a script spells a value.
 ghost use Rattle.std.specs.Prelude.{◌≡◌, ℕ, List, IfOk};
 ghost use Rattle.std.specs.Option.{option_map};
-ghost use Rattle.tera_script.specs.Readers.{front, past, is_word_byte, value_in, plain_at};
-ghost use Rattle.tera_script.specs.Readers.{hex_at, bytes_read, with_rest, named_rest, pair_rest};
+ghost use Rattle.tera_script.specs.Readers.{value_in, plain_at};
+ghost use Rattle.tera_script.specs.Readers.{hex_at, bytes_read, with_rest, pair_rest};
 ghost use Rattle.tera_script.specs.Readers.{IsQuotedAt, IsLiteralAt, IsArrayAt, IsMapAt, IsPairAt};
 
 use crate::hex::take_hex;
 use crate::key::take_key;
 use crate::number::{number_in, value_of};
 use crate::text::take_text;
-use crate::word::{past_blanks, past_word};
+use crate::word::{past_blanks, split_word};
 use std::alloc::{AllocError, Global};
-use tera_values::{Key, Value, maps};
+use tera_values::{Key, Map, Value};
 
 /// How deep arrays and maps may nest. The outermost is level 1.
 pub(crate) const LEVELS: usize = 64;
@@ -89,7 +89,7 @@ fn take_map(
     if levels == 0 {
         return Ok(None);
     }
-    let mut pairs = maps::new(alloc);
+    let mut pairs = Map::new(alloc);
     let mut rest = past_blanks(bytes);
     if let Some(behind) = rest.strip_prefix(b"}".as_slice()) {
         return Ok(Some((Value::of_map(pairs), behind)));
@@ -98,7 +98,7 @@ fn take_map(
         let Some((key, value, behind)) = take_pair(alloc, rest, levels - 1)? else {
             return Ok(None);
         };
-        let Ok(()) = maps::insert(&mut pairs, key, value) else {
+        let Ok(_) = pairs.insert(key, value) else {
             return Err(AllocError);
         };
         let Some((mark, further)) = past_blanks(behind).split_first() else {
@@ -173,14 +173,6 @@ fn take_plain(bytes: &[u8]) -> Option<(Value, &[u8])>
     let (word, rest) = split_word(bytes);
     let value = value_in(word)?;
     Some((value, rest))
-}
-
-/// The bytes at the front that can stand in a literal without quotes, and those behind them.
-pub(crate) fn split_word(bytes: &[u8]) -> (&[u8], &[u8])
-    ensures { named_rest result ≡ (front is_word_byte bytes.now, past is_word_byte bytes.now) }
-{
-    let rest = past_word(bytes);
-    (&bytes[..bytes.len() - rest.len()], rest)
 }
 
 // The value that a word spells.

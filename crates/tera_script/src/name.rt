@@ -8,6 +8,7 @@ use std::alloc::{AllocError, Global};
 use std::str;
 
 /// A name as a text of its own. It is ASCII, so nothing is left to be found out.
+#[tactic(auto, using(crate::proofs::Utf8::name_utf8))]
 pub(crate) fn name_text(alloc: Global, name: &[u8]) -> Result<String, AllocError>
     requires { IsName name.now }
     ensures { IfOk result (λ text. string_bytes text ≡ name.now) }

@@ -11,11 +11,11 @@ use tera_values::Value;
 pub(crate) fn source_of(alloc: Global, value: Value) -> Result<Option<Context>, AllocError>
     ensures { IfOk result (λ answer. IsSourceOf value answer) }
 {
-    let Some(pairs) = value.into_map() else {
+    let Some(map) = value.into_map() else {
         return Ok(None);
     };
     let mut source = Context::new(alloc);
-    for (key, held) in pairs {
+    for (key, held) in map {
         let Some(name) = key.as_str() else {
             return Ok(None);
         };

@@ -1,7 +1,7 @@
 //! The texts of a script.
 
-ghost use Rattle.std.specs.Prelude.{◌≡◌, ℕ, ◌+◌, List, ◌∷◌, ◌++◌, IfOk, MatchOption, ◌<◌, ◌≤◌, ◌⊎◌};
-ghost use Rattle.std.specs.Prelude.{IsUtf8, string_bytes, length, slice_index};
+ghost use Rattle.std.specs.Prelude.{◌≡◌, ℕ, List, ◌++◌, IfOk, MatchOption, ◌<◌, ◌≤◌, ◌⊎◌, IsUtf8};
+ghost use Rattle.std.specs.Prelude.{string_bytes, length, slice_index};
 ghost use Rattle.tera_script.specs.Text.{BeginsWithText};
 ghost use Rattle.tera_script.specs.TextParts.{IsPlain, BeginsWithRun};
 
@@ -62,8 +62,9 @@ fn decode_text(alloc: Global, bytes: &[u8]) -> Result<Option<(Vec<u8>, usize)>, 
 
 /// Adds the bytes at the front that stand for themselves, and answers those that follow them.
 fn take_run<'a>(decoded: &mut Vec<u8>, bytes: &'a [u8]) -> Result<&'a [u8], AllocError>
-    ensures { IfOk result (λ rest. (run : List ℕ) × BeginsWithRun bytes.now run rest.now
+    ensures run { IfOk result (λ rest. (run : List ℕ) × BeginsWithRun bytes.now run rest.now
         × (decoded.new.items ≡ decoded.old.items ++ run)) }
+    ensures shorter { IfOk result (λ rest. length rest.now ≤ length bytes.now) }
 {
     let (run, rest) = bytes.split_at(run_length(bytes));
     decoded.extend_from_slice(run)?;
@@ -71,6 +72,7 @@ fn take_run<'a>(decoded: &mut Vec<u8>, bytes: &'a [u8]) -> Result<&'a [u8], Allo
 }
 
 /// How many bytes at the front stand for themselves.
+#[tactic(auto, unfolding(bstr::specs::Bytes::is_in))]
 fn run_length(bytes: &[u8]) -> usize
     ensures within { result ≤ length bytes.now }
     ensures plain { (k : ℕ) → k < result → IsPlain (slice_index bytes.now k) }

@@ -44,6 +44,7 @@ pub(crate) enum Verb {
     Print,
     Escape,
     Fields,
+    Walk,
 }
 
 // What stands behind the word of a call.
@@ -117,6 +118,7 @@ fn likely_verb(len: usize, first: u8, second: u8) -> Option<(Known, &'static [u8
         (4, b'k', b'i') => Some((plain(Verb::Kind, Shape::Name), b"kind")),
         (4, b'p', b'a') => Some((keeping(Verb::Path, Shape::Text), b"path")),
         (4, b'r', b'e') => Some((keeping(Verb::Read, Shape::Type), b"read")),
+        (4, b'w', b'a') => Some((plain(Verb::Walk, Shape::Name), b"walk")),
         (5, b'p', b'r') => Some((plain(Verb::Print, Shape::Name), b"print")),
         (5, b's', b'l') => Some((keeping(Verb::Slice, Shape::Bounds), b"slice")),
         (6, b'e', b's') => Some((plain(Verb::Escape, Shape::Name), b"escape")),
@@ -178,6 +180,7 @@ pub(crate) fn call_of(verb: Verb, operands: Operands) -> Option<Call>
             Verb::Print => Some(Call::Print { of: name }),
             Verb::Escape => Some(Call::Escape { of: name }),
             Verb::Fields => Some(Call::Fields { of: name }),
+            Verb::Walk => Some(Call::Walk { of: name }),
             _ => None,
         },
         Operands::Names(left, right) => match verb {

@@ -3,7 +3,7 @@ ghost use Rattle.std.specs.Prelude.{◌≡◌, ℕ, List, IfSome};
 ghost use Rattle.std.specs.List.{list_all};
 ghost use Rattle.std.specs.Option.{option_map};
 ghost use Rattle.tera_script.specs.Word.{is_blank, is_name_start, is_name_byte, IsName};
-ghost use Rattle.tera_script.specs.Readers.{past, gap_at, name_at, operand_at, named_rest};
+ghost use Rattle.tera_script.specs.Readers.{front, past, gap_at, name_at, operand_at, named_rest};
 ghost use Rattle.tera_script.specs.Readers.{is_word_byte, is_of};
 
 fn is_blank(byte: u8) -> bool
@@ -80,11 +80,20 @@ fn past_name(bytes: &[u8]) -> &[u8]
     past(Class::Name, bytes)
 }
 
-/// The bytes behind those at the front that can stand in a literal without quotes.
-pub(crate) fn past_word(bytes: &[u8]) -> &[u8]
+// The bytes behind those at the front that can stand in a literal without quotes.
+fn past_word(bytes: &[u8]) -> &[u8]
     ensures { result.now ≡ past is_word_byte bytes.now }
 {
     past(Class::Word, bytes)
+}
+
+/// The bytes at the front that can stand in a literal without quotes, and those behind them.
+#[tactic(auto, using(crate::proofs::Fronts::past_cut))]
+pub(crate) fn split_word(bytes: &[u8]) -> (&[u8], &[u8])
+    ensures { named_rest result ≡ (front is_word_byte bytes.now, past is_word_byte bytes.now) }
+{
+    let rest = past_word(bytes);
+    (&bytes[..bytes.len() - rest.len()], rest)
 }
 
 // The bytes behind a gap, which is one blank or more.

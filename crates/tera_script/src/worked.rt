@@ -28,6 +28,7 @@ pub fn worked_calls()
     ensures is_safe { Says (codes "is_safe a") (asking (ask Question.is_safe (codes "a"))) }
     ensures mark_safe { Says (codes "mark_safe a") (asking (mark_safe (codes "a"))) }
     ensures escape { Says (codes "escape a") (asking (ask Question.escape (codes "a"))) }
+    ensures walk { Says (codes "walk a") (asking (ask Question.walk (codes "a"))) }
 {}
 
 /// Lines that name where what is found is to be kept.
@@ -38,6 +39,7 @@ pub fn worked_names()
         (asking_into (mark_safe (codes "a")) (codes "a")) }
     ensures has { IsBad (codes "has a -> b") }
     ensures print { IsBad (codes "print a -> b") }
+    ensures walk { IsBad (codes "walk a -> b") }
     ensures set { IsBad (codes "set a 1 -> b") }
     ensures nothing { IsBad (codes "get a ->") }
     ensures no_gap_before { IsBad (codes "get a-> b") }
@@ -66,16 +68,20 @@ pub fn worked_values()
         (asking (set (codes "a") (in_arrays 64 none))) }
 {}
 
-/// Maps. Where keys are equal the first key and the last value stand.
+/// Maps. Where keys are equal the first key stands in its place, with the last value.
 pub fn worked_maps()
     ensures no_pairs { Says (codes "set a {}") (asking (set (codes "a") (object no_members))) }
     ensures pairs { Says (codes "set a { \"b\" : 1u64\t,true:[ ] }")
-        (asking (set (codes "a") (object (members ((truth_key true, array (items []))
-        ∷ (text_key (owned (codes "b")), number (record { kind = kind_u64; value = pos 1 }))
+        (asking (set (codes "a") (object (members
+        ((text_key (owned (codes "b")), number (record { kind = kind_u64; value = pos 1 }))
+        ∷ (truth_key true, array (items []))
         ∷ []))))) }
     ensures equal_keys { Says (codes "set a {1u64: none, 1: true}")
         (asking (set (codes "a") (object (members
         ((number_key (record { kind = kind_u64; value = pos 1 }), truth true) ∷ []))))) }
+    ensures places { Says (codes "set a {true: none, 1: true, true: []}")
+        (asking (set (codes "a") (object (members ((truth_key true, array (items []))
+        ∷ (number_key (record { kind = kind_i64; value = pos 1 }), truth true) ∷ []))))) }
     ensures deepest { Says (codes "set a " ++ in_turns 32 (codes "none"))
         (asking (set (codes "a") (in_both 32 none))) }
 {}

@@ -8,14 +8,14 @@ use Rattle.std.specs.declared.cmp.Ordering.TheVariants.{Greater}
 use Rattle.tera_meaning.proofs.ChainedLaws.{less_nat}
 use Rattle.tera_meaning.specs.Decided.{decided}
 use Rattle.tera_meaning.specs.Form.{Form}
-use Rattle.tera_meaning.specs.Meaning.{Meaning, plain}
+use Rattle.tera_meaning.specs.Meaning.{Meaning, meaning}
 use Rattle.tera_meaning.specs.Order.{compare}
 use Rattle.tera_meaning.proofs.DecidedLaws.{decided_agrees}
 use Rattle.tera_meaning.specs.Tree.{array, items}
 use Rattle.tera_values.proofs.PartsLaws.{nat_cmp_suc}
 
 abbrev pub lists_decided : List Form → List Form → Option Ordering
-lists_decided xs ys = decided (plain (array (items xs))) (plain (array (items ys)))
+lists_decided xs ys = decided (meaning (array (items xs))) (meaning (array (items ys)))
 
 -- where one has ended the lengths decide
 pub decided_ended : (xs ys : List Form) (n : ℕ) → n ≡ min (length xs) (length ys)

@@ -2,7 +2,7 @@
 use Rattle.std.specs.Prelude.{◌≡◌, ℕ, zero, suc, nat_eq, true, List, [], ◌∷◌, map, refl}
 use Rattle.std.proofs.Common.{sym, ◌∙◌, ap, arith, subst}
 use Rattle.std.proofs.lemmas.List.Kept.{IsStrictlySortedBy-dedup, Any-dedup, Contains-from_dedup}
-use Rattle.std.proofs.lemmas.List.Sorted.{Contains-permutation, IsPermutation-map, IsPermutation-sym}
+use Rattle.std.proofs.lemmas.List.Sorted.{Contains-permutation, IsPermutation-sym}
 use Rattle.std.specs.BTreeSet.{insert_key}
 use Rattle.std.specs.Cmp.{Equal-is}
 use Rattle.std.specs.Cmp.Lexicographic.{slice_cmp, pointwise, on_texts, on_texts_equal, texts_ties}
@@ -11,8 +11,7 @@ use Rattle.std.specs.List.{Contains, AllByRecursion, dedup}
 use Rattle.std.specs.List.Sorted.{IsStrictlySortedBy, IsSorted, IsPermutation}
 use Rattle.std.specs.Ordering.{nat_cmp, on, match_ordering}
 use Rattle.std.specs.declared.cmp.Ordering.TheVariants.{Less, Equal, Greater}
-use Rattle.std.specs.Map.{keys_of}
-use Rattle.tera_meaning.specs.Fields.{AreRisingOf, fields, shown_keys, rising_texts}
+use Rattle.tera_meaning.specs.Fields.{AreRisingOf, fields, shown_in, shown_keys, rising_texts}
 use Rattle.tera_meaning.specs.Form.{Form}
 use Rattle.tera_meaning.specs.KeyMeaning.{KeyForm, key_meaning}
 use Rattle.tera_meaning.specs.Printed.{shown_key}
@@ -72,17 +71,14 @@ module _ {X : Type 0} (f : X → List ℕ) where
 
 -- ---- what the keys of a map print
 
-abbrev pub shown_form : KeyForm → List ℕ
-shown_form k = shown_key (key_meaning k)
+-- of a map of these pairs
+pub shown_of : (value : Form) (ps : List (KeyForm × Form)) → value ≡ object (members ps) → shown_in value ≡ shown_keys ps
+shown_of value ps is = ap shown_in is ∙ ap shown_keys (list_of_members ps)
 
-module _ {V : Type 0} where
-  shown_keys_of : (ps : List (KeyForm × V)) → map shown_form (keys_of ps) ≡ shown_keys ps
-  shown_keys_of [] = refl
-  shown_keys_of (p ∷ ps) = ap (λ l. shown_form p.0 ∷ l) (shown_keys_of ps)
-
-  -- the keys of pairs in some order print what the pairs do
-  pub same_shown : (ks : List KeyForm) (ps : List (KeyForm × V)) → IsPermutation ks (keys_of ps) → IsPermutation (map shown_form ks) (shown_keys ps)
-  same_shown ks ps among = subst (IsPermutation (map shown_form ks)) (shown_keys_of ps) (IsPermutation-map shown_form ks (keys_of ps) among)
+-- where nothing is shown there is no pair
+pub none_shown : (ps : List (KeyForm × Form)) → shown_keys ps ≡ [] → ps ≡ []
+none_shown [] e = refl
+none_shown (p ∷ ps) e = cc
 
 -- ---- the names of a map
 
@@ -101,4 +97,4 @@ some_put t (u ∷ us) e = elim (slice_cmp nat_cmp t u) as (λ r. match_ordering 
 -- where there is no name there is no pair
 pub no_names : (ps : List (KeyForm × Form)) → rising_texts (shown_keys ps) ≡ [] → ps ≡ []
 no_names [] e = refl
-no_names (p ∷ ps) e = absurd (some_put (shown_form p.0) (rising_texts (shown_keys ps)) e)
+no_names (p ∷ ps) e = absurd (some_put (shown_key (key_meaning p.0)) (rising_texts (shown_keys ps)) e)

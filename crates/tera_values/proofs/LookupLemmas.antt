@@ -10,7 +10,7 @@ use Rattle.tera_meaning.specs.Form.{Form}
 use Rattle.tera_meaning.specs.Lookup.{item, indexed, part_at, holds, occurs, paired, key_in}
 use Rattle.tera_meaning.proofs.LookupLaws.{tells_occurs}
 use Rattle.tera_meaning.specs.KeyMeaning.{KeyForm}
-use Rattle.tera_meaning.specs.Meaning.{plain}
+use Rattle.tera_meaning.specs.Meaning.{meaning}
 use Rattle.tera_meaning.specs.Order.{same}
 use Rattle.tera_meaning.specs.Tree.{array, object, items, members}
 use Rattle.tera_meaning.proofs.TreeLaws.{list_of_items, list_of_members}
@@ -19,8 +19,8 @@ use Rattle.tera_report.specs.Refusal.{in_array}
 pub item_of_list : (value index : Form) (xs : List Form) → value ≡ array (items xs) → item value index ≡ indexed in_array index (part_at xs)
 item_of_list value index xs is = ap (λ v. item v index) is ∙ ap (λ ys. indexed in_array index (part_at ys)) (list_of_items xs)
 
-pub list_holds : (value x : Form) (xs : List Form) → value ≡ array (items xs) → holds value x ≡ Ok (list_any (λ y. same (plain y) (plain x)) xs)
-list_holds value x xs is = ap (λ v. holds v x) is ∙ ap (λ ys. Ok (list_any (λ y. same (plain y) (plain x)) ys)) (list_of_items xs)
+pub list_holds : (value x : Form) (xs : List Form) → value ≡ array (items xs) → holds value x ≡ Ok (list_any (λ y. same (meaning y) (meaning x)) xs)
+list_holds value x xs is = ap (λ v. holds v x) is ∙ ap (λ ys. Ok (list_any (λ y. same (meaning y) (meaning x)) ys)) (list_of_items xs)
 
 pub pairs_hold : (value x : Form) (ps : List (KeyForm × Form)) → value ≡ object (members ps) → holds value x ≡ Ok (is_some (paired ps (key_in x)))
 pairs_hold value x ps is = ap (λ v. holds v x) is ∙ ap (λ qs. Ok (is_some (paired qs (key_in x)))) (list_of_members ps)

@@ -1,38 +1,43 @@
 -- The items of arrays and the pairs of maps: how many, how deep, and the first that differ.
-use Rattle.std.specs.Prelude.{◌≡◌, true, not, nat_eq, ◌<◌, ◌≤◌, ℕ, Some, zero, suc, min, List, [], ◌∷◌, length, refl}
-use Rattle.std.proofs.Common.{inl, inr, sym, ◌∙◌, ap, subst, arith, get_or, take, drop}
+use Rattle.std.specs.Prelude.{◌≡◌, true, not, nat_eq, ◌<◌, ◌≤◌, ℕ, Some, zero, suc, min, max, List, [], ◌∷◌, length, refl}
+use Rattle.std.proofs.Common.{sym, ◌∙◌, ap, subst, arith, get_or, take, drop}
 use Rattle.std.proofs.lemmas.Grind.{common_steps}
-use Rattle.std.specs.Cmp.{nat_cmp_is, ranks}
+use Rattle.std.specs.Cmp.{IsTotalOrder, nat_cmp_is, on_total, ranks}
 use Rattle.std.specs.Ordering.{MatchOrdering, nat_cmp}
 use Rattle.std.specs.declared.cmp.Ordering.{Ordering}
 use Rattle.std.specs.declared.cmp.Ordering.TheVariants.{Less, Equal, Greater}
 use Rattle.tera_meaning.proofs.ChainedLaws.{less_nat}
 use Rattle.tera_meaning.specs.Form.{Form}
-use Rattle.tera_meaning.specs.KeyMeaning.{KeyForm}
-use Rattle.tera_meaning.specs.Meaning.{plain}
+use Rattle.tera_meaning.specs.KeyMeaning.{KeyForm, key_meaning}
+use Rattle.tera_meaning.specs.Meaning.{meaning}
 use Rattle.tera_meaning.specs.Order.{compare}
 use Rattle.tera_meaning.specs.Read.{items_in, members_in, is_nonempty}
-use Rattle.tera_meaning.proofs.PairLaws.{rising_rises}
-use Rattle.tera_meaning.specs.Pairs.{Rises, key_form_order, pairs_of}
+use Rattle.tera_meaning.proofs.KeyLaws.{key_total}
+use Rattle.tera_meaning.proofs.MeaningLaws.{meant_items}
+use Rattle.tera_meaning.specs.Pairs.{HasDistinctKeys, key_form_order}
 use Rattle.tera_meaning.proofs.TreeLaws.{items_of_list, list_of_members, members_of_list}
-use Rattle.tera_meaning.specs.Tree.{undefined, none, truth, number, text, bytes, object, array, items, items_list, members, members_list, depth, items_depth}
-use Rattle.tera_values.specs.Print.{plain_items, plain_pairs}
+use Rattle.tera_meaning.specs.Tree.{undefined, none, truth, number, text, bytes, object, array, items, items_list}
+use Rattle.tera_meaning.specs.Tree.{members, members_list, depth, items_depth, members_depth}
 use Rattle.tera_meaning.specs.WellMade.{IsWellMade, IsWellMadeKey, AreWellMade, AreWellMadeMembers}
-use Rattle.tera_values.specs.MapLaws.{form_total}
-use Rattle.tera_values.specs.Placing.{In}
 
-pub plain_length : (xs : List Form) → length (items_list (plain_items xs)) ≡ length xs
-plain_length [] = refl
-plain_length (x ∷ xs) = ap suc (plain_length xs)
+pub form_total : IsTotalOrder key_form_order
+form_total = on_total key_meaning key_total
 
-pub pairs_length : (ps : List (KeyForm × Form)) → length (members_list (plain_pairs ps)) ≡ length ps
-pairs_length [] = refl
-pairs_length (p ∷ ps) = ap suc (pairs_length ps)
+pub meant_length : (xs : List Form) → length (items_list (meant_items (items xs))) ≡ length xs
+meant_length [] = refl
+meant_length (x ∷ xs) = ap suc (meant_length xs)
 
 -- a map has pairs where their number is not zero
-pub counted_pairs : (ps : List (KeyForm × Form)) → not (nat_eq (length ps) 0) ≡ is_nonempty (members_list (plain_pairs ps))
+pub counted_pairs : (ps : List (KeyForm × Form)) → not (nat_eq (length ps) 0) ≡ is_nonempty ps
 counted_pairs [] = refl
 counted_pairs (p ∷ ps) = let some : not (nat_eq (suc (length ps)) 0) ≡ true = grind (arith, common_steps) in some
+
+-- the values of the pairs that are left are less deep than their map
+pub first_depth : (left rest : List (KeyForm × Form)) (p : KeyForm × Form) → left ≡ p ∷ rest
+    → (depth p.1 ≤ members_depth (members left)) × (members_depth (members rest) ≤ members_depth (members left))
+first_depth left rest p is =
+    let same : members_depth (members left) ≡ max (depth p.1) (members_depth (members rest)) = ap (λ l. members_depth (members l)) is in
+    (omega arith, omega arith)
 
 -- what holds these pairs is the map of them
 pub map_of_members : (v : Form) (ps : List (KeyForm × Form)) → members_in v ≡ Some ps → object (members ps) ≡ v
@@ -67,7 +72,7 @@ array_of_items (bytes bs) xs e = cc
 array_of_items (object ps) xs e = cc
 
 abbrev pub lists_order : List Form → List Form → Ordering
-lists_order xs ys = compare (plain (array (items xs))) (plain (array (items ys)))
+lists_order xs ys = compare (meaning (array (items xs))) (meaning (array (items ys)))
 
 one_more : (m n : ℕ) (r : Ordering) → MatchOrdering r (m < n) (m ≡ n) (n < m)
     → MatchOrdering r (suc m < suc n) (suc m ≡ suc n) (suc n < suc m)
@@ -96,17 +101,13 @@ one_more_well_made [] i x h e made next = absurd (omega arith)
 one_more_well_made (y ∷ ys) zero x h e made next = (subst IsWellMade e next, tt)
 one_more_well_made (y ∷ ys) (suc i) x h e made next = (made.0, one_more_well_made ys i x (omega arith) e made.1 next)
 
--- a pair of which the key and the value are well made
-abbrev pub IsWellMadePair : KeyForm × Form → Type 0
-IsWellMadePair p = IsWellMadeKey p.0 × IsWellMade p.1
+-- what is well made so far and what is left to be shown are all
+abbrev pub AreMadeBut : List (KeyForm × Form) → List (KeyForm × Form) → Type 0
+AreMadeBut all left = AreWellMadeMembers (members left) → AreWellMadeMembers (members all)
 
-pub pairs_well_made : (ps : List (KeyForm × Form)) → ((p : KeyForm × Form) → In p ps → IsWellMadePair p) → AreWellMadeMembers (members ps)
-pairs_well_made [] h = tt
-pairs_well_made (p ∷ ps) h = let first = h p (inl refl) in (first.0, first.1, pairs_well_made ps (λ q i. h q (inr i)))
+pub one_more_made : (all left rest : List (KeyForm × Form)) (p : KeyForm × Form) → left ≡ p ∷ rest → AreMadeBut all left → IsWellMadeKey p.0 → IsWellMade p.1
+    → AreMadeBut all rest
+one_more_made all left rest p is h key value made = h (subst (λ l. AreWellMadeMembers (members l)) (sym is) (key, value, made))
 
--- so a map of which each pair is well made is, since its keys rise
-pub map_well_made : (entries : List (KeyForm × Form)) → ((p : KeyForm × Form) → In p (pairs_of entries) → IsWellMadePair p)
-    → IsWellMade (object (members (pairs_of entries)))
-map_well_made entries h =
-    let rises = rising_rises key_form_order form_total entries in
-    (subst (Rises key_form_order) (sym (list_of_members (pairs_of entries))) rises, pairs_well_made (pairs_of entries) h)
+pub map_made : (ps : List (KeyForm × Form)) → HasDistinctKeys key_form_order ps → AreWellMadeMembers (members ps) → IsWellMade (object (members ps))
+map_made ps distinct made = (subst (HasDistinctKeys key_form_order) (sym (list_of_members ps)) distinct, made)

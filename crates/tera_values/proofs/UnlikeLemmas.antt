@@ -1,24 +1,43 @@
 -- The least key at which two maps differ, met on a walk over each.
-use Rattle.std.specs.Prelude.{◌≡◌, ◌≢◌, Bool, true, false, cond, List, [], ◌∷◌, Option, None, Some, IfSome, if◌then◌else◌, refl}
-use Rattle.std.proofs.Common.{sym, ◌∙◌, ap, subst, ◌⊎◌, inl, inr}
+use Rattle.std.specs.Prelude.{◌≡◌, ◌≢◌, ◌≤◌, ◌||◌, Bool, true, false, cond, suc, List, [], ◌∷◌, length, Option, None, Some, IsSome, IfSome, if◌then◌else◌, refl}
+use Rattle.std.proofs.Common.{sym, ◌∙◌, ap, subst, arith, ◌⊎◌, inl, inr}
+use Rattle.std.proofs.lemmas.Map.Steps.{length-le_from_keys}
 use Rattle.std.specs.Cmp.{tied_itself, eq_by_cmp_equiv}
-use Rattle.std.specs.FinMap.Entries.{find_tied}
-use Rattle.std.specs.Option.{option_eq}
+use Rattle.std.specs.List.{AllByRecursion, IsDistinct, list_any}
+use Rattle.std.specs.Map.{keys_of}
+use Rattle.std.specs.Option.{is_some, option_eq, option_map}
 use Rattle.std.specs.Ordering.{is_lt, is_eq, eq_by_cmp}
 use Rattle.std.specs.declared.cmp.Ordering.{Ordering}
 use Rattle.std.specs.declared.cmp.Ordering.TheVariants.{Less, Equal, Greater}
 use Rattle.tera_meaning.specs.Form.{Form}
 use Rattle.tera_meaning.specs.KeyMeaning.{KeyForm}
-use Rattle.tera_meaning.specs.Pairs.{key_form_order, value_at, goes_on, agree_at, pairs_of, AgreeEverywhere, IsLeastDifference, by_values, order_at}
-use Rattle.tera_meaning.proofs.DifferenceLaws.{agree_rising}
+use Rattle.tera_meaning.specs.Pairs.{key_form_order, value_at, goes_on, agree_at, HasDistinctKeys, AgreeEverywhere, IsLeastDifference, by_values, order_at}
 use Rattle.tera_meaning.proofs.EntryLaws.{forms_decide, forms_tie}
-use Rattle.tera_meaning.proofs.PairLaws.{more_rising}
-use Rattle.tera_values.specs.Map.{is_before}
-use Rattle.tera_values.specs.MapLaws.{form_total}
-use Rattle.tera_values.specs.Placing.{In, Apart, is_equal, is_less, some_same, value_is, value_of_rising, differs_from_none}
-use Rattle.tera_values.specs.Unlike.{form_values, by_order, unlike, lacking, difference_at, met, least_met, maps_order, IsLeastUnlike}
-use Rattle.tera_values.specs.declared.map.Unlike.{Unlike}
-use Rattle.tera_values.specs.declared.map.Unlike.TheVariants.{Values, LeftAlone, RightAlone}
+use Rattle.tera_values.proofs.PartsLaws.{form_total}
+use Rattle.tera_values.specs.Unlike.{form_values, by_order, unlike, lacking, is_before, difference_at, met, least_met, maps_order, IsLeastUnlike}
+use Rattle.tera_values.specs.declared.unlike.Unlike.{Unlike}
+use Rattle.tera_values.specs.declared.unlike.Unlike.TheVariants.{Values, LeftAlone, RightAlone}
+
+abbrev In : {A : Type 0} → A → List A → Type 0
+In x [] = ⊥
+In x (y ∷ ys) = (x ≡ y) ⊎ In x ys
+
+pub none_found : {A B : Type 0} (f : A → B) (found : Option A) → is_some found ≡ false → option_map f found ≡ None
+none_found f None e = refl
+none_found f (Some d) e = cc
+
+some_same : {A : Type 0} (x y : A) → Some x ≡ Some y → x ≡ y
+some_same x y e = cc
+
+is_less : (o : Ordering) → is_lt o ≡ true → o ≡ Less
+is_less Less p = refl
+is_less Equal p = cc
+is_less Greater p = cc
+
+is_equal : (o : Ordering) → is_eq o ≡ true → o ≡ Equal
+is_equal Equal p = refl
+is_equal Less p = cc
+is_equal Greater p = cc
 
 -- how what the first map holds differs from what the second does
 abbrev pub from_left : List (KeyForm × Form) → KeyForm × Form → Option Unlike
@@ -142,21 +161,70 @@ found_entry (e ∷ es) k v h =
     ] refl h
 
 value_tied : {V : Type 0} (es : List (KeyForm × V)) (k l : KeyForm) → key_form_order k l ≡ Equal → value_at key_form_order es k ≡ value_at key_form_order es l
-value_tied es k l t = value_is key_form_order es k ∙ sym (find_tied key_form_order form_total k l t es) ∙ sym (value_is key_form_order es l)
+value_tied [] k l t = refl
+value_tied (e ∷ es) k l t = λ i. cond (is_eq (form_total.congr k l e.0 t i)) (Some e.1) (value_tied es k l t i)
+
+-- the key of a later entry differs from that of an earlier one
+differs_in : {V : Type 0} (k : KeyForm) (es : List (KeyForm × V)) (e : KeyForm × V) → AllByRecursion (λ y. eq_by_cmp key_form_order k y ≡ false) (keys_of es)
+    → In e es → eq_by_cmp key_form_order k e.0 ≡ false
+differs_in k [] e h i = absurd i
+differs_in k (f ∷ fs) e h i = elim i as (λ _. eq_by_cmp key_form_order k e.0 ≡ false) [
+  | inl same ↦ ap (λ x. eq_by_cmp key_form_order k x.0) same ∙ h.0
+  | inr later ↦ differs_in k fs e h.1 later
+]
 
 -- an entry is found at its key
-first_found : {V : Type 0} (es : List (KeyForm × V)) → Apart key_form_order es → (e : KeyForm × V) → In e es → value_at key_form_order es e.0 ≡ Some e.1
+first_found : {V : Type 0} (es : List (KeyForm × V)) → HasDistinctKeys key_form_order es → (e : KeyForm × V) → In e es → value_at key_form_order es e.0
+    ≡ Some e.1
+unfolding IsDistinct
 first_found [] a e i = absurd i
 first_found (f ∷ fs) a e i = elim i as (λ _. value_at key_form_order (f ∷ fs) e.0 ≡ Some e.1) [
   | inl same ↦ subst (λ x. value_at key_form_order (f ∷ fs) x.0 ≡ Some x.1) (sym same) (ap (λ r. cond (is_eq r) (Some f.1) (value_at key_form_order fs f.0))
       (tied_itself form_total f.0))
-  | inr later ↦ ap (λ b. cond b (Some f.1) (value_at key_form_order fs e.0)) ((eq_by_cmp_equiv form_total).symm e.0 f.0 ∙ differs_from_none key_form_order f.0
-      fs a.0 e later) ∙ first_found fs a.1 e later
+  | inr later ↦ ap (λ b. cond b (Some f.1) (value_at key_form_order fs e.0)) ((eq_by_cmp_equiv form_total).symm e.0 f.0 ∙ differs_in f.0 fs e a.0 later)
+      ∙ first_found fs a.1 e later
 ]
 
 if_some : {A : Type 0} (o : Option A) (Q : A → Type 0) → ((h : A) → o ≡ Some h → Q h) → IfSome o Q
 if_some None Q f = tt
 if_some (Some h) Q f = f h refl
+
+not_alone_some : (v : Form) (y : Option Form) → unlike (Some v) y ≡ None → IsSome y
+not_alone_some v None e = cc
+not_alone_some v (Some w) e = refl
+
+-- an entry whose key passes
+any_entry : {V : Type 0} (q : KeyForm) (es : List (KeyForm × V)) → list_any (eq_by_cmp key_form_order q) (keys_of es) ≡ true
+    → (e : KeyForm × V) × In e es × (key_form_order q e.0 ≡ Equal)
+any_entry q [] any = cc
+any_entry {V} q (e ∷ es) any =
+    elim (eq_by_cmp key_form_order q e.0) as (λ b. eq_by_cmp key_form_order q e.0 ≡ b → (b || list_any (eq_by_cmp key_form_order q) (keys_of es)) ≡ true
+    → (f : KeyForm × V) × In f (e ∷ es) × (key_form_order q f.0 ≡ Equal)) [
+      | true ↦ λ tie _. (e, inl refl, is_equal _ tie)
+      | false ↦ λ tie later. let (f, i, same) = any_entry q es later in (f, inr i, same)
+    ] refl any
+
+-- no key ties where a look-up finds nothing
+none_tie : {V : Type 0} (q : KeyForm) (es : List (KeyForm × V)) → value_at key_form_order es q ≡ None
+    → AllByRecursion (λ y. eq_by_cmp key_form_order q y ≡ false) (keys_of es)
+none_tie q [] absent = tt
+none_tie {V} q (e ∷ es) absent =
+    elim (eq_by_cmp key_form_order q e.0) as (λ b. eq_by_cmp key_form_order q e.0 ≡ b → cond b (Some e.1) (value_at key_form_order es q) ≡ None
+    → (eq_by_cmp key_form_order q e.0 ≡ false) × AllByRecursion (λ y. eq_by_cmp key_form_order q y ≡ false) (keys_of es)) [
+      | true ↦ λ tie some. cc
+      | false ↦ λ tie later. (tie, none_tie q es later)
+    ] refl absent
+
+length_keys : {V : Type 0} (es : List (KeyForm × V)) → length (keys_of es) ≡ length es
+length_keys [] = refl
+length_keys (e ∷ es) = ap suc (length_keys es)
+
+-- a walk that meets no difference finds none
+none_met : {V : Type 0} (differs : KeyForm × V → Option Unlike) (es : List (KeyForm × V)) → ((e : KeyForm × V) → In e es → differs e ≡ None)
+    → least_met differs None es ≡ None
+none_met differs [] h = refl
+none_met differs (e ∷ es) h =
+    ap (λ how. least_met differs (met None e.0 how) es) (h e (inl refl)) ∙ none_met differs es (λ f i. h f (inr i))
 
 lacking_none : (x : Option Form) → x ≡ None → lacking x ≢ None
 lacking_none None e h = cc
@@ -169,82 +237,112 @@ lacking_is (Some v) w h e = cc
 module _ (es fs : List (KeyForm × Form)) where
   -- what the walk over the first map meets, and then that over the second
   abbrev pub left_walk : Option (KeyForm × Unlike)
-  left_walk = least_met (λ e. unlike (Some e.1) (value_at key_form_order (pairs_of fs) e.0)) None es
+  left_walk = least_met (λ e. unlike (Some e.1) (value_at key_form_order fs e.0)) None es
 
   abbrev pub both_walks : Option (KeyForm × Unlike)
-  both_walks = least_met (λ e. lacking (value_at key_form_order (pairs_of es) e.0)) left_walk fs
+  both_walks = least_met (λ e. lacking (value_at key_form_order es e.0)) left_walk fs
 
-  reaches_unlike : (l : KeyForm) (x y : Option Form) → value_at key_form_order (pairs_of es) l ≡ x → value_at key_form_order (pairs_of fs) l ≡ y
+  reaches_unlike : (l : KeyForm) (x y : Option Form) → value_at key_form_order es l ≡ x → value_at key_form_order fs l ≡ y
       → (unlike x y ≡ None) ⊎ Reaches both_walks l
   reaches_unlike l None None p q = inl refl
   reaches_unlike l (Some v) y p q =
-      let (e, i, tie, same) = found_entry es l v (sym (value_of_rising key_form_order form_total es l) ∙ p) in
-      let other : value_at key_form_order (pairs_of fs) e.0 ≡ y = sym (value_tied (pairs_of fs) l e.0 tie) ∙ q in
-      elim (walk_reaches (λ d. unlike (Some d.1) (value_at key_form_order (pairs_of fs) d.0)) None es e i) as (λ _. (unlike (Some v) y ≡ None)
+      let (e, i, tie, same) = found_entry es l v p in
+      let other : value_at key_form_order fs e.0 ≡ y = sym (value_tied fs l e.0 tie) ∙ q in
+      elim (walk_reaches (λ d. unlike (Some d.1) (value_at key_form_order fs d.0)) None es e i) as (λ _. (unlike (Some v) y ≡ None)
       ⊎ Reaches both_walks l) [
         | inl none ↦ inl (sym (λ j. unlike (Some (same j)) (other j)) ∙ none)
         | inr r ↦ inr (walk_keeps _ left_walk fs l (reaches_tied left_walk e.0 l tie r))
       ]
   reaches_unlike l None (Some w) p q =
-      let (f, i, tie, same) = found_entry fs l w (sym (value_of_rising key_form_order form_total fs l) ∙ q) in
-      let other : value_at key_form_order (pairs_of es) f.0 ≡ None = sym (value_tied (pairs_of es) l f.0 tie) ∙ p in
-      elim (walk_reaches (λ d. lacking (value_at key_form_order (pairs_of es) d.0)) left_walk fs f i) as (λ _. (unlike None (Some w) ≡ None)
+      let (f, i, tie, same) = found_entry fs l w q in
+      let other : value_at key_form_order es f.0 ≡ None = sym (value_tied es l f.0 tie) ∙ p in
+      elim (walk_reaches (λ d. lacking (value_at key_form_order es d.0)) left_walk fs f i) as (λ _. (unlike None (Some w) ≡ None)
       ⊎ Reaches both_walks l) [
         | inl none ↦ absurd (lacking_none _ other none)
         | inr r ↦ inr (reaches_tied both_walks f.0 l tie r)
       ]
 
-  agrees_or_reaches : (l : KeyForm) → (agree_at key_form_order form_values (pairs_of es) (pairs_of fs) l ≡ true) ⊎ Reaches both_walks l
-  agrees_or_reaches l = elim (reaches_unlike l _ _ refl refl) as (λ _. (agree_at key_form_order form_values (pairs_of es) (pairs_of fs) l ≡ true)
+  agrees_or_reaches : (l : KeyForm) → (agree_at key_form_order form_values es fs l ≡ true) ⊎ Reaches both_walks l
+  agrees_or_reaches l = elim (reaches_unlike l _ _ refl refl) as (λ _. (agree_at key_form_order form_values es fs l ≡ true)
       ⊎ Reaches both_walks l) [
-        | inl none ↦ inl (agrees (value_at key_form_order (pairs_of es) l) (value_at key_form_order (pairs_of fs) l) none)
+        | inl none ↦ inl (agrees (value_at key_form_order es l) (value_at key_form_order fs l) none)
         | inr r ↦ inr r
       ]
 
   abbrev IsUnlike : KeyForm × Unlike → Type 0
-  IsUnlike d = unlike (value_at key_form_order (pairs_of es) d.0) (value_at key_form_order (pairs_of fs) d.0) ≡ Some d.1
+  IsUnlike d = unlike (value_at key_form_order es d.0) (value_at key_form_order fs d.0) ≡ Some d.1
 
-  module _ (a : Apart key_form_order es) (b : Apart key_form_order fs) where
-    in_pairs : (gs : List (KeyForm × Form)) → Apart key_form_order gs → (e : KeyForm × Form) → In e gs → value_at key_form_order (pairs_of gs) e.0 ≡ Some e.1
-    in_pairs gs c e i = value_of_rising key_form_order form_total gs e.0 ∙ first_found gs c e i
-
+  module _ (a : HasDistinctKeys key_form_order es) (b : HasDistinctKeys key_form_order fs) where
     walks_have : IfSome both_walks IsUnlike
     walks_have = walk_has _ IsUnlike left_walk fs
-        (walk_has _ IsUnlike None es tt (λ e i. if_some _ _ (λ h is. ap (λ x. unlike x (value_at key_form_order (pairs_of fs) e.0)) (in_pairs es a e i) ∙ is)))
-        (λ f i. if_some _ _ (λ h is. ap (unlike (value_at key_form_order (pairs_of es) f.0)) (in_pairs fs b f i) ∙ lacking_is _ f.1 h is))
+        (walk_has _ IsUnlike None es tt (λ e i. if_some _ _ (λ h is. ap (λ x. unlike x (value_at key_form_order fs e.0)) (first_found es a e i) ∙ is)))
+        (λ f i. if_some _ _ (λ h is. ap (unlike (value_at key_form_order es f.0)) (first_found fs b f i) ∙ lacking_is _ f.1 h is))
 
-    least_is : (found : Option (KeyForm × Unlike)) → ((l : KeyForm) → (agree_at key_form_order form_values (pairs_of es) (pairs_of fs) l ≡ true)
+    least_is : (found : Option (KeyForm × Unlike)) → ((l : KeyForm) → (agree_at key_form_order form_values es fs l ≡ true)
         ⊎ Reaches found l)
-        → IfSome found IsUnlike → IsLeastUnlike (pairs_of es) (pairs_of fs) found
-    least_is None r h = λ l. elim (r l) as (λ _. agree_at key_form_order form_values (pairs_of es) (pairs_of fs) l ≡ true)
+        → IfSome found IsUnlike → IsLeastUnlike es fs found
+    least_is None r h = λ l. elim (r l) as (λ _. agree_at key_form_order form_values es fs l ≡ true)
         [ inl agree ↦ agree | inr none ↦ absurd none ]
     least_is (Some d) r h = (
       (
-        disagrees (value_at key_form_order (pairs_of es) d.0) (value_at key_form_order (pairs_of fs) d.0) d.1 h,
+        disagrees (value_at key_form_order es d.0) (value_at key_form_order fs d.0) d.1 h,
         λ l less.
-            elim (r l) as (λ _. agree_at key_form_order form_values (pairs_of es) (pairs_of fs) l ≡ true) [ inl agree ↦ agree | inr not ↦ absurd (not less) ],
+            elim (r l) as (λ _. agree_at key_form_order form_values es fs l ≡ true) [ inl agree ↦ agree | inr not ↦ absurd (not less) ],
       ),
       h,
     )
 
+    -- where the first walk meets no difference, the second map has what the first one has
+    held_there : left_walk ≡ None → (e : KeyForm × Form) → In e es → IsSome (value_at key_form_order fs e.0)
+    held_there none e i =
+        let reached = walk_reaches (λ d. unlike (Some d.1) (value_at key_form_order fs d.0)) None es e i in
+        elim reached as (λ _. IsSome (value_at key_form_order fs e.0)) [
+          | inl same ↦ not_alone_some e.1 (value_at key_form_order fs e.0) same
+          | inr r ↦ absurd (subst (λ found. Reaches found e.0) none r)
+        ]
+
+    found_there : left_walk ≡ None → (f : KeyForm × Form) → In f fs → (q : KeyForm)
+        → list_any (eq_by_cmp key_form_order q) (f.0 ∷ keys_of es) ≡ true → IsSome (value_at key_form_order fs q)
+    found_there none f i q any =
+        elim (eq_by_cmp key_form_order q f.0) as (λ b. eq_by_cmp key_form_order q f.0 ≡ b → (b || list_any (eq_by_cmp key_form_order q) (keys_of es)) ≡ true
+        → IsSome (value_at key_form_order fs q)) [
+          | true ↦ λ tie _. subst IsSome (sym (first_found fs b f i) ∙ sym (value_tied fs q f.0 (is_equal _ tie))) refl
+          | false ↦ λ tie later.
+              let (e, j, same) = any_entry q es later in
+              subst IsSome (sym (value_tied fs q e.0 same)) (held_there none e j)
+        ] refl any
+
+    -- and if there are as many pairs, the first map has what the second one has
+    held_here : left_walk ≡ None → length es ≡ length fs → (f : KeyForm × Form) → In f fs → lacking (value_at key_form_order es f.0) ≡ None
+    unfolding IsDistinct
+    held_here none even f i =
+        elim (value_at key_form_order es f.0) as (λ v. value_at key_form_order es f.0 ≡ v → lacking v ≡ None) [
+          | None ↦ λ absent.
+              let more : suc (length es) ≤ length fs =
+              subst (λ n. suc n ≤ length fs) (length_keys es) (length-le_from_keys (eq_by_cmp_equiv form_total) (f.0 ∷ keys_of es) fs
+              (none_tie f.0 es absent, a) (found_there none f i)) in
+              absurd (omega (arith, more, even))
+          | Some v ↦ λ held. refl
+        ] refl
+
     -- two walks meet the least difference
-    pub walks_meet_least : IsLeastUnlike (pairs_of es) (pairs_of fs) both_walks
+    pub walks_meet_least : IsLeastUnlike es fs both_walks
     walks_meet_least = least_is both_walks agrees_or_reaches walks_have
 
-  -- the least difference decides
-  pub ordered_at : (k : KeyForm) → IsLeastDifference key_form_order form_values (pairs_of es) (pairs_of fs) k
-      → maps_order (pairs_of es) (pairs_of fs) ≡ order_at key_form_order form_values (pairs_of es) (pairs_of fs) k
-  ordered_at k least =
-      forms_decide es fs k (
-        sym (agree_rising key_form_order form_total form_values es fs k) ∙ least.0,
-        λ l less. sym (agree_rising key_form_order form_total form_values es fs l) ∙ least.1 l less,
-      )
-      ∙ sym (λ j. by_values key_form_order form_values
-      (value_of_rising key_form_order form_total es k j) (value_of_rising key_form_order form_total fs k j)
-      (more_rising key_form_order form_total es k j) (more_rising key_form_order form_total fs k j))
+    -- so one walk is enough where it meets no difference and there are as many pairs
+    pub one_walk : left_walk ≡ None → length es ≡ length fs → IsLeastUnlike es fs None
+    one_walk none even =
+        subst (IsLeastUnlike es fs)
+        (ap (λ least. least_met (λ e. lacking (value_at key_form_order es e.0)) least fs) none
+        ∙ none_met (λ e. lacking (value_at key_form_order es e.0)) fs (held_here none even))
+        walks_meet_least
 
-  pub all_tie : AgreeEverywhere key_form_order form_values (pairs_of es) (pairs_of fs) → maps_order (pairs_of es) (pairs_of fs) ≡ Equal
-  all_tie agree = (forms_tie es fs).0 (λ l. sym (agree_rising key_form_order form_total form_values es fs l) ∙ agree l)
+  -- the least difference decides
+  pub ordered_at : (k : KeyForm) → IsLeastDifference key_form_order form_values es fs k → maps_order es fs ≡ order_at key_form_order form_values es fs k
+  ordered_at k least = forms_decide es fs k least
+
+  pub all_tie : AgreeEverywhere key_form_order form_values es fs → maps_order es fs ≡ Equal
+  all_tie agree = (forms_tie es fs).0 agree
 
 same_values : (r o : Ordering) → by_order r ≡ Some (Values o) → r ≡ o
 same_values Less o e = cc
@@ -275,20 +373,20 @@ right_decides None (Some w) g h e = refl
 right_decides (Some v) None g h e = cc
 right_decides (Some v) (Some w) g h e = absurd ((not_alone (form_values v w)).1 e)
 
-module _ (es fs : List (KeyForm × Form)) (k : KeyForm) (least : IsLeastDifference key_form_order form_values (pairs_of es) (pairs_of fs) k) where
+module _ (es fs : List (KeyForm × Form)) (k : KeyForm) (least : IsLeastDifference key_form_order form_values es fs k) where
   abbrev here : Option Form
-  here = value_at key_form_order (pairs_of es) k
+  here = value_at key_form_order es k
 
   abbrev there : Option Form
-  there = value_at key_form_order (pairs_of fs) k
+  there = value_at key_form_order fs k
 
-  pub by_held : (o : Ordering) → unlike here there ≡ Some (Values o) → o ≡ maps_order (pairs_of es) (pairs_of fs)
+  pub by_held : (o : Ordering) → unlike here there ≡ Some (Values o) → o ≡ maps_order es fs
   by_held o e = sym (ordered_at es fs k least ∙ values_decide here there _ _ o e)
 
-  pub by_left : (b : Bool) → unlike here there ≡ Some LeftAlone → goes_on key_form_order (pairs_of fs) k ≡ b → (if b then Less else Greater)
-      ≡ maps_order (pairs_of es) (pairs_of fs)
+  pub by_left : (b : Bool) → unlike here there ≡ Some LeftAlone → goes_on key_form_order fs k ≡ b → (if b then Less else Greater)
+      ≡ maps_order es fs
   by_left b e g = sym (ordered_at es fs k least ∙ left_decides here there _ _ e ∙ ap (λ c. if c then Less else Greater) g)
 
-  pub by_right : (b : Bool) → unlike here there ≡ Some RightAlone → goes_on key_form_order (pairs_of es) k ≡ b → (if b then Greater else Less)
-      ≡ maps_order (pairs_of es) (pairs_of fs)
+  pub by_right : (b : Bool) → unlike here there ≡ Some RightAlone → goes_on key_form_order es k ≡ b → (if b then Greater else Less)
+      ≡ maps_order es fs
   by_right b e g = sym (ordered_at es fs k least ∙ right_decides here there _ _ e ∙ ap (λ c. if c then Greater else Less) g)

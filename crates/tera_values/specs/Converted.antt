@@ -5,7 +5,7 @@ use Rattle.std.specs.Fmt.{◌++?◌}
 use Rattle.tera_meaning.specs.Conversion.{IntegerType}
 use Rattle.tera_meaning.specs.Form.{Form}
 use Rattle.tera_meaning.specs.Lookup.{name_of}
-use Rattle.tera_meaning.specs.Meaning.{plain}
+use Rattle.tera_meaning.specs.Meaning.{layout}
 use Rattle.tera_meaning.specs.Printed.{Prints}
 use Rattle.tera_meaning.specs.Read.{number_in}
 use Rattle.tera_report.specs.Errors.{Raises, IsOutOfMemory}
@@ -35,7 +35,7 @@ Gives due value (Err refused) = (refusal : Refusal) × (due ≡ Err refusal)
 -- the text of a value that is outside a type, where it prints exactly
 abbrev pub range_text : Form → List ℕ → Option (List ℕ)
 range_text value target =
-    Some (codes "Value `") ++? printed_if_exact (plain value)
+    Some (codes "Value `") ++? printed_if_exact (layout value)
     ++? Some (codes "` is out of range for `" ++ (target ++ codes "`"))
 
 -- the text of a refusal, where the value that it gives back prints exactly
@@ -55,7 +55,7 @@ abbrev pub RaisesWhy : ConversionRefused → Error → Type 0
 RaisesWhy (WrongType expected actual) error = Raises (invalid_argument expected.now actual.now)
     error
 RaisesWhy (OutOfRange value target) error =
-    ((text : List ℕ) × Prints (plain value) text × Raises (out_of_range text target.now) error)
+    ((text : List ℕ) × Prints (layout value) text × Raises (out_of_range text target.now) error)
     ⊎ IsOutOfMemory error
 
 -- the integer type that the code's `IntType` names

@@ -1,7 +1,6 @@
 pub mod Key
 pub mod Map
-pub mod Placing
-pub mod MapLaws
+pub mod Size
 pub mod View
 pub mod Unlike
 pub mod Depth

@@ -1,21 +1,21 @@
 -- How two maps differ at a key.
-use Rattle.std.specs.Prelude.{◌≡◌, cond, List, [], ◌∷◌, Option, None, Some, MatchOption}
-use Rattle.std.specs.Ordering.{on}
+use Rattle.std.specs.Prelude.{◌≡◌, Bool, true, cond, List, [], ◌∷◌, Option, None, Some}
+use Rattle.std.specs.Prelude.{MatchOption}
+use Rattle.std.specs.Ordering.{on, is_lt}
 use Rattle.std.specs.declared.cmp.Ordering.{Ordering}
 use Rattle.std.specs.declared.cmp.Ordering.TheVariants.{Less, Equal, Greater}
 use Rattle.tera_meaning.specs.Form.{Form}
 use Rattle.tera_meaning.specs.KeyMeaning.{KeyForm}
-use Rattle.tera_meaning.specs.Meaning.{plain}
+use Rattle.tera_meaning.specs.Meaning.{meaning}
 use Rattle.tera_meaning.specs.Order.{compare}
 use Rattle.tera_meaning.specs.Pairs.{key_form_order, value_at, AgreeEverywhere, IsLeastDifference}
 use Rattle.tera_meaning.specs.Tree.{object, members}
-use Rattle.tera_values.specs.Map.{is_before}
-use Rattle.tera_values.specs.declared.map.Unlike.{Unlike}
-use Rattle.tera_values.specs.declared.map.Unlike.TheVariants.{Values, LeftAlone, RightAlone}
+use Rattle.tera_values.specs.declared.unlike.Unlike.{Unlike}
+use Rattle.tera_values.specs.declared.unlike.Unlike.TheVariants.{Values, LeftAlone, RightAlone}
 
 -- the order of the meanings of two values
 abbrev pub form_values : Form → Form → Ordering
-form_values = on plain compare
+form_values = on meaning compare
 
 abbrev pub by_order : Ordering → Option Unlike
 by_order Less = Some (Values Less)
@@ -33,6 +33,12 @@ unlike (Some v) (Some w) = by_order (form_values v w)
 abbrev pub lacking : {V : Type 0} → Option V → Option Unlike
 lacking None = Some RightAlone
 lacking (Some v) = None
+
+module _ {K V : Type 0} (order : K → K → Ordering) where
+  -- the key is below that of the pair, where there is one
+  abbrev pub is_before : K → Option (K × V) → Bool
+  is_before k None = true
+  is_before k (Some p) = is_lt (order k p.0)
 
 -- a difference at a key in place of the least so far
 abbrev pub difference_at : Option Unlike → KeyForm → Option (KeyForm × Unlike)
@@ -52,7 +58,7 @@ module _ {V : Type 0} (differs : KeyForm × V → Option Unlike) where
 
 -- the order of maps of these pairs
 abbrev pub maps_order : List (KeyForm × Form) → List (KeyForm × Form) → Ordering
-maps_order ps qs = compare (plain (object (members ps))) (plain (object (members qs)))
+maps_order ps qs = compare (meaning (object (members ps))) (meaning (object (members qs)))
 
 -- how two maps differ at the least key where they do
 abbrev pub IsLeastUnlike : List (KeyForm × Form) → List (KeyForm × Form) → Option (KeyForm × Unlike)

@@ -1,12 +1,10 @@
 -- From the code's values to forms.
-use Rattle.std.specs.HashMap.{IsUnique}
-use Rattle.std.specs.Prelude.{ℕ, pos, ℤ, Bool, List, ⊤}
+use Rattle.std.specs.Prelude.{ℕ, pos, ℤ, Bool, List}
 use Rattle.std.specs.String.{string_bytes}
 use Rattle.tera_meaning.specs.Form.{Form}
 use Rattle.tera_meaning.specs.Integer.{IntegerKind, u64, i64, u128, i128}
 use Rattle.tera_meaning.specs.Tree.{undefined, none, truth, number, text, bytes, array, object}
 use Rattle.tera_meaning.specs.Tree.{items, members}
-use Rattle.tera_values.specs.Map.{pairs_in, keys_tie}
 use Rattle.tera_values.specs.declared.value.ValueInner.{ValueInner}
 use Rattle.tera_values.specs.declared.value.ValueInner.TheVariants.{Undefined, None, Bool as Truth}
 use Rattle.tera_values.specs.declared.value.ValueInner.TheVariants.{U64, I64, U128, I128, String}
@@ -31,18 +29,4 @@ form_of (I128 z) = integer i128 z
 form_of (String t b) = marked (string_bytes t) b
 form_of (Array xs) = array (items xs.items)
 form_of (Bytes bs) = bytes bs.items
-form_of (Map m) = object (members (pairs_in m))
-
--- no two keys of a map are equal
-abbrev pub HoldsDistinctKeys : ValueInner → Type 0
-HoldsDistinctKeys Undefined = ⊤
-HoldsDistinctKeys None = ⊤
-HoldsDistinctKeys (Truth b) = ⊤
-HoldsDistinctKeys (U64 n) = ⊤
-HoldsDistinctKeys (I64 z) = ⊤
-HoldsDistinctKeys (U128 n) = ⊤
-HoldsDistinctKeys (I128 z) = ⊤
-HoldsDistinctKeys (String t b) = ⊤
-HoldsDistinctKeys (Array xs) = ⊤
-HoldsDistinctKeys (Bytes bs) = ⊤
-HoldsDistinctKeys (Map m) = IsUnique keys_tie m
+form_of (Map m) = object (members m)

@@ -5,17 +5,16 @@ ghost use Rattle.std.specs.Cmp.{on_total, on_equiv, on_per, on_po};
 ghost use Rattle.std.specs.Option.{option_copied};
 ghost use Rattle.std.specs.Ordering.{on, as_partial_cmp};
 ghost use Rattle.std.proofs.Common.{refl};
-ghost use Rattle.tera_meaning.specs.Meaning.{plain};
+ghost use Rattle.tera_meaning.specs.Meaning.{meaning};
 ghost use Rattle.tera_meaning.specs.Order.{rank, compare, same};
 ghost use Rattle.tera_meaning.proofs.OrderLaws.{compare_total, compare_partial, same_equivalence};
 ghost use Rattle.tera_meaning.proofs.OrderLaws.{same_partial_equivalence};
 ghost use Rattle.tera_meaning.specs.Tree.{truth, number, text, bytes, array, object, items};
 ghost use Rattle.tera_meaning.specs.Tree.{members};
-ghost use Rattle.tera_values.specs.Map.{pairs_in};
 ghost use Rattle.tera_values.specs.Unlike.{unlike, maps_order};
 ghost use Rattle.tera_scalars.specs.Whole.{whole_value};
 
-use crate::map::{Unlike, goes_on, least_difference};
+use crate::unlike::{Unlike, goes_on, least_difference};
 use crate::value::ValueInner;
 use crate::{Map, Value};
 use std::cmp::Ordering;
@@ -25,27 +24,27 @@ use tera_scalars::Whole;
 /// flags, arrays item by item, maps as sets of pairs. Mirrors `PartialEq` of `tera::Value`. Takes
 /// no memory.
 impl PartialEq for Value {
-    ghost eq = { on plain same };
+    ghost eq = { on meaning same };
 
-    ghost laws = { on_per plain same_partial_equivalence };
+    ghost laws = { on_per meaning same_partial_equivalence };
 
     fn eq(&self, other: &Value) -> bool
-        ensures value { result ≡ same (plain self.now) (plain other.now) }
-        ensures meaning { IsTrue result ↔ (plain self.now ≡ plain other.now) }
+        ensures value { result ≡ same (meaning self.now) (meaning other.now) }
+        ensures meaning { IsTrue result ↔ (meaning self.now ≡ meaning other.now) }
     {
         order(self, other).is_eq()
     }
 }
 
 impl Eq for Value {
-    ghost laws = { on_equiv plain same_equivalence };
+    ghost laws = { on_equiv meaning same_equivalence };
 }
 
 /// The total order, so always an answer. Mirrors `PartialOrd` of `tera::Value`. Takes no memory.
 impl PartialOrd for Value {
-    ghost partial_cmp = { as_partial_cmp (on plain compare) };
+    ghost partial_cmp = { as_partial_cmp (on meaning compare) };
 
-    ghost laws = { on_po plain compare_partial };
+    ghost laws = { on_po meaning compare_partial };
 
     fn partial_cmp(&self, other: &Value) -> Option<Ordering> {
         Some(order(self, other))
@@ -57,9 +56,9 @@ impl PartialOrd for Value {
 /// lists of their pairs sorted by key, where a pair goes by its key and then by its value. Mirrors
 /// `Ord` of `tera::Value`. Takes no memory.
 impl Ord for Value {
-    ghost cmp = { on plain compare };
+    ghost cmp = { on meaning compare };
 
-    ghost total = { on_total plain compare_total };
+    ghost total = { on_total meaning compare_total };
 
     ghost matches_partial_cmp = { λ a b. refl };
 
@@ -73,7 +72,7 @@ impl Ord for Value {
 // The order of two values.
 #[cycle(order)]
 fn order(left: &Value, right: &Value) -> Ordering
-    ensures { result ≡ compare (plain left.now) (plain right.now) }
+    ensures { result ≡ compare (meaning left.now) (meaning right.now) }
 {
     match &left.inner {
         ValueInner::Undefined => 7.cmp(&rank(right)),
@@ -93,7 +92,7 @@ fn order(left: &Value, right: &Value) -> Ordering
 // The order of an array of these items and a value.
 #[cycle(order)]
 fn array_order(left: &[Value], right: &Value) -> Ordering
-    ensures { result ≡ compare (plain (array (items left.now))) (plain right.now) }
+    ensures { result ≡ compare (meaning (array (items left.now))) (meaning right.now) }
 {
     match right.as_array() {
         Some(all) => items_order(left, all),
@@ -105,7 +104,8 @@ fn array_order(left: &[Value], right: &Value) -> Ordering
 // the lengths.
 #[cycle(order)]
 fn items_order(left: &[Value], right: &[Value]) -> Ordering
-    ensures { result ≡ compare (plain (array (items left.now))) (plain (array (items right.now))) }
+    ensures { result
+        ≡ compare (meaning (array (items left.now))) (meaning (array (items right.now))) }
 {
     for place in 0..left.len().min(right.len()) {
         let first = order(&left[place], &right[place]);
@@ -119,7 +119,7 @@ fn items_order(left: &[Value], right: &[Value]) -> Ordering
 // The order of a map of these pairs and a value.
 #[cycle(order)]
 fn map_order(left: &Map, right: &Value) -> Ordering
-    ensures { result ≡ compare (plain (object (members (pairs_in left.now)))) (plain right.now) }
+    ensures { result ≡ compare (meaning (object (members left.now))) (meaning right.now) }
 {
     match right.as_map() {
         Some(all) => pairs_order(left, all),
@@ -130,7 +130,7 @@ fn map_order(left: &Map, right: &Value) -> Ordering
 // The order of two maps: as it stands at the least key where they differ.
 #[cycle(order)]
 fn pairs_order(left: &Map, right: &Map) -> Ordering
-    ensures { result ≡ maps_order (pairs_in left.now) (pairs_in right.now) }
+    ensures { result ≡ maps_order left.now right.now }
 {
     match least_difference(&*left, &*right) {
         Some((_, Unlike::Values(order))) => order,
@@ -165,7 +165,7 @@ pub(crate) fn unlike(value: &Value, other: Option<&Value>) -> Option<Unlike>
 
 // The order of a truth value and a value.
 fn truth_order(b: bool, other: &Value) -> Ordering
-    ensures { result ≡ compare (truth b) (plain other.now) }
+    ensures { result ≡ compare (truth b) (meaning other.now) }
 {
     match other.as_bool() {
         Some(c) => b.cmp(&c),
@@ -175,7 +175,7 @@ fn truth_order(b: bool, other: &Value) -> Ordering
 
 // The order of a number and a value.
 fn number_order(n: Whole, other: &Value) -> Ordering
-    ensures { result ≡ compare (number (whole_value n)) (plain other.now) }
+    ensures { result ≡ compare (number (whole_value n)) (meaning other.now) }
 {
     match other.whole() {
         Some(m) => n.order(m),
@@ -185,7 +185,7 @@ fn number_order(n: Whole, other: &Value) -> Ordering
 
 // The order of a text and a value.
 fn text_order(left: &str, other: &Value) -> Ordering
-    ensures { result ≡ compare (text left.now) (plain other.now) }
+    ensures { result ≡ compare (text left.now) (meaning other.now) }
 {
     match other.as_str() {
         Some(t) => left.cmp(t),
@@ -195,7 +195,7 @@ fn text_order(left: &str, other: &Value) -> Ordering
 
 // The order of bytes and a value.
 fn bytes_order(left: &[u8], other: &Value) -> Ordering
-    ensures { result ≡ compare (bytes left.now) (plain other.now) }
+    ensures { result ≡ compare (bytes left.now) (meaning other.now) }
 {
     match other.as_bytes() {
         Some(held) => left.cmp(held),
@@ -205,7 +205,7 @@ fn bytes_order(left: &[u8], other: &Value) -> Ordering
 
 /// Its rank in the order of values.
 pub(crate) fn rank(value: &Value) -> u8
-    ensures { result ≡ rank (plain value.now) }
+    ensures { result ≡ rank (meaning value.now) }
 {
     match &value.inner {
         ValueInner::Bool(_) => 0,

@@ -4,7 +4,6 @@ ghost use Rattle.tera_meaning.specs.Lookup.{holds, text_holds, occurs};
 ghost use Rattle.tera_meaning.specs.Read.{text_in};
 ghost use Rattle.tera_meaning.specs.Tree.{array, object, items, members};
 ghost use Rattle.tera_report.specs.Errors.{Refuses};
-ghost use Rattle.tera_values.specs.Map.{pairs_in};
 
 use crate::lookup::find_value;
 use crate::refused::not_a_container;
@@ -38,7 +37,7 @@ impl Value {
 
 // Whether a map has the key that the value is.
 fn has_key(all: &Map, needle: &Value) -> bool
-    ensures { holds (object (members (pairs_in all.now))) needle.now ≡ Ok result }
+    ensures { holds (object (members all.now)) needle.now ≡ Ok result }
 {
     find_value(all, needle).is_some()
 }

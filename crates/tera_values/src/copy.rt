@@ -4,9 +4,8 @@ ghost use Rattle.tera_meaning.specs.Read.{iterable_in};
 ghost use Rattle.tera_report.specs.Errors.{IsOutOfMemory};
 
 use crate::Value;
-use crate::map::copied_pairs;
 use crate::value::ValueInner;
-use std::alloc::Global;
+use std::alloc::{AllocError, Global};
 use tera_report::TeraResult;
 
 impl Value {
@@ -15,10 +14,20 @@ impl Value {
     ///
     /// Takes memory for texts, bytes, items and pairs, and none for other values; the only refusal
     /// is want of it, `Out of memory`.
-    #[cycle(copy)]
     pub fn clone(&self, alloc: Global) -> TeraResult<Value>
         ensures ok { IfOk result (λ v. v ≡ self.now) }
         ensures err { IfErr result IsOutOfMemory }
+        ensures succeeds { iterable_in self.now ≡ false → IsOk result }
+    {
+        Ok(self.copy(alloc)?)
+    }
+
+    /// A clone, with an error that says nothing but want of memory: so what is answered is small.
+    ///
+    /// Takes memory as `clone` does.
+    #[cycle(copy)]
+    pub fn copy(&self, alloc: Global) -> Result<Value, AllocError>
+        ensures ok { IfOk result (λ v. v ≡ self.now) }
         ensures succeeds { iterable_in self.now ≡ false → IsOk result }
     {
         let inner = match &self.inner {
@@ -34,21 +43,20 @@ impl Value {
             }
             ValueInner::Array(all) => ValueInner::Array(copies(alloc, all.as_slice())?),
             ValueInner::Bytes(held) => ValueInner::Bytes(held.as_slice().to_vec(alloc)?),
-            ValueInner::Map(all) => return Ok(Value::of_map(copied_pairs(alloc, all)?)),
+            ValueInner::Map(all) => ValueInner::Map(all.copy(alloc)?),
         };
         Ok(Value { inner })
     }
 }
 
-// A copy of each item, in their order.
+/// A copy of each item, in their order.
 #[cycle(copy)]
-fn copies(alloc: Global, all: &[Value]) -> TeraResult<Vec<Value>>
-    ensures ok { IfOk result (λ v. v.items ≡ all.now) }
-    ensures err { IfErr result IsOutOfMemory }
+pub(crate) fn copies(alloc: Global, all: &[Value]) -> Result<Vec<Value>, AllocError>
+    ensures { IfOk result (λ v. v.items ≡ all.now) }
 {
     let mut made = Vec::with_capacity(alloc, all.len())?;
     for value in all {
-        made.push(value.clone(alloc)?)?;
+        made.push_reserved(value.copy(alloc)?);
     }
     Ok(made)
 }

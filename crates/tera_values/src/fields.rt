@@ -1,13 +1,11 @@
-//! The names of a map's fields.
+//! What the keys of a map print: along its pairs, and as the names of its fields.
 ghost use Rattle.std.specs.Prelude.{◌≡◌, [], map, IfOk, IfErr, IsOk, string_bytes};
-ghost use Rattle.std.specs.List.Sorted.{IsPermutation};
-ghost use Rattle.tera_meaning.specs.Fields.{fields, shown_keys, rising_texts, AreRisingOf};
+ghost use Rattle.tera_meaning.specs.Fields.{fields, shown_in, shown_keys, rising_texts};
+ghost use Rattle.tera_meaning.specs.Fields.{AreRisingOf};
 ghost use Rattle.tera_meaning.specs.Printed.{shown_key};
 ghost use Rattle.tera_report.specs.Errors.{IsOutOfMemory};
 ghost use Rattle.tera_values.specs.Key.{meaning_of_key};
-ghost use Rattle.tera_values.specs.Map.{pairs_in};
 
-use crate::map::{keys, pair_count};
 use crate::value::ValueInner;
 use crate::{Key, Map, Value};
 use std::alloc::Global;
@@ -31,14 +29,30 @@ impl Value {
             _ => Ok(Vec::new(alloc)),
         }
     }
+
+    /// What the keys of the map print, one text for each pair, in their order; no texts on every
+    /// other value. The project's own.
+    ///
+    /// Takes memory for the texts, where there are some; the only refusal is want of it, `Out of
+    /// memory`.
+    pub fn walk(&self, alloc: Global) -> TeraResult<Vec<String>>
+        ensures ok { IfOk result (λ names. map string_bytes names.items ≡ shown_in self.now) }
+        ensures err { IfErr result IsOutOfMemory }
+        ensures succeeds { shown_in self.now ≡ [] → IsOk result }
+    {
+        match &self.inner {
+            ValueInner::Map(all) => printed_keys(alloc, all),
+            _ => Ok(Vec::new(alloc)),
+        }
+    }
 }
 
 // The names of a map's fields.
 fn field_names(alloc: Global, all: &Map) -> TeraResult<Vec<String>>
     ensures ok { IfOk result (λ names.
-        map string_bytes names.items ≡ rising_texts (shown_keys (pairs_in all.now))) }
+        map string_bytes names.items ≡ rising_texts (shown_keys all.now)) }
     ensures err { IfErr result IsOutOfMemory }
-    ensures succeeds { pairs_in all.now ≡ [] → IsOk result }
+    ensures succeeds { all.now ≡ [] → IsOk result }
 {
     let mut names = printed_keys(alloc, all)?;
     sort_names(&mut names);
@@ -53,15 +67,15 @@ fn sort_names(names: &mut Vec<String>)
     names.dedup();
 }
 
-// What each key prints, in whatever order.
+// What each key prints, in the order of the pairs.
 fn printed_keys(alloc: Global, all: &Map) -> TeraResult<Vec<String>>
     ensures ok { IfOk result (λ texts.
-        IsPermutation (map string_bytes texts.items) (shown_keys (pairs_in all.now))) }
+        map string_bytes texts.items ≡ shown_keys all.now) }
     ensures err { IfErr result IsOutOfMemory }
-    ensures succeeds { pairs_in all.now ≡ [] → IsOk result }
+    ensures succeeds { all.now ≡ [] → IsOk result }
 {
-    let mut texts = Vec::with_capacity(alloc, pair_count(all))?;
-    for key in keys(all) {
+    let mut texts = Vec::with_capacity(alloc, all.len())?;
+    for (key, _) in all.iter() {
         texts.push(printed(alloc, key)?)?;
     }
     Ok(texts)

@@ -23,7 +23,7 @@ ghost use Rattle.tera_scalars.specs.Whole.{whole_value};
 
 use crate::Value;
 use crate::print::truth_text;
-use std::alloc::Global;
+use std::alloc::{AllocError, Global};
 use std::cmp::Ordering;
 use std::hash::{Hash, Hasher};
 use std::rc::RcStr;
@@ -93,6 +93,14 @@ impl<'a> Key<'a> {
     pub fn clone(&self, alloc: Global) -> TeraResult<Key<'a>>
         ensures ok { IfOk result (λ k. key_form k ≡ key_form self.now) }
         ensures err { IfErr result IsOutOfMemory }
+        ensures succeeds { owned_in_key (key_form self.now) ≡ None → IsOk result }
+    {
+        Ok(self.copy(alloc)?)
+    }
+
+    /// A clone, with an error that says nothing: so what is answered is small.
+    pub(crate) fn copy(&self, alloc: Global) -> Result<Key<'a>, AllocError>
+        ensures ok { IfOk result (λ k. key_form k ≡ key_form self.now) }
         ensures succeeds { owned_in_key (key_form self.now) ≡ None → IsOk result }
     {
         match self {

@@ -8,10 +8,8 @@ ghost use Rattle.tera_meaning.specs.Read.{text_in, iterable_in};
 ghost use Rattle.tera_meaning.specs.Tree.{undefined, object, members};
 ghost use Rattle.tera_report.specs.Errors.{Refuses, IsOutOfMemory};
 ghost use Rattle.tera_values.specs.Key.{key_form};
-ghost use Rattle.tera_values.specs.Map.{pairs_in};
 ghost use Rattle.tera_values.specs.View.{marked};
 
-use crate::map::{find_key, find_text};
 use crate::refused::{not_a_key, not_a_map_key, not_a_text_index, not_an_array_index};
 use crate::value::ValueInner;
 use crate::{Key, Map, Value};
@@ -28,7 +26,7 @@ impl Value {
         ensures { option_copied result ≡ attr self.now name.now }
     {
         match &self.inner {
-            ValueInner::Map(all) => find_text(all, name),
+            ValueInner::Map(all) => all.get(&Key::Str(name)),
             _ => None,
         }
     }
@@ -99,15 +97,15 @@ impl Value {
 /// What a map has at the key that a value is, lent; nothing where the value is no key. Takes no
 /// memory.
 pub(crate) fn find_value<'a>(all: &'a Map, key: &'a Value) -> Option<&'a Value>
-    ensures { option_copied result ≡ paired (pairs_in all.now) (key_in key.now) }
+    ensures { option_copied result ≡ paired all.now (key_in key.now) }
 {
     match &key.inner {
-        ValueInner::Bool(b) => find_key(all, &Key::Bool(*b)),
-        ValueInner::U64(n) => find_key(all, &Key::U64(*n)),
-        ValueInner::I64(z) => find_key(all, &Key::I64(*z)),
-        ValueInner::U128(n) => find_key(all, &Key::U128(*n)),
-        ValueInner::I128(z) => find_key(all, &Key::I128(*z)),
-        ValueInner::String(text, _) => find_text(all, text.as_str()),
+        ValueInner::Bool(b) => all.get(&Key::Bool(*b)),
+        ValueInner::U64(n) => all.get(&Key::U64(*n)),
+        ValueInner::I64(z) => all.get(&Key::I64(*z)),
+        ValueInner::U128(n) => all.get(&Key::U128(*n)),
+        ValueInner::I128(z) => all.get(&Key::I128(*z)),
+        ValueInner::String(text, _) => all.get(&Key::Str(text.as_str())),
         _ => None,
     }
 }
@@ -116,9 +114,9 @@ pub(crate) fn find_value<'a>(all: &'a Map, key: &'a Value) -> Option<&'a Value>
 #[tactic(auto, using(tera_meaning::proofs::TreeLaws::list_of_members))]
 fn item_of_map(alloc: Global, all: &Map, at: &Value) -> TeraResult<Value>
     ensures ok { IfOk result
-        (λ part. item (object (members (pairs_in all.now))) at.now ≡ Ok part) }
-    ensures err { IfErr result (Refuses (item (object (members (pairs_in all.now))) at.now)) }
-    ensures succeeds { IfOk (item (object (members (pairs_in all.now))) at.now)
+        (λ part. item (object (members all.now)) at.now ≡ Ok part) }
+    ensures err { IfErr result (Refuses (item (object (members all.now)) at.now)) }
+    ensures succeeds { IfOk (item (object (members all.now)) at.now)
         (λ part. iterable_in part ≡ false → IsOk result) }
 {
     if !at.is_key() {

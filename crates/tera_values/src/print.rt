@@ -1,7 +1,7 @@
 //! What values print.
 ghost use Rattle.std.specs.Prelude.{◌≡◌, IsTrue, IsOk, OnOk, OnErr, IfOk, IfErr};
 ghost use Rattle.std.specs.String.{string_bytes};
-ghost use Rattle.tera_meaning.specs.Meaning.{plain};
+ghost use Rattle.tera_meaning.specs.Meaning.{layout};
 ghost use Rattle.tera_meaning.specs.Printed.{Prints, PrintsInside, is_exact, printed};
 ghost use Rattle.tera_meaning.specs.Printed.{printed_truth};
 ghost use Rattle.tera_meaning.specs.Tree.{array, items, members, object};
@@ -11,12 +11,10 @@ ghost use Rattle.tera_report.specs.Sink.{OfSome, Puts};
 ghost use Rattle.tera_report.specs.Watch.{WatchedTakes, WatchedFails};
 ghost use Rattle.tera_report.specs.Writer.{Breaks};
 ghost use Rattle.tera_values.specs.Key.{key_form, meaning_of_key};
-ghost use Rattle.tera_values.specs.Map.{pairs_in};
 ghost use Rattle.tera_values.specs.Print.{PrintsItems, WritesInside, WritesPrinted};
 ghost use Rattle.tera_values.specs.Print.{printed_if_exact, PrintsPairs, PrintsPair};
 ghost use Rattle.tera_values.specs.Print.{PrintsKey, PrintsNothing};
 
-use crate::map::next_pair;
 use crate::value::ValueInner;
 use crate::{Key, Map, Value};
 use std::alloc::Global;
@@ -30,16 +28,16 @@ use tera_scalars::{put_integer, put_lossy};
 impl Value {
     /// Writes the printed text. Undefined and none print nothing, a text itself, bytes the text
     /// that they are, with U+FFFD for what is no character, an array its items between brackets,
-    /// and a map its pairs between braces in the order of their keys; texts in arrays and maps are
-    /// quoted. Mirrors `Value::format`, which is private there.
+    /// and a map its pairs between braces in their order; texts in arrays and maps are quoted.
+    /// Mirrors `Value::format`, which is private there.
     ///
     /// Answers an error only where, during the call, a write of the writer answered an error or
     /// took no byte; then a beginning may be written. Takes no memory.
     pub fn format<W: Writer>(&self, out: &mut W) -> io::Result<()>
         ensures written { OnOk result
-            (WritesPrinted (plain self.now) (W.contents out.old) (W.contents out.new)) }
+            (WritesPrinted (layout self.now) (W.contents out.old) (W.contents out.new)) }
         ensures told { OnErr result
-            (OfSome (Breaks W.wrote) (Prints (plain self.now)) out.old out.new) }
+            (OfSome (Breaks W.wrote) (Prints (layout self.now)) out.old out.new) }
     {
         self.format_watched(&mut Watched::new(out))
     }
@@ -49,7 +47,7 @@ impl Value {
     /// Takes no memory.
     pub fn format_watched<W: Writer>(&self, out: &mut Watched<'_, W>) -> io::Result<()>
         ensures { Puts (WatchedTakes W.contents W.wrote) (WatchedFails W.contents W.wrote) result
-            (Prints (plain self.now)) out.old out.new }
+            (Prints (layout self.now)) out.old out.new }
     {
         self.print_to(out)
     }
@@ -61,9 +59,9 @@ impl Value {
     /// took no byte; then a beginning may be written. Takes no memory.
     pub fn format_inside<W: Writer>(&self, out: &mut W) -> io::Result<()>
         ensures written { OnOk result
-            (WritesInside (plain self.now) (W.contents out.old) (W.contents out.new)) }
+            (WritesInside (layout self.now) (W.contents out.old) (W.contents out.new)) }
         ensures told { OnErr result
-            (OfSome (Breaks W.wrote) (PrintsInside (plain self.now)) out.old out.new) }
+            (OfSome (Breaks W.wrote) (PrintsInside (layout self.now)) out.old out.new) }
     {
         self.format_inside_watched(&mut Watched::new(out))
     }
@@ -73,7 +71,7 @@ impl Value {
     /// Takes no memory.
     pub fn format_inside_watched<W: Writer>(&self, out: &mut Watched<'_, W>) -> io::Result<()>
         ensures { Puts (WatchedTakes W.contents W.wrote) (WatchedFails W.contents W.wrote) result
-            (PrintsInside (plain self.now)) out.old out.new }
+            (PrintsInside (layout self.now)) out.old out.new }
     {
         self.print_inside_to(out)
     }
@@ -82,7 +80,7 @@ impl Value {
     ///
     /// Takes no memory of its own.
     pub fn print_to<S: Sink>(&self, out: &mut S) -> Result<(), S::Fault>
-        ensures { Puts S.takes S.fails result (Prints (plain self.now)) out.old out.new }
+        ensures { Puts S.takes S.fails result (Prints (layout self.now)) out.old out.new }
     {
         put_value(self, out)
     }
@@ -92,7 +90,7 @@ impl Value {
     ///
     /// Takes no memory of its own.
     pub fn print_inside_to<S: Sink>(&self, out: &mut S) -> Result<(), S::Fault>
-        ensures { Puts S.takes S.fails result (PrintsInside (plain self.now)) out.old out.new }
+        ensures { Puts S.takes S.fails result (PrintsInside (layout self.now)) out.old out.new }
     {
         put_inside(self, out)
     }
@@ -100,9 +98,10 @@ impl Value {
     /// Puts the printed text into a room, where it fits. Else the room holds a beginning of it
     /// besides what it held. Takes no memory.
     pub fn print_into_room(&self, room: &mut Room) -> Result<(), Full>
-        ensures puts { Puts RoomTakes RoomFails result (Prints (plain self.now)) room.old room.new }
-        ensures decided { IsTrue (is_exact (plain self.now))
-            → IsDecided result room.old (printed (plain self.now)) room.new }
+        ensures puts { Puts RoomTakes RoomFails result (Prints (layout self.now))
+            room.old room.new }
+        ensures decided { IsTrue (is_exact (layout self.now))
+            → IsDecided result room.old (printed (layout self.now)) room.new }
     {
         self.print_to(room)
     }
@@ -112,9 +111,9 @@ impl Value {
     /// Takes memory for it; the only refusal is want of it, `Out of memory`. A value that prints
     /// nothing takes none.
     pub fn to_text(&self, alloc: Global) -> TeraResult<String>
-        ensures ok { IfOk result (λ t. Prints (plain self.now) (string_bytes t)) }
+        ensures ok { IfOk result (λ t. Prints (layout self.now) (string_bytes t)) }
         ensures err { IfErr result IsOutOfMemory }
-        ensures free { PrintsNothing (plain self.now) → IsOk result }
+        ensures free { PrintsNothing (layout self.now) → IsOk result }
     {
         let mut made = Growing::new(alloc);
         self.print_to(&mut made)?;
@@ -124,9 +123,9 @@ impl Value {
 
 /// The printed text. A width or a fill of the format changes nothing. Takes no memory.
 impl fmt::Display for Value {
-    ghost output = { λ v. printed_if_exact (plain v) };
+    ghost output = { λ v. printed_if_exact (layout v) };
 
-    ghost styled_output = { λ v _. printed_if_exact (plain v) };
+    ghost styled_output = { λ v _. printed_if_exact (layout v) };
 
     fn fmt<W: fmt::Write>(&self, f: &mut fmt::Formatter<W>) -> fmt::Result {
         put_value(self, f)
@@ -136,7 +135,7 @@ impl fmt::Display for Value {
 // Puts the printed text.
 #[cycle(print)]
 pub(crate) fn put_value<S: Sink>(value: &Value, out: &mut S) -> Result<(), S::Fault>
-    ensures { Puts S.takes S.fails result (Prints (plain value.now)) out.old out.new }
+    ensures { Puts S.takes S.fails result (Prints (layout value.now)) out.old out.new }
 {
     match &value.inner {
         ValueInner::Undefined => Ok(()),
@@ -156,7 +155,7 @@ pub(crate) fn put_value<S: Sink>(value: &Value, out: &mut S) -> Result<(), S::Fa
 // Puts what a value prints inside an array or a map: a text is quoted there.
 #[cycle(print)]
 fn put_inside<S: Sink>(value: &Value, out: &mut S) -> Result<(), S::Fault>
-    ensures { Puts S.takes S.fails result (PrintsInside (plain value.now)) out.old out.new }
+    ensures { Puts S.takes S.fails result (PrintsInside (layout value.now)) out.old out.new }
 {
     match value.as_str() {
         Some(text) => put_quoted(text, out),
@@ -167,7 +166,8 @@ fn put_inside<S: Sink>(value: &Value, out: &mut S) -> Result<(), S::Fault>
 // Puts items between brackets.
 #[cycle(print)]
 fn put_array<S: Sink>(all: &[Value], out: &mut S) -> Result<(), S::Fault>
-    ensures { Puts S.takes S.fails result (Prints (plain (array (items all.now)))) out.old out.new }
+    ensures { Puts S.takes S.fails result
+        (Prints (layout (array (items all.now)))) out.old out.new }
 {
     out.put("[")?;
     put_items(all, out)?;
@@ -194,28 +194,26 @@ fn put_items<S: Sink>(items: &[Value], out: &mut S) -> Result<(), S::Fault>
 #[cycle(print)]
 fn put_map<S: Sink>(map: &Map, out: &mut S) -> Result<(), S::Fault>
     ensures { Puts S.takes S.fails result
-        (Prints (plain (object (members (pairs_in map.now))))) out.old out.new }
+        (Prints (layout (object (members map.now)))) out.old out.new }
 {
     out.put("{")?;
     put_pairs(map, out)?;
     out.put("}")
 }
 
-// Puts pairs joined by commas, in the order of their keys: the least, and then the next greater
-// one, again and again.
+// Puts pairs joined by commas, one after another.
 #[cycle(print)]
 fn put_pairs<S: Sink>(map: &Map, out: &mut S) -> Result<(), S::Fault>
-    ensures { Puts S.takes S.fails result (PrintsPairs (pairs_in map.now)) out.old out.new }
+    ensures { Puts S.takes S.fails result (PrintsPairs map.now) out.old out.new }
 {
-    let Some((first, value)) = next_pair(map, None) else {
+    let mut pairs = map.iter();
+    let Some((first, value)) = pairs.next() else {
         return Ok(());
     };
     put_pair(first, value, out)?;
-    let mut last = first;
-    'pairs: while let Some((key, value)) = next_pair(map, Some(last)) {
+    for (key, value) in pairs {
         out.put(", ")?;
         put_pair(key, value, out)?;
-        last = key;
     }
     Ok(())
 }

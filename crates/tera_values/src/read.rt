@@ -1,14 +1,12 @@
 //! What a value holds: its parts, lent or handed on, and what it counts as.
 ghost use Rattle.std.specs.Prelude.{◌≡◌, None, Some, MatchOption};
 ghost use Rattle.std.specs.Option.{option_map};
-ghost use Rattle.tera_meaning.specs.Meaning.{plain};
+ghost use Rattle.tera_meaning.specs.Meaning.{meaning};
 ghost use Rattle.tera_meaning.specs.Read.{truth_in, number_in, text_in, bytes_in, items_in};
 ghost use Rattle.tera_meaning.specs.Read.{members_in, safe_in, marked_safe, truthy_in, size_in};
 ghost use Rattle.tera_meaning.specs.Read.{iterable_in, is_nonempty};
-ghost use Rattle.tera_values.specs.Map.{pairs_in};
 ghost use Rattle.tera_scalars.specs.Whole.{whole_value};
 
-use crate::map::pair_count;
 use crate::value::ValueInner;
 use crate::{Map, Value};
 use tera_report::words::characters;
@@ -76,7 +74,7 @@ impl Value {
     #[tactic(auto, using(tera_meaning::proofs::TreeLaws::list_of_members))]
     pub fn as_map(&self) -> Option<&Map>
         ensures { MatchOption result (members_in self.now ≡ None)
-            (λ m. members_in self.now ≡ Some (pairs_in m.now)) }
+            (λ m. members_in self.now ≡ Some m.now) }
     {
         match &self.inner {
             ValueInner::Map(map) => Some(map),
@@ -88,7 +86,7 @@ impl Value {
     #[tactic(auto, using(tera_meaning::proofs::TreeLaws::list_of_members))]
     pub fn into_map(self) -> Option<Map>
         ensures { MatchOption result (members_in self ≡ None)
-            (λ m. members_in self ≡ Some (pairs_in m)) }
+            (λ m. members_in self ≡ Some m) }
     {
         match self.inner {
             ValueInner::Map(pairs) => Some(pairs),
@@ -132,7 +130,7 @@ impl Value {
     /// unless zero, a text, an array, a map or bytes unless empty. Mirrors `Value::is_truthy`.
     /// Takes no memory.
     pub fn is_truthy(&self) -> bool
-        ensures { result ≡ truthy_in (plain self.now) }
+        ensures { result ≡ truthy_in (meaning self.now) }
     {
         match &self.inner {
             ValueInner::Undefined => false,
@@ -145,20 +143,20 @@ impl Value {
             ValueInner::String(text, _) => is_nonempty(text.as_bytes()),
             ValueInner::Array(all) => is_nonempty(all.as_slice()),
             ValueInner::Bytes(held) => is_nonempty(held.as_slice()),
-            ValueInner::Map(all) => pair_count(all) != 0,
+            ValueInner::Map(all) => all.len() != 0,
         }
     }
 
     /// How many characters the text has, items the array, pairs the map, bytes the bytes; nothing
     /// on other kinds. Mirrors `Value::len`. Takes no memory.
     pub fn len(&self) -> Option<usize>
-        ensures { result ≡ size_in (plain self.now) }
+        ensures { result ≡ size_in (meaning self.now) }
     {
         match &self.inner {
             ValueInner::String(text, _) => Some(characters(text.as_str())),
             ValueInner::Array(all) => Some(all.len()),
             ValueInner::Bytes(held) => Some(held.len()),
-            ValueInner::Map(all) => Some(pair_count(all)),
+            ValueInner::Map(all) => Some(all.len()),
             _ => None,
         }
     }

@@ -3,17 +3,12 @@ ghost use Rattle.std.specs.Prelude.{◌≡◌, true, false, IfOk, IfErr};
 ghost use Rattle.tera_meaning.specs.Tree.{undefined, none, bytes, array, object, items, members};
 ghost use Rattle.tera_meaning.specs.Tree.{no_members};
 ghost use Rattle.tera_report.specs.Errors.{IsOutOfMemory};
-ghost use Rattle.tera_values.specs.Map.{pairs_in};
 ghost use Rattle.tera_values.specs.View.{marked};
 
-use crate::Key;
+use crate::Map;
 use std::alloc::Global;
-use std::collections::HashMap;
 use std::marker::Model;
 use tera_report::TeraResult;
-
-/// The pairs of a map, a key having one value. Mirrors `tera::value::Map`.
-pub type Map = HashMap<Key<'static>, Value>;
 
 /// A value that a template computes with. Mirrors `tera::Value`.
 #[cycle(value)]
@@ -41,23 +36,21 @@ pub(crate) enum ValueInner {
 impl Model for Value {
     ghost use Rattle.tera_meaning.specs.Form.{Form};
     ghost use Rattle.tera_meaning.specs.Stored.{coded_form};
-    ghost use Rattle.tera_meaning.specs.Tree.{depth};
 
     ghost Value = { Form };
 
     ghost coded = { coded_form };
 
-    ghost use Rattle.tera_values.specs.View.{form_of, HoldsDistinctKeys};
+    ghost use Rattle.tera_values.specs.View.{form_of};
+    ghost use Rattle.tera_values.specs.Size.{value_size};
 
     ghost view = { λ v. form_of v.inner };
 
-    ghost invariant = { λ v. HoldsDistinctKeys v.inner };
+    ghost size = { value_size };
 
-    ghost size = { depth };
+    ghost use Rattle.tera_values.specs.Depth.{deep_le-value_size};
 
-    ghost use Rattle.tera_values.specs.Depth.{deep_le-depth};
-
-    ghost size_decreases = { λ v h. deep_le-depth v.inner h };
+    ghost size_decreases = { λ v h. deep_le-value_size v.inner };
 }
 
 impl Value {
@@ -124,10 +117,8 @@ impl Value {
 
     /// A map of these pairs. Mirrors what `Value::from(Map)` makes. Takes no memory.
     pub fn of_map(pairs: Map) -> Value
-        ensures { result ≡ object (members (pairs_in pairs.entry)) }
+        ensures { result ≡ object (members pairs) }
     {
-        // what the library says of its maps, that no two keys are equal, it says of a length
-        let _count = pairs.len();
         Value {
             inner: ValueInner::Map(pairs),
         }
@@ -137,6 +128,6 @@ impl Value {
     pub fn empty_map(alloc: Global) -> Value
         ensures { result ≡ object no_members }
     {
-        Value::of_map(HashMap::new(alloc))
+        Value::of_map(Map::new(alloc))
     }
 }

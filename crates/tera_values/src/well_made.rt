@@ -1,16 +1,15 @@
 //! The law that values are well made.
 ghost use Rattle.std.specs.List.{AllByRecursion};
-ghost use Rattle.tera_meaning.specs.Tree.{array, items};
-ghost use Rattle.tera_meaning.specs.WellMade.{IsWellMade, IsByte};
+ghost use Rattle.tera_meaning.specs.Tree.{array, object, items, members};
+ghost use Rattle.tera_meaning.specs.WellMade.{IsWellMade, IsWellMadeKey, IsByte};
+ghost use Rattle.tera_values.specs.Key.{key_form};
 
-use crate::Value;
-use crate::map::pairs_are_well_made;
 use crate::value::ValueInner;
+use crate::{Key, Map, Value};
 
 /// Each value that a program holds is well made: each number is one of its kind, each text spells
-/// characters in UTF-8, each byte is below 256, and the keys of each map rise strictly in its pair
-/// list, at every depth. It only walks through the value, for the sake of the clause. Takes no
-/// memory.
+/// characters in UTF-8, each byte is below 256, and no two keys of a map are equal, at every depth.
+/// It only walks through the value, for the sake of the clause. Takes no memory.
 #[cycle(well_made)]
 pub fn is_well_made(value: &Value)
     ensures { IsWellMade value.now }
@@ -47,6 +46,44 @@ fn items_are_well_made(all: &[Value])
 {
     for value in all {
         is_well_made(value);
+    }
+}
+
+// The pairs of a map are well made.
+#[cycle(well_made)]
+fn pairs_are_well_made(all: &Map)
+    ensures { IsWellMade (object (members all.now)) }
+{
+    for (key, value) in all.iter() {
+        key_is_well_made(key);
+        is_well_made(value);
+    }
+}
+
+// A key is well made.
+fn key_is_well_made(key: &Key<'static>)
+    ensures { IsWellMadeKey (key_form key.now) }
+{
+    match key {
+        Key::Bool(_) => {}
+        Key::U64(n) => {
+            let _number = *n;
+        }
+        Key::I64(z) => {
+            let _number = *z;
+        }
+        Key::U128(n) => {
+            let _number = *n;
+        }
+        Key::I128(z) => {
+            let _number = *z;
+        }
+        Key::String(text) => {
+            let _text = text.as_str();
+        }
+        Key::Str(text) => {
+            let _text = *text;
+        }
     }
 }
 

@@ -6,7 +6,7 @@ use Rattle.std.specs.String.{string_bytes}
 use Rattle.std.proofs.Common.{ap, sym, subst, ◌∙◌, get_or}
 use Rattle.std.proofs.lemmas.List.{append-nil, append_assoc, drop_all, drop_more}
 use Rattle.tera_meaning.specs.Form.{Form}
-use Rattle.tera_meaning.specs.Meaning.{plain}
+use Rattle.tera_meaning.specs.Meaning.{layout}
 use Rattle.tera_meaning.specs.Printed.{IsExact}
 use Rattle.tera_meaning.specs.Read.{safe_in}
 use Rattle.tera_meaning.specs.State.{State}
@@ -44,7 +44,7 @@ module _ (word : (bytes text : List ℕ) → Spells bytes text → bytes ≡ esc
   standing true shown text known stands is = stands ∙ is
   standing false shown text known stands is = word shown text stands ∙ ap escaped is
 
-  value_known : (o : Option Form) (shown : List ℕ) → IfSome o (λ value. IsExact (plain value))
+  value_known : (o : Option Form) (shown : List ℕ) → IfSome o (λ value. IsExact (layout value))
       → ShowsFound o shown → shown ≡ shown_if_found o
   value_known None shown exact shows = shows
   value_known (Some value) shown exact (text, prints, stands) = standing (safe_in value) shown text _ stands (prints exact)

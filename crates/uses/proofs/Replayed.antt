@@ -11,7 +11,7 @@ use Rattle.tera_meaning.specs.Answer
 use Rattle.tera_meaning.specs.Outcome.{Outcome}
 use Rattle.tera_meaning.specs.Request.{Command, weigh, asking}
 use Rattle.tera_meaning.specs.Run.{IsRun}
-use Rattle.tera_meaning.specs.Meaning.{Meaning, plain}
+use Rattle.tera_meaning.specs.Meaning.{Meaning, meaning}
 use Rattle.tera_meaning.specs.Order
 use Rattle.tera_meaning.specs.State.{State, form_at, read}
 use Rattle.tera_meaning.specs.Step.{IsStep}
@@ -39,8 +39,8 @@ abbrev Alike : Type 0
 Alike = (x y : Meaning) → IsTrue (Order.same x y) ↔ (x ≡ y)
 
 -- two absent names mean the same
-absent : (name other : List ℕ) → plain (form_at empty name) ≡ plain (form_at empty other)
-absent name other = ap (λ held. plain (read held)) (get-empty _ name ∙ sym (get-empty _ other))
+absent : (name other : List ℕ) → meaning (form_at empty name) ≡ meaning (form_at empty other)
+absent name other = ap (λ held. meaning (read held)) (get-empty _ name ∙ sym (get-empty _ other))
 
 compare_step : Ties → (new : State) (outcome : Outcome) → IsStep empty compared outcome new → (outcome ≡ Ok (Answer.order (Some Equal))) × (new ≡ empty)
 compare_step ties new outcome (inl (is, after)) = (is ∙ ap (λ order. Ok (Answer.order (Some order))) ((ties _ _).1 (absent (codes "a") (codes "b"))), after)
@@ -107,7 +107,7 @@ compared_is_short one says command said old new outcome step reply is =
     by (inl (comes, after)) = omega (
       arith,
       ap length (subst (λ o. IsReply o reply) comes is),
-      order_is_short (Some (Order.compare (plain (form_at old (codes "a"))) (plain (form_at old (codes "b"))))),
+      order_is_short (Some (Order.compare (meaning (form_at old (codes "a"))) (meaning (form_at old (codes "b"))))),
     )
     by (inr (wants, comes, after)) = absurd (let no : false ≡ true = wants in cc)
 

@@ -3,3 +3,4 @@ pub mod Filters
 pub mod Render
 pub mod Nested
 pub mod Sums
+pub mod Ordered

@@ -5,7 +5,7 @@ use Rattle.std.specs.FinMap.{get}
 use Rattle.std.specs.Option.{option_and_then, option_map}
 use Rattle.std.specs.String.{string_bytes}
 use Rattle.tera_meaning.specs.Form.{Form}
-use Rattle.tera_meaning.specs.Meaning.{plain}
+use Rattle.tera_meaning.specs.Meaning.{layout}
 use Rattle.tera_meaning.specs.Path.{path}
 use Rattle.tera_meaning.specs.Printed.{Prints, IsExact, shown_in_page}
 use Rattle.tera_meaning.specs.Read.{safe_in}
@@ -26,7 +26,7 @@ StandsFor false shown text = Spells shown text
 
 -- what a value shows: what stands for its printed text
 abbrev pub ShowsValue : Form → List ℕ → Type 0
-ShowsValue value shown = (text : List ℕ) × Prints (plain value) text × StandsFor (safe_in value)
+ShowsValue value shown = (text : List ℕ) × Prints (layout value) text × StandsFor (safe_in value)
     shown text
 
 -- and what is found: nothing is shown where nothing is
@@ -52,7 +52,7 @@ abbrev pub IsExactPiece : State → Piece → Type 0
 IsExactPiece state (Text text) = ⊤
 IsExactPiece state (Path name to) =
     IfSome (found state (string_bytes name) (option_map string_bytes to))
-    (λ value. IsExact (plain value))
+    (λ value. IsExact (layout value))
 
 -- and then it shows this
 abbrev pub shown_if_found : Option Form → List ℕ

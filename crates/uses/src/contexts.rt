@@ -3,7 +3,7 @@ ghost use Rattle.std.specs.Prelude.{◌≡◌, ◌↔◌, ℕ, List, pos, IsTrue
 ghost use Rattle.std.specs.String.{string_bytes};
 ghost use Rattle.tera_meaning.specs.Order.{same};
 ghost use Rattle.tera_meaning.specs.Printed.{Prints};
-ghost use Rattle.tera_meaning.specs.State.{meaning_at};
+ghost use Rattle.tera_meaning.specs.State.{layout_at, meaning_at};
 ghost use Rattle.tera_meaning.specs.Tree.{number};
 ghost use Rattle.tera_report.specs.Errors.{IsOutOfMemory};
 ghost use Rattle.tera_report.specs.Escaping.{Spells};
@@ -36,7 +36,7 @@ pub fn mean_the_same(context: &Context, left: &str, right: &str) -> bool
 /// What a name holds, printed and escaped, marked safe or not. `Out of memory` is the only refusal.
 pub fn escaped_print(alloc: Global, context: &Context, name: &str) -> TeraResult<String>
     ensures ok { IfOk result (λ word. (text : List ℕ)
-        × Prints (meaning_at context.now name.now) text × Spells (string_bytes word) text) }
+        × Prints (layout_at context.now name.now) text × Spells (string_bytes word) text) }
     ensures err { IfErr result IsOutOfMemory }
 {
     let absent = Value::undefined();

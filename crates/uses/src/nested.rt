@@ -6,20 +6,20 @@ ghost use Rattle.uses.specs.Nested.{nested};
 
 use std::alloc::Global;
 use tera_report::TeraResult;
-use tera_values::{Key, Map, Value, maps};
+use tera_values::{Key, Map, Value};
 
 /// A map of an array of a map. `Out of memory` is the only refusal.
 pub fn nested_value(alloc: Global) -> TeraResult<Value>
     ensures ok { IfOk result (λ value. value ≡ nested) }
     ensures err { IfErr result IsOutOfMemory }
 {
-    let mut inner: Map = maps::new(alloc);
-    maps::insert(&mut inner, Key::Str("b"), Value::normal_string(alloc, "x")?)?;
+    let mut inner = Map::new(alloc);
+    inner.insert(Key::Str("b"), Value::normal_string(alloc, "x")?)?;
     let mut items = Vec::new(alloc);
     items.push(Value::from(1u64))?;
     items.push(Value::of_map(inner))?;
-    let mut outer: Map = maps::new(alloc);
-    maps::insert(&mut outer, Key::Str("a"), Value::of_array(items))?;
+    let mut outer = Map::new(alloc);
+    outer.insert(Key::Str("a"), Value::of_array(items))?;
     Ok(Value::of_map(outer))
 }
 

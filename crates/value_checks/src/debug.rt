@@ -1,6 +1,6 @@
 //! What Debug tells of values and of their kinds: each variant by its name, with what it holds.
 use crate::held::hold;
-use made_values::{bytes, one_item, one_pair, safe, shows, text};
+use made_values::{at_texts, bytes, one_item, one_pair, safe, shows, text};
 use std::alloc::Global;
 use std::fmt::Debug;
 use tera_values::{Key, Value, ValueKind};
@@ -52,11 +52,14 @@ fn arrays_and_maps_show_their_parts(rt: HostRuntime) {
     let alloc = rt.alloc();
     let array = "Value { inner: Array([Value { inner: None }]) }";
     let map = "Value { inner: Map({Str(\"a\"): Value { inner: None }}) }";
+    let pairs = "Value { inner: Map({Str(\"b\"): Value { inner: I64(1) }, \
+        Str(\"a\"): Value { inner: I64(2) }}) }";
     hold(
         &rt,
         &[
             tells(alloc, one_item(alloc, Value::none()), array),
             tells(alloc, one_pair(alloc, Key::Str("a"), Value::none()), map),
+            tells(alloc, at_texts(alloc, &[("b", 1), ("a", 2)]), pairs),
         ],
     );
 }

@@ -4,7 +4,7 @@ use crate::writer::Narrow;
 use made_values::{bytes, no_pairs, text, two_items, with};
 use std::alloc::Global;
 use std::process::Abort;
-use tera_values::{Key, Value, maps};
+use tera_values::{Key, Map, Value};
 
 // A writer with that much room.
 fn narrow(alloc: Global, room: usize) -> Narrow {
@@ -65,9 +65,9 @@ fn format_of_an_array_answers_its_writers_error(rt: HostRuntime) {
 #[test]
 fn format_of_a_map_answers_its_writers_error(rt: HostRuntime) {
     let alloc = rt.alloc();
-    let one = with(maps::new(alloc), Key::Str("é"), Value::from(2u8));
+    let one = with(Map::new(alloc), Key::Str("é"), Value::from(2u8));
     let two = with(one, Key::U64(7), no_pairs(alloc));
-    tells(&rt, Value::of_map(two), "{7: {}, \"é\": 2}");
+    tells(&rt, Value::of_map(two), "{\"é\": 2, 7: {}}");
 }
 
 // `format_inside` of the value breaks there.

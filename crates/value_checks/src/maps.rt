@@ -54,6 +54,23 @@ fn the_least_key_that_differs_decides(rt: HostRuntime) {
     );
 }
 
+// The least key that differs need not be the first.
+#[test]
+fn the_order_of_pairs_does_not_count(rt: HostRuntime) {
+    let alloc = rt.alloc();
+    let greater = at_texts(alloc, &[("b", 0), ("a", 2)]);
+    let less = at_texts(alloc, &[("a", 1), ("c", 0)]);
+    let rising = at_texts(alloc, &[("a", 1), ("b", 2), ("c", 3)]);
+    let falling = at_texts(alloc, &[("c", 3), ("b", 2), ("a", 1)]);
+    hold(
+        &rt,
+        &[
+            compare(greater, less, Ordering::Greater, None),
+            is_equal(rising, falling),
+        ],
+    );
+}
+
 #[test]
 fn ranks_of_keys_decide(rt: HostRuntime) {
     let alloc = rt.alloc();

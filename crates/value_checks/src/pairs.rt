@@ -1,7 +1,9 @@
 //! Maps as a caller fills, asks and walks over them.
+use crate::held::hold;
 use made_values::with;
 use std::alloc::Global;
-use tera_values::{Key, Map, Value, maps};
+use std::mem;
+use tera_values::{Key, Map, Pairs, Value};
 
 // What was found is that number.
 fn is(found: Option<&Value>, number: u8) -> bool {
@@ -16,42 +18,153 @@ fn is_equal(found: Option<&Value>, wanted: Value) -> bool {
 
 // At a key, in whatever width, the map has that number.
 fn key_has(map: &Map, key: Key<'static>, number: u8) -> bool {
-    let is_so = is(maps::get(map, &key), number);
+    let is_so = is(map.get(&key), number);
     drop(key);
     is_so
 }
 
-// The walk goes on with that pair.
-fn comes_next(left: &mut maps::PairsLeft<'_>, key: Key<'static>, number: u8) -> bool {
-    let is_so = match left.next() {
-        Some((found, value)) => *found == key && is(Some(value), number),
+// That is the pair of that key and number.
+fn is_pair(found: Option<(&Key<'static>, &Value)>, key: Key<'static>, number: u8) -> bool {
+    let is_so = match found {
+        Some((held, value)) => *held == key && is(Some(value), number),
         None => false,
     };
     drop(key);
     is_so
 }
 
-// A number and a text as keys, and the number put once more in another width.
+// A text and a number as keys, and the text put once more.
 fn filled(alloc: Global) -> Map {
-    let text = with(maps::new(alloc), Key::Str("a"), Value::from(1u8));
+    let text = with(Map::new(alloc), Key::Str("b"), Value::from(1u8));
     let number = with(text, Key::U64(7), Value::from(2u8));
-    with(number, Key::I128(7), Value::from(3u8))
+    with(number, Key::Str("b"), Value::from(3u8))
 }
 
 #[test]
 fn what_is_put_is_found(rt: HostRuntime) {
     let map = filled(rt.alloc());
-    let found = is(maps::get_text(&map, "a"), 1) && key_has(&map, Key::I64(7), 3);
-    assert!(rt; found && maps::len(&map) == 2);
+    hold(
+        &rt,
+        &[
+            is(map.get(&Key::Str("b")), 3),
+            key_has(&map, Key::I64(7), 2),
+            map.get(&Key::Str("7")).is_none(),
+            map.len() == 2,
+        ],
+    );
+    drop(map);
+}
+
+// What was there at the key is given back, and then the number is there.
+fn gives_back(map: &mut Map, key: Key<'static>, number: u8, before: Option<u8>) -> bool {
+    let given = map
+        .insert(key, Value::from(number))
+        .unwrap_or(Some(Value::none()));
+    let is_so = match before {
+        Some(held) => is(given.as_ref(), held),
+        None => given.is_none(),
+    };
+    drop(given);
+    is_so
+}
+
+#[test]
+fn what_was_there_is_given_back(rt: HostRuntime) {
+    let mut map = Map::new(rt.alloc());
+    let first = gives_back(&mut map, Key::U64(7), 1, None);
+    let second = gives_back(&mut map, Key::Str("7"), 2, None);
+    let third = gives_back(&mut map, Key::I128(7), 3, Some(1));
+    hold(&rt, &[first, second, third, map.len() == 2]);
+    drop(map);
+}
+
+// A key that is there keeps its place, and takes the later value.
+#[test]
+fn pairs_come_in_the_order_of_their_keys_first_insertion(rt: HostRuntime) {
+    let map = filled(rt.alloc());
+    let mut left = map.iter();
+    hold(
+        &rt,
+        &[
+            is_pair(left.next(), Key::Str("b"), 3),
+            is_pair(left.next(), Key::U64(7), 2),
+            left.next().is_none(),
+        ],
+    );
     drop(map);
 }
 
 #[test]
-fn pairs_come_in_the_order_of_their_keys(rt: HostRuntime) {
+fn pairs_have_places(rt: HostRuntime) {
     let map = filled(rt.alloc());
-    let mut left = maps::pairs(&map);
-    let first = comes_next(&mut left, Key::U64(7), 3);
-    let second = comes_next(&mut left, Key::Str("a"), 1);
-    assert!(rt; first && second && left.next().is_none());
+    hold(
+        &rt,
+        &[
+            is_pair(map.get_index(0), Key::Str("b"), 3),
+            is_pair(map.get_index(1), Key::U64(7), 2),
+            map.get_index(2).is_none(),
+            map.get_index(usize::MAX).is_none(),
+        ],
+    );
     drop(map);
+}
+
+// The first key of those that are equal stays, in the width that it has.
+#[test]
+fn the_first_key_stays(rt: HostRuntime) {
+    let one = with(Map::new(rt.alloc()), Key::U64(7), Value::from(1u8));
+    let map = with(one, Key::I128(7), Value::from(2u8));
+    assert!(rt; is_wide(map.get_index(0), 7));
+    drop(map);
+}
+
+// The key of that pair is that number in 64 bits.
+fn is_wide(found: Option<(&Key<'static>, &Value)>, wanted: u64) -> bool {
+    match found {
+        Some((Key::U64(number), _)) => *number == wanted,
+        _ => false,
+    }
+}
+
+// Two walks give the same pairs in the same order.
+fn are_alike(left: Pairs<'_>, right: Pairs<'_>) -> bool {
+    let mut right = right;
+    for (key, value) in left {
+        let Some((other, held)) = right.next() else {
+            return false;
+        };
+        if key != other || value != held {
+            return false;
+        }
+    }
+    right.next().is_none()
+}
+
+#[test]
+fn copies_keep_the_order(rt: HostRuntime) {
+    let map = filled(rt.alloc());
+    let copy = map.clone(rt.alloc()).unwrap_or(Map::new(rt.alloc()));
+    assert!(rt; copy.len() == 2 && are_alike(map.iter(), copy.iter()));
+    drop(copy);
+    drop(map);
+}
+
+#[test]
+fn a_map_without_pairs_has_none(rt: HostRuntime) {
+    let map = Map::new(rt.alloc());
+    hold(
+        &rt,
+        &[
+            map.len() == 0,
+            map.get(&Key::Bool(true)).is_none(),
+            map.get_index(0).is_none(),
+            map.iter().next().is_none(),
+        ],
+    );
+    drop(map);
+}
+
+#[test]
+fn a_value_is_small(rt: HostRuntime) {
+    assert!(rt; mem::size_of::<Value>() <= 64);
 }

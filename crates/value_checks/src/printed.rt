@@ -1,9 +1,11 @@
 //! What values print.
 use crate::held::hold;
-use made_values::{and, bytes, no_items, no_pairs, one_item, printed, safe, text, two_items, with};
+use made_values::{
+    and, at_texts, bytes, no_items, no_pairs, one_item, printed, safe, text, two_items, with,
+};
 use std::alloc::Global;
 use std::fmt::Display;
-use tera_values::{Key, Value, maps};
+use tera_values::{Key, Map, Value};
 
 /// Whether `{}` makes that of it, whatever width and fill it has.
 pub fn displays<D: Display>(alloc: Global, it: &D, wanted: &str) -> bool {
@@ -152,27 +154,29 @@ fn bytes_print_as_the_text_that_they_are(rt: HostRuntime) {
 
 // A text and a number at two texts.
 fn greeting(alloc: Global) -> Value {
-    let word = with(maps::new(alloc), Key::Str("other"), Value::from(2u8));
+    let word = with(Map::new(alloc), Key::Str("other"), Value::from(2u8));
     Value::of_map(with(word, Key::Str("hello"), text(alloc, "world")))
 }
 
 // Keys of each rank, the last first.
 fn ranks(alloc: Global) -> Value {
-    let last = with(maps::new(alloc), Key::Str("1"), Value::from(3u8));
+    let last = with(Map::new(alloc), Key::Str("1"), Value::from(3u8));
     let later = with(last, Key::U64(1), Value::from(2u8));
     Value::of_map(with(later, Key::Bool(true), Value::from(1u8)))
 }
 
 #[test]
-fn maps_print_along_their_keys(rt: HostRuntime) {
+fn maps_print_along_their_pairs(rt: HostRuntime) {
     let alloc = rt.alloc();
-    let words = "{\"hello\": \"world\", \"other\": 2}";
+    let words = "{\"other\": 2, \"hello\": \"world\"}";
+    let twice = at_texts(alloc, &[("b", 1), ("a", 2), ("b", 3)]);
     hold(
         &rt,
         &[
             prints(alloc, no_pairs(alloc), "{}"),
             prints(alloc, greeting(alloc), words),
-            prints(alloc, ranks(alloc), "{true: 1, 1: 2, \"1\": 3}"),
+            prints(alloc, ranks(alloc), "{\"1\": 3, 1: 2, true: 1}"),
+            prints(alloc, twice, "{\"b\": 3, \"a\": 2}"),
         ],
     );
 }

@@ -5,24 +5,24 @@ use Rattle.std.specs.Prelude.{◌≡◌, ℕ, List, Option, None, refl, IfSome}
 use Rattle.tera_meaning.specs.Form.{Form}
 use Rattle.tera_meaning.specs.KeyMeaning.{text_key, key_order, borrowed}
 use Rattle.tera_meaning.specs.Lookup.{attr}
-use Rattle.tera_meaning.specs.Meaning.{plain, Meaning}
+use Rattle.tera_meaning.specs.Meaning.{meaning, Meaning}
 use Rattle.tera_meaning.specs.Pairs.{value_at}
 use Rattle.tera_meaning.specs.Tree.{object, members_list}
 use Rattle.tera_meaning.specs.WellMade.{IsWellMade}
-use Rattle.tera_meaning.proofs.PlainLemmas.{found_pair}
+use Rattle.tera_meaning.proofs.MeaningLaws.{found_pair}
 use Rattle.tera_meaning.proofs.SoundLemmas.{sound_pair}
 
 attr_meant : Meaning → List ℕ → Option Meaning
 attr_meant (object ps) t = value_at key_order (members_list ps) (text_key t)
 attr_meant v t = None
 
-attr_plain : (v : Form) (t : List ℕ) → option_map plain (attr v t) ≡ attr_meant (plain v) t
+attr_as_meant : (v : Form) (t : List ℕ) → option_map meaning (attr v t) ≡ attr_meant (meaning v) t
 unfolding attr_meant
-attr_plain (object ps) t = found_pair ps (text_key t)
-attr_plain v t = refl
+attr_as_meant (object ps) t = found_pair ps (text_key t)
+attr_as_meant v t = refl
 
-pub by_meaning : (t : List ℕ) (v w : Form) → plain v ≡ plain w → option_map plain (attr v t) ≡ option_map plain (attr w t)
-by_meaning t v w e = attr_plain v t ∙ ap (λ x. attr_meant x t) e ∙ sym (attr_plain w t)
+pub by_meaning : (t : List ℕ) (v w : Form) → meaning v ≡ meaning w → option_map meaning (attr v t) ≡ option_map meaning (attr w t)
+by_meaning t v w e = attr_as_meant v t ∙ ap (λ x. attr_meant x t) e ∙ sym (attr_as_meant w t)
 
 pub well_made : (t : List ℕ) (v : Form) → IsWellMade v → IfSome (attr v t) IsWellMade
 well_made t (object ps) h = sound_pair ps (text_key (borrowed t)) h.1

@@ -9,13 +9,13 @@ use Rattle.tera_meaning.specs.Arithmetic.{and_then, each_ok, small, operand, exa
 use Rattle.tera_meaning.specs.Form.{Form}
 use Rattle.tera_meaning.specs.Integer.{is_small}
 use Rattle.tera_meaning.specs.Lookup.{seen_by, name_of}
-use Rattle.tera_meaning.specs.Meaning.{plain}
+use Rattle.tera_meaning.specs.Meaning.{meaning}
 use Rattle.tera_meaning.specs.Order.{same}
 use Rattle.tera_meaning.specs.Read.{number_in}
 use Rattle.tera_meaning.specs.WellMade.{IsWellMade}
 use Rattle.tera_report.specs.Refusal.{Refusal, Operator, plus, minus, times, remainder, floor_division, power, not_a_number, operand_outside_i128, not_exact}
 use Rattle.tera_report.specs.Refusal.{exponent_outside_u32}
-use Rattle.tera_meaning.proofs.PlainLemmas.{number_by_meaning}
+use Rattle.tera_meaning.proofs.ReadLemmas.{number_by_meaning}
 use Rattle.tera_meaning.proofs.ArithmeticLemmas.{refused_or, refused_then, refused_each, given_then, given_each, IsNoWant, IsSmall, small_given, small_well}
 
 -- ---- by meaning
@@ -29,30 +29,30 @@ calculated_from operator m left n right =
     each_ok as_i128 (and_then (number_operand m left) (λ a. and_then (number_operand n right) (computed operator a)))
 
 second_nameless : (operator : Operator) (a : ℤ) (n : Option ℤ) (name : List ℕ)
-    → seen_by plain (each_ok as_i128 (and_then (number_operand n name) (computed operator a)))
-    ≡ seen_by plain (each_ok as_i128 (and_then (number_operand n []) (computed operator a)))
+    → seen_by meaning (each_ok as_i128 (and_then (number_operand n name) (computed operator a)))
+    ≡ seen_by meaning (each_ok as_i128 (and_then (number_operand n []) (computed operator a)))
 unfolding number_operand
 second_nameless operator a None name = refl
 second_nameless operator a (Some z) name = refl
 
 nameless : (operator : Operator) (m n : Option ℤ) (left right : List ℕ)
-    → seen_by plain (calculated_from operator m left n right) ≡ seen_by plain (calculated_from operator m [] n [])
+    → seen_by meaning (calculated_from operator m left n right) ≡ seen_by meaning (calculated_from operator m [] n [])
 unfolding number_operand calculated_from
 nameless operator None n left right = refl
 nameless operator (Some z) n left right = by (small z)
   where
     by : (o : Option ℤ)
-        → seen_by plain (each_ok as_i128 (and_then (ok_or o (operand_outside_i128 z)) (λ a. and_then (number_operand n right) (computed operator a))))
-        ≡ seen_by plain (each_ok as_i128 (and_then (ok_or o (operand_outside_i128 z)) (λ a. and_then (number_operand n []) (computed operator a))))
+        → seen_by meaning (each_ok as_i128 (and_then (ok_or o (operand_outside_i128 z)) (λ a. and_then (number_operand n right) (computed operator a))))
+        ≡ seen_by meaning (each_ok as_i128 (and_then (ok_or o (operand_outside_i128 z)) (λ a. and_then (number_operand n []) (computed operator a))))
     by None = refl
     by (Some a) = second_nameless operator a n right
 
-pub by_meaning : (operator : Operator) (v w x y : Form) → plain v ≡ plain x → plain w ≡ plain y
-    → seen_by plain (calculated operator v w) ≡ seen_by plain (calculated operator x y)
+pub by_meaning : (operator : Operator) (v w x y : Form) → meaning v ≡ meaning x → meaning w ≡ meaning y
+    → seen_by meaning (calculated operator v w) ≡ seen_by meaning (calculated operator x y)
 unfolding number_operand calculated_from
 by_meaning operator v w x y same also =
     nameless operator (number_in v) (number_in w) (name_of v) (name_of w)
-    ∙ (λ i. seen_by plain (calculated_from operator (number_by_meaning v x same i) [] (number_by_meaning w y also i) []))
+    ∙ (λ i. seen_by meaning (calculated_from operator (number_by_meaning v x same i) [] (number_by_meaning w y also i) []))
     ∙ sym (nameless operator (number_in x) (number_in y) (name_of x) (name_of y))
 
 -- ---- no want of memory

@@ -12,7 +12,7 @@ use Rattle.tera_meaning.specs.Form.{Form, MarkedText}
 use Rattle.tera_meaning.specs.Integer.{Integer}
 use Rattle.tera_meaning.specs.KeyMeaning.{KeyForm, KeyMeaning, key_meaning, key_order}
 use Rattle.tera_meaning.specs.Lookup.{key_in, item, indexed, part_at, place_of, character_of, seen_by, name_of}
-use Rattle.tera_meaning.specs.Meaning.{plain, Meaning}
+use Rattle.tera_meaning.specs.Meaning.{meaning, Meaning}
 use Rattle.tera_meaning.specs.Order.{same}
 use Rattle.tera_meaning.specs.Pairs.{key_form_order, value_at}
 use Rattle.tera_meaning.specs.Read.{number_in}
@@ -20,7 +20,8 @@ use Rattle.tera_meaning.specs.Tree.{Items, undefined, text, array, object, items
 use Rattle.tera_meaning.specs.WellMade.{IsWellMade, AreWellMade, AreWellMadeMembers}
 use Rattle.tera_report.specs.Refusal.{Container, in_array, in_text, not_a_map_key, not_an_index, Refusal}
 use lib.Utf8.{scalars}
-use Rattle.tera_meaning.proofs.PlainLemmas.{plain_items, plain_pairs, items_meant, found_pair, key_meant, key_plain, number_meant, number_plain}
+use Rattle.tera_meaning.proofs.MeaningLaws.{meant_items, items_meant, found_pair}
+use Rattle.tera_meaning.proofs.ReadLemmas.{meant_members, key_meant, key_as_meant, number_meant, number_as_meant}
 use Rattle.tera_meaning.proofs.SoundLemmas.{Sound, sound_pair, sound_place}
 use Rattle.tera_meaning.proofs.ArithmeticLemmas.{refused_or, IsNoWant}
 use Rattle.std.proofs.lemmas.Option.{slice_get-map}
@@ -31,10 +32,10 @@ got_at : {X Y : Type 0} (f : X → Y) (xs : List X) (o : Option ℕ) → option_
 got_at f xs None = refl
 got_at f xs (Some n) = sym (slice_get-map f xs n)
 
-part_plain : (xs : Items Integer MarkedText KeyForm) (z : ℤ) → option_map plain (part_at (items_list xs) z) ≡ part_at (items_list (plain_items xs)) z
-part_plain xs z =
-    got_at plain (items_list xs) (place_of (length (items_list xs)) z)
-    ∙ ap (λ n. option_and_then (slice_get (map plain (items_list xs))) (place_of n z)) (sym (length-map (items_list xs) plain))
+part_as_meant : (xs : Items Integer MarkedText KeyForm) (z : ℤ) → option_map meaning (part_at (items_list xs) z) ≡ part_at (items_list (meant_items xs)) z
+part_as_meant xs z =
+    got_at meaning (items_list xs) (place_of (length (items_list xs)) z)
+    ∙ ap (λ n. option_and_then (slice_get (map meaning (items_list xs))) (place_of n z)) (sym (length-map (items_list xs) meaning))
     ∙ ap (λ l. part_at l z) (sym (items_meant xs))
 
 -- the character of a text at an index
@@ -45,24 +46,25 @@ mapped_twice : {X Y Z : Type 0} (f : Y → Z) (g : X → Y) (o : Option X) → o
 mapped_twice f g None = refl
 mapped_twice f g (Some x) = refl
 
-char_plain : (t : MarkedText) (z : ℤ) → option_map plain (option_map (character_of t) (part_at (chars t.spelled) z)) ≡ char_at t.spelled z
+char_as_meant : (t : MarkedText) (z : ℤ) → option_map meaning (option_map (character_of t) (part_at (chars t.spelled) z)) ≡ char_at t.spelled z
 unfolding char_at
-char_plain t z = mapped_twice plain (character_of t) (part_at (chars t.spelled) z)
+char_as_meant t z = mapped_twice meaning (character_of t) (part_at (chars t.spelled) z)
 
 indexed_meant : Container → Option ℤ → (ℤ → Option Meaning) → Result Meaning Refusal
 indexed_meant container None part = Err (not_an_index container [])
 indexed_meant container (Some z) part = Ok (unwrap_or (part z) undefined)
 
-unwrapped : (o : Option Form) → plain (unwrap_or o undefined) ≡ unwrap_or (option_map plain o) undefined
+unwrapped : (o : Option Form) → meaning (unwrap_or o undefined) ≡ unwrap_or (option_map meaning o) undefined
 unwrapped None = refl
 unwrapped (Some x) = refl
 
-indexed_plain : (container : Container) (index : Form) (part : ℤ → Option Form) (meant : ℤ → Option Meaning) → ((z : ℤ) → option_map plain (part z) ≡ meant z)
-    → seen_by plain (indexed container index part) ≡ indexed_meant container (number_in index) meant
+indexed_as_meant : (container : Container) (index : Form) (part : ℤ → Option Form) (meant : ℤ → Option Meaning)
+    → ((z : ℤ) → option_map meaning (part z) ≡ meant z)
+    → seen_by meaning (indexed container index part) ≡ indexed_meant container (number_in index) meant
 unfolding indexed_meant
-indexed_plain container index part meant h = by (number_in index)
+indexed_as_meant container index part meant h = by (number_in index)
   where
-    by : (n : Option ℤ) → seen_by plain (ok_or (option_map (λ z. unwrap_or (part z) undefined) n) (not_an_index container (name_of index)))
+    by : (n : Option ℤ) → seen_by meaning (ok_or (option_map (λ z. unwrap_or (part z) undefined) n) (not_an_index container (name_of index)))
         ≡ indexed_meant container n meant
     by None = refl
     by (Some z) = ap Ok (unwrapped (part z) ∙ ap (λ o. unwrap_or o undefined) (h z))
@@ -71,13 +73,13 @@ at_key_meant : Members ℤ (List ℕ) KeyMeaning → Option KeyMeaning → Resul
 at_key_meant ps None = Err (not_a_map_key [])
 at_key_meant ps (Some k) = Ok (unwrap_or (value_at key_order (members_list ps) k) undefined)
 
-at_key_plain : (ps : Members Integer MarkedText KeyForm) (i : Form)
-    → seen_by plain (item (object ps) i) ≡ at_key_meant (plain_pairs ps) (option_map key_meaning (key_in i))
+at_key_as_meant : (ps : Members Integer MarkedText KeyForm) (i : Form)
+    → seen_by meaning (item (object ps) i) ≡ at_key_meant (meant_members ps) (option_map key_meaning (key_in i))
 unfolding at_key_meant
-at_key_plain ps i = by (key_in i)
+at_key_as_meant ps i = by (key_in i)
   where
-    by : (k : Option KeyForm) → seen_by plain (ok_or (option_map (λ k. unwrap_or (value_at key_form_order (members_list ps) k) undefined) k)
-        (not_a_map_key (name_of i))) ≡ at_key_meant (plain_pairs ps) (option_map key_meaning k)
+    by : (k : Option KeyForm) → seen_by meaning (ok_or (option_map (λ k. unwrap_or (value_at key_form_order (members_list ps) k) undefined) k)
+        (not_a_map_key (name_of i))) ≡ at_key_meant (meant_members ps) (option_map key_meaning k)
     by None = refl
     by (Some k) = ap Ok (unwrapped (value_at key_form_order (members_list ps) k) ∙ ap (λ o. unwrap_or o undefined) (found_pair ps (key_meaning k)))
 
@@ -87,18 +89,19 @@ item_meant (array xs) n k = indexed_meant in_array n (part_at (items_list xs))
 item_meant (object ps) n k = at_key_meant ps k
 item_meant x n k = Ok undefined
 
-item_plain : (v i : Form) → seen_by plain (item v i) ≡ item_meant (plain v) (number_in i) (option_map key_meaning (key_in i))
+item_as_meant : (v i : Form) → seen_by meaning (item v i) ≡ item_meant (meaning v) (number_in i) (option_map key_meaning (key_in i))
 unfolding item_meant
-item_plain (text t) i = indexed_plain in_text i _ (char_at t.spelled) (char_plain t)
-item_plain (array xs) i = indexed_plain in_array i _ (part_at (items_list (plain_items xs))) (part_plain xs)
-item_plain (object ps) i = at_key_plain ps i
-item_plain v i = refl
+item_as_meant (text t) i = indexed_as_meant in_text i _ (char_at t.spelled) (char_as_meant t)
+item_as_meant (array xs) i = indexed_as_meant in_array i _ (part_at (items_list (meant_items xs))) (part_as_meant xs)
+item_as_meant (object ps) i = at_key_as_meant ps i
+item_as_meant v i = refl
 
-pub by_meaning : (v i w j : Form) → plain v ≡ plain w → plain i ≡ plain j → seen_by plain (item v i) ≡ seen_by plain (item w j)
+pub by_meaning : (v i w j : Form) → meaning v ≡ meaning w → meaning i ≡ meaning j → seen_by meaning (item v i) ≡ seen_by meaning (item w j)
 by_meaning v i w j same index =
-    item_plain v i
-    ∙ (λ d. item_meant (same d) ((number_plain i ∙ ap number_meant index ∙ sym (number_plain j)) d) ((key_plain i ∙ ap key_meant index ∙ sym (key_plain j)) d))
-    ∙ sym (item_plain w j)
+    item_as_meant v i
+    ∙ (λ d. item_meant (same d) ((number_as_meant i ∙ ap number_meant index ∙ sym (number_as_meant j)) d)
+    ((key_as_meant i ∙ ap key_meant index ∙ sym (key_as_meant j)) d))
+    ∙ sym (item_as_meant w j)
 
 -- ---- no want of memory
 

@@ -6,12 +6,12 @@ use Rattle.tera_meaning.specs.Arithmetic.{and_then, small, as_i128, negated}
 use Rattle.tera_meaning.specs.Form.{Form}
 use Rattle.tera_meaning.specs.Integer.{is_small}
 use Rattle.tera_meaning.specs.Lookup.{seen_by, name_of}
-use Rattle.tera_meaning.specs.Meaning.{plain}
+use Rattle.tera_meaning.specs.Meaning.{meaning}
 use Rattle.tera_meaning.specs.Order.{same}
 use Rattle.tera_meaning.specs.Read.{number_in}
 use Rattle.tera_meaning.specs.WellMade.{IsWellMade}
 use Rattle.tera_report.specs.Refusal.{Refusal, negation_outside_i128, negated_no_number}
-use Rattle.tera_meaning.proofs.PlainLemmas.{number_by_meaning}
+use Rattle.tera_meaning.proofs.ReadLemmas.{number_by_meaning}
 use Rattle.tera_meaning.proofs.ArithmeticLemmas.{refused_or, refused_then, given_then, IsNoWant, small_well}
 
 negated_from : Option ℤ → List ℕ → Result Form Refusal
@@ -19,16 +19,16 @@ negated_from n name =
     and_then (ok_or n (negated_no_number name))
     (λ z. ok_or (option_map as_i128 (option_and_then (λ a. small (neg_ℤ a)) (small z))) (negation_outside_i128 z))
 
-negated_nameless : (n : Option ℤ) (name : List ℕ) → seen_by plain (negated_from n name) ≡ seen_by plain (negated_from n [])
+negated_nameless : (n : Option ℤ) (name : List ℕ) → seen_by meaning (negated_from n name) ≡ seen_by meaning (negated_from n [])
 unfolding negated_from
 negated_nameless None name = refl
 negated_nameless (Some z) name = refl
 
-pub by_meaning : (v w : Form) → plain v ≡ plain w → seen_by plain (negated v) ≡ seen_by plain (negated w)
+pub by_meaning : (v w : Form) → meaning v ≡ meaning w → seen_by meaning (negated v) ≡ seen_by meaning (negated w)
 unfolding negated_from
 by_meaning v w same =
     negated_nameless (number_in v) (name_of v)
-    ∙ (λ i. seen_by plain (negated_from (number_by_meaning v w same i) []))
+    ∙ (λ i. seen_by meaning (negated_from (number_by_meaning v w same i) []))
     ∙ sym (negated_nameless (number_in w) (name_of w))
 
 pub no_want : (v : Form) → IfErr (negated v) IsNoWant

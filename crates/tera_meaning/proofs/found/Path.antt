@@ -4,13 +4,13 @@ use Rattle.std.proofs.lemmas.Option.{slice_get-map}
 use Rattle.std.specs.Option.{option_map, option_and_then}
 use Rattle.std.specs.Prelude.{◌≡◌, ℕ, List, [], Option, Some, None, refl, ◌∷◌, slice_get, IfSome}
 use Rattle.tera_meaning.specs.Form.{Form}
-use Rattle.tera_meaning.specs.Meaning.{plain, Meaning}
+use Rattle.tera_meaning.specs.Meaning.{meaning, Meaning}
 use Rattle.tera_meaning.specs.Order.{same}
 use Rattle.tera_meaning.specs.Path.{path, followed, reached, place, elements_of}
 use Rattle.tera_meaning.specs.Read.{items_in}
 use Rattle.tera_meaning.specs.Tree.{undefined, none, text, array, items_list}
 use Rattle.tera_meaning.specs.WellMade.{IsWellMade}
-use Rattle.tera_meaning.proofs.PlainLemmas.{items_meant}
+use Rattle.tera_meaning.proofs.MeaningLaws.{items_meant}
 use Rattle.tera_meaning.proofs.SoundLemmas.{Sound, sound_place}
 use Rattle.tera_meaning.proofs.found.Attr
 use Rattle.std.proofs.lemmas.Option.{none-some, same_Some, slice_get-map}
@@ -19,24 +19,24 @@ place_meant : Meaning → ℕ → Option Meaning
 place_meant (array xs) n = slice_get (items_list xs) n
 place_meant v n = None
 
-placed_plain : (v : Form) (n : ℕ) → option_map plain (option_and_then (λ xs. slice_get xs n) (items_in v)) ≡ place_meant (plain v) n
+placed_as_meant : (v : Form) (n : ℕ) → option_map meaning (option_and_then (λ xs. slice_get xs n) (items_in v)) ≡ place_meant (meaning v) n
 unfolding place_meant
-placed_plain (array xs) n = sym (slice_get-map plain (items_list xs) n) ∙ ap (λ l. slice_get l n) (sym (items_meant xs))
-placed_plain v n = refl
+placed_as_meant (array xs) n = sym (slice_get-map meaning (items_list xs) n) ∙ ap (λ l. slice_get l n) (sym (items_meant xs))
+placed_as_meant v n = refl
 
-reached_by_meaning : (v w : Form) (e : List ℕ) (p : Option ℕ) → plain v ≡ plain w → option_map plain (reached v e p) ≡ option_map plain (reached w e p)
+reached_by_meaning : (v w : Form) (e : List ℕ) (p : Option ℕ) → meaning v ≡ meaning w → option_map meaning (reached v e p) ≡ option_map meaning (reached w e p)
 reached_by_meaning v w e None same = Attr.by_meaning e v w same
-reached_by_meaning v w e (Some n) same = placed_plain v n ∙ ap (λ x. place_meant x n) same ∙ sym (placed_plain w n)
+reached_by_meaning v w e (Some n) same = placed_as_meant v n ∙ ap (λ x. place_meant x n) same ∙ sym (placed_as_meant w n)
 
-and_then : (o p : Option Form) (k : Form → Option Form) → option_map plain o ≡ option_map plain p
-    → ((x y : Form) → plain x ≡ plain y → option_map plain (k x) ≡ option_map plain (k y))
-    → option_map plain (option_and_then k o) ≡ option_map plain (option_and_then k p)
+and_then : (o p : Option Form) (k : Form → Option Form) → option_map meaning o ≡ option_map meaning p
+    → ((x y : Form) → meaning x ≡ meaning y → option_map meaning (k x) ≡ option_map meaning (k y))
+    → option_map meaning (option_and_then k o) ≡ option_map meaning (option_and_then k p)
 and_then None None k e h = refl
-and_then None (Some y) k e h = absurd (none-some (plain y) e)
-and_then (Some x) None k e h = absurd (none-some (plain x) (sym e))
-and_then (Some x) (Some y) k e h = h x y (same_Some (plain x) (plain y) e)
+and_then None (Some y) k e h = absurd (none-some (meaning y) e)
+and_then (Some x) None k e h = absurd (none-some (meaning x) (sym e))
+and_then (Some x) (Some y) k e h = h x y (same_Some (meaning x) (meaning y) e)
 
-followed_by_meaning : (es : List (List ℕ)) (v w : Form) → plain v ≡ plain w → option_map plain (followed v es) ≡ option_map plain (followed w es)
+followed_by_meaning : (es : List (List ℕ)) (v w : Form) → meaning v ≡ meaning w → option_map meaning (followed v es) ≡ option_map meaning (followed w es)
 followed_by_meaning [] v w same = ap Some same
 followed_by_meaning (e ∷ es) v w same =
     and_then (reached v e (place e)) (reached w e (place e)) (λ part. followed part es) (reached_by_meaning v w e (place e) same)
@@ -48,21 +48,21 @@ led undefined itself o = None
 led none itself o = Some itself
 led x itself o = o
 
-path_led : (v : Form) (p : List ℕ) → path v p ≡ led (plain v) none (followed v (elements_of p))
+path_led : (v : Form) (p : List ℕ) → path v p ≡ led (meaning v) none (followed v (elements_of p))
 unfolding led
 path_led (text s) p = refl
 path_led v p = refl
 
-led_plain : (x : Meaning) (o : Option Form) → option_map plain (led x none o) ≡ led x none (option_map plain o)
+led_as_meant : (x : Meaning) (o : Option Form) → option_map meaning (led x none o) ≡ led x none (option_map meaning o)
 unfolding led
-led_plain (text s) o = refl
-led_plain v o = refl
+led_as_meant (text s) o = refl
+led_as_meant v o = refl
 
-pub by_meaning : (p : List ℕ) (v w : Form) → plain v ≡ plain w → option_map plain (path v p) ≡ option_map plain (path w p)
+pub by_meaning : (p : List ℕ) (v w : Form) → meaning v ≡ meaning w → option_map meaning (path v p) ≡ option_map meaning (path w p)
 by_meaning p v w same =
-    ap (option_map plain) (path_led v p) ∙ led_plain (plain v) (followed v (elements_of p))
+    ap (option_map meaning) (path_led v p) ∙ led_as_meant (meaning v) (followed v (elements_of p))
     ∙ (λ i. led (same i) none (followed_by_meaning (elements_of p) v w same i))
-    ∙ sym (led_plain (plain w) (followed w (elements_of p))) ∙ ap (option_map plain) (sym (path_led w p))
+    ∙ sym (led_as_meant (meaning w) (followed w (elements_of p))) ∙ ap (option_map meaning) (sym (path_led w p))
 
 sound_reached : (v : Form) (e : List ℕ) (p : Option ℕ) → IsWellMade v → Sound (reached v e p)
 sound_reached v e None h = Attr.well_made e v h

@@ -8,12 +8,12 @@ use Rattle.tera_meaning.specs.Arithmetic.{and_then, each_ok}
 use Rattle.tera_meaning.specs.Conversion.{IntegerType, type_name, has_number, where_in, in_type, converted, held_as}
 use Rattle.tera_meaning.specs.Form.{Form}
 use Rattle.tera_meaning.specs.Lookup.{seen_by, name_of}
-use Rattle.tera_meaning.specs.Meaning.{plain}
+use Rattle.tera_meaning.specs.Meaning.{meaning}
 use Rattle.tera_meaning.specs.Order.{same}
 use Rattle.tera_meaning.specs.Read.{number_in}
 use Rattle.tera_meaning.specs.WellMade.{IsWellMade}
 use Rattle.tera_report.specs.Refusal.{Refusal, invalid_argument, number_out_of_range}
-use Rattle.tera_meaning.proofs.PlainLemmas.{number_by_meaning}
+use Rattle.tera_meaning.proofs.ReadLemmas.{number_by_meaning}
 use Rattle.tera_meaning.proofs.ArithmeticLemmas.{refused_or, refused_then, refused_each, given_then, given_each, IsNoWant}
 
 converted_from : IntegerType → Option ℤ → List ℕ → Result ℤ Refusal
@@ -25,7 +25,7 @@ unfolding converted_from
 converted_nameless f type None name = refl
 converted_nameless f type (Some z) name = refl
 
-pub converted_by_meaning : {X : Type 0} (f : ℤ → X) (type : IntegerType) (v w : Form) → plain v ≡ plain w
+pub converted_by_meaning : {X : Type 0} (f : ℤ → X) (type : IntegerType) (v w : Form) → meaning v ≡ meaning w
     → seen_by f (converted type v) ≡ seen_by f (converted type w)
 unfolding converted_from
 converted_by_meaning f type v w same =
@@ -34,14 +34,14 @@ converted_by_meaning f type v w same =
     ∙ sym (converted_nameless f type (number_in w) (name_of w))
 
 seen_held : (type : IntegerType) (given : Result ℤ Refusal)
-    → seen_by plain (each_ok (held_as type) given) ≡ seen_by (λ z. plain (held_as type z)) given
+    → seen_by meaning (each_ok (held_as type) given) ≡ seen_by (λ z. meaning (held_as type z)) given
 seen_held type (Ok z) = refl
 seen_held type (Err refusal) = refl
 
-pub by_meaning : (type : IntegerType) (v w : Form) → plain v ≡ plain w
-    → seen_by plain (each_ok (held_as type) (converted type v)) ≡ seen_by plain (each_ok (held_as type) (converted type w))
+pub by_meaning : (type : IntegerType) (v w : Form) → meaning v ≡ meaning w
+    → seen_by meaning (each_ok (held_as type) (converted type v)) ≡ seen_by meaning (each_ok (held_as type) (converted type w))
 by_meaning type v w same =
-    seen_held type (converted type v) ∙ converted_by_meaning (λ z. plain (held_as type z)) type v w same ∙ sym (seen_held type (converted type w))
+    seen_held type (converted type v) ∙ converted_by_meaning (λ z. meaning (held_as type z)) type v w same ∙ sym (seen_held type (converted type w))
 
 pub no_want : (type : IntegerType) (v : Form) → IfErr (each_ok (held_as type) (converted type v)) IsNoWant
 no_want type v =

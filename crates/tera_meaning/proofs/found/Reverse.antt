@@ -4,14 +4,15 @@ use Rattle.std.proofs.lemmas.Str.{scalars-chars}
 use Rattle.std.specs.Prelude.{◌≡◌, true, List, [], Result, Ok, Err, IfOk, IfErr, refl, ◌∷◌, map, reverse}
 use Rattle.std.specs.Str.{chars, encode_utf8_all}
 use Rattle.tera_meaning.specs.Form.{Form}
-use Rattle.tera_meaning.specs.Meaning.{plain, Meaning}
+use Rattle.tera_meaning.specs.Meaning.{meaning, Meaning}
 use Rattle.tera_meaning.specs.SliceRule.{reversed, shape_of}
 use Rattle.tera_meaning.specs.Tree.{text, bytes, array, items, items_list}
 use Rattle.tera_meaning.specs.WellMade.{IsWellMade, IsByte}
 use Rattle.tera_report.specs.Refusal.{Refusal, not_reversible}
 use lib.Utf8.{scalar}
 use mathlib.Core.List.{reverse_aux}
-use Rattle.tera_meaning.proofs.PlainLemmas.{plain_items, items_meant, array_means}
+use Rattle.tera_meaning.proofs.MeaningLaws.{meant_items, items_meant}
+use Rattle.tera_meaning.proofs.ReadLemmas.{array_shape}
 use Rattle.tera_meaning.proofs.SoundLemmas.{all_reversed, listed_well, items_well, each_scalar, spelled_well}
 use Rattle.tera_meaning.proofs.ArithmeticLemmas.{IsNoWant}
 use Rattle.std.specs.Prelude.{IfErr}
@@ -30,13 +31,13 @@ reversed_meaning (text t) = Ok (text (encode_utf8_all (reverse (chars t))))
 reversed_meaning (bytes bs) = Ok (bytes (reverse bs))
 reversed_meaning x = Err (not_reversible [])
 
-reversed_means : (v : Form) → shape_of (reversed v) ≡ reversed_meaning (plain v)
+reversed_means : (v : Form) → shape_of (reversed v) ≡ reversed_meaning (meaning v)
 reversed_means (array xs) =
-    array_means (reverse (items_list xs)) (reverse (items_list (plain_items xs)))
-    (reverse_mapped plain (items_list xs) ∙ ap (λ (ws : List Meaning). reverse ws) (sym (items_meant xs)))
+    array_shape (reverse (items_list xs)) (reverse (items_list (meant_items xs)))
+    (reverse_mapped meaning (items_list xs) ∙ ap (λ (ws : List Meaning). reverse ws) (sym (items_meant xs)))
 reversed_means v = refl
 
-pub by_meaning : (v w : Form) → plain v ≡ plain w → shape_of (reversed v) ≡ shape_of (reversed w)
+pub by_meaning : (v w : Form) → meaning v ≡ meaning w → shape_of (reversed v) ≡ shape_of (reversed w)
 by_meaning v w e = reversed_means v ∙ ap reversed_meaning e ∙ sym (reversed_means w)
 
 pub no_want : (v : Form) → IfErr (reversed v) IsNoWant

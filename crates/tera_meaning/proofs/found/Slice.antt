@@ -9,14 +9,15 @@ use Rattle.std.specs.Prelude.{◌≢◌, take}
 use Rattle.std.specs.Str.{chars, encode_utf8_all}
 use Rattle.tera_meaning.proofs.SliceLaws.{slice_of_is, slices_same}
 use Rattle.tera_meaning.specs.Form.{Form}
-use Rattle.tera_meaning.specs.Meaning.{plain, Meaning}
+use Rattle.tera_meaning.specs.Meaning.{meaning, Meaning}
 use Rattle.tera_meaning.specs.SliceRule.{IsSliceFrom, HasReached, place_at, item_at, start_place, end_place, IsSliced, shape_of}
 use Rattle.tera_meaning.specs.Tree.{text, array, items, items_list}
 use Rattle.tera_meaning.specs.Slice.{directed, distance, pause, walked, slice_of, cut, cut_by, sliced}
 use Rattle.tera_meaning.specs.WellMade.{IsWellMade}
 use Rattle.tera_report.specs.Refusal.{Refusal, step_of_zero, not_sliceable}
 use lib.Utf8.{scalar}
-use Rattle.tera_meaning.proofs.PlainLemmas.{plain_items, items_meant, array_means}
+use Rattle.tera_meaning.proofs.MeaningLaws.{meant_items, items_meant}
+use Rattle.tera_meaning.proofs.ReadLemmas.{array_shape}
 use Rattle.tera_meaning.proofs.SoundLemmas.{all_reversed, listed_well, items_well, each_scalar, spelled_well}
 use Rattle.tera_meaning.proofs.ArithmeticLemmas.{IsNoWant}
 use Rattle.tera_meaning.proofs.SliceLaws.{sliced_only}
@@ -60,26 +61,26 @@ sliced_meaning (pos (suc s)) x start end = cut_meaning x start end (pos (suc s))
 sliced_meaning (negsuc s) x start end = cut_meaning x start end (negsuc s)
 
 cut_means : (v : Form) (start end : Option ℤ) (step : ℤ) → step ≢ pos 0
-    → shape_of (cut v start end step) ≡ cut_meaning (plain v) start end step
+    → shape_of (cut v start end step) ≡ cut_meaning (meaning v) start end step
 cut_means (array xs) start end step nonzero =
-    array_means (slice_of (items_list xs) start end step) (slice_of (items_list (plain_items xs)) start end step)
-    (slice_of_mapped plain (items_list xs) start end step nonzero
+    array_shape (slice_of (items_list xs) start end step) (slice_of (items_list (meant_items xs)) start end step)
+    (slice_of_mapped meaning (items_list xs) start end step nonzero
     ∙ ap (λ (ws : List Meaning). slice_of ws start end step) (sym (items_meant xs)))
 cut_means v start end step nonzero = refl
 
-cut_by_means : (step : ℤ) (v : Form) (start end : Option ℤ) → shape_of (cut_by step v start end) ≡ sliced_meaning step (plain v) start end
+cut_by_means : (step : ℤ) (v : Form) (start end : Option ℤ) → shape_of (cut_by step v start end) ≡ sliced_meaning step (meaning v) start end
 cut_by_means (pos zero) v start end = refl
 cut_by_means (pos (suc s)) v start end = cut_means v start end (pos (suc s)) (λ e. cc)
 cut_by_means (negsuc s) v start end = cut_means v start end (negsuc s) (λ e. cc)
 
-pub by_meaning : (start end step : Option ℤ) (v w : Form) → plain v ≡ plain w
+pub by_meaning : (start end step : Option ℤ) (v w : Form) → meaning v ≡ meaning w
     → shape_of (sliced v start end step) ≡ shape_of (sliced w start end step)
 by_meaning start end step v w e =
     cut_by_means (unwrap_or step (pos 1)) v start end
     ∙ ap (λ (x : Meaning). sliced_meaning (unwrap_or step (pos 1)) x start end) e
     ∙ sym (cut_by_means (unwrap_or step (pos 1)) w start end)
 
-pub sliced_alike : (v w : Form) (start end step : Option ℤ) (outcome other : Result Form Refusal) → plain v ≡ plain w
+pub sliced_alike : (v w : Form) (start end step : Option ℤ) (outcome other : Result Form Refusal) → meaning v ≡ meaning w
     → IsSliced v start end step outcome → IsSliced w start end step other → shape_of outcome ≡ shape_of other
 sliced_alike v w start end step outcome other e h i =
     ap shape_of (sliced_only v start end step outcome h) ∙ by_meaning start end step v w e

@@ -1,50 +1,31 @@
-use Rattle.std.proofs.Common.{arith, sym, ap, ◌∙◌}
-use Rattle.std.specs.BTreeMap.{insert_entry}
-use Rattle.tera_meaning.specs.Form.{Form}
-use Rattle.tera_meaning.specs.Pairs.{key_form_order}
-use Rattle.tera_values.specs.Key.{key_form}
-use Rattle.tera_values.specs.Map.{forms_of, pairs_in}
-use Rattle.tera_values.specs.MapLaws.{form_total, entries_apart}
-use Rattle.tera_values.specs.Placing.{gathered, gathered_is_placed, insert_puts, rising_is}
-use Rattle.tera_values.specs.declared.key.Key.{Key}
-use Rattle.tera_values.proofs.Walks.{first_left, later_left, less_deep}
+use Rattle.std.proofs.Common.{arith, ap, ◌∙◌}
+use Rattle.tera_meaning.specs.Tree.{items, items_depth, members, members_depth}
+use Rattle.tera_values.specs.Map.{keys_held, pairs_held}
+use Rattle.tera_values.proofs.ColumnLemmas.{column_depth}
+use Rattle.tera_values.proofs.CopyLemmas.{same_pairs}
 use Rattle.tera_values.proofs.PartsLaws.{depth_at}
 use Rattle.tera_values.proofs.+copy.Goals as goal
 
-pub copy::copies-clone-requires : goal.copy::copies-clone-requires
-copy::copies-clone-requires t c =
+pub copy::copies-copy-requires : goal.copy::copies-copy-requires
+copy::copies-copy-requires t c =
     let item = c.value-item in
     let less_deep = depth_at c.args.all.now c.loop-value.value-index item.result c.loop-value-test.true item.is in
     (omega (arith, less_deep), tt)
 
-pub map::copied_pairs-clone-requires-in-loop-key : goal.map::copied_pairs-clone-requires-in-loop-key
-map::copied_pairs-clone-requires-in-loop-key t c =
-    let e : Key × Form = (c.in-Some.key.now, c.in-Some.value.now) in
-    let unique = c.into_iter-key-iterator.ensures.into_iter_gives.4 in
-    let met = first_left c.loop-key.key-iterator e c.next.new.self c.in-Some.ensures.steps in
-    let deep = less_deep c.args.all.now.entries unique (key_form e.0, e.1) (c.loop-key.invariant.within _ met) in
-    (omega (arith, deep), tt)
+pub map::Map::copy-copies-requires : goal.map::Map::copy-copies-requires
+map::Map::copy-copies-requires t c =
+    let deep = column_depth (keys_held c.self.inside.keys) c.self.inside.values.items c.self.invariant.even in
+    let same = ap (λ ps. members_depth (members ps)) c.self.view_is in
+    let slice = ap (λ vs. items_depth (items vs)) c.as_slice.ensures.value in
+    (omega (arith, deep, same, slice), tt)
 
-pub map::copied_pairs-loop-key-preserved : goal.map::copied_pairs-loop-key-preserved
-map::copied_pairs-loop-key-preserved t c =
-    let e : Key × Form = (c.in-Some.key.now, c.in-Some.value.now) in
-    let rest = c.next.new.self in
-    let made = pairs_in c.loop-key.made in
-    let put = c.in_ok-insert_pair.ensures.ok
-    ∙ (λ i. insert_entry key_form_order made (c.in_ok-clone.ensures.ok i) (c.in_ok-clone-2.ensures.ok i))
-    ∙ insert_puts key_form_order made (key_form c.in-Some.key.now) c.in-Some.value.now in
-    record {
-      within = λ p i. c.loop-key.invariant.within p (later_left c.loop-key.key-iterator e rest c.in-Some.ensures.steps p i);
-      copied = ap (λ l. gathered key_form_order l (forms_of rest)) put
-          ∙ sym (ap (λ l. gathered key_form_order made (forms_of l)) c.in-Some.ensures.steps)
-          ∙ c.loop-key.invariant.copied;
-    }
+pub map::Map::copy-returns : goal.map::Map::copy-returns
+map::Map::copy-returns t c =
+    let made = keys_held c.in_ok-copied_keys.field-0 in
+    let values = c.in_ok-copies.ensures ∙ c.as_slice.ensures.value in
+    ap (pairs_held made) values
+    ∙ same_pairs (keys_held c.self.inside.keys) made c.self.inside.values.items c.in_ok-copied_keys.ensures.forms
+    ∙ c.self.view_is
 
-pub map::copied_pairs-returns-clause-ok : goal.map::copied_pairs-returns-clause-ok
-map::copied_pairs-returns-clause-ok t c =
-    let entries = c.args.all.now.entries in
-    let unique = c.into_iter-key-iterator.ensures.into_iter_gives.4 in
-    sym (ap (λ l. gathered key_form_order (pairs_in c.loop-key.made) (forms_of l)) c.in-None.ensures.steps.0)
-    ∙ c.loop-key.invariant.copied
-    ∙ gathered_is_placed key_form_order form_total (forms_of entries) (entries_apart entries unique)
-    ∙ sym (rising_is key_form_order (forms_of entries))
+pub copy::copies-push_reserved-requires : goal.copy::copies-push_reserved-requires
+copy::copies-push_reserved-requires t c = omega (arith, c.loop-value.invariant.so_many, c.loop-value.invariant.room, c.loop-value-test.true)

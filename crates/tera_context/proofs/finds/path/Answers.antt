@@ -15,8 +15,8 @@ returns-in_default c =
 
 pub returns-in-Err : goal.returns-in-Err
 returns-in-Err c =
-    copy_refused c.in-Err.error c.args.context.now (Search.path c.args.of.now c.args.path.now)
-    (option_map string_bytes c.args.into) c.in-Err.ensures.err tt
+    copy_refused c.from.result c.args.context.now (Search.path c.args.of.now c.args.path.now)
+    (option_map string_bytes c.args.into) c.from.ensures tt
 
 pub returns-in-Ok : goal.returns-in-Ok
 returns-in-Ok c =

@@ -1,5 +1,5 @@
 use Rattle.tera_meaning.proofs.ContainsLemmas.{holds_by_meaning}
-use Rattle.tera_meaning.proofs.PlainLemmas.{key_by_meaning, fields_by_meaning}
+use Rattle.tera_meaning.proofs.ReadLemmas.{key_by_meaning, fields_by_meaning}
 use Rattle.tera_meaning.proofs.found.Attr
 use Rattle.tera_meaning.proofs.found.Item
 use Rattle.tera_meaning.proofs.found.Path

@@ -17,3 +17,11 @@ returns-clause-map c = refl
 pub returns-clause-keys : goal.returns-clause-keys
 unfolding digits debug_escape
 returns-clause-keys c = refl
+
+pub returns-clause-other : goal.returns-clause-other
+unfolding digits debug_escape
+returns-clause-other c = refl
+
+pub returns-clause-ranks : goal.returns-clause-ranks
+unfolding digits debug_escape
+returns-clause-ranks c = refl

@@ -2,9 +2,9 @@
 use Rattle.std.proofs.Common.{rules, refl, ◌++◌, codes, decimal, map, Ok, Some}
 use Rattle.std.specs.String.{string_bytes}
 use Rattle.tera_context.specs.Call.{answer_of}
-use Rattle.tera_meaning.specs.Answer.{found, texts}
+use Rattle.tera_meaning.specs.Answer.{found, texts, walked}
 use Rattle.tera_report.proofs.PutLaws.{puts_these}
-use Rattle.tera_replies.specs.Reply.{IsReplyLine}
+use Rattle.tera_replies.specs.Reply.{IsListedLine, IsReplyLine}
 use Rattle.tera_replies.specs.Script.{ended}
 use Rattle.tera_replies.proofs.PutLemmas.{puts_weaker}
 use Rattle.tera_replies.proofs.ReplyLemmas.{same_reply}
@@ -62,5 +62,12 @@ returns-in-Text g c =
 pub returns-in-Texts : goal.returns-in-Texts
 returns-in-Texts g c =
     let names = map string_bytes c.in-Texts.names.items in
-    puts_weaker g.W.Sink.takes g.W.Sink.fails (IsReplyLine (Ok (texts names))) (IsReplyLine (Ok (answer_of c.args.answer.now))) c.put_fields.result _ _
+    puts_weaker g.W.Sink.takes g.W.Sink.fails (IsListedLine (codes "fields ") names) (IsReplyLine (Ok (answer_of c.args.answer.now))) c.put_texts.result _ _
     (λ line h. (h.0, same_reply (Ok (answer_of c.args.answer.now)) (Ok (texts names)) h.0 (search rules) h.1, h.2)) (search rules)
+
+pub returns-in-Walked : goal.returns-in-Walked
+returns-in-Walked g c =
+    let names = map string_bytes c.in-Walked.names.items in
+    puts_weaker g.W.Sink.takes g.W.Sink.fails (IsListedLine (codes "walk ") names) (IsReplyLine (Ok (answer_of c.args.answer.now)))
+    c.put_texts-in-Walked.result _ _
+    (λ line h. (h.0, same_reply (Ok (answer_of c.args.answer.now)) (Ok (walked names)) h.0 (search rules) h.1, h.2)) (search rules)

@@ -16,7 +16,7 @@ use Rattle.tera_replies.specs.Script.{ended}
 use Rattle.tera_replies.specs.Stated.{outcome_stated}
 use Rattle.tera_replies.specs.Stretch.{Runs}
 use Rattle.tera_replies.proofs.LineLemmas.{Runs-skipped, Runs-says}
-use Rattle.tera_replies.proofs.PutLemmas.{answered, line_stops}
+use Rattle.tera_replies.proofs.PutLemmas.{answered, line_ran, line_stops}
 use Rattle.tera_replies.proofs.StatedLemmas.{reply_shown, want_shown}
 use Rattle.tera_replies.proofs.feed.answer_line.Goals as goal
 
@@ -48,6 +48,16 @@ pub returns-in-Says-clause-err : goal.returns-in-Says-clause-err
 returns-in-Says-clause-err g c =
     let says = rw c.in-Says.is at c.in_ok-read_line.ensures.reading in
     line_stops c.write_answer.result _ _ _ _ _ _ (λ reply replies. (
+      _,
+      _,
+      says_stated c.args.number _ c.step.new.context c.args.line.now
+          (command_of c.in-Says.call) c.step.result says c.step.ensures reply replies,
+    )) c.write_answer.ensures.err
+
+pub returns-in-Says-clause-ran : goal.returns-in-Says-clause-ran
+returns-in-Says-clause-ran g c =
+    let says = rw c.in-Says.is at c.in_ok-read_line.ensures.reading in
+    line_ran c.write_answer.result _ _ _ (λ reply replies. (
       _,
       _,
       says_stated c.args.number _ c.step.new.context c.args.line.now

@@ -2,7 +2,6 @@ use Rattle.std.proofs.Common.{◌+◌, ◌*◌, ◌-◌, length}
 use Rattle.tera_script.proofs.Arrays.{HasItems}
 use Rattle.tera_script.proofs.Maps.{HasPairs}
 use Rattle.tera_script.proofs.literal.+literal.Given as goal
-use Rattle.tera_values.specs.Map.{pairs_in}
 
 -- the levels that are left; an array and a map count one more than what is in them
 abbrev pub decreases-take_literal : goal.decreases-take_literal
@@ -24,7 +23,7 @@ abbrev pub decreases-take_array-loop-items : goal.decreases-take_array-loop-item
 decreases-take_array-loop-items l = length l.rest
 
 abbrev pub invariant-take_map-loop-pairs : goal.invariant-take_map-loop-pairs
-invariant-take_map-loop-pairs l = HasPairs (l.levels - 1) l.fn.bytes (pairs_in l.pairs) l.rest
+invariant-take_map-loop-pairs l = HasPairs (l.levels - 1) l.fn.bytes l.pairs l.rest
 
 abbrev pub decreases-take_map-loop-pairs : goal.decreases-take_map-loop-pairs
 decreases-take_map-loop-pairs l = length l.rest

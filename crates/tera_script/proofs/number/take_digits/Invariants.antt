@@ -1,9 +1,9 @@
-use Rattle.std.proofs.Common.{length}
-use Rattle.tera_script.proofs.Digits.{IsSoFar}
+use Rattle.std.proofs.Common.{◌≡◌, length}
+use Rattle.tera_script.specs.Readers.{digits_from}
 use Rattle.tera_script.proofs.number.take_digits.Given as goal
 
 abbrev pub invariant-loop-digit : goal.invariant-loop-digit
-invariant-loop-digit l = IsSoFar l.bytes l.magnitude l.rest
+invariant-loop-digit l = digits_from l.magnitude l.rest ≡ digits_from 0 l.bytes
 
 abbrev pub decreases-loop-digit : goal.decreases-loop-digit
 decreases-loop-digit l = length l.rest

@@ -1,7 +1,7 @@
 use Rattle.std.proofs.Common.{Some, None, ap, sym, ◌∙◌, refl}
 use Rattle.std.specs.String.{string_bytes}
 use Rattle.tera_script.specs.declared.verb.Operands.TheVariants.{Name as operands}
-use Rattle.tera_script.proofs.Both.{name_part}
+use Rattle.tera_script.proofs.Values.{name_part}
 use Rattle.tera_script.proofs.Commands.{no_operands, nothing_behind, step_made}
 use Rattle.tera_script.proofs.shape.read_name.Goals as goal
 

@@ -1,8 +1,7 @@
 use Rattle.std.proofs.Common.{Some, None, ap, sym, ◌∙◌, refl}
 use Rattle.std.specs.String.{string_bytes}
 use Rattle.tera_script.specs.declared.verb.Operands.TheVariants.{Text as operands}
-use Rattle.tera_script.proofs.Both.{no_name, both_at}
-use Rattle.tera_script.proofs.Values.{quoted_parts}
+use Rattle.tera_script.proofs.Values.{no_name, both_at, quoted_parts}
 use Rattle.tera_script.proofs.Commands.{no_operands, nothing_behind, step_made}
 use Rattle.tera_script.proofs.shape.read_text.Goals as goal
 

@@ -1,19 +1,17 @@
 use Rattle.std.proofs.Common.{[], Some, ap, sym, ◌∙◌, subst}
 use Rattle.std.specs.FinMap.{get-empty}
-use Rattle.std.specs.List.{IsDistinct}
-use Rattle.std.specs.Map.{keys_of}
-use Rattle.tera_meaning.specs.Pairs.{pairs_of}
-use Rattle.tera_values.specs.Map.{forms_of, keys_tie}
+use Rattle.tera_meaning.specs.Pairs.{HasDistinctKeys, key_form_order}
 use Rattle.tera_script.proofs.Sources.{HoldsSoFar, none_named, all_named, one_more}
 use Rattle.tera_script.proofs.source.source_of.Goals as goal
 
 pub loop-key-init : goal.loop-key-init
 loop-key-init c = record {
+  done = [];
   texts = tt;
   so_far = subst (λ state. HoldsSoFar state []) (sym c.new-source.ensures) (λ name. get-empty _ name);
-  whole = c.in-Some.ensures ∙ ap (λ es. Some (pairs_of (forms_of es))) (sym c.into_iter-key-iterator.ensures.into_iter_gives.0);
-  apart = subst (λ es. IsDistinct keys_tie (keys_of es)) (sym c.into_iter-key-iterator.ensures.into_iter_gives.0)
-      c.into_iter-key-iterator.ensures.into_iter_gives.4;
+  whole = c.in-Some.ensures ∙ ap Some (sym c.into_iter-key-iterator.ensures.into_iter_gives.0);
+  apart = subst (HasDistinctKeys key_form_order) (sym c.into_iter-key-iterator.ensures.into_iter_gives.0)
+      c.into_iter-key-iterator.ensures.into_iter_gives.1;
 }
 
 pub returns-in_default-as_str : goal.returns-in_default-as_str

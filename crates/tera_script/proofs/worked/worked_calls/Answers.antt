@@ -20,4 +20,5 @@ returns c = record {
   is_safe = says_named verb.IsSafe refl refl refl refl;
   mark_safe = says_named verb.MarkSafe refl refl refl refl;
   escape = says_named verb.Escape refl refl refl refl;
+  walk = says_named verb.Walk refl refl refl refl;
 }

@@ -35,6 +35,22 @@ returns c = record {
     ),
     lit≤ tt,
   ) refl;
+  places = says_set _ refl refl refl refl (
+    member (truth_key true) none (member (number_key (one i64)) (truth true) (member (truth_key true) (array no_items) no_members)),
+    refl,
+    (
+      _,
+      pair_at (key_at (codes "true") refl refl) refl (tree_at (codes "none") refl refl),
+      (
+        _,
+        _,
+        refl,
+        pair_at (key_at (codes "1") one_spelled refl) refl (tree_at (codes "true") refl refl),
+        (_, _, refl, pair_at (key_at (codes "true") refl refl) refl (tree_at (codes "[]") ([], refl, refl) refl), refl),
+      ),
+    ),
+    lit≤ tt,
+  ) refl;
   deepest = says_literal _ refl refl refl refl
       (in_both 32 none, refl, tree_at (in_turns 32 (codes "none")) (turns_spelled 32 (codes "none") none refl) refl, tt, lit≤ tt) refl;
 }

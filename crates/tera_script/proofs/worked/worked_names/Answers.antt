@@ -16,6 +16,7 @@ returns c = record {
   mark_safe = says_named verb.MarkSafe refl refl refl refl;
   has = bad_into verb.Has refl refl refl refl;
   print = bad_into verb.Print refl refl refl refl;
+  walk = bad_into verb.Walk refl refl refl refl;
   set = bad_call verb.Set refl refl (no_into (row_of verb.Set) (codes " a 1 -> b") (codes "a", number (one i64)) (codes " -> b")
       (value_given (codes " a 1 -> b") {name = codes "a"} {at_value = codes " 1 -> b"} {literal = codes "1 -> b"} refl refl
       (Some (number (one i64), codes " -> b"))

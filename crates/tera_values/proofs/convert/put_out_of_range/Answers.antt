@@ -1,7 +1,7 @@
 use Rattle.std.proofs.Common.{rules, ◌++◌, codes, List, ℕ, Some, append_assoc, subst, sym, refl}
 use Rattle.std.proofs.lemmas.Result.{MatchResult-weaker}
 use Rattle.std.specs.Fmt.{◌++?◌}
-use Rattle.tera_meaning.specs.Meaning.{plain}
+use Rattle.tera_meaning.specs.Meaning.{layout}
 use Rattle.tera_report.specs.Quoted.{IsText}
 use Rattle.tera_report.proofs.PutLaws.{failed_of, some_text, texts_joined}
 use Rattle.tera_values.specs.Converted.{range_text}
@@ -14,7 +14,7 @@ last_words target = codes "` is out of range for `" ++ (target ++ codes "`")
 
 pub returns-in_err-put : goal.returns-in_err-put
 returns-in_err-put g c =
-    let value = plain c.args.value.now in
+    let value = layout c.args.value.now in
     let more = Some (last_words c.args.target.now) in
     let (rest, text) = some_text (printed_if_exact value ++? more) in
     let failed = g.met.S.Sink.failed_early _ (codes "Value `") _ rest c.in_err-put.ensures in
@@ -24,7 +24,7 @@ returns-in_err-put g c =
 
 pub returns-in_err-put_value : goal.returns-in_err-put_value
 returns-in_err-put_value g c =
-    let value = plain c.args.value.now in
+    let value = layout c.args.value.now in
     let last = last_words c.args.target.now in
     let (bytes, prints, refused) = c.in_err-put_value.ensures in
     let text = texts_joined (printed_if_exact value) (Some last) bytes last (printed_is_text value bytes prints) refl in
@@ -35,7 +35,7 @@ returns-in_err-put_value g c =
 
 pub returns : goal.returns
 returns g c =
-    let value = plain c.args.value.now in
+    let value = layout c.args.value.now in
     let last = last_words c.args.target.now in
     let (bytes, prints, took) = c.in_ok-put_value.ensures in
     let text = texts_joined (printed_if_exact value) (Some last) bytes last (printed_is_text value bytes prints) refl in

@@ -1,6 +1,6 @@
 use Rattle.std.proofs.Common.{◌≡◌, ◌<◌, ◌∙◌, Some, arith, sym, ap, min, length}
 use Rattle.tera_meaning.specs.Decided.{decided}
-use Rattle.tera_meaning.specs.Meaning.{plain}
+use Rattle.tera_meaning.specs.Meaning.{meaning}
 use Rattle.tera_meaning.specs.Tree.{array, items}
 use Rattle.tera_values.proofs.DecidedParts.{decided_ended}
 use Rattle.tera_values.proofs.PartsLaws.{depth_at, array_of_items}
@@ -9,7 +9,7 @@ use Rattle.tera_values.proofs.decided.+partial_order.Goals as goal
 pub partial_array_order-returns-in-Some : goal.partial_array_order-returns-in-Some
 partial_array_order-returns-in-Some t c =
     let right = array_of_items c.args.right.now c.in-Some.all.now c.in-Some.ensures in
-    c.partial_items_order.ensures ∙ ap (λ v. decided (plain (array (items c.args.left.now))) (plain v)) right
+    c.partial_items_order.ensures ∙ ap (λ v. decided (meaning (array (items c.args.left.now))) (meaning v)) right
 
 pub partial_items_order-partial_order-first-requires : goal.partial_items_order-partial_order-first-requires
 partial_items_order-partial_order-first-requires t c =

@@ -1,36 +1,32 @@
-use Rattle.std.proofs.Common.{rules, refl, ◌≡◌, Some, None, [], length, ◌+◌, ◌∷◌, ◌++◌, sym, ap, ◌∙◌, arith, drop, codes}
+use Rattle.std.proofs.Common.{rules, refl, ◌≡◌, ◌+◌, ◌∷◌, ◌++◌, sym, ap, ◌∙◌, arith, drop, codes}
 use Rattle.std.proofs.lemmas.List.{drop_more}
 use Rattle.std.proofs.lemmas.Result.{MatchResult-weaker}
 use Rattle.std.proofs.lemmas.Bool.{and_parts}
 use Rattle.tera_meaning.specs.Form.{Form}
 use Rattle.tera_meaning.specs.KeyMeaning.{KeyForm, key_meaning}
-use Rattle.tera_meaning.specs.Meaning.{plain}
-use Rattle.tera_meaning.specs.Pairs.{key_form_order}
+use Rattle.tera_meaning.specs.Meaning.{layout}
 use Rattle.tera_meaning.specs.Printed.{Prints, printed_items, printed_members, printed_with, is_exact_key, is_exact_inside}
 use Rattle.tera_report.specs.Quoted.{quoted}
 use Rattle.tera_meaning.specs.Tree.{array, object, items, members, items_depth}
-use Rattle.tera_values.specs.Depth.{member_le-depth}
 use Rattle.tera_values.specs.Key.{key_form}
-use Rattle.tera_values.specs.Map.{above, forms_of, pairs_in, is_above}
-use Rattle.tera_values.specs.Print.{plain_items, plain_pairs, PrintsItems, PrintsPairs, PrintsPair}
-use Rattle.tera_values.proofs.PrintPairs.{empty_pairs, first_in, from_least, from_next, pairs_sorted, first_pair_done, next_pair_done, rest_pairs_done}
-use Rattle.tera_values.proofs.PrintPairs.{comma_pairs_done, later_pairs}
-use Rattle.tera_values.proofs.PartsLaws.{depth_at}
+use Rattle.tera_values.specs.Print.{items_layout, pairs_layout, PrintsItems, PrintsPairs, PrintsPair}
+use Rattle.tera_values.proofs.PrintPairs.{first_pair_done, next_pair_done, rest_pairs_done, comma_pairs_done, later_pairs}
+use Rattle.tera_values.proofs.PartsLaws.{depth_at, first_depth}
 use Rattle.tera_report.proofs.PutLaws.{failed_of}
 use Rattle.tera_values.proofs.PrintLemmas.{first_done, next_done, rest_done, comma_done, later, text_inside, other_inside}
 use Rattle.tera_values.proofs.print.+print.Goals as goal
 
 pub put_array-returns-in_err-put : goal.put_array-returns-in_err-put
 put_array-returns-in_err-put g t c =
-    let failed = g.met.S.Sink.failed_early _ (codes "[") _ (printed_items (plain_items c.args.all.now) ++ codes "]") c.in_err-put.ensures in
-    let bad = failed_of g.S.Sink.fails (Prints (plain (array (items c.args.all.now)))) _ _ _ (λ _. refl) failed in
+    let failed = g.met.S.Sink.failed_early _ (codes "[") _ (printed_items (items_layout c.args.all.now) ++ codes "]") c.in_err-put.ensures in
+    let bad = failed_of g.S.Sink.fails (Prints (layout (array (items c.args.all.now)))) _ _ _ (λ _. refl) failed in
     search rules
 
 pub put_array-returns-in_err-put_items : goal.put_array-returns-in_err-put_items
 put_array-returns-in_err-put_items g t c =
     let (bytes, prints, refused) = c.in_err-put_items.ensures in
     let failed = g.met.S.Sink.failed_early _ _ _ (codes "]") (g.met.S.Sink.failed_later _ (codes "[") _ bytes _ c.in_ok-put.ensures refused) in
-    let bad = failed_of g.S.Sink.fails (Prints (plain (array (items c.args.all.now)))) _ _ _ (λ exact. ap (λ l. (codes "[" ++ l) ++ codes "]") (prints exact))
+    let bad = failed_of g.S.Sink.fails (Prints (layout (array (items c.args.all.now)))) _ _ _ (λ exact. ap (λ l. (codes "[" ++ l) ++ codes "]") (prints exact))
     failed in
     search rules
 
@@ -84,15 +80,15 @@ put_inside-returns-in-None g t c =
 
 pub put_map-returns-in_err-put : goal.put_map-returns-in_err-put
 put_map-returns-in_err-put g t c =
-    let failed = g.met.S.Sink.failed_early _ (codes "{") _ (printed_members (plain_pairs (pairs_in c.args.map.now)) ++ codes "}") c.in_err-put.ensures in
-    let bad = failed_of g.S.Sink.fails (Prints (plain (object (members (pairs_in c.args.map.now))))) _ _ _ (λ _. refl) failed in
+    let failed = g.met.S.Sink.failed_early _ (codes "{") _ (printed_members (pairs_layout c.args.map.now) ++ codes "}") c.in_err-put.ensures in
+    let bad = failed_of g.S.Sink.fails (Prints (layout (object (members c.args.map.now)))) _ _ _ (λ _. refl) failed in
     search rules
 
 pub put_map-returns-in_err-put_pairs : goal.put_map-returns-in_err-put_pairs
 put_map-returns-in_err-put_pairs g t c =
     let (bytes, prints, refused) = c.in_err-put_pairs.ensures in
     let failed = g.met.S.Sink.failed_early _ _ _ (codes "}") (g.met.S.Sink.failed_later _ (codes "{") _ bytes _ c.in_ok-put.ensures refused) in
-    let bad = failed_of g.S.Sink.fails (Prints (plain (object (members (pairs_in c.args.map.now))))) _ _ _
+    let bad = failed_of g.S.Sink.fails (Prints (layout (object (members c.args.map.now)))) _ _ _
     (λ exact. ap (λ l. (codes "{" ++ l) ++ codes "}") (prints exact)) failed in
     search rules
 
@@ -120,14 +116,14 @@ put_pair-returns g t c =
     (λ _ put. (
       _,
       (λ exact.
-          let parts = and_parts (is_exact_key (key_meaning (key_form c.args.key.now))) (is_exact_inside (plain c.args.value.now)) exact in
+          let parts = and_parts (is_exact_key (key_meaning (key_form c.args.key.now))) (is_exact_inside (layout c.args.value.now)) exact in
           λ i. (prints parts.0 i ++ codes ": ") ++ put.1 parts.1 i),
       g.met.S.Sink.joined _ _ _ put.0 _ colon put.2,
     ))
     (λ _ bad. (
       _,
       (λ exact.
-          let parts = and_parts (is_exact_key (key_meaning (key_form c.args.key.now))) (is_exact_inside (plain c.args.value.now)) exact in
+          let parts = and_parts (is_exact_key (key_meaning (key_form c.args.key.now))) (is_exact_inside (layout c.args.value.now)) exact in
           λ i. (prints parts.0 i ++ codes ": ") ++ bad.1 parts.1 i),
       g.met.S.Sink.failed_later _ _ _ bad.0 _ colon bad.2,
     ))
@@ -135,69 +131,21 @@ put_pair-returns g t c =
 pub put_pair-returns-in_err-put_key : goal.put_pair-returns-in_err-put_key
 put_pair-returns-in_err-put_key g t c =
     let (bytes, prints, refused) = c.in_err-put_key.ensures in
-    let failed = g.met.S.Sink.failed_early _ _ _ (printed_with quoted (plain c.args.value.now)) (g.met.S.Sink.failed_early _ bytes _ (codes ": ") refused) in
+    let failed = g.met.S.Sink.failed_early _ _ _ (printed_with quoted (layout c.args.value.now)) (g.met.S.Sink.failed_early _ bytes _ (codes ": ") refused) in
     let bad = failed_of g.S.Sink.fails (PrintsPair (key_form c.args.key.now) c.args.value.now) _ _ _ (λ exact.
-    let parts = and_parts (is_exact_key (key_meaning (key_form c.args.key.now))) (is_exact_inside (plain c.args.value.now)) exact in
-    λ i. (prints parts.0 i ++ codes ": ") ++ printed_with quoted (plain c.args.value.now)) failed in
+    let parts = and_parts (is_exact_key (key_meaning (key_form c.args.key.now))) (is_exact_inside (layout c.args.value.now)) exact in
+    λ i. (prints parts.0 i ++ codes ": ") ++ printed_with quoted (layout c.args.value.now)) failed in
     search rules
 
 pub put_pair-returns-in_err-put : goal.put_pair-returns-in_err-put
 put_pair-returns-in_err-put g t c =
     let (bytes, prints, took) = c.in_ok-put_key.ensures in
-    let failed = g.met.S.Sink.failed_early _ _ _ (printed_with quoted (plain c.args.value.now))
+    let failed = g.met.S.Sink.failed_early _ _ _ (printed_with quoted (layout c.args.value.now))
     (g.met.S.Sink.failed_later _ bytes _ (codes ": ") _ took c.in_err-put.ensures) in
     let bad = failed_of g.S.Sink.fails (PrintsPair (key_form c.args.key.now) c.args.value.now) _ _ _ (λ exact.
-    let parts = and_parts (is_exact_key (key_meaning (key_form c.args.key.now))) (is_exact_inside (plain c.args.value.now)) exact in
-    λ i. (prints parts.0 i ++ codes ": ") ++ printed_with quoted (plain c.args.value.now)) failed in
+    let parts = and_parts (is_exact_key (key_meaning (key_form c.args.key.now))) (is_exact_inside (layout c.args.value.now)) exact in
+    λ i. (prints parts.0 i ++ codes ": ") ++ printed_with quoted (layout c.args.value.now)) failed in
     search rules
-
-pub put_pairs-returns-in_default : goal.put_pairs-returns-in_default
-put_pairs-returns-in_default g t c =
-    let none = empty_pairs (pairs_in c.args.map.now) (sym c.in_default.ensures) in
-    ([], (λ exact. ap (λ l. printed_members (plain_pairs l)) (sym none)), g.met.S.Sink.nothing _)
-
-pub put_pairs-put_pair-requires : goal.put_pairs-put_pair-requires
-put_pairs-put_pair-requires g t c κs within =
-    let p : KeyForm × Form = (key_form c.in-Some.first.now, c.in-Some.value.now) in
-    let ps = pairs_in c.args.map.now in
-    let less_deep = member_le-depth p ps (first_in (is_above key_form_order None) p ps (sym c.in-Some.ensures)) in
-    (omega (arith, less_deep), within)
-
-pub put_pairs-pairs-init : goal.put_pairs-pairs-init
-put_pairs-pairs-init g t c =
-    let (bytes, prints, took) = c.in_ok-put_pair.ensures in
-    let p : KeyForm × Form = (key_form c.in-Some.first.now, c.in-Some.value.now) in
-    let ps = pairs_in c.args.map.now in
-    let left = from_least p ps (pairs_sorted (forms_of c.args.map.now.entries)) (sym c.in-Some.ensures) in
-    (bytes, first_pair_done ps _ p bytes left prints, took)
-
-pub put_pairs-put_pair-requires-in-Some-next_pair : goal.put_pairs-put_pair-requires-in-Some-next_pair
-put_pairs-put_pair-requires-in-Some-next_pair g t c κs within =
-    let p : KeyForm × Form = (key_form c.in-Some-next_pair.key.now, c.in-Some-next_pair.value.now) in
-    let ps = pairs_in c.args.map.now in
-    let less_deep = member_le-depth p ps (first_in (is_above key_form_order (Some (key_form c.pairs.last.now))) p ps (sym c.in-Some-next_pair.ensures)) in
-    (omega (arith, less_deep), within)
-
-pub put_pairs-pairs-smaller : goal.put_pairs-pairs-smaller
-put_pairs-pairs-smaller g t c =
-    let p : KeyForm × Form = (key_form c.in-Some-next_pair.key.now, c.in-Some-next_pair.value.now) in
-    let ps = pairs_in c.args.map.now in
-    let left = from_next (key_form c.pairs.last.now) p ps (pairs_sorted (forms_of c.args.map.now.entries)) (sym c.in-Some-next_pair.ensures) in
-    let count = ap length left in
-    omega (arith, count)
-
-pub put_pairs-pairs-preserved : goal.put_pairs-pairs-preserved
-put_pairs-pairs-preserved g t c =
-    let (done, before, took) = c.pairs.invariant in
-    let (bytes, prints, put) = c.in_ok-put_pair-2.ensures in
-    let p : KeyForm × Form = (key_form c.in-Some-next_pair.key.now, c.in-Some-next_pair.value.now) in
-    let ps = pairs_in c.args.map.now in
-    let left = from_next (key_form c.pairs.last.now) p ps (pairs_sorted (forms_of c.args.map.now.entries)) (sym c.in-Some-next_pair.ensures) in
-    let comma = g.met.S.Sink.joined _ done _ (codes ", ") _ took c.in_ok-put.ensures in (
-      _,
-      next_pair_done ps _ _ p done bytes left before prints,
-      g.met.S.Sink.joined _ _ _ bytes _ comma put,
-    )
 
 pub put_items-returns-in_err-put_inside : goal.put_items-returns-in_err-put_inside
 put_items-returns-in_err-put_inside g t c =
@@ -218,7 +166,7 @@ put_items-returns-in_err-put g t c =
     let after = drop (i + 1) c.in-Some.others.now in
     let left : drop i c.in-Some.others.now ≡ item ∷ after =
     drop_more c.in-Some.others.now i item c.loop-item-test.true ∙ ap (λ v. v ∷ after) (sym c.item-item.is) in
-    let failed = g.met.S.Sink.failed_later _ done _ _ _ took (g.met.S.Sink.failed_early _ (codes ", ") _ (printed_items (plain_items (item ∷ after)))
+    let failed = g.met.S.Sink.failed_later _ done _ _ _ took (g.met.S.Sink.failed_early _ (codes ", ") _ (printed_items (items_layout (item ∷ after)))
     c.in_err-put.ensures) in
     let bad = failed_of g.S.Sink.fails (PrintsItems all) _ _ _ (comma_done all _ after item done left before) failed in
     search rules
@@ -239,40 +187,54 @@ put_items-returns-in_err-put_inside-2 g t c =
     let bad = failed_of g.S.Sink.fails (PrintsItems all) _ _ _ (rest_done all after _ so_far) failed in
     search rules
 
+pub put_pairs-loop-key-preserved : goal.put_pairs-loop-key-preserved
+put_pairs-loop-key-preserved g t c =
+    let (done, before, took, within) = c.loop-key.invariant in
+    let (bytes, prints, put) = c.in_ok-put_pair-2.ensures in
+    let p : KeyForm × Form = (key_form c.in-Some-2.key.now, c.in-Some-2.value.now) in
+    let left = c.loop-key.key-iterator in
+    let others = c.next-in-loop-key.new.self in
+    let less_deep = first_depth left others p c.in-Some-2.ensures.steps in
+    let comma = g.met.S.Sink.joined _ done _ (codes ", ") _ took c.in_ok-put.ensures in (
+      _,
+      next_pair_done c.args.map.now left others p done bytes c.in-Some-2.ensures.steps before prints,
+      g.met.S.Sink.joined _ _ _ bytes _ comma put,
+      omega (arith, less_deep.1, within),
+    )
+
 pub put_pairs-returns-in_err-put_pair : goal.put_pairs-returns-in_err-put_pair
 put_pairs-returns-in_err-put_pair g t c =
     let (bytes, prints, refused) = c.in_err-put_pair.ensures in
     let p : KeyForm × Form = (key_form c.in-Some.first.now, c.in-Some.value.now) in
-    let ps = pairs_in c.args.map.now in
-    let others = above (Some p.0) ps in
-    let left = from_least p ps (pairs_sorted (forms_of c.args.map.now.entries)) (sym c.in-Some.ensures) in
-    let done = first_pair_done ps others p bytes left prints in
+    let ps = c.args.map.now in
+    let others = c.next.new.self in
+    let done = first_pair_done ps others p bytes (sym c.iter-pairs.ensures.pairs ∙ c.in-Some.ensures.steps) prints in
     let failed = g.met.S.Sink.failed_early _ bytes _ (later_pairs others) refused in
     let bad = failed_of g.S.Sink.fails (PrintsPairs ps) _ _ _ (rest_pairs_done ps others bytes done) failed in
     search rules
 
 pub put_pairs-returns-in_err-put : goal.put_pairs-returns-in_err-put
 put_pairs-returns-in_err-put g t c =
-    let (done, before, took) = c.pairs.invariant in
-    let p : KeyForm × Form = (key_form c.in-Some-next_pair.key.now, c.in-Some-next_pair.value.now) in
-    let ps = pairs_in c.args.map.now in
-    let others = above (Some p.0) ps in
-    let left = from_next (key_form c.pairs.last.now) p ps (pairs_sorted (forms_of c.args.map.now.entries)) (sym c.in-Some-next_pair.ensures) in
-    let failed = g.met.S.Sink.failed_later _ done _ _ _ took (g.met.S.Sink.failed_early _ (codes ", ") _ (printed_members (plain_pairs (p ∷ others)))
+    let (done, before, took, within) = c.loop-key.invariant in
+    let p : KeyForm × Form = (key_form c.in-Some-2.key.now, c.in-Some-2.value.now) in
+    let ps = c.args.map.now in
+    let left = c.loop-key.key-iterator in
+    let others = c.next-in-loop-key.new.self in
+    let failed = g.met.S.Sink.failed_later _ done _ _ _ took (g.met.S.Sink.failed_early _ (codes ", ") _ (printed_members (pairs_layout (p ∷ others)))
     c.in_err-put.ensures) in
-    let bad = failed_of g.S.Sink.fails (PrintsPairs ps) _ _ _ (comma_pairs_done ps _ others p done left before) failed in
+    let bad = failed_of g.S.Sink.fails (PrintsPairs ps) _ _ _ (comma_pairs_done ps left others p done c.in-Some-2.ensures.steps before) failed in
     search rules
 
 pub put_pairs-returns-in_err-put_pair-2 : goal.put_pairs-returns-in_err-put_pair-2
 put_pairs-returns-in_err-put_pair-2 g t c =
-    let (done, before, took) = c.pairs.invariant in
+    let (done, before, took, within) = c.loop-key.invariant in
     let (bytes, prints, refused) = c.in_err-put_pair-2.ensures in
-    let p : KeyForm × Form = (key_form c.in-Some-next_pair.key.now, c.in-Some-next_pair.value.now) in
-    let ps = pairs_in c.args.map.now in
-    let others = above (Some p.0) ps in
-    let left = from_next (key_form c.pairs.last.now) p ps (pairs_sorted (forms_of c.args.map.now.entries)) (sym c.in-Some-next_pair.ensures) in
+    let p : KeyForm × Form = (key_form c.in-Some-2.key.now, c.in-Some-2.value.now) in
+    let ps = c.args.map.now in
+    let left = c.loop-key.key-iterator in
+    let others = c.next-in-loop-key.new.self in
     let comma = g.met.S.Sink.joined _ done _ (codes ", ") _ took c.in_ok-put.ensures in
-    let so_far = next_pair_done ps _ others p done bytes left before prints in
+    let so_far = next_pair_done ps left others p done bytes c.in-Some-2.ensures.steps before prints in
     let failed = g.met.S.Sink.failed_early _ _ _ (later_pairs others) (g.met.S.Sink.failed_later _ _ _ bytes _ comma refused) in
     let bad = failed_of g.S.Sink.fails (PrintsPairs ps) _ _ _ (rest_pairs_done ps others _ so_far) failed in
     search rules

@@ -1,7 +1,5 @@
-use Rattle.std.proofs.Common.{◌+◌, ◌*◌, ℕ, Some, List, length, drop}
+use Rattle.std.proofs.Common.{◌+◌, ◌*◌, ◌≤◌, ℕ, List, drop}
 use Rattle.tera_meaning.specs.Tree.{items, members, depth, items_depth, members_depth}
-use Rattle.tera_values.specs.Key.{key_form}
-use Rattle.tera_values.specs.Map.{above, pairs_in}
 use Rattle.tera_values.proofs.PrintPairs.{ArePairsDone}
 use Rattle.tera_values.proofs.PrintLemmas.{IsDone}
 use Rattle.tera_values.proofs.print.+print.Given as goal
@@ -27,16 +25,13 @@ abbrev pub decreases-put_pair : goal.decreases-put_pair
 decreases-put_pair g l = 5 * depth l.value.now + 3
 
 abbrev pub decreases-put_pairs : goal.decreases-put_pairs
-decreases-put_pairs g l = 5 * members_depth (members (pairs_in l.map.now)) + 4
+decreases-put_pairs g l = 5 * members_depth (members l.map.now) + 4
 
 abbrev pub decreases-put_map : goal.decreases-put_map
-decreases-put_map g l = 5 * members_depth (members (pairs_in l.map.now)) + 5
+decreases-put_map g l = 5 * members_depth (members l.map.now) + 5
 
--- what was put is what is printed of the pairs up to the last
-abbrev pub invariant-put_pairs-pairs : goal.invariant-put_pairs-pairs
-invariant-put_pairs-pairs g l =
-    (done : List ℕ) × ArePairsDone (pairs_in l.map) done (above (Some (key_form l.last)) (pairs_in l.map)) × g.S.Sink.takes l.fn.out done l.out
-
--- there are fewer pairs above the last key
-abbrev pub decreases-put_pairs-pairs : goal.decreases-put_pairs-pairs
-decreases-put_pairs-pairs g l = length (above (Some (key_form l.last)) (pairs_in l.map))
+-- what was put is what is printed of the pairs before those that are left, which are no deeper
+abbrev pub invariant-put_pairs-loop-key : goal.invariant-put_pairs-loop-key
+invariant-put_pairs-loop-key g l =
+    (done : List ℕ) × ArePairsDone l.fn.map done l.key-iterator × g.S.Sink.takes l.fn.out done l.out
+    × (members_depth (members l.key-iterator) ≤ members_depth (members l.fn.map))

@@ -2,7 +2,7 @@ use Rattle.std.proofs.Common.{◌≡◌, IfOk, codes, refl, subst}
 use Rattle.std.proofs.lemmas.Result.{IfOk-weaker}
 use Rattle.std.specs.Fmt.{debug_escape, digits}
 use Rattle.std.specs.String.{string_bytes}
-use Rattle.tera_meaning.specs.Meaning.{plain}
+use Rattle.tera_meaning.specs.Meaning.{layout}
 use Rattle.tera_meaning.specs.Printed.{Prints}
 use Rattle.uses.specs.Nested.{nested}
 use Rattle.uses.proofs.nested.nested_text.Goals as goal
@@ -11,8 +11,8 @@ use Rattle.uses.proofs.nested.nested_text.Goals as goal
 pub returns-clause-ok : goal.returns-clause-ok
 unfolding digits debug_escape
 returns-clause-ok c =
-    let prints : IfOk c.to_text-2.result (λ text. Prints (plain nested) (string_bytes text)) =
-    subst (λ value. IfOk c.to_text-2.result (λ text. Prints (plain value) (string_bytes text)))
+    let prints : IfOk c.to_text-2.result (λ text. Prints (layout nested) (string_bytes text)) =
+    subst (λ value. IfOk c.to_text-2.result (λ text. Prints (layout value) (string_bytes text)))
     c.in_ok-nested_value.ensures.ok c.to_text-2.ensures.ok in
-    IfOk-weaker c.to_text-2.result (λ text. Prints (plain nested) (string_bytes text))
+    IfOk-weaker c.to_text-2.result (λ text. Prints (layout nested) (string_bytes text))
     (λ text. string_bytes text ≡ codes "{\"a\": [1, {\"b\": \"x\"}]}") (λ text known. known refl) prints

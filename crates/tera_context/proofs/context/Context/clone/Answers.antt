@@ -1,40 +1,60 @@
-use Rattle.std.proofs.Common.{◌∙◌, ◌∷◌, [], ◌++◌, List, String, Global, map, ap, sym, subst, append_assoc, refl}
-use Rattle.std.proofs.lemmas.List.{map-append}
+use Rattle.std.proofs.Common.{◌∙◌, List, String, Global, ap, sym, subst}
+use Rattle.std.proofs.lemmas.Bool.{false≢true}
 use Rattle.std.specs.FinMap.{insert}
 use Rattle.tera_meaning.specs.Form.{Form}
+use Rattle.tera_meaning.specs.State.{extended}
 use Rattle.tera_context.specs.Context.{state_of}
-use Rattle.tera_context.proofs.Extends.{AreOrdered, none_left_out, copied_on}
+use Rattle.tera_context.proofs.Extends.{AreApart, left_apart, left_over, no_pairs, nothing_taken, taken_by_nothing, taken_on}
 use Rattle.tera_context.proofs.context.Context.clone.Goals as goal
+
+pub loop-name-init : goal.loop-name-init
+loop-name-init c =
+    let gives = c.into_iter-name-iterator.ensures.into_iter_gives in
+    record {
+      so_far = (λ i. extended (state_of (c.in_ok-values.ensures.empty i)) (state_of (gives.0 i)))
+          ∙ taken_by_nothing (state_of c.self.inside.values.entries)
+          ∙ c.self.view_is;
+      apart = subst AreApart (sym gives.0) gives.4;
+    }
 
 pub loop-name-preserved : goal.loop-name-preserved
 loop-name-preserved c =
-    let done : List (String Global × Form) = map (λ p. (p.0.now, p.1.now)) c.loop-name.yielded in
     let next : String Global × Form = (c.in-Some.name.now, c.in-Some.value.now) in
     let left : List (String Global × Form) = c.next.new.self in
-    let was = ap (λ rest. done ++ rest) c.in-Some.ensures.steps in
-    let mapped = map-append _ c.loop-name.yielded ((c.in-Some.name, c.in-Some.value) ∷ []) in
-    let is = ap (λ es. es ++ left) mapped ∙ append_assoc done (next ∷ []) left in
-    let ordered = subst AreOrdered was c.loop-name.invariant.ordered in
-    let all : List (String Global × Form) = done ++ next ∷ left in
+    let old = state_of c.loop-name.values.entries in
+    let apart = subst AreApart c.in-Some.ensures.steps c.loop-name.invariant.apart in
+    let kept = c.in_ok-put.ensures.ok ∙ (λ i. insert old (c.in_ok-clone.ensures.cases i) (c.in_ok-value.ensures.ok i)) in
     record {
-      so_far = c.in_ok-insert_value.ensures.ok
-          ∙ (λ i. insert (c.loop-name.invariant.so_far i) (c.deref.ensures i) (c.in_ok-value.ensures.ok i))
-          ∙ sym (copied_on all done next left refl ordered)
-          ∙ ap state_of (sym mapped);
-      whole = ap state_of (is ∙ sym was) ∙ c.loop-name.invariant.whole;
-      ordered = subst AreOrdered (sym is) ordered;
+      so_far = ap (λ s. extended s (state_of left)) kept
+          ∙ sym (taken_on old next left apart)
+          ∙ ap (λ es. extended old (state_of es)) (sym c.in-Some.ensures.steps)
+          ∙ c.loop-name.invariant.so_far;
+      apart = left_apart next left apart;
     }
+
+pub returns-in_err-values-clause-nothing : goal.returns-in_err-values-clause-nothing
+returns-in_err-values-clause-nothing c none =
+    let nothing = no_pairs c.self.inside.values.entries (c.self.view_is ∙ none) in
+    absurd (false≢true (c.in_err-values.ensures.succeeds (c.len.ensures.len ∙ nothing)))
 
 pub returns-in_err-value-clause-nothing : goal.returns-in_err-value-clause-nothing
 returns-in_err-value-clause-nothing c none =
     let next : String Global × Form = (c.in-Some.name.now, c.in-Some.value.now) in
-    let left : List (String Global × Form) = c.next.new.self in
-    let was = ap (λ rest. map (λ p. (p.0.now, p.1.now)) c.loop-name.yielded ++ rest) c.in-Some.ensures.steps in
-    absurd (none_left_out _ _ next left (sym was) c.loop-name.invariant.ordered (c.loop-name.invariant.whole ∙ none))
+    absurd (left_over (state_of c.loop-name.values.entries) _ next c.next.new.self _ c.in-Some.ensures.steps c.loop-name.invariant.so_far none)
 
-pub returns-in_err-insert_value-clause-nothing : goal.returns-in_err-insert_value-clause-nothing
-returns-in_err-insert_value-clause-nothing c none =
+pub returns-in_err-clone-clause-nothing : goal.returns-in_err-clone-clause-nothing
+returns-in_err-clone-clause-nothing c none =
     let next : String Global × Form = (c.in-Some.name.now, c.in-Some.value.now) in
-    let left : List (String Global × Form) = c.next.new.self in
-    let was = ap (λ rest. map (λ p. (p.0.now, p.1.now)) c.loop-name.yielded ++ rest) c.in-Some.ensures.steps in
-    absurd (none_left_out _ _ next left (sym was) c.loop-name.invariant.ordered (c.loop-name.invariant.whole ∙ none))
+    absurd (left_over (state_of c.loop-name.values.entries) _ next c.next.new.self _ c.in-Some.ensures.steps c.loop-name.invariant.so_far none)
+
+pub returns-in_err-put-clause-nothing : goal.returns-in_err-put-clause-nothing
+returns-in_err-put-clause-nothing c none =
+    let next : String Global × Form = (c.in-Some.name.now, c.in-Some.value.now) in
+    absurd (left_over (state_of c.loop-name.values.entries) _ next c.next.new.self _ c.in-Some.ensures.steps c.loop-name.invariant.so_far none)
+
+pub returns-clause-ok : goal.returns-clause-ok
+returns-clause-ok c =
+    let held = state_of c.loop-name.values.entries in
+    sym (nothing_taken held)
+    ∙ ap (λ es. extended held (state_of es)) (sym c.in-None.ensures.steps.0)
+    ∙ c.loop-name.invariant.so_far

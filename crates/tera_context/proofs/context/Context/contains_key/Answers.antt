@@ -5,4 +5,6 @@ use Rattle.tera_context.proofs.Names.{get_named}
 use Rattle.tera_context.proofs.context.Context.contains_key.Goals as goal
 
 pub returns : goal.returns
-returns c = c.contains_key.ensures ∙ ap is_some (sym (get_named c.self.inside.values c.args.name.now) ∙ ap (λ s. get s c.args.name.now) c.self.view_is)
+returns c =
+    c.contains_key.ensures
+    ∙ ap is_some (sym (get_named c.self.inside.values.entries c.args.name.now) ∙ ap (λ s. get s c.args.name.now) c.self.view_is)

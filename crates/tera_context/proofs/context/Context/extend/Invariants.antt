@@ -1,13 +1,14 @@
-use Rattle.std.proofs.Common.{◌≡◌, ◌++◌}
+use Rattle.std.proofs.Common.{◌≡◌, ◌≤◌, length}
+use Rattle.indexmap.specs.IndexMap.{spare}
 use Rattle.tera_meaning.specs.State.{extended}
 use Rattle.tera_context.specs.Context.{state_of}
-use Rattle.tera_context.proofs.Extends.{AreOrdered}
+use Rattle.tera_context.proofs.Extends.{AreApart}
 use Rattle.tera_context.proofs.context.Context.extend.Given as goal
 
--- the pairs so far are taken over; with those that are left they are the source's, in the order of their names
+-- with the pairs that are left it is what is wanted, and there is room for them
 abbrev pub invariant-loop-name : goal.invariant-loop-name
 invariant-loop-name l = record {
-  so_far : l.self ≡ extended l.fn.self (state_of l.yielded);
-  whole : state_of (l.yielded ++ l.name-iterator) ≡ l.fn.source;
-  ordered : AreOrdered (l.yielded ++ l.name-iterator);
+  so_far : extended (state_of l.self-inside.values.entries) (state_of l.name-iterator) ≡ extended l.fn.self l.fn.source;
+  apart : AreApart l.name-iterator;
+  room : length l.name-iterator ≤ spare l.self-inside.values;
 }

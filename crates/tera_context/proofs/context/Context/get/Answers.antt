@@ -12,4 +12,4 @@ lent (Some v) o e = sym e
 pub returns : goal.returns
 returns c =
     lent c.get.result (get c.args.self.now c.args.name.now)
-    (c.get.ensures.value ∙ sym (get_named c.self.inside.values c.args.name.now) ∙ ap (λ s. get s c.args.name.now) c.self.view_is)
+    (c.get.ensures.value ∙ sym (get_named c.self.inside.values.entries c.args.name.now) ∙ ap (λ s. get s c.args.name.now) c.self.view_is)

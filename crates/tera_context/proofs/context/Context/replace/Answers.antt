@@ -1,7 +1,7 @@
 use Rattle.std.proofs.Common.{◌≡◌, ◌∙◌, Some, None, ap, sym, subst, refl, rules}
-use Rattle.std.specs.BTreeMap.{get_by_text}
 use Rattle.std.specs.FinMap.{get, insert}
 use Rattle.std.specs.Option.{IsSome}
+use Rattle.indexmap.specs.IndexMap.{get_by_text}
 use Rattle.tera_context.specs.Context.{state_of}
 use Rattle.tera_context.proofs.Names.{get_named, named_insert}
 use Rattle.tera_context.proofs.context.Context.replace.Goals as goal
@@ -13,7 +13,7 @@ returns-in_default c =
     let absent : get_by_text old name ≡ None = search rules in (
       refl,
       ap (λ m. state_of m.entries) c.get_mut.follows.holds-at-none ∙ c.self.view_is,
-      ap (λ s. get s name) (sym c.self.view_is) ∙ get_named old name ∙ absent,
+      ap (λ s. get s name) (sym c.self.view_is) ∙ get_named old.entries name ∙ absent,
     )
 
 pub returns : goal.returns

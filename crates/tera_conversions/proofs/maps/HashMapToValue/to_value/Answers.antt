@@ -1,18 +1,24 @@
 use Rattle.std.proofs.Common.{ap, sym, ◌∙◌, ◌++◌}
-use Rattle.tera_conversions.proofs.GivenLaws.{passed_on, puts_on, parts_refused, moved_on}
+use Rattle.tera_conversions.proofs.GivenLaws.{passed_on, places_on, parts_refused, moved_on}
+use Rattle.tera_conversions.proofs.SortedLemmas.{no_memory}
 use Rattle.tera_conversions.specs.Given.{GivesPair, PairRefuses}
 use Rattle.tera_conversions.proofs.maps.HashMapToValue.to_value.Goals as goal
 
-pub returns-in_err-put-clause-err : goal.returns-in_err-put-clause-err
-returns-in_err-put-clause-err g c =
+pub returns-in_err-place-clause-err : goal.returns-in_err-place-clause-err
+returns-in_err-place-clause-err g c =
     let whole = ap (λ rest. c.loop-key.yielded ++ rest) (sym c.in-Some.ensures.steps) ∙ c.loop-key.invariant.whole in
     let refused = parts_refused (GivesPair g.K.ToKey.gives_key g.T.ToValue.gives) (PairRefuses g.K.ToKey.refuses_key g.T.ToValue.refuses) _ _ _ _ _ _ whole
-    c.loop-key.invariant.so_far.1 c.in_err-put.ensures.err in
+    c.loop-key.invariant.so_far.1 c.in_err-place.ensures.err in
     passed_on _ _ _ c.from_residual.ensures.1 refused
 
 pub loop-key-preserved : goal.loop-key-preserved
 loop-key-preserved g c = record {
-  so_far = puts_on g.K.ToKey.gives_key g.T.ToValue.gives _ _ _ c.in_ok-put.ensures.ok.0 _ c.loop-key.invariant.so_far c.in_ok-put.ensures.ok.1
-      c.in_ok-put.ensures.ok.2;
+  so_far = places_on g.K.ToKey.gives_key g.T.ToValue.gives _ _ _ c.in_ok-place.ensures.ok.0 _ c.loop-key.invariant.so_far c.in_ok-place.ensures.ok.1
+      c.in_ok-place.ensures.ok.2;
   whole = moved_on _ _ _ _ (ap (λ rest. c.loop-key.yielded ++ rest) (sym c.in-Some.ensures.steps) ∙ c.loop-key.invariant.whole);
 }
+
+pub returns-clause-err : goal.returns-clause-err
+returns-clause-err g c =
+    no_memory g.K.ToKey.gives_key g.T.ToValue.gives (PairRefuses g.K.ToKey.refuses_key g.T.ToValue.refuses) c.args.self.entries c.loop-key.yielded
+    c.loop-key.key-iterator c.loop-key.sorted.entries c.in_order.result c.loop-key.invariant.whole c.loop-key.invariant.so_far c.in_order.ensures.err

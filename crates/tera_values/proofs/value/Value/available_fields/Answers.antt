@@ -1,15 +1,14 @@
 use Rattle.std.proofs.Common.{IfOk, sym, ◌∙◌, ap, subst, map, string_bytes, ◌≡◌}
-use Rattle.tera_values.specs.Map.{pairs_in}
 use Rattle.tera_values.specs.View.{form_of}
 use Rattle.tera_values.proofs.FieldLemmas.{fields_of, no_names}
 use Rattle.tera_values.proofs.value.Value.available_fields.Goals as goal
 
 pub returns-in-Map-clause-ok : goal.returns-in-Map-clause-ok
 returns-in-Map-clause-ok c =
-    let same = fields_of c.args.self.now (pairs_in c.in-Map.all) (sym c.self.view_is ∙ ap form_of c.in-Map.is) in
+    let same = fields_of c.args.self.now c.in-Map.all (sym c.self.view_is ∙ ap form_of c.in-Map.is) in
     subst (λ names. IfOk c.field_names.result (λ made. map string_bytes made.items ≡ names)) (sym same) c.field_names.ensures.ok
 
 pub returns-in-Map-clause-succeeds : goal.returns-in-Map-clause-succeeds
 returns-in-Map-clause-succeeds c none =
-    let same = fields_of c.args.self.now (pairs_in c.in-Map.all) (sym c.self.view_is ∙ ap form_of c.in-Map.is) in
-    c.field_names.ensures.succeeds (no_names (pairs_in c.in-Map.all) (sym same ∙ none))
+    let same = fields_of c.args.self.now c.in-Map.all (sym c.self.view_is ∙ ap form_of c.in-Map.is) in
+    c.field_names.ensures.succeeds (no_names c.in-Map.all (sym same ∙ none))

@@ -1,0 +1,34 @@
+#!/bin/sh
+# Instructions that the library for C takes within its own calls: for a line of a session and the copy of its reply, on the
+# lines of bench/measure.sh; and for an escaped text.
+# usage: bench/border.sh
+. "$(dirname "$0")/common.sh"
+"$top/bindings/build"
+cc -O2 -Wall -Wextra "-I$top/out" "$top/bench/border/main.c" "$top/out/libtera.a" -o "$work/border"
+
+# The instructions within these calls.
+within() {
+    calls=$1
+    shift
+    valgrind --tool=callgrind --callgrind-out-file=/dev/null $calls "$@" 2>&1 >/dev/null |
+        sed -n 's/.*Collected : \([0-9]*\).*/\1/p'
+}
+
+both="--toggle-collect=tera_line --toggle-collect=tera_reply"
+python3 "$top/bench/scalars.py" 40000 >"$work/script"
+python3 "$top/bench/scalars.py" 40000 --answers >"$work/wanted"
+"$work/border" lines <"$work/script" | cmp - "$work/wanted"
+echo "40000 lines: $(($(within "$both" "$work/border" lines <"$work/script") / 40000)) instructions a line"
+for kind in set eq cmp print; do
+    awk -v kind="$kind" 'NR <= 32 && $1 == "set" { print } $1 == kind { for (i = 0; i < 4; i++) print }' "$work/script" >"$work/$kind"
+    echo "$kind: $(($(within "$both" "$work/border" lines <"$work/$kind") / $(wc -l <"$work/$kind"))) instructions a line"
+done
+# What one more call takes, of so many letters.
+escape() {
+    once=$(within --toggle-collect=tera_escape "$work/border" escape "$1" "$2" 1)
+    more=$(within --toggle-collect=tera_escape "$work/border" escape "$1" "$2" 21)
+    echo "$(((more - once) / 20))"
+}
+for letter in a '<'; do
+    echo "escape of 10 $letter: $(escape "$letter" 10) instructions; of 1,000,000: $(($(escape "$letter" 1000000) / 10000)) hundredths a byte"
+done

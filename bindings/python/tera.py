@@ -1,0 +1,175 @@
+"""The values of the template engine Tera, by scripts of calls (docs/SCRIPT.md), over the library that ./bindings/build makes.
+
+    >>> with Session() as session:
+    ...     session.line('set page {"title": "A & B"}')
+    ...     session.line('path page "title"')
+    'ok'
+    'value "A & B"'
+    >>> escape("<b>")
+    '&lt;b&gt;'
+
+The library is out/libtera.so of this repository, or the file that the variable TERA_LIBRARY names.
+"""
+import ctypes
+import os
+import threading
+from typing import NamedTuple, Optional
+
+DONE, WANTED, BAD, SMALL, NO_MEMORY, NO_REPLY = range(6)
+
+
+class TeraError(Exception):
+    """What a call answers where it does not do what it is for."""
+
+
+class BadLine(TeraError):
+    """A line says no call, and nothing has changed. Its text is the report of the line, which calls it line 1."""
+
+    def __init__(self, report: str) -> None:
+        super().__init__(report)
+        self.report = report
+
+
+class NoReply(TeraError, MemoryError):
+    """The line was run, and no memory was found for its reply."""
+
+
+class Replayed(NamedTuple):
+    """What a script answers: its answers, the report of what ended it early, and the status of the program."""
+
+    answers: bytes
+    report: bytes
+    status: int
+
+
+def load(path: str) -> ctypes.CDLL:
+    """A library, and what its calls take."""
+    library = ctypes.CDLL(path)
+    given, room, count = (ctypes.c_char_p, ctypes.c_size_t), (ctypes.c_void_p, ctypes.c_size_t), ctypes.POINTER(ctypes.c_size_t)
+    handle = ctypes.POINTER(ctypes.c_void_p)
+    for name, takes in {"tera_open": (handle,), "tera_line": (handle, *given, count), "tera_reply": (handle, *room, count),
+                        "tera_close": (handle,), "tera_escape": (*given, *room, count),
+                        "tera_replay": (*given, *room, count, *room, count)}.items():
+        getattr(library, name).argtypes = takes
+        getattr(library, name).restype = None if name == "tera_close" else ctypes.c_uint8
+    return library
+
+
+_here = os.path.dirname(os.path.abspath(__file__))
+_library = load(os.environ.get("TERA_LIBRARY") or os.path.join(_here, "..", "..", "out", "libtera.so"))
+
+
+def escape(text: str) -> str:
+    """The text with `&`, `<`, `>`, `"` and `'` as entities.
+
+    >>> escape("a < b")
+    'a &lt; b'
+    """
+    given = text.encode()
+    length = ctypes.c_size_t()
+    size = len(given)
+    while True:
+        room = ctypes.create_string_buffer(size + 1)
+        status = _library.tera_escape(given, len(given), room, size, length)
+        if status == SMALL:
+            size = length.value
+            continue
+        if status != DONE:
+            raise MemoryError
+        return room.raw[:length.value].decode()
+
+
+def replay(script: bytes) -> Replayed:
+    r"""Runs a whole script, from no names on.
+
+    >>> replay(b"set a 1u64\neq a a\n")
+    Replayed(answers=b'ok\ntrue\n', report=b'', status=0)
+    """
+    lengths = ctypes.c_size_t(len(script) + 256), ctypes.c_size_t(256)
+    while True:
+        sizes = [it.value for it in lengths]
+        rooms = [ctypes.create_string_buffer(size + 1) for size in sizes]
+        status = _library.tera_replay(script, len(script), rooms[0], sizes[0], lengths[0], rooms[1], sizes[1], lengths[1])
+        if status != SMALL:
+            return Replayed(rooms[0].raw[:lengths[0].value], rooms[1].raw[:lengths[1].value], status)
+
+
+class Session:
+    """Names and what they mean, one line after another, on the thread that opened it. `close` frees what it holds.
+
+    >>> with Session() as session:
+    ...     session.line("set a [1, 2]")
+    ...     session.line("get a")
+    'ok'
+    'value [1, 2]'
+    >>> session.line("get a")
+    Traceback (most recent call last):
+        ...
+    ValueError: the session is closed
+    """
+
+    def __init__(self) -> None:
+        self._held = ctypes.c_void_p()
+        self._thread = threading.get_ident()
+        if _library.tera_open(self._held) != DONE:
+            raise MemoryError
+
+    def line(self, line: str) -> Optional[str]:
+        """Runs a line, which comes without its line feed, and gives its reply, or None where the line says nothing. A refusal
+        is a reply as any other.
+
+        >>> session = Session()
+        >>> session.line("# a comment")
+        >>> session.line("len 1")
+        Traceback (most recent call last):
+            ...
+        tera.BadLine: error: bad line
+         --> line 1:1:1
+          |
+        1 | len 1
+          | ^^^^^
+        >>> session.line("negate a")
+        'error: Only numbers can be negated. This is a `undefined`'
+        >>> session.close()
+        """
+        replied = self.line_bytes(line.encode())
+        return replied[:-1].decode() if replied else None
+
+    def line_bytes(self, line: bytes) -> bytes:
+        """The same of bytes; the reply has its line feed."""
+        self._look()
+        length = ctypes.c_size_t()
+        status = _library.tera_line(self._held, line, len(line), length)
+        if status == NO_REPLY:
+            raise NoReply
+        if status == NO_MEMORY:
+            raise MemoryError
+        room = ctypes.create_string_buffer(length.value + 1)
+        _library.tera_reply(self._held, room, length.value, length)
+        replied = room.raw[: length.value]
+        if status == BAD:
+            raise BadLine(replied.decode())
+        return replied
+
+    def close(self) -> None:
+        """Frees what the session holds; a second time does nothing."""
+        if self._held:
+            self._look()
+            _library.tera_close(self._held)
+
+    def _look(self) -> None:
+        if not self._held:
+            raise ValueError("the session is closed")
+        if self._thread != threading.get_ident():
+            raise RuntimeError("the session is another thread's")
+
+    def __enter__(self) -> "Session":
+        return self
+
+    def __exit__(self, *why: object) -> None:
+        self.close()
+
+    def __del__(self) -> None:
+        # what another thread lets go of stays held
+        if getattr(self, "_held", None) and self._thread == threading.get_ident():
+            self.close()

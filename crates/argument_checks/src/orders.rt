@@ -1,0 +1,186 @@
+//! In which order the pairs of maps stand that are given, named and walked over.
+use crate::given::gives;
+use crate::held::hold;
+use crate::made::{many_in_table, row_of, tree_of};
+use crate::named::{is_shown, or_none, thousand_pairs};
+use made_values::{or_undefined, printed, with};
+use std::alloc::Global;
+use std::collections::{BTreeMap, HashMap};
+use tera_arguments::{Kwargs, KwargsIter};
+use tera_conversions::ToValue;
+use tera_values::{Key, Map, Value};
+
+// The map of a number at `b`, and then of one at `a`.
+fn falling(alloc: Global) -> Map {
+    let first = with(Map::new(alloc), Key::Str("b"), Value::from(1u8));
+    with(first, Key::Str("a"), Value::from(2u8))
+}
+
+// The same in the order of keys.
+fn in_tree(alloc: Global) -> BTreeMap<&'static str, u8> {
+    let mut map = tree_of(alloc, "b", 1);
+    let _ = map.insert("a", 2);
+    map
+}
+
+// The same in a hashed map.
+fn in_table(alloc: Global) -> HashMap<&'static str, u8> {
+    let mut map = HashMap::new(alloc);
+    let _ = map.insert("b", 1);
+    let _ = map.insert("a", 2);
+    map
+}
+
+#[test]
+fn maps_stand_as_what_gives_them(rt: HostRuntime) {
+    let alloc = rt.alloc();
+    let falls = "Map({Str(\"b\"): Value { inner: U64(1) }, Str(\"a\"): Value { inner: U64(2) }})";
+    let rises = "Map({Str(\"a\"): Value { inner: U64(2) }, Str(\"b\"): Value { inner: U64(1) }})";
+    let later = "Map({Str(\"b\"): Value { inner: U64(2) }})";
+    hold(
+        &rt,
+        &[
+            gives(alloc, falling(alloc), falls),
+            gives(alloc, row_of(alloc, ("b", 1u8), ("a", 2u8)), falls),
+            gives(alloc, row_of(alloc, ("a", 2u8), ("b", 1u8)), rises),
+            gives(alloc, row_of(alloc, ("b", 1u8), ("b", 2u8)), later),
+            gives(alloc, in_tree(alloc), rises),
+            gives(alloc, in_table(alloc), rises),
+        ],
+    );
+}
+
+// The keys of the map rise.
+fn rises(map: &Map) -> bool {
+    let mut last: Option<&Key<'static>> = None;
+    for (key, _) in map.iter() {
+        if let Some(before) = last
+            && *before >= *key
+        {
+            return false;
+        }
+        last = Some(key);
+    }
+    true
+}
+
+// A hashed map of so many pairs gives one of as many, whose keys rise.
+fn gives_rising(alloc: Global, count: i64) -> bool {
+    let given = or_undefined(many_in_table(alloc, count).to_value(alloc));
+    let is_so = match given.as_map() {
+        Some(map) => map.len() as i128 == count as i128 && rises(map),
+        None => false,
+    };
+    drop(given);
+    is_so
+}
+
+#[test]
+fn hashed_maps_give_rising_ones(rt: HostRuntime) {
+    let alloc = rt.alloc();
+    hold(
+        &rt,
+        &[
+            gives_rising(alloc, 0),
+            gives_rising(alloc, 1),
+            gives_rising(alloc, 2),
+            gives_rising(alloc, 1000),
+        ],
+    );
+}
+
+// The arguments come at these names, in that order, and then no more.
+fn comes_as(walk: KwargsIter<'_>, names: &[&str]) -> bool {
+    let mut left = walk;
+    for name in names {
+        match left.next() {
+            Some((key, _)) if key.as_str() == Some(*name) => {}
+            _ => return false,
+        }
+    }
+    left.next().is_none()
+}
+
+// The arguments of that map come at these names.
+fn walks_as(map: Map, names: &[&str]) -> bool {
+    let of = Kwargs::new(map);
+    let is_so = comes_as(of.iter(), names);
+    drop(of);
+    is_so
+}
+
+#[test]
+fn arguments_come_in_their_order(rt: HostRuntime) {
+    let alloc = rt.alloc();
+    let put_again = with(falling(alloc), Key::Str("b"), Value::from(3u8));
+    hold(
+        &rt,
+        &[
+            walks_as(Map::new(alloc), &[]),
+            walks_as(falling(alloc), &["b", "a"]),
+            walks_as(put_again, &["b", "a"]),
+        ],
+    );
+}
+
+// Arguments of which the third has the key of the first.
+fn with_equal_key(alloc: Global) -> Kwargs {
+    let pairs = [
+        ("b", Value::from(1u8)),
+        ("a", Value::from(2u8)),
+        ("b", Value::from(3u8)),
+    ];
+    or_none(alloc, Kwargs::from_pairs(alloc, pairs))
+}
+
+#[test]
+fn an_equal_key_keeps_its_place(rt: HostRuntime) {
+    let alloc = rt.alloc();
+    let shown = "KwargsOf { values: Value { inner: Map({Str(\"b\"): Value { inner: U64(3) }, \
+        Str(\"a\"): Value { inner: U64(2) }}) } }";
+    let of = with_equal_key(alloc);
+    let is_walked = comes_as(of.iter(), &["b", "a"]);
+    hold(&rt, &[is_walked, is_shown(alloc, of, shown)]);
+}
+
+// Each argument comes at its place: the first at 999, and each later one at one less.
+fn falls(of: &Kwargs) -> bool {
+    let mut next = 999u128;
+    for (key, _) in of.iter() {
+        match key {
+            Key::U128(number) if *number == next => {}
+            _ => return false,
+        }
+        next = next.wrapping_sub(1);
+    }
+    next == 0u128.wrapping_sub(1)
+}
+
+#[test]
+fn many_arguments_come_in_their_order(rt: HostRuntime) {
+    let of = thousand_pairs(rt.alloc());
+    let is_so = falls(&of);
+    drop(of);
+    assert!(rt; is_so);
+}
+
+// The map prints that.
+fn prints(alloc: Global, map: Map, wanted: &str) -> bool {
+    let value = Value::of_map(map);
+    let text = printed(alloc, &value);
+    drop(value);
+    text.as_str() == wanted
+}
+
+#[test]
+fn maps_print_in_their_order(rt: HostRuntime) {
+    let alloc = rt.alloc();
+    let put_again = with(falling(alloc), Key::Str("b"), Value::from(3u8));
+    hold(
+        &rt,
+        &[
+            prints(alloc, falling(alloc), "{\"b\": 1, \"a\": 2}"),
+            prints(alloc, put_again, "{\"b\": 3, \"a\": 2}"),
+        ],
+    );
+}

@@ -1,0 +1,119 @@
+//! What values are taken as.
+use crate::answers::{tell, tell_error, tell_value};
+use crate::made::Made;
+use std::alloc::Global;
+use std::borrow::CowStr;
+use std::fmt::Debug;
+use tera_arguments::{ArgFromValue, StringInput};
+use tera_report::TeraResult;
+use tera_values::{Map, Number, Value};
+
+/// What it is taken as.
+pub fn taken<'k, V, T: ArgFromValue<'k, V, Output = T>>(
+    alloc: Global,
+    value: &'k V,
+) -> TeraResult<T> {
+    T::from_value(alloc, value)
+}
+
+/// Values that are taken.
+pub fn tell_taken(rt: &(impl Print + AllocGlobal), made: &Made) -> TeraResult<()> {
+    let alloc = rt.alloc();
+    tell(
+        rt,
+        "String::from_value",
+        taken::<Value, String>(alloc, &made.list),
+    )?;
+    tell(rt, "CowStr::from_value", owned(alloc, &made.list))?;
+    tell_value(rt, "Value::from_value", taken(alloc, &made.list))?;
+    tell_value(rt, "Map::from_value", as_value(taken(alloc, &made.map)))?;
+    tell(
+        rt,
+        "Vec::from_value",
+        taken::<Value, Vec<String>>(alloc, &made.texts),
+    )?;
+    tell(
+        rt,
+        "Vec::from_value of no array",
+        taken::<Value, Vec<u8>>(alloc, &made.raw),
+    )?;
+    tell(
+        rt,
+        "Vec::from_value of another item",
+        taken::<Value, Vec<bool>>(alloc, &made.texts),
+    )
+}
+
+// The text, where it is one of its own.
+fn owned(alloc: Global, value: &Value) -> TeraResult<Option<String>> {
+    match taken(alloc, value)? {
+        CowStr::Owned(text) => Ok(Some(text)),
+        CowStr::Borrowed(_) => Ok(None),
+    }
+}
+
+fn as_value(map: TeraResult<Map>) -> TeraResult<Value> {
+    Ok(Value::of_map(map?))
+}
+
+// The type of that name refuses the value.
+fn tell_refusal<'k, V, T>(
+    rt: &(impl Print + AllocGlobal),
+    name: &str,
+    value: &'k V,
+) -> TeraResult<()>
+where
+    T: ArgFromValue<'k, V, Output = T> + Drop,
+{
+    match taken::<V, T>(rt.alloc(), value) {
+        Ok(taken) => {
+            drop(taken);
+            Ok(println!(rt; "{name}: ok")?)
+        }
+        Err(refused) => tell_error(rt, name, refused),
+    }
+}
+
+/// Values that are of no such type.
+pub fn tell_refused(rt: &(impl Print + AllocGlobal), made: &Made) -> TeraResult<()> {
+    let none = &made.none;
+    tell_refusal::<Value, bool>(rt, "bool::from_value", none)?;
+    tell_refusal::<Value, &str>(rt, "&str::from_value", none)?;
+    tell_refusal::<Value, Number>(rt, "Number::from_value", none)?;
+    tell_refusal::<Value, Number>(rt, "Number::from_value of a number", &made.wide)?;
+    tell_refusal::<Value, Map>(rt, "Map::from_value of none", none)?;
+    tell_refusal::<Value, &Map>(rt, "&Map::from_value", none)?;
+    tell_refusal::<Value, &[Value]>(rt, "&[Value]::from_value", none)?;
+    tell_refusal::<Value, StringInput<'_>>(rt, "StringInput::from_value", none)
+}
+
+// The integer type of that name refuses the number and what is none.
+fn tell_integer<'k, V, T>(
+    rt: &(impl Print + AllocGlobal),
+    name: &str,
+    values: [&'k V; 2],
+) -> TeraResult<()>
+where
+    T: ArgFromValue<'k, V, Output = T> + Drop,
+{
+    let [past, none] = values;
+    tell_refusal::<V, T>(rt, name, past)?;
+    tell_refusal::<V, T>(rt, name, none)
+}
+
+/// Integers.
+pub fn tell_integers(rt: &(impl Print + AllocGlobal), made: &Made) -> TeraResult<()> {
+    let (past, below) = ([&made.wide, &made.none], [&made.below, &made.none]);
+    tell_integer::<Value, u8>(rt, "u8::from_value", past)?;
+    tell_integer::<Value, u16>(rt, "u16::from_value", past)?;
+    tell_integer::<Value, u32>(rt, "u32::from_value", past)?;
+    tell_integer::<Value, u64>(rt, "u64::from_value", past)?;
+    tell_integer::<Value, u128>(rt, "u128::from_value", below)?;
+    tell_integer::<Value, usize>(rt, "usize::from_value", past)?;
+    tell_integer::<Value, i8>(rt, "i8::from_value", past)?;
+    tell_integer::<Value, i16>(rt, "i16::from_value", past)?;
+    tell_integer::<Value, i32>(rt, "i32::from_value", past)?;
+    tell_integer::<Value, i64>(rt, "i64::from_value", past)?;
+    tell_integer::<Value, i128>(rt, "i128::from_value", past)?;
+    tell_integer::<Value, isize>(rt, "isize::from_value", past)
+}

@@ -1,0 +1,134 @@
+//! The operands of the calls, of so many parts.
+use std::alloc::Global;
+use std::rc::RcStr;
+use tera_report::{Span, TeraResult};
+use tera_values::{Key, Map, Value};
+
+/// What the calls are given: texts, lists and maps of `count` parts, and single values.
+#[derive(Drop)]
+pub struct Made {
+    pub count: usize,
+    /// `é<é<..`
+    pub text: String,
+    /// The same as a value.
+    pub plain: Value,
+    /// Items as `item` says.
+    pub list: Value,
+    /// Texts.
+    pub texts: Value,
+    /// The items under `k1000`, `k1001`, ..
+    pub map: Value,
+    /// The bytes of the text, and one that is no UTF-8.
+    pub raw: Value,
+    /// `k1000`
+    pub key: Value,
+    pub zero: Value,
+    pub none: Value,
+    pub below: Value,
+    /// The greatest number that a value holds.
+    pub wide: Value,
+}
+
+impl Made {
+    pub fn of(alloc: Global, count: usize) -> TeraResult<Made> {
+        let text = text(alloc, count)?;
+        let plain = Value::normal_string(alloc, text.as_str())?;
+        let list = Value::of_array(items(alloc, count)?);
+        let texts = texts(alloc, count)?;
+        let map = Value::of_map(map(alloc, count)?);
+        let raw = Value::bytes(raw(alloc, text.as_str())?);
+        let key = Value::normal_string(alloc, "k1000")?;
+        Ok(Made {
+            count,
+            text,
+            plain,
+            list,
+            texts,
+            map,
+            raw,
+            key,
+            zero: Value::from(0u8),
+            none: Value::none(),
+            below: Value::from(-1i8),
+            wide: Value::from(u128::MAX),
+        })
+    }
+}
+
+/// So many characters, by turns past ASCII and special.
+pub fn text(alloc: Global, count: usize) -> TeraResult<String> {
+    let mut text = String::new(alloc);
+    for at in 0..count {
+        text.push(if at % 2 == 0 { 'é' } else { '<' })?;
+    }
+    Ok(text)
+}
+
+fn raw(alloc: Global, text: &str) -> TeraResult<Vec<u8>> {
+    let mut raw = text.as_bytes().to_vec(alloc)?;
+    raw.push(255)?;
+    Ok(raw)
+}
+
+/// The name of that number.
+pub fn name(alloc: Global, number: usize) -> TeraResult<String> {
+    let number = number.saturating_add(1000);
+    Ok(format!(in alloc; "k{number}")?)
+}
+
+/// So many names.
+pub fn names(alloc: Global, count: usize) -> TeraResult<Vec<String>> {
+    let mut names = Vec::new(alloc);
+    for number in 0..count {
+        names.push(name(alloc, number)?)?;
+    }
+    Ok(names)
+}
+
+/// A safe text, or a number.
+pub fn item(alloc: Global, number: usize) -> TeraResult<Value> {
+    if number % 2 == 0 {
+        Value::safe_string(alloc, "é")
+    } else {
+        Ok(Value::from(number))
+    }
+}
+
+/// So many items.
+pub fn items(alloc: Global, count: usize) -> TeraResult<Vec<Value>> {
+    let mut items = Vec::new(alloc);
+    for number in 0..count {
+        items.push(item(alloc, number)?)?;
+    }
+    Ok(items)
+}
+
+fn texts(alloc: Global, count: usize) -> TeraResult<Value> {
+    let mut items = Vec::new(alloc);
+    for number in 0..count {
+        items.push(Value::from(name(alloc, number)?))?;
+    }
+    Ok(Value::of_array(items))
+}
+
+/// So many pairs, in rising order of their keys.
+pub fn map(alloc: Global, count: usize) -> TeraResult<Map> {
+    let mut map = Map::new(alloc);
+    for number in 0..count {
+        let key = RcStr::from_str(alloc, name(alloc, number)?.as_str())?;
+        let before = map.insert(Key::String(key), item(alloc, number)?)?;
+        drop(before);
+    }
+    Ok(map)
+}
+
+/// Some columns of the first line.
+pub fn span() -> Span {
+    Span {
+        start_line: 1,
+        start_col: 0,
+        end_line: 1,
+        end_col: 2,
+        range: 0..2,
+    }
+}

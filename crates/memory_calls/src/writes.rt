@@ -1,0 +1,192 @@
+//! What goes to a writer, to writers that fail.
+use crate::made::span;
+use crate::shelf::Shelf;
+use std::alloc::Global;
+use std::fmt::Display;
+use std::io::Write;
+use std::{io, str};
+use tera_context::Call;
+use tera_report::{Error, ErrorKind, ReportError, TeraResult, escape_html};
+use tera_script::{Reading, read_line};
+use tera_values::{ConversionRefused, Key, Number, Value};
+
+// What is written in one way.
+trait Put {
+    fn put(&self, out: &mut Shelf) -> io::Result<()>;
+}
+
+#[derive(Drop)]
+struct Shown<'a, D> {
+    it: &'a D,
+}
+
+impl<D: Display> Put for Shown<'_, D> {
+    fn put(&self, out: &mut Shelf) -> io::Result<()> {
+        write!(out, "{}", self.it)
+    }
+}
+
+#[derive(Drop)]
+struct Formatted<'a> {
+    it: &'a Value,
+}
+
+impl Put for Formatted<'_> {
+    fn put(&self, out: &mut Shelf) -> io::Result<()> {
+        self.it.format(out)
+    }
+}
+
+#[derive(Drop)]
+struct FormattedKey<'a> {
+    it: &'a Key<'static>,
+}
+
+impl Put for FormattedKey<'_> {
+    fn put(&self, out: &mut Shelf) -> io::Result<()> {
+        self.it.format(out)
+    }
+}
+
+#[derive(Drop)]
+struct Escaped<'a> {
+    it: &'a str,
+}
+
+impl Put for Escaped<'_> {
+    fn put(&self, out: &mut Shelf) -> io::Result<()> {
+        escape_html(self.it, out)
+    }
+}
+
+// Writers that take all at once, one byte at a time, three with interruptions, and none.
+fn tell_put<P: Put>(rt: &(impl Print + AllocGlobal), name: &str, it: &P) -> TeraResult<()> {
+    tell_rooms(rt, name, it, usize::MAX, false)?;
+    tell_rooms(rt, name, it, 1, false)?;
+    tell_rooms(rt, name, it, 3, true)?;
+    print!(rt; "{name} by 0: ")?;
+    tell_once(rt, it, Shelf::new(rt.alloc(), 5, 0, false))?;
+    Ok(())
+}
+
+// Writers with room for no byte, for one, .., until what is written has room.
+fn tell_rooms<P: Put>(
+    rt: &(impl Print + AllocGlobal),
+    name: &str,
+    it: &P,
+    step: usize,
+    interrupts: bool,
+) -> TeraResult<()> {
+    for room in 0..usize::MAX {
+        print!(rt; "{name} by {step} in {room}: ")?;
+        if tell_once(rt, it, Shelf::new(rt.alloc(), room, step, interrupts))? {
+            return Ok(());
+        }
+    }
+    Ok(())
+}
+
+// Whether it was written.
+fn tell_once<P: Put>(rt: &impl Print, it: &P, out: Shelf) -> TeraResult<bool> {
+    let mut out = out;
+    match it.put(&mut out) {
+        Ok(()) => {
+            let text = str::from_utf8(out.taken.as_slice()).unwrap_or("no text");
+            println!(rt; "ok {text:?}")?;
+            Ok(true)
+        }
+        Err(fault) => {
+            println!(rt; "{} bytes, {fault:?}", out.taken.len())?;
+            Ok(false)
+        }
+    }
+}
+
+/// Writes each value that a line of the script sets, and some errors.
+pub fn tell_writes(rt: &(impl Print + AllocGlobal), script: &str) -> TeraResult<()> {
+    for line in script.lines() {
+        tell_owned(rt, read(rt.alloc(), line)?)?;
+    }
+    tell_numbers(rt)?;
+    tell_errors(rt)
+}
+
+fn read(alloc: Global, line: &str) -> TeraResult<Value> {
+    match read_line(alloc, line.as_bytes())? {
+        Reading::Says(step) => set_by(alloc, step.call),
+        _ => Err(Error::message(alloc, line)),
+    }
+}
+
+fn set_by(alloc: Global, call: Call) -> TeraResult<Value> {
+    match call {
+        Call::Set { value, .. } => Ok(value),
+        _ => Err(Error::message(alloc, "it sets nothing")),
+    }
+}
+
+fn tell_owned(rt: &(impl Print + AllocGlobal), value: Value) -> TeraResult<()> {
+    let told = tell_value(rt, &value);
+    drop(value);
+    told
+}
+
+fn tell_value(rt: &(impl Print + AllocGlobal), value: &Value) -> TeraResult<()> {
+    tell_put(rt, "Value::format", &Formatted { it: value })?;
+    tell_put(rt, "Value", &Shown { it: value })?;
+    if let Some(text) = value.as_str() {
+        tell_put(rt, "escape_html", &Escaped { it: text })?;
+    }
+    match value.as_key(rt.alloc()) {
+        Ok(key) => tell_key(rt, key),
+        Err(no_key) => tell_error(rt, no_key),
+    }
+}
+
+fn tell_key(rt: &(impl Print + AllocGlobal), key: Key<'static>) -> TeraResult<()> {
+    let told = tell_put(rt, "Key::format", &FormattedKey { it: &key });
+    let told_shown = tell_put(rt, "Key", &Shown { it: &key });
+    drop(key);
+    told?;
+    told_shown
+}
+
+fn tell_error(rt: &(impl Print + AllocGlobal), error: Error) -> TeraResult<()> {
+    let told = tell_put(rt, "Error", &Shown { it: &error });
+    let told_kind = tell_put(rt, "ErrorKind", &Shown { it: error.kind() });
+    drop(error);
+    told?;
+    told_kind
+}
+
+fn tell_numbers(rt: &(impl Print + AllocGlobal)) -> TeraResult<()> {
+    tell_put(rt, "Span", &Shown { it: &span() })?;
+    tell_put(
+        rt,
+        "Number",
+        &Shown {
+            it: &Number::Integer(-75),
+        },
+    )?;
+    let past = ConversionRefused::OutOfRange {
+        value: Value::from(300u16),
+        target: "u8",
+    };
+    let told = tell_put(rt, "ConversionRefused", &Shown { it: &past });
+    drop(past);
+    told
+}
+
+fn tell_errors(rt: &(impl Print + AllocGlobal)) -> TeraResult<()> {
+    let alloc = rt.alloc();
+    let mut chain = Vec::new(alloc);
+    chain.push(String::from_str(alloc, "a\n")?)?;
+    chain.push(String::from_str(alloc, "é")?)?;
+    tell_error(rt, Error::circular_extend(alloc, "t", chain))?;
+    tell_error(rt, Error::from(io::Error::from(io::ErrorKind::NotFound)))?;
+    let message = String::from_str(alloc, "bad")?;
+    let mut report = ReportError::new(alloc, message, "a.html", "\t{{ y", &span())?;
+    report.add_note(alloc, "é", "b.html", "z", &span())?;
+    let report = Box::new(alloc, report)?;
+    tell_error(rt, Error::new(ErrorKind::RenderingError(report)))
+}

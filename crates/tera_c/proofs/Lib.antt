@@ -1,0 +1,3 @@
+mod SessionSteps
+mod TalkLemmas
+mod TextLemmas

@@ -1,0 +1,5 @@
+pub mod Status
+pub mod Rooms
+pub mod Held
+pub mod Talks
+pub mod Scripts

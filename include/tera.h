@@ -1,0 +1,66 @@
+/* Dithvong for C and C++: the values of the template engine Tera, by scripts of calls (docs/SCRIPT.md).
+ *
+ * What holds everywhere:
+ * - Lengths and rooms are counted in bytes. A room is memory that the caller gives and keeps; nothing is written past its
+ *   length, and nothing behind what is written is changed.
+ * - No pointer is NULL, also where its length is 0. What a call is to write overlaps nothing else that it is given.
+ * - A call keeps no pointer that it was given, once it has returned.
+ * - Each call returns, and none ends the process. A caller that breaks a rule of this page is owed nothing.
+ * docs/BORDER.md has more: memory, threads, and what is proved.
+ */
+#ifndef TERA_H
+#define TERA_H
+
+#include <stddef.h>
+#include <stdint.h>
+
+#ifdef __cplusplus
+extern "C" {
+#endif
+
+/* What a call answers. */
+enum tera_status {
+    TERA_DONE = 0,      /* it did what it is for */
+    TERA_WANTED = 1,    /* so it did, and an answer is `Out of memory`; of a script also: it found no memory itself */
+    TERA_BAD = 2,       /* a line is no call, and its report is given; of `tera_escape`: the text is no UTF-8 */
+    TERA_SMALL = 3,     /* a room is too small: nothing is written, and the lengths that are needed are told */
+    TERA_NO_MEMORY = 4, /* the call found no memory, and nothing has changed */
+    TERA_NO_REPLY = 5   /* the line was run, and no memory was found for its reply, which is now empty */
+};
+
+/* A session: names, what they mean, and the reply to the last line. Whoever opened it owns it, until it is closed. */
+typedef struct tera_session tera_session;
+
+/* Opens a session with no names. `*session` is NULL before. TERA_DONE: the session is there. TERA_NO_MEMORY: `*session` is
+ * still NULL. */
+uint8_t tera_open(tera_session **session);
+
+/* Runs one line, which comes without its line feed and carriage return, and keeps its reply in the session until the next
+ * line; `*reply_len` is its length. The reply ends in a line feed; a line that says nothing has an empty one.
+ * TERA_DONE, TERA_WANTED: the reply answers the line. TERA_BAD: it is the report of the line, which calls it line 1 and ends in
+ * no line feed, and no name has changed. TERA_NO_MEMORY: no name has changed, and the reply is empty. TERA_NO_REPLY: as it
+ * says. */
+uint8_t tera_line(tera_session **session, const uint8_t *line, size_t line_len, size_t *reply_len);
+
+/* Copies the reply to the last line into a room, as often as you like; `*reply_len` is its length.
+ * TERA_DONE, or TERA_SMALL. */
+uint8_t tera_reply(tera_session **session, uint8_t *room, size_t room_len, size_t *reply_len);
+
+/* Closes a session, and sets `*session` to NULL. */
+void tera_close(tera_session **session);
+
+/* Runs a whole script: its answers into one room, and the report of what ended it early into another. `*answers_len` and
+ * `*report_len` are their lengths. TERA_DONE, TERA_WANTED and TERA_BAD are the status that the program ends with.
+ * TERA_SMALL: one of the two is longer than its room, and neither is written; called again, it runs the script from its start. */
+uint8_t tera_replay(const uint8_t *script, size_t script_len, uint8_t *answers, size_t answers_room, size_t *answers_len,
+                    uint8_t *report, size_t report_room, size_t *report_len);
+
+/* Writes a text, which is UTF-8, with `&`, `<`, `>`, `"` and `'` as entities; `*escaped_len` is the length of that.
+ * TERA_DONE; TERA_SMALL; TERA_BAD and TERA_NO_MEMORY, where the length is 0 and nothing is written. */
+uint8_t tera_escape(const uint8_t *text, size_t text_len, uint8_t *room, size_t room_len, size_t *escaped_len);
+
+#ifdef __cplusplus
+}
+#endif
+
+#endif

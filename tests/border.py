@@ -1,0 +1,317 @@
+#!/usr/bin/env python3
+"""The library for C, C++, Python and Rust (docs/BORDER.md), as ./bindings/build makes it.
+
+- tests/rooms.c and the examples compile without a warning as C and as C++, and run under valgrind with no error and no leak
+- a session, a script and an escaped text with each request for memory refused, and with all of them from one on: nothing is
+  held at the end, and the session goes on as the second implementation says
+- lines of tests/fuzz.py, good and bad ones, in one session of the Python module, answered as by the second implementation;
+  sessions on four threads; the module's examples
+- the tests of the Rust crate, where there is a `cargo`
+- the examples of README.md, by the commands that stand there
+
+Prints 'pass ..' or 'FAIL ..' for each, and 'border: end'. The gate proves tera_c and leaves no archive: where the libraries
+that it left are those of the sources, the archive is made over them, so that nothing is proved twice.
+"""
+import ctypes
+import doctest
+import importlib
+import os
+import random
+import re
+import shutil
+import subprocess
+import sys
+import tempfile
+import threading
+
+sys.dont_write_bytecode = True  # no folder beside this file
+TOP = os.path.dirname(os.path.dirname(os.path.abspath(__file__)))
+sys.path[:0] = [os.path.join(TOP, "bindings/python"), os.path.join(TOP, "tests")]
+import fuzz
+import refused
+import second
+import wrong
+
+ARCHIVE = f"{TOP}/crates/tera_c/out/libtera_c.a"
+STRICT = ["-Wall", "-Wextra", "-Werror", "-pedantic", f"-I{TOP}/out"]
+LANGUAGES = {"C": ["cc", "-std=c11", "-x", "c"], "C++": ["c++", "-std=c++17", "-x", "c++"]}
+EVERY = 2**32 - 1
+EXTEND = 'extend {"t": "another text, longer than twenty bytes", "n2": [2, s"x"], "n1": [1, s"x"]}'
+# where Debian's package of a command has another name
+PACKAGES = {"c++": "g++", "cc": "gcc"}
+
+
+def say(holds, what):
+    print("pass" if holds else "FAIL", "border:", what, flush=True)
+
+
+def ran(*words, **how):
+    return subprocess.run(words, capture_output=True, cwd=TOP, stdin=subprocess.DEVNULL, **how)
+
+
+def installed():
+    """Installs by apt-get what the tests need and do not find."""
+    lacking = [PACKAGES.get(it, it) for it in ("cc", "c++", "valgrind") if not shutil.which(it)]
+    if lacking:
+        ran("apt-get", "update", "-q")
+        ran("apt-get", "install", "-q", "-y", *lacking)
+
+
+def is_archived():
+    """Makes the archive over the libraries of tera_c as they stand, where these are newer than their sources and it is not."""
+    if ran("sh", "-c", '. tests/fresh.sh; is_fresh "$1"', "", ARCHIVE, env=dict(os.environ, top=TOP)).returncode == 0:
+        return True
+    rt = wrong.kit()
+    crate = next(it for it in rt.rtlib.crates_below(TOP) if it.name == "tera_c")
+    if not all(map(wrong.is_current, crate.below())):
+        return False
+    os.makedirs(os.path.dirname(ARCHIVE), exist_ok=True)
+    crate.held, crate.out = rt.rtlib.lock([crate]), sys.stderr
+    return crate.build_static(["--jobs", "1"]) == 0
+
+
+# ---- C and C++
+
+
+def compiled(language, source, to):
+    return ran(*LANGUAGES[language], *STRICT, f"{TOP}/{source}", "-x", "none", f"{TOP}/out/libtera.a", "-o", to).returncode == 0
+
+
+def is_clean(*words):
+    """What a program writes to standard output under valgrind, where it ends with status 0, no error and no leak."""
+    done = ran("valgrind", "-q", "--leak-check=full", "--show-leak-kinds=all", "--errors-for-leak-kinds=all", "--error-exitcode=9", *words)
+    return done.stdout if done.returncode == 0 and not done.stderr else None
+
+
+def in_c(folder):
+    for language in LANGUAGES:
+        program = f"{folder}/rooms"
+        say(compiled(language, "tests/rooms.c", program), f"rooms of every size compile as {language} without a warning")
+        say(is_clean(program) == b"", f"rooms of every size, in {language}: none is overrun, and no block is lost")
+        say(compiled(language, "bindings/c/session.c", program), f"the example of a session compiles as {language} without a warning")
+        say(is_clean(program) == b'ok\nvalue "A & B"\n', f"the example of a session, in {language}, with no error and no leak")
+
+
+# ---- memory that is refused
+
+
+def counted(folder):
+    """The library with tests/counted.c below it."""
+    to = f"{folder}/libcounted.so"
+    wrap = [f"-Wl,--wrap={it}" for it in ("malloc", "realloc", "free")]
+    archive = ["-Wl,--whole-archive", f"{TOP}/out/libtera.a", "-Wl,--no-whole-archive"]
+    done = ran("cc", "-shared", "-fPIC", "-O1", *wrap, f"{TOP}/tests/counted.c", *archive, "-o", to)
+    if done.returncode:
+        sys.exit(done.stderr.decode())
+    library = tera.load(to)
+    library.refuse.argtypes = (ctypes.c_size_t, ctypes.c_size_t)
+    library.blocks.restype = library.requests.restype = ctypes.c_size_t
+    return library
+
+
+def call(library, name, *words):
+    """A call that delivers a text into a room that is large enough: its status, and the text."""
+    room, told = ctypes.create_string_buffer(4096), ctypes.c_size_t()
+    status = getattr(library, name)(*words, room, len(room), told)
+    return status, room.raw[: told.value]
+
+
+def answer(names, line):
+    """What the second implementation says of a line over these names, which it changes: the status, and the reply."""
+    if second.is_skipped(line):
+        return tera.DONE, b""
+    try:
+        return tera.DONE, second.step(names, line.decode()).encode() + b"\n"
+    except (second.BadLine, UnicodeDecodeError):
+        return tera.BAD, second.report(1, line).removesuffix(b"\n")
+
+
+def after(states, line, status, reply):
+    """The states in which the session may be after this outcome of a line, where it may have been in these before."""
+    stepped = [(answer(state, line), state) for state in map(dict, states)]
+    if status == tera.NO_MEMORY:
+        return states if reply == b"" else []
+    if status == tera.WANTED:
+        return states if reply == refused.WANT.encode() + b"\n" else []
+    if status == tera.NO_REPLY:
+        return [*states, *(state for _, state in stepped)] if reply == b"" else []
+    return [state for told, state in stepped if told == (status, reply)]
+
+
+class Session:
+    """A session that takes lines while memory is refused, and the states that it may be in by the second implementation."""
+
+    def __init__(self, library):
+        self.library, self.handle, self.states = library, ctypes.c_void_p(), [{}]
+
+    def opens(self):
+        status = self.library.tera_open(self.handle)
+        return status == (tera.DONE if self.handle else tera.NO_MEMORY)
+
+    def takes(self, line):
+        told = ctypes.c_size_t()
+        status = self.library.tera_line(self.handle, line, len(line), told)
+        delivered, reply = call(self.library, "tera_reply", self.handle)
+        states = after(self.states, line, status, reply)
+        self.states = list({repr(it): it for it in states}.values()) if len(states) > 1 else states
+        return self.states and (delivered, told.value) == (tera.DONE, len(reply))
+
+    def closes(self):
+        self.library.tera_close(self.handle)
+        return not self.handle and self.library.blocks() == 0
+
+
+def in_turn(library, run, last):
+    """Runs with the first, second, .. request for memory refused, up to the request that `last` gives for it, until a run
+    meets no refusal. How many met one, or None where a run was not as it should be."""
+    for number in range(1, 100_000):
+        library.refuse(number, last(number))
+        if not run():
+            return None
+        if library.requests() < number:
+            return number - 1
+
+
+def in_a_session(library, last):
+    """Each line of every call again and again, with its first, second, .. request refused."""
+    calls = [EXTEND if it.startswith("extend") else it for it in refused.every_call()]
+    lines = [*(it.encode() for it in refused.with_questions(calls)), b"frob", b"# says nothing", b"\xff", b"get l"]
+    session = Session(library)
+    runs = [session.opens, *(lambda it=it: session.takes(it) for it in lines)]
+    counts = [in_turn(library, run, last) for run in runs]
+    return None if None in counts or not session.closes() else sum(counts)
+
+
+def escapes(library):
+    status, escaped = call(library, "tera_escape", b"<b>", 3)
+    wanted = (tera.DONE, b"&lt;b&gt;") if status == tera.DONE else (tera.NO_MEMORY, b"")
+    return (status, escaped) == wanted and library.blocks() == 0
+
+
+def replays(library):
+    """A script whose answers are there; or an answer wants memory; or a beginning of the answers is there, and the report says
+    that no memory was found, for the script or for the answers."""
+    script, rooms, told = b'set a "no less than twenty bytes"\nget a\n', [], []
+    for _ in range(2):
+        rooms.append(ctypes.create_string_buffer(4096))
+        told.append(ctypes.c_size_t())
+    status = library.tera_replay(script, len(script), rooms[0], 4096, told[0], rooms[1], 4096, told[1])
+    answers, report = (room.raw[: it.value] for room, it in zip(rooms, told))
+    whole, want = second.run(script)[0], refused.WANT.encode() + b"\n"
+    holds = status == tera.DONE and (answers, report) == (whole, b"")
+    if status == tera.WANTED and report == b"":
+        holds = any(it.startswith(answers) for it in (whole, want + b"nothing\n", b"ok\n" + want))
+    elif status == tera.WANTED:
+        holds = whole.startswith(answers) and report in (want, b"error: writing failed\n")
+    return holds and library.blocks() == 0
+
+
+def in_want(folder):
+    library = counted(folder)
+    for what, last in (("each request for memory", lambda it: it), ("all requests for memory from one on", lambda it: EVERY)):
+        count = in_a_session(library, last)
+        say(count, f"a session of every call with {what} of a line refused, {count} in turn: it goes on, and no block is lost")
+        for name, run in (("a script", replays), ("an escaped text", escapes)):
+            count = in_turn(library, lambda run=run: run(library), last)
+            say(count, f"{name} with {what} refused, {count} in turn: no block is lost")
+
+
+# ---- Python
+
+
+def good_and_bad(count):
+    """Lines that tests/fuzz.py makes, of which every tenth may be bad."""
+    maker, lines = fuzz.Maker(random.Random(7), True), []
+    maker.names = {}
+    while len(lines) < count:
+        lines += [maker.doubtful(it) if maker.often(10) else it for it in maker.lines()]
+    return [it for it in lines if b"\n" not in it]
+
+
+def in_one_session(lines):
+    """How many of these lines are bad, or None where a reply or a report in one session is not the second implementation's."""
+    names, bad = {}, 0
+    with tera.Session() as session:
+        for line in lines:
+            try:
+                given = tera.DONE, session.line_bytes(line)
+            except tera.BadLine as fault:
+                given, bad = (tera.BAD, fault.report.encode()), bad + 1
+            if given != answer(names, line):
+                return None
+    return bad
+
+
+def on_threads(lines):
+    """Whether sessions on four threads are answered as one."""
+    told = []
+    threads = [threading.Thread(target=lambda: told.append(in_one_session(lines))) for _ in range(4)]
+    for it in threads:
+        it.start()
+    for it in threads:
+        it.join()
+    return len(told) == 4 and None not in told
+
+
+def in_python():
+    lines = good_and_bad(5000)
+    bad = in_one_session(lines)
+    say(bad, f"{len(lines)} lines in one session, {bad} of them bad, are answered as by the second implementation")
+    say(on_threads(lines[:1000]), "sessions on four threads share nothing")
+    done = doctest.testmod(tera)
+    say(done.attempted and not done.failed, f"{done.attempted} examples of the Python module")
+
+
+# ---- Rust, and the examples of README.md
+
+
+def in_rust(folder):
+    if not shutil.which("cargo"):
+        print("border: the Rust crate is skipped, as there is no `cargo`")
+        return
+    env = dict(os.environ, CARGO_TARGET_DIR=f"{folder}/cargo")
+    done = ran("cargo", "test", "-q", "--offline", "--manifest-path", f"{TOP}/bindings/rust/Cargo.toml", env=env)
+    say(done.returncode == 0, "the tests of the Rust crate")
+
+
+def shown():
+    """The examples of README.md: of each its language, its command, and its lines."""
+    with open(f"{TOP}/README.md", encoding="utf-8") as it:
+        section = it.read().partition("\n## From C, Python, Rust\n")[2].partition("\n## ")[0]
+    return re.findall(r"(?m)^```(c|python|rust)\n(?://|#) (.*)\n((?:.*\n)*?)```", section)
+
+
+def examples(folder):
+    found = shown()
+    say([it for it, _, _ in found] == ["c", "python", "rust"], "README.md has an example in C, in Python and in Rust")
+    for language, command, lines in found:
+        if language == "rust" and not shutil.which("cargo"):
+            continue
+        path = re.search(r"bindings/[\w/.]*\.(?:c|py)|bindings/rust", command)[0]
+        file = path if "." in path else f"{path}/examples/page.rs"
+        with open(f"{TOP}/{file}", encoding="utf-8") as it:
+            text = re.sub(r"(?m)^\s+", "", it.read())
+        done = ran("sh", "-c", command, env=dict(os.environ, CARGO_TARGET_DIR=f"{folder}/cargo", CARGO_NET_OFFLINE="true"))
+        is_there = re.sub(r"(?m)^\s+", "", lines) in text
+        say(is_there and (done.returncode, done.stdout) == (0, b"&lt;b&gt;A &amp; B&lt;/b&gt;\n"), f"README.md's example {file}")
+
+
+def main():
+    global tera
+    installed()
+    is_made = is_archived() and ran("./bindings/build").returncode == 0
+    say(is_made, "./bindings/build makes the library")
+    if not is_made:
+        sys.exit(1)
+    tera = importlib.import_module("tera")
+    with tempfile.TemporaryDirectory() as folder:
+        in_c(folder)
+        in_want(folder)
+        in_python()
+        in_rust(folder)
+        examples(folder)
+    print("border: end")
+
+
+if __name__ == "__main__":
+    main()

@@ -1,0 +1,432 @@
+#!/usr/bin/env python3
+"""Public calls and scripts in hostile surroundings: `python3 tests/hostile.py PROGRAM CALLS REFUSE_LIBRARY [WORD..]`.
+
+PROGRAM is the built crates/tera_replay, CALLS the built crates/memory_calls, REFUSE_LIBRARY what tests/refuse.c makes. A
+line 'pass NAME' or 'FAIL NAME' for each test whose name holds one of the words, and behind a 'FAIL ..' why. What is
+expected comes from tests/calls.py, tests/second.py and the rows below. docs/TESTS.md says which sentence each test shows.
+"""
+import os
+import subprocess
+import sys
+import tempfile
+
+sys.dont_write_bytecode = True  # no folder beside this file
+import ample
+import calls
+import refused
+import second
+from refused import WANT
+from second import quoted
+
+TOP = os.path.dirname(os.path.dirname(os.path.abspath(__file__)))
+MOST = 20000
+PATIENCE = 120  # seconds in which a program has ended
+
+
+# what ends CALLS where an operand finds no memory, or where its standard input does
+UNMADE = {f"{WANT}\n", "error: Io error while writing rendered value to output: OutOfMemory\n"}
+
+
+class Failed(Exception):
+    """What is not as it has to be."""
+
+
+class Hostile:
+    """The built programs, and the library that refuses memory."""
+
+    def __init__(self, program, calls_program, library):
+        self.program, self.calls, self.library = (os.path.abspath(it) for it in (program, calls_program, library))
+        self.room = tempfile.TemporaryDirectory()
+
+    def run(self, program, given, refuse=None, onwards=False):
+        """Standard output, standard error, the status, and whether a request for memory was refused."""
+        told = f"{self.room.name}/refused"
+        if os.path.exists(told):
+            os.remove(told)
+        env = dict(os.environ)
+        if refuse:
+            env |= {"LD_PRELOAD": self.library, "REFUSE": str(refuse), "REFUSED": told} | ({"ONWARDS": "1"} if onwards else {})
+        ran = subprocess.run([program], input=given.encode(), capture_output=True, env=env, timeout=PATIENCE)
+        out, err = (stream.decode(errors="surrogateescape") for stream in (ran.stdout, ran.stderr))
+        return out, err, ran.returncode, os.path.exists(told)
+
+    def refusals(self, program, given, onwards=False):
+        """Each run with a request refused, its number first, until one meets no refusal; that one too."""
+        for number in range(1, MOST):
+            *heard, is_refused = self.run(program, given, number, onwards)
+            yield number, heard, is_refused
+            if not is_refused:
+                return
+        raise Failed(f"a refusal is met at request {MOST}")
+
+
+def differ(heard, wanted):
+    """The first line in which what was heard is another than what was wanted."""
+    for at, (one, other) in enumerate(zip(heard + [None] * len(wanted), wanted + [None] * len(heard))):
+        if one != other:
+            return f"line {at}: {one!r}\n     in the place of {other!r}"
+    return None
+
+
+def same(heard, wanted):
+    fault = differ(heard, wanted)
+    if fault:
+        raise Failed(fault)
+
+
+def lines_of(text):
+    return text.split("\n")[:-1]
+
+
+# ---- calls that take memory
+
+
+def called(rows):
+    return [f"{row.name}: {row.answer}" for row in rows]
+
+
+def calls_of_any_size(given):
+    for count in (0, 1, 2, 1000):
+        out, err, status, _ = given.run(given.calls, f"{count}\n")
+        same([err, str(status), *lines_of(out)], ["", "0", *called(calls.rows(count))])
+
+
+def wants(row):
+    """The lines that tell that a row found no memory, and what is held is as it was."""
+    if row.held is None:
+        return [f"{row.name}: {WANT}"]
+    return [f"{row.name}: {WANT}, held {held}" for held in (row.held() if callable(row.held) else [row.held])]
+
+
+def fault_of_calls(rows, heard, most):
+    """What is wrong with the answers of a run in which memory was refused, and the places of the rows that wanted it."""
+    out, err, status = lines_of(heard[0]), heard[1], heard[2]
+    wanted = called(rows)
+    if status == 1 and err in UNMADE:
+        # an operand found none: up to it all is answered, and no call is blamed
+        wanted = wanted[: len(out)]
+    elif (status, err) != (0, ""):
+        return f"status {status}, {err!r}", []
+    places = [at for at, line in enumerate(out) if at < len(rows) and line != wanted[at] and line in wants(rows[at])]
+    rest = [wanted[at] if at in places else line for at, line in enumerate(out)]
+    if len(places) > most or (status == 1 and most == 1 and places):
+        return f"{len(places)} rows wanted memory, status {status}", []
+    return differ(rest, wanted), places
+
+
+# A map's first pair takes memory for keys and values, its fifth for values, its tenth for keys; a context's sixteenth name
+# takes memory for names.
+SIZES = (0, 1, 4, 9, 15)
+
+
+def calls_refused(given, onwards=False):
+    seen = set()
+    for count in SIZES if not onwards else (2,):
+        rows = list(calls.rows(count))
+        for number, heard, is_refused in given.refusals(given.calls, f"{count}\n", onwards):
+            if not is_refused:
+                same(lines_of(heard[0]), called(rows))
+                continue
+            fault, places = fault_of_calls(rows, heard, len(rows) if onwards else 1)
+            if fault:
+                raise Failed(f"size {count}, request {number} refused: {fault}")
+            seen.update(places)
+            free = [rows[at].name for at in places if not rows[at].takes]
+            if free:
+                raise Failed(f"size {count}, request {number}: {free[0]} takes no memory, and wanted some")
+    missing = [row.name for at, row in enumerate(rows) if row.takes and at not in seen]
+    if missing and not onwards:
+        raise Failed(f"these wanted no memory: {', '.join(missing)}")
+
+
+def calls_refused_onwards(given):
+    calls_refused(given, onwards=True)
+
+
+# ---- lists of steps through `run`
+
+# On every call that heeds no name for what is found there may be one all the same.
+IGNORED = ["@has l", "@eq l l", "@cmp l m", "@try_cmp l m", "@contains m key", "@len m", "@truthy m", "@fields m", "@walk m", "@kind l",
+           "@print t", "@escape t", "@is_safe t", "@set extra [1, \"<\"]", "@remove extra", "@extend {\"extra\": \"a text of more than twenty bytes\"}",
+           "@get l", "@negate t", "@mark_safe t", "@read u8 u", "has ignored"]
+
+
+def plain(line):
+    """A line as the language has it: where `@` stands before it, what its call finds is kept under `ignored`."""
+    if not line.startswith("@"):
+        return line
+    return line[1:] + (" -> ignored" if second.CALLS[line[1:].split()[0]][0].endswith(">") else "")
+
+
+def parts_of_value(value, path=()):
+    """The paths to all parts of a value that texts and places lead to, the value's own first."""
+    yield path
+    pairs = enumerate(value) if second.is_array(value) else [(key[1], held) for key, held in value.items() if key[0] == 2] if isinstance(value, dict) else ()
+    for key, held in pairs:
+        yield from parts_of_value(held, (*path, str(key)))
+
+
+def deep_questions(lines):
+    """Lines that tell the kind and the mark of each part of each name that the lines set or keep."""
+    names = {}
+    for line in lines:
+        second.step(names, line)
+    for name in [*names]:
+        for path in parts_of_value(names[name]):
+            if path:
+                yield from (f'path {name} "{".".join(path)}" -> part', "get part", "kind part", "is_safe part")
+    yield from (f"{word} {name}" for name in names if second.NAME.fullmatch(name) for word in ("get", "kind", "is_safe"))
+
+
+class ListRuns(refused.Runs):
+    """Lists that are run one after another; a request is refused in the runs themselves, or where a list is made."""
+
+    def __init__(self, lists):
+        self.lists = lists
+        self.lines = [plain(line) for one in lists for line in one]
+        self.given = "run\n" + "--\n".join("".join(f"{line}\n" for line in one) for one in lists)
+        self.whole = refused.answers(self.lines)
+        self.starts = [sum(map(len, lists[:at])) for at in range(len(lists))]
+        self.wanting, self.unreserved = set(), set()
+
+    def without(self, number):
+        """What is answered where this list found no memory for its answers."""
+        left = [line for at, one in enumerate(self.lists) if at != number for line in one]
+        given = refused.answers([plain(line) for line in left])
+        return given[: self.starts[number]] + [f"run: {WANT}"] + given[self.starts[number] :]
+
+    def judge(self, out, err, status):
+        """What is wrong with a run with one request refused."""
+        if status == 1 and err in UNMADE:
+            ends = [*self.starts, len(self.lines)]
+            return None if out == self.whole[: len(out)] and len(out) in ends else f"{len(out)} answers before a list that was not made"
+        if (status, err) != (0, ""):
+            return f"status {status}, {err!r}"
+        for number in range(len(self.lists)):
+            if out == self.without(number):
+                self.unreserved.add(number)
+                return None
+        places = [at for at, answer in enumerate(out) if answer == WANT]
+        if len(places) != 1:
+            return f"{len(places)} answers are want of memory"
+        if refused.answers(self.lines, places[0]) != out:
+            return f"`{self.lines[places[0]]}` wanted memory, and the rest is not as if it was left out"
+        self.wanting.add(places[0])
+        return None
+
+
+def runs_refused(given):
+    first = refused.every_call() + IGNORED
+    runs = ListRuns([first, list(deep_questions([plain(line) for line in first]))])
+    for number, heard, is_refused in given.refusals(given.calls, runs.given):
+        out = lines_of(heard[0])
+        fault = runs.judge(out, *heard[1:]) if is_refused else differ(out, runs.whole)
+        if fault:
+            raise Failed(f"request {number} refused: {fault}")
+    missing = [line for line in runs.missing() if line in map(plain, first)]
+    if missing:
+        raise Failed("\n".join(["these lines wanted no memory, or may not have:", *missing]))
+    if runs.unreserved != {0, 1}:
+        raise Failed("no run found no memory for its answers")
+
+
+ROWS_OF_EXTEND = ["set a 1", "set b 2", 'extend {"b": 3, "d": 4}', "get a", "get b", "get d"]
+
+
+def row_of_extend(given):
+    """The two names that are taken over, refused at each request: none of them, or both with success."""
+    runs = ListRuns([ROWS_OF_EXTEND])
+    for number, heard, is_refused in given.refusals(given.calls, runs.given):
+        out = lines_of(heard[0])
+        fault = runs.judge(out, *heard[1:]) if is_refused else differ(out, runs.whole)
+        if fault:
+            raise Failed(f"request {number} refused: {fault}")
+
+
+def runs_of_any_size(given):
+    lines = [*ample.script()]
+    wanted = second.run("".join(f"{line}\n" for line in lines).encode())[0].decode()
+    out, err, status, _ = given.run(given.calls, "run\n" + "".join(f"{line}\n" for line in lines))
+    same([err, str(status), *lines_of(out)], ["", "0", *lines_of(wanted)])
+
+
+# ---- writers that fail
+
+WRITTEN = ["true", "-12345i128", '"text\\u{e9}<&\'\\">"', 's"<b>"', '""', "none", 'x"ff41"', '["\\u{e9}\\n", [x"ff", 7], s"a\\"b"]',
+           '{"\\u{e9}": {"k": [none, 1]}}', "170141183460469231731687303715884105728"]
+FAULTS = ['kind: StorageFull, error: "the shelf is full"', 'kind: BrokenPipe, error: "nobody reads on"', 'kind: Other, error: "odd"']
+# what std answers for `{}` where a write takes nothing, and what these crates answer
+NONE_SHOWN, NONE_TAKEN = 'Error { kind: WriteZero, message: "failed to write whole buffer" }', "Kind(WriteZero)"
+OWN = ("Value::format", "Key::format", "escape_html")
+
+
+def written(name, text):
+    """What is told of a text that goes to writers with room for no byte, for one, .., and to one that takes none."""
+    size = len(text.encode())
+    for step in (2**64 - 1, 1, 3):
+        for room in range(size):
+            yield f"{name} by {step} in {room}: {room} bytes, Custom {{ {FAULTS[room % 3]} }}"
+        yield f"{name} by {step} in {size}: ok {quoted(text)}"
+    yield f"{name} by 0: " + (f"0 bytes, {NONE_TAKEN if name in OWN else NONE_SHOWN}" if text else 'ok ""')
+
+
+def texts_written():
+    """Each way in which a text is written, with its text."""
+    for literal in WRITTEN:
+        value, _ = second.read_literal(literal, 0)
+        text = second.printed(value)
+        yield from (("Value::format", text), ("Value", text))
+        if isinstance(value, second.Text):
+            yield "escape_html", second.escaped(text)
+        if second.key_of(value) is not None:
+            yield from (("Key::format", text), ("Key", text))
+        else:
+            yield from (("Error", "Not a valid key type"), ("ErrorKind", "Not a valid key type"))
+    yield from (("Span", " @ 1:0-1:2"), ("Number", "-75"), ("ConversionRefused", "Value `300` is out of range for `u8`"))
+    chain = "Circular extend detected for template 't'. Inheritance chain: `[\"a\\n\", \"\u00e9\"]`"
+    not_found = "Io error while writing rendered value to output: NotFound"
+    report = calls.report_text("bad", "a.html", "\t{{ y", [("\u00e9", "b.html", "z")])
+    for text in (chain, not_found, report):
+        yield from (("Error", text), ("ErrorKind", text))
+
+
+def writers_that_fail(given):
+    out, err, status, _ = given.run(given.calls, "write\n" + "".join(f"set a {literal}\n" for literal in WRITTEN))
+    same([err, str(status), *lines_of(out)], ["", "0", *(line for each in texts_written() for line in written(*each))])
+
+
+# ---- scripts, by rows: a script, what it answers, and the status
+
+
+def answered(given, lines, wanted, status=0):
+    """The program gives these answers, and tests/second.py too."""
+    script = "".join(f"{line}\n" for line in lines)
+    out, err, ended, _ = given.run(given.program, script)
+    same([str(ended), *lines_of(out)], [str(status), *wanted])
+    model = second.run(script.encode())
+    same([out, err, str(ended)], [model[0].decode(), model[1].decode(), str(model[2])])
+
+
+def nested(levels, inner, turns=("[", "{")):
+    """A literal of so many levels, from the outermost on by turns of these brackets."""
+    literal = inner
+    for level in reversed(range(levels)):
+        literal = f"[{literal}]" if turns[level % len(turns)] == "[" else f'{{"k": {literal}}}'
+    return literal
+
+
+def deep_values(given):
+    """64 levels, by turns of arrays and maps, are set, copied, compared, shown, walked down and let go; so are all others."""
+    for turns in (("[", "{"), ("{", "["), ("[",), ("{",)):
+        one, other = nested(64, "1", turns), nested(64, "2", turns)
+        down = ".".join("0" if turns[level % len(turns)] == "[" else "k" for level in range(64))
+        lines = [f"set a {one}", f"set b {other}", "get a -> c", "eq a c", "cmp a c", "eq a b", "cmp a b", "cmp b a", "print a", "escape a",
+                 "get c", f'path a "{down}"', f'path b "{down}"', f'path a "{down}.0"', "contains a c", "truthy a", "len a", "kind a", "remove a",
+                 "has a", "remove b", "walk c", "fields c", "get c", "set c 1", "get c"]
+        escaped = one.replace('"', "&quot;")
+        is_map = turns[0] == "{"
+        keys = '["k"]' if is_map else "[]"
+        answered(given, lines, ["ok", "ok", "ok", "true", "equal", "false", "less", "greater", f"text {one}", f"text {escaped}", f"value {one}",
+                                "value 1", "value 2", "nothing", "false", "true", "size 1", "kind map/struct" if is_map else "kind array",
+                                f"value {one}", "false", f"value {other}", f"walk {keys}", f"fields {keys}", f"value {one}", "ok", "value 1"])
+
+
+def too_deep(given):
+    """65 levels are a bad line, wherever they stand; 64 are none."""
+    for turns in (("[", "{"), ("{", "["), ("[",), ("{",)):
+        deep, inner = nested(65, "1", turns), nested(64, "1", turns)
+        bad = [f"set a {deep}", f"set a [1, {inner}]", f'set a {{"a": 1, "b": {inner}}}', f'extend {{"a": {inner}}}', f"set a {nested(65, '1', turns)} -> b"]
+        for line in bad:
+            answered(given, ["set b 1", line, "get b"], ["ok"], 2)
+        answered(given, [f"set a {inner}", f'set a [{nested(63, "1", turns)}]', f'extend {{"a": {nested(63, "1", turns)}}}', "kind a"],
+                 ["ok", "ok", "ok", "kind map/struct" if turns[0] == "{" else "kind array"])
+    # a container that is no key is bad at any depth
+    for key in ("[1]", "{}", nested(64, "1"), nested(65, "1")):
+        answered(given, [f"set a {{{key}: 1}}"], [], 2)
+
+
+# the types by their ends, with the kinds that a number of each has
+ENDS = [
+    ("u8", 0, 255, "u64"), ("u16", 0, 65535, "u64"), ("u32", 0, 4294967295, "u64"), ("u64", 0, 18446744073709551615, "u64"),
+    ("usize", 0, 18446744073709551615, "u64"), ("u128", 0, 340282366920938463463374607431768211455, "u128"),
+    ("i8", -128, 127, "i64"), ("i16", -32768, 32767, "i64"), ("i32", -2147483648, 2147483647, "i64"),
+    ("i64", -9223372036854775808, 9223372036854775807, "i64"), ("isize", -9223372036854775808, 9223372036854775807, "i64"),
+    ("i128", -170141183460469231731687303715884105728, 170141183460469231731687303715884105727, "i128")]
+HELD = (-170141183460469231731687303715884105728, 340282366920938463463374607431768211455)
+
+
+def ends_of_types(given):
+    """Each type reads its least and its greatest number, in its kind, and refuses the next where a value holds it."""
+    lines, wanted = [], []
+    for name, low, high, kind in ENDS:
+        for number in (low, high):
+            lines += [f"set a {number}", f"read {name} a -> b", "get b", "kind b", f"read {name} a"]
+            wanted += ["ok", "ok", f"value {number}", f"kind {kind}", f"value {number}"]
+        for number in (low - 1, high + 1, *HELD):
+            if HELD[0] <= number <= HELD[1] and not low <= number <= high:
+                lines += [f"set a {number}", f"read {name} a", f"read {name} a -> b", "get b"]
+                wanted += ["ok", *[f"error: Value `{number}` is out of range for `{name}`"] * 2, f"value {high}"]
+        for literal, held in (('"1"', "string"), ("none", "none"), ("[1]", "array"), ("true", "bool")):
+            lines += [f"set a {literal}", f"read {name} a"]
+            wanted += ["ok", f"error: Invalid type for the value, expected `{name}` but got `{held}`"]
+    answered(given, lines, wanted)
+    told = "error: Value `340282366920938463463374607431768211455` is out of range for `i128`"
+    answered(given, ["set a 340282366920938463463374607431768211455", "read i128 a"], ["ok", told])
+
+
+def lines_that_are_not_bad(given):
+    answered(given, ["set a 00018446744073709551615", "kind a", 'set a {1: "a", 1u64: "b"}', "print a"], ["ok", "kind u64", "ok", 'text {1: "b"}'])
+    for literal in ("1", '"a"', "[]", "none"):
+        answered(given, [f"set a {literal}", "slice a _ _ 0"], ["ok", "error: Slicing step cannot be 0"])
+    no_slice = "error: Slicing can only be used on arrays or strings, not on `undefined`."
+    answered(given, ["slice a _ _ 0", "slice a -170141183460469231731687303715884105728 _ _"], ["error: Slicing step cannot be 0", no_slice])
+    for script, wanted in (("eq a b", "true\n"), ("eq a b\r\n", "true\n"), ("eq a b\r\nhas a", "true\nfalse\n")):
+        out, err, status, _ = given.run(given.program, script)
+        same([out, err, str(status)], [wanted, "", "0"])
+
+
+def cut_anywhere(given):
+    """Cut at any byte, the worked script answers each line that is left, and the last as far as it is one; or reports it."""
+    with open(f"{TOP}/examples/worked.replay", encoding="utf-8") as it:
+        script = it.read()
+    if not script.isascii():
+        raise Failed("a character of the script may be cut")
+    for at in range(len(script) + 1):
+        out, err, status, _ = given.run(given.program, script[:at])
+        wanted = second.run(script[:at].encode())
+        if (out.encode(), err.encode(), status) != wanted or status not in (0, 2):
+            raise Failed(f"cut at byte {at}: status {status} and {out!r} in the place of {wanted[2]} and {wanted[0]!r}")
+
+
+TESTS = {
+    "calls that take memory on operands of 0, 1, 2 and 1,000 parts": calls_of_any_size,
+    "calls that take memory with each request for it refused in turn": calls_refused,
+    "calls that take memory with all memory refused from a request on": calls_refused_onwards,
+    "runs over lists with each request for memory refused in turn": runs_refused,
+    "an extend of two names with each request for memory refused in turn": row_of_extend,
+    "runs over lists on operands of 0, 1 and 1,000 parts": runs_of_any_size,
+    "writers that fail at each byte, take one a write, are interrupted or take none": writers_that_fail,
+    "values of 64 levels": deep_values,
+    "65 levels are a bad line": too_deep,
+    "the ends of the twelve integer types": ends_of_types,
+    "odd lines that are not bad": lines_that_are_not_bad,
+    "the worked script cut at every byte": cut_anywhere,
+}
+
+
+def main():
+    given, words, status = Hostile(*sys.argv[1:4]), sys.argv[4:], 0
+    for name, test in TESTS.items():
+        if words and not any(word in name for word in words):
+            continue
+        try:
+            test(given)
+            print(f"pass {name}", flush=True)
+        except (Failed, subprocess.TimeoutExpired) as fault:
+            status = 1
+            print(f"FAIL {name}\n     {fault}", flush=True)
+    return status
+
+
+if __name__ == "__main__":
+    sys.exit(main())
