@@ -145,7 +145,7 @@ def values(count, text, names):
     yield Row("Value::empty_map", "ok map ", takes=False)
     yield Row("Value::as_key", ok(f"String({quoted(text)})"))
     yield Row("Value::as_key of what is no key", "error: Not a valid key type")
-    yield Row("Key::clone", ok(f"String({quoted(text)})"))
+    yield Row("Key::clone", ok(f"String({quoted(text)})"), takes=False)
     yield Row("Key::as_value", ok(debug(Text(text, False))))
     yield Row("Value::clone of a list", ok(debug(array)))
     yield Row("Value::clone of a map", f"ok map {pairs(entries)}")

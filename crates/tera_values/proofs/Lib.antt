@@ -2,6 +2,7 @@ mod ColumnLemmas
 mod ConvertLemmas
 mod CopyLemmas
 mod DecidedParts
+mod EqualLemmas
 mod FieldLemmas
 mod LookupLemmas
 pub mod PartsLaws

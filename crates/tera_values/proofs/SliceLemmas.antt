@@ -1,9 +1,8 @@
 -- Items that a walk takes one at a time.
 use Rattle.std.specs.Prelude.{◌≡◌, ◌≢◌, ◌<◌, ◌≤◌, ◌+◌, ◌-◌, ◌*◌, ◌^◌, min, ℕ, zero, suc, ℤ, pos, negsuc, int_lt, Bool, true, false, List, [], ◌∷◌, ◌++◌}
-use Rattle.std.specs.Prelude.{reverse, length, slice_get, Option, Some, Result, Ok, Err, IfOk, IfErr}
+use Rattle.std.specs.Prelude.{length, slice_get, Option, Some, Result, Ok, Err, IfOk, IfErr}
 use Rattle.std.proofs.Common.{refl, sym, ap, ◌∙◌, subst, arith, inl, inr, length-append, ltb-true}
 use Rattle.std.proofs.lemmas.Bool.{cases_lt}
-use Rattle.std.proofs.lemmas.List.{length-reverse}
 use Rattle.std.specs.Str.{chars, encode_utf8_all}
 use Rattle.std.specs.Option.{unwrap_or}
 use Rattle.tera_report.specs.Errors.{Refuses}
@@ -15,7 +14,7 @@ use Rattle.tera_meaning.proofs.TreeLaws.{list_of_items}
 use Rattle.tera_meaning.specs.SliceRule.{IsSliceOf, IsCutBy, IsSliced, start_place, end_place}
 use Rattle.tera_meaning.specs.Slice.{IsStrided, directed, pause, place_behind, slice_of, cut, cut_by, sliced}
 use Rattle.tera_values.specs.View.{marked}
-use Rattle.tera_meaning.proofs.SliceLaws.{same_items, slices_same, slice_of_is}
+use Rattle.tera_meaning.proofs.SliceLaws.{slices_same, slice_of_is}
 use Rattle.tera_meaning.proofs.SliceLaws.{sliced_is}
 use Rattle.tera_scalars.proofs.PositionLaws.{stride_slices}
 use Rattle.tera_scalars.specs.Positions.{turned}
@@ -83,16 +82,6 @@ module _ {X : Type 0} where
     taken = h.taken;
   }
 
-  -- each item from the first to the last
-  pub strided_whole : (xs ys : List X) (n : ℕ) → n ≡ length xs → IsStrided xs 0 n 1 ys → ys ≡ xs
-  strided_whole xs ys n whole h =
-      let most : length ys ≤ n = elim (cases_lt n (length ys)) [
-        | inl more ↦ let e = h.before n more in absurd (omega arith)
-        | inr most ↦ most
-      ] in
-      same_items ys xs (omega (arith, h.reached))
-      (λ k b. let e : 0 + k * 1 ≡ k = omega arith in h.taken k b ∙ ap (slice_get xs) e)
-
   pub turned_directed : (step : ℤ) (backwards : Bool) (xs : List X) → backwards ≡ int_lt step (pos 0)
       → turned backwards xs ≡ directed step xs
   turned_directed (pos n) false xs e = refl
@@ -114,11 +103,6 @@ module _ {X : Type 0} where
       (stride_slices xs (held v) start end z from until by nonzero fits within s last pace
       (subst (λ ys. IsStrided ys from until by (held v)) (turned_directed z (int_lt z (pos 0)) xs refl) h))
       (slice_of_is xs start end z nonzero))
-
-  pub reversed_found : {V E : Type 0} (held : V → List X) (r : Result V E) (xs : List X) (n : ℕ) → n ≡ length xs
-      → IfOk r (λ v. IsStrided (reverse xs) 0 n 1 (held v)) → IfOk r (λ v. held v ≡ reverse xs)
-  reversed_found held (Err e) xs n whole h = h
-  reversed_found held (Ok v) xs n whole h = strided_whole (reverse xs) (held v) n (whole ∙ sym (length-reverse xs)) h
 
 module _ (start end : Option ℤ) (z step : ℤ) (same : z ≡ step) where
   -- the slice of an array and of a text, from the slice of what they hold

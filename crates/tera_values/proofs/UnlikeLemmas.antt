@@ -215,7 +215,7 @@ none_tie {V} q (e ∷ es) absent =
       | false ↦ λ tie later. (tie, none_tie q es later)
     ] refl absent
 
-length_keys : {V : Type 0} (es : List (KeyForm × V)) → length (keys_of es) ≡ length es
+pub length_keys : {V : Type 0} (es : List (KeyForm × V)) → length (keys_of es) ≡ length es
 length_keys [] = refl
 length_keys (e ∷ es) = ap suc (length_keys es)
 

@@ -14,6 +14,7 @@ ghost use Rattle.tera_meaning.specs.Tree.{members};
 ghost use Rattle.tera_values.specs.Unlike.{unlike, maps_order};
 ghost use Rattle.tera_scalars.specs.Whole.{whole_value};
 
+use crate::equal::equal;
 use crate::unlike::{Unlike, goes_on, least_difference};
 use crate::value::ValueInner;
 use crate::{Map, Value};
@@ -32,7 +33,7 @@ impl PartialEq for Value {
         ensures value { result ≡ same (meaning self.now) (meaning other.now) }
         ensures meaning { IsTrue result ↔ (meaning self.now ≡ meaning other.now) }
     {
-        order(self, other).is_eq()
+        equal(self, other)
     }
 }
 
@@ -69,9 +70,9 @@ impl Ord for Value {
     }
 }
 
-// The order of two values.
+/// The order of two values.
 #[cycle(order)]
-fn order(left: &Value, right: &Value) -> Ordering
+pub(crate) fn order(left: &Value, right: &Value) -> Ordering
     ensures { result ≡ compare (meaning left.now) (meaning right.now) }
 {
     match &left.inner {

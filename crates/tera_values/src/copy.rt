@@ -1,5 +1,5 @@
 //! Copies of values, deep.
-ghost use Rattle.std.specs.Prelude.{◌≡◌, false, IfOk, IfErr, IsOk};
+ghost use Rattle.std.specs.Prelude.{◌≡◌, false, [], IfOk, IfErr, IsOk};
 ghost use Rattle.tera_meaning.specs.Read.{iterable_in};
 ghost use Rattle.tera_report.specs.Errors.{IsOutOfMemory};
 
@@ -52,7 +52,8 @@ impl Value {
 /// A copy of each item, in their order.
 #[cycle(copy)]
 pub(crate) fn copies(alloc: Global, all: &[Value]) -> Result<Vec<Value>, AllocError>
-    ensures { IfOk result (λ v. v.items ≡ all.now) }
+    ensures ok { IfOk result (λ v. v.items ≡ all.now) }
+    ensures succeeds { all.now ≡ [] → IsOk result }
 {
     let mut made = Vec::with_capacity(alloc, all.len())?;
     for value in all {

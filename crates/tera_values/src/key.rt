@@ -6,6 +6,7 @@ ghost use Rattle.std.specs.Cmp.{on_total, on_equiv, on_per, on_po, partial_equiv
 ghost use Rattle.std.specs.Io.KnownBytes.{Appends};
 ghost use Rattle.std.specs.Option.{option_map};
 ghost use Rattle.std.specs.Ordering.{on, eq_by_cmp, as_partial_cmp};
+ghost use Rattle.std.specs.Rc.{rc_str_bytes};
 ghost use Rattle.std.proofs.Common.{ap, refl};
 ghost use Rattle.tera_meaning.specs.Integer.{u128, i128};
 ghost use Rattle.tera_meaning.proofs.KeyLaws.{key_total, key_equivalence, key_partial, key_is};
@@ -86,10 +87,11 @@ impl<'a> Key<'a> {
         }
     }
 
-    /// A key of the same form: the kind of an integer is kept, a text that it owns is copied, and a
-    /// text that is lent stays lent.
+    /// A key of the same form: the kind of an integer is kept, a text that it owns is shared, and a
+    /// text that is lent stays lent. Mirrors `Clone` of `tera::value::Key`.
     ///
-    /// Takes memory for a text that it owns; the only refusal is want of it, `Out of memory`.
+    /// Takes memory where it owns a text whose count of owners is full; the only refusal is want of
+    /// it, `Out of memory`.
     pub fn clone(&self, alloc: Global) -> TeraResult<Key<'a>>
         ensures ok { IfOk result (λ k. key_form k ≡ key_form self.now) }
         ensures err { IfErr result IsOutOfMemory }
@@ -109,7 +111,7 @@ impl<'a> Key<'a> {
             Key::I64(z) => Ok(Key::I64(*z)),
             Key::U128(n) => Ok(Key::U128(*n)),
             Key::I128(z) => Ok(Key::I128(*z)),
-            Key::String(text) => Ok(Key::String(RcStr::from_str(alloc, text.as_str())?)),
+            Key::String(text) => Ok(Key::String(shared(alloc, text)?)),
             Key::Str(text) => Ok(Key::Str(*text)),
         }
     }
@@ -190,6 +192,16 @@ impl<'a> Key<'a> {
             Key::String(_) => 2,
             Key::Str(_) => 2,
         }
+    }
+}
+
+// A text that a key owns, shared: it never changes. Where the count of its owners is full, a copy.
+fn shared(alloc: Global, text: &RcStr) -> Result<RcStr, AllocError>
+    ensures { IfOk result (λ t. rc_str_bytes t ≡ rc_str_bytes text.now) }
+{
+    match text.clone() {
+        Ok(same) => Ok(same),
+        Err(_) => RcStr::from_str(alloc, text.as_str()),
     }
 }
 

@@ -6,6 +6,7 @@ mod contains;
 mod convert;
 mod copy;
 mod decided;
+mod equal;
 mod fields;
 mod from;
 mod integers;

@@ -1,5 +1,5 @@
 //! How a map is kept: its keys in a set that knows their order, and its values in the same order.
-//! Nothing outside of this file knows it.
+//! Nothing outside of this file and `keys.rt` knows it.
 ghost use Rattle.std.specs.Prelude.{◌≡◌, ◌<◌, [], None, length, IfOk, IfErr, OnOk, OnErr};
 ghost use Rattle.std.specs.Prelude.{slice_get, false};
 ghost use Rattle.std.specs.List.{list_any};

@@ -10,9 +10,10 @@ ghost use Rattle.tera_report.specs.Refusal.{Refusal};
 ghost use Rattle.tera_scalars.specs.Positions.{turned};
 
 use crate::Value;
+use crate::copy::copies;
 use crate::refused::{not_reversible, not_sliceable, step_of_zero};
 use crate::value::ValueInner;
-use std::alloc::Global;
+use std::alloc::{AllocError, Global};
 use tera_report::TeraResult;
 use tera_scalars::{Stride, reversed_text, sliced_text};
 
@@ -107,9 +108,8 @@ fn sliced_items(
     start: Option<i128>,
     end: Option<i128>,
     step: i128,
-) -> TeraResult<Vec<Value>>
+) -> Result<Vec<Value>, AllocError>
     ensures ok { IfOk result (λ ys. step ≢ pos 0 → ys.items ≡ slice_of all.now start end step) }
-    ensures err { IfErr result IsOutOfMemory }
     ensures succeeds { all.now ≡ [] → IsOk result }
 {
     strided_items(
@@ -121,17 +121,13 @@ fn sliced_items(
 }
 
 // Copies of the items in the opposite order.
-fn reversed_items(alloc: Global, all: &[Value]) -> TeraResult<Vec<Value>>
+fn reversed_items(alloc: Global, all: &[Value]) -> Result<Vec<Value>, AllocError>
     ensures ok { IfOk result (λ ys. ys.items ≡ reverse all.now) }
-    ensures err { IfErr result IsOutOfMemory }
     ensures succeeds { all.now ≡ [] → IsOk result }
 {
-    let whole = Stride {
-        from: 0,
-        until: all.len(),
-        by: 1,
-    };
-    strided_items(alloc, all, true, whole)
+    let mut made = copies(alloc, all)?;
+    made.reverse();
+    Ok(made)
 }
 
 // Copies of the items that a walk takes, from the front or from the back.
@@ -140,18 +136,17 @@ fn strided_items(
     all: &[Value],
     backwards: bool,
     stride: Stride,
-) -> TeraResult<Vec<Value>>
+) -> Result<Vec<Value>, AllocError>
     requires moves { 0 < stride.by }
     requires within { stride.until ≤ length all.now }
     ensures ok { IfOk result (λ ys. IsStrided (turned backwards all.now) stride.from stride.until
         stride.by ys.items) }
-    ensures err { IfErr result IsOutOfMemory }
     ensures succeeds { all.now ≡ [] → IsOk result }
 {
     let mut made = Vec::with_capacity(alloc, stride.count())?;
     let mut at = stride.from;
     while at < stride.until {
-        made.push(item_from(all, backwards, at).clone(alloc)?)?;
+        made.push(item_from(all, backwards, at).copy(alloc)?)?;
         at = at.saturating_add(stride.by);
     }
     Ok(made)

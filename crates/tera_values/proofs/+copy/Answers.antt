@@ -22,7 +22,7 @@ map::Map::copy-copies-requires t c =
 pub map::Map::copy-returns : goal.map::Map::copy-returns
 map::Map::copy-returns t c =
     let made = keys_held c.in_ok-copied_keys.field-0 in
-    let values = c.in_ok-copies.ensures ∙ c.as_slice.ensures.value in
+    let values = c.in_ok-copies.ensures.ok ∙ c.as_slice.ensures.value in
     ap (pairs_held made) values
     ∙ same_pairs (keys_held c.self.inside.keys) made c.self.inside.values.items c.in_ok-copied_keys.ensures.forms
     ∙ c.self.view_is

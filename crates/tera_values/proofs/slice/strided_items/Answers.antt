@@ -11,7 +11,7 @@ pub loop-at-preserved : goal.loop-at-preserved
 loop-at-preserved c =
     let fits : c.args.stride.until < 2 ^ 64 = search rules in
     copied _ _ _ _ _ c.args.stride.from c.args.stride.until c.args.stride.by _ _ c.loop-at-test.true fits c.item_from.ensures
-    c.loop-at.invariant c.in_ok-clone.ensures.ok c.in_ok-push.ensures.items c.saturating_add-at.ensures
+    c.loop-at.invariant c.in_ok-copy.ensures.ok c.in_ok-push.ensures.items c.saturating_add-at.ensures
 
 pub loop-at-smaller : goal.loop-at-smaller
 loop-at-smaller c =

@@ -1,0 +1,96 @@
+-- When a walk over one of two maps shows that they mean the same.
+use Rattle.std.proofs.Common.{◌≡◌, ◌≢◌, ◌≤◌, ◌||◌, true, false, not, cond, List, [], ◌∷◌, length, Option, None, Some, IsSome, refl, sym, ap, subst, arith}
+use Rattle.std.proofs.lemmas.Map.Steps.{length-le_from_keys}
+use Rattle.std.specs.Cmp.{eq_by_cmp_equiv}
+use Rattle.std.specs.List.{list_any}
+use Rattle.std.specs.Map.{keys_of}
+use Rattle.std.specs.Option.{is_some, option_eq}
+use Rattle.std.specs.Ordering.{is_eq, eq_by_cmp}
+use Rattle.std.specs.declared.cmp.Ordering.{Ordering}
+use Rattle.std.specs.declared.cmp.Ordering.TheVariants.{Less, Equal, Greater}
+use Rattle.tera_meaning.proofs.EntryLaws.{forms_tie}
+use Rattle.tera_meaning.specs.Form.{Form}
+use Rattle.tera_meaning.specs.KeyMeaning.{KeyForm}
+use Rattle.tera_meaning.specs.Pairs.{key_form_order, value_at, HasDistinctKeys, AgreeEverywhere}
+use Rattle.tera_values.proofs.PartsLaws.{form_total}
+use Rattle.tera_values.proofs.UnlikeLemmas.{from_left, left_walk, both_walks, walks_meet_least, one_walk, all_tie, length_keys}
+use Rattle.tera_values.specs.Unlike.{form_values, is_before, difference_at, met, least_met, maps_order, IsLeastUnlike}
+use Rattle.tera_values.specs.declared.unlike.Unlike.{Unlike}
+
+not_equal : (o : Ordering) → o ≢ Equal → is_eq o ≡ false
+not_equal Less n = refl
+not_equal Equal n = absurd (n refl)
+not_equal Greater n = refl
+
+-- a walk that has met a difference has met one at its end
+met_some : (d : KeyForm × Unlike) (k : KeyForm) (how : Option Unlike) → IsSome (met (Some d) k how)
+met_some d k how =
+    elim (is_before key_form_order k (Some d)) as (λ b. IsSome (cond b (difference_at how k (Some d)) (Some d))) [
+      | true ↦ elim how as (λ h. IsSome (difference_at h k (Some d))) [ None ↦ refl | Some h ↦ refl ]
+      | false ↦ refl
+    ]
+
+some_left : {V : Type 0} (differs : KeyForm × V → Option Unlike) (found : Option (KeyForm × Unlike)) (es : List (KeyForm × V)) → IsSome found
+    → IsSome (least_met differs found es)
+some_left differs None es some = cc
+some_left differs (Some d) [] some = refl
+some_left differs (Some d) (e ∷ es) some = some_left differs (met (Some d) e.0 (differs e)) es (met_some d e.0 (differs e))
+
+some_new : (k : KeyForm) (how : Option Unlike) → not (is_some how) ≡ false → IsSome (met None k how)
+some_new k None is = cc
+some_new k (Some h) is = refl
+
+pub none_new : (k : KeyForm) (how : Option Unlike) → not (is_some how) ≡ true → met None k how ≡ None
+none_new k None is = refl
+none_new k (Some h) is = cc
+
+-- a key has a value where it is a key
+has_value : (q : KeyForm) (es : List (KeyForm × Form)) → list_any (eq_by_cmp key_form_order q) (keys_of es) ≡ true → IsSome (value_at key_form_order es q)
+has_value q [] any = cc
+has_value q (e ∷ es) any =
+    elim (eq_by_cmp key_form_order q e.0) as (λ b. (b || list_any (eq_by_cmp key_form_order q) (keys_of es)) ≡ true
+    → IsSome (cond b (Some e.1) (value_at key_form_order es q))) [
+      | true ↦ λ _. refl
+      | false ↦ λ later. has_value q es later
+    ] any
+
+both_some : (x y : Option Form) → option_eq (eq_by_cmp form_values) x y ≡ true → (IsSome x → IsSome y) × (IsSome y → IsSome x)
+both_some None None e = (λ s. s, λ s. s)
+both_some None (Some w) e = cc
+both_some (Some v) None e = cc
+both_some (Some v) (Some w) e = (λ s. refl, λ s. refl)
+
+as_many : (es fs : List (KeyForm × Form)) → HasDistinctKeys key_form_order es → ((q : KeyForm) → IsSome (value_at key_form_order es q)
+    → IsSome (value_at key_form_order fs q)) → length es ≤ length fs
+as_many es fs distinct there =
+    subst (λ n. n ≤ length fs) (length_keys es)
+    (length-le_from_keys (eq_by_cmp_equiv form_total) (keys_of es) fs distinct (λ q any. there q (has_value q es any)))
+
+module _ (es fs : List (KeyForm × Form)) where
+  agree : maps_order es fs ≡ Equal → AgreeEverywhere key_form_order form_values es fs
+  agree tie = (forms_tie es fs).1 tie
+
+  module _ (a : HasDistinctKeys key_form_order es) (b : HasDistinctKeys key_form_order fs) where
+    -- maps that mean the same have as many pairs
+    pub uneven : length es ≢ length fs → is_eq (maps_order es fs) ≡ false
+    uneven n =
+        not_equal (maps_order es fs) (λ tie.
+        let more = as_many es fs a (λ q. (both_some _ _ (agree tie q)).0) in
+        let fewer = as_many fs es b (λ q. (both_some _ _ (agree tie q)).1) in
+        n (omega (arith, more, fewer)))
+
+    -- where the walk meets a difference, they do not mean the same
+    apart : (found : Option (KeyForm × Unlike)) → IsLeastUnlike es fs found → IsSome found → is_eq (maps_order es fs) ≡ false
+    apart None least some = cc
+    apart (Some d) least some = not_equal (maps_order es fs) (λ tie. let same = agree tie d.0 in let other = least.0.0 in cc)
+
+    pub met_here : (p : KeyForm × Form) (rest : List (KeyForm × Form)) → left_walk es fs ≡ least_met (from_left fs) None (p ∷ rest)
+        → not (is_some (from_left fs p)) ≡ false → is_eq (maps_order es fs) ≡ false
+    met_here p rest walk differs =
+        let here = some_left (from_left fs) (met None p.0 (from_left fs p)) rest (some_new p.0 (from_left fs p) differs) in
+        let first : IsSome (left_walk es fs) = subst IsSome (sym walk) here in
+        apart (both_walks es fs) (walks_meet_least es fs a b) (some_left _ (left_walk es fs) fs first)
+
+    -- where it meets none, and there are as many pairs, they do
+    pub met_nowhere : left_walk es fs ≡ None → length es ≡ length fs → is_eq (maps_order es fs) ≡ true
+    met_nowhere none even = ap is_eq (all_tie es fs (one_walk es fs a b none even))

@@ -1,0 +1,22 @@
+use Rattle.std.proofs.Common.{◌≡◌, ◌+◌, ◌*◌, ◌≤◌, None}
+use Rattle.tera_meaning.specs.Tree.{members, depth, members_depth}
+use Rattle.tera_values.specs.Unlike.{least_met}
+use Rattle.tera_values.proofs.UnlikeLemmas.{from_left, left_walk}
+use Rattle.tera_values.proofs.equal.+equal.Given as goal
+
+abbrev pub decreases-equal : goal.decreases-equal
+decreases-equal l = 3 * depth l.left.now
+
+abbrev pub decreases-pairs_equal : goal.decreases-pairs_equal
+decreases-pairs_equal l = 3 * members_depth (members l.left.now) + 2
+
+abbrev pub decreases-alike : goal.decreases-alike
+decreases-alike l = 3 * depth l.value.now + 1
+
+-- what is left is no deeper, and meets the first difference
+abbrev pub invariant-pairs_equal-loop-key : goal.invariant-pairs_equal-loop-key
+invariant-pairs_equal-loop-key l =
+    record {
+      within : members_depth (members l.key-iterator) ≤ members_depth (members l.left);
+      walk : left_walk l.left l.right ≡ least_met (from_left l.right) None l.key-iterator;
+    }
