@@ -17,31 +17,31 @@ pub fn taken<'k, V, T: ArgFromValue<'k, V, Output = T>>(
 }
 
 /// Values that are taken.
-pub fn tell_taken(rt: &(impl Print + AllocGlobal), made: &Made) -> TeraResult<()> {
+pub fn tell_taken(rt: &(impl Print + AllocGlobal), made: &Made) {
     let alloc = rt.alloc();
     tell(
         rt,
         "String::from_value",
         taken::<Value, String>(alloc, &made.list),
-    )?;
-    tell(rt, "CowStr::from_value", owned(alloc, &made.list))?;
-    tell_value(rt, "Value::from_value", taken(alloc, &made.list))?;
-    tell_value(rt, "Map::from_value", as_value(taken(alloc, &made.map)))?;
+    );
+    tell(rt, "CowStr::from_value", owned(alloc, &made.list));
+    tell_value(rt, "Value::from_value", taken(alloc, &made.list));
+    tell_value(rt, "Map::from_value", as_value(taken(alloc, &made.map)));
     tell(
         rt,
         "Vec::from_value",
         taken::<Value, Vec<String>>(alloc, &made.texts),
-    )?;
+    );
     tell(
         rt,
         "Vec::from_value of no array",
         taken::<Value, Vec<u8>>(alloc, &made.raw),
-    )?;
+    );
     tell(
         rt,
         "Vec::from_value of another item",
         taken::<Value, Vec<bool>>(alloc, &made.texts),
-    )
+    );
 }
 
 // The text, where it is one of its own.
@@ -57,63 +57,57 @@ fn as_value(map: TeraResult<Map>) -> TeraResult<Value> {
 }
 
 // The type of that name refuses the value.
-fn tell_refusal<'k, V, T>(
-    rt: &(impl Print + AllocGlobal),
-    name: &str,
-    value: &'k V,
-) -> TeraResult<()>
+fn tell_refusal<'k, V, T>(rt: &(impl Print + AllocGlobal), name: &str, value: &'k V)
 where
     T: ArgFromValue<'k, V, Output = T> + Drop,
 {
     match taken::<V, T>(rt.alloc(), value) {
-        Ok(taken) => {
-            drop(taken);
-            Ok(println!(rt; "{name}: ok")?)
-        }
+        Ok(taken) => tell_taken_as(rt, name, taken),
         Err(refused) => tell_error(rt, name, refused),
     }
 }
 
+fn tell_taken_as<T: Drop>(rt: &impl Print, name: &str, taken: T) {
+    let _ = println!(rt; "{name}: ok");
+    drop(taken);
+}
+
 /// Values that are of no such type.
-pub fn tell_refused(rt: &(impl Print + AllocGlobal), made: &Made) -> TeraResult<()> {
+pub fn tell_refused(rt: &(impl Print + AllocGlobal), made: &Made) {
     let none = &made.none;
-    tell_refusal::<Value, bool>(rt, "bool::from_value", none)?;
-    tell_refusal::<Value, &str>(rt, "&str::from_value", none)?;
-    tell_refusal::<Value, Number>(rt, "Number::from_value", none)?;
-    tell_refusal::<Value, Number>(rt, "Number::from_value of a number", &made.wide)?;
-    tell_refusal::<Value, Map>(rt, "Map::from_value of none", none)?;
-    tell_refusal::<Value, &Map>(rt, "&Map::from_value", none)?;
-    tell_refusal::<Value, &[Value]>(rt, "&[Value]::from_value", none)?;
-    tell_refusal::<Value, StringInput<'_>>(rt, "StringInput::from_value", none)
+    tell_refusal::<Value, bool>(rt, "bool::from_value", none);
+    tell_refusal::<Value, &str>(rt, "&str::from_value", none);
+    tell_refusal::<Value, Number>(rt, "Number::from_value", none);
+    tell_refusal::<Value, Number>(rt, "Number::from_value of a number", &made.wide);
+    tell_refusal::<Value, Map>(rt, "Map::from_value of none", none);
+    tell_refusal::<Value, &Map>(rt, "&Map::from_value", none);
+    tell_refusal::<Value, &[Value]>(rt, "&[Value]::from_value", none);
+    tell_refusal::<Value, StringInput<'_>>(rt, "StringInput::from_value", none);
 }
 
 // The integer type of that name refuses the number and what is none.
-fn tell_integer<'k, V, T>(
-    rt: &(impl Print + AllocGlobal),
-    name: &str,
-    values: [&'k V; 2],
-) -> TeraResult<()>
+fn tell_integer<'k, V, T>(rt: &(impl Print + AllocGlobal), name: &str, values: [&'k V; 2])
 where
     T: ArgFromValue<'k, V, Output = T> + Drop,
 {
     let [past, none] = values;
-    tell_refusal::<V, T>(rt, name, past)?;
-    tell_refusal::<V, T>(rt, name, none)
+    tell_refusal::<V, T>(rt, name, past);
+    tell_refusal::<V, T>(rt, name, none);
 }
 
 /// Integers.
-pub fn tell_integers(rt: &(impl Print + AllocGlobal), made: &Made) -> TeraResult<()> {
+pub fn tell_integers(rt: &(impl Print + AllocGlobal), made: &Made) {
     let (past, below) = ([&made.wide, &made.none], [&made.below, &made.none]);
-    tell_integer::<Value, u8>(rt, "u8::from_value", past)?;
-    tell_integer::<Value, u16>(rt, "u16::from_value", past)?;
-    tell_integer::<Value, u32>(rt, "u32::from_value", past)?;
-    tell_integer::<Value, u64>(rt, "u64::from_value", past)?;
-    tell_integer::<Value, u128>(rt, "u128::from_value", below)?;
-    tell_integer::<Value, usize>(rt, "usize::from_value", past)?;
-    tell_integer::<Value, i8>(rt, "i8::from_value", past)?;
-    tell_integer::<Value, i16>(rt, "i16::from_value", past)?;
-    tell_integer::<Value, i32>(rt, "i32::from_value", past)?;
-    tell_integer::<Value, i64>(rt, "i64::from_value", past)?;
-    tell_integer::<Value, i128>(rt, "i128::from_value", past)?;
-    tell_integer::<Value, isize>(rt, "isize::from_value", past)
+    tell_integer::<Value, u8>(rt, "u8::from_value", past);
+    tell_integer::<Value, u16>(rt, "u16::from_value", past);
+    tell_integer::<Value, u32>(rt, "u32::from_value", past);
+    tell_integer::<Value, u64>(rt, "u64::from_value", past);
+    tell_integer::<Value, u128>(rt, "u128::from_value", below);
+    tell_integer::<Value, usize>(rt, "usize::from_value", past);
+    tell_integer::<Value, i8>(rt, "i8::from_value", past);
+    tell_integer::<Value, i16>(rt, "i16::from_value", past);
+    tell_integer::<Value, i32>(rt, "i32::from_value", past);
+    tell_integer::<Value, i64>(rt, "i64::from_value", past);
+    tell_integer::<Value, i128>(rt, "i128::from_value", past);
+    tell_integer::<Value, isize>(rt, "isize::from_value", past);
 }

@@ -31,15 +31,16 @@ fn of_others(alloc: Global, count: usize) -> TeraResult<Context> {
 /// Contexts that are made, changed and copied.
 pub fn tell_contexts(rt: &(impl Print + AllocGlobal), made: &Made) -> TeraResult<()> {
     let (alloc, text) = (rt.alloc(), made.text.as_str());
-    tell(rt, "Context::new", Ok(Context::new(alloc)))?;
-    tell(rt, "context!", of_macro(alloc, text))?;
-    tell_copy(rt, of_items(alloc, made.count)?)?;
-    tell_insert(rt, of_items(alloc, made.count)?, text)?;
-    tell_replace(rt, of_items(alloc, 1)?, text)?;
+    tell(rt, "Context::new", Ok(Context::new(alloc)));
+    tell(rt, "context!", of_macro(alloc, text));
+    tell_copy(rt, of_items(alloc, made.count)?);
+    tell_insert(rt, of_items(alloc, made.count)?, text);
+    tell_replace(rt, of_items(alloc, 1)?, text);
     let value = Value::safe_string(alloc, text)?;
-    tell_insert_value(rt, of_items(alloc, made.count)?, value)?;
+    tell_insert_value(rt, of_items(alloc, made.count)?, value);
     let source = of_others(alloc, made.count)?;
-    tell_extend(rt, of_items(alloc, made.count)?, source)
+    tell_extend(rt, of_items(alloc, made.count)?, source);
+    Ok(())
 }
 
 fn of_macro(alloc: Global, text: &str) -> TeraResult<Context> {
@@ -47,19 +48,19 @@ fn of_macro(alloc: Global, text: &str) -> TeraResult<Context> {
     Ok(context! { alloc; given => text, bare })
 }
 
-fn tell_copy(rt: &impl Print, context: Context) -> TeraResult<()> {
+fn tell_copy(rt: &impl Print, context: Context) {
     let copy = context.clone();
     drop(context);
-    tell(rt, "Context::clone", copy)
+    tell(rt, "Context::clone", copy);
 }
 
-fn tell_insert(rt: &impl Print, context: Context, text: &str) -> TeraResult<()> {
+fn tell_insert(rt: &impl Print, context: Context, text: &str) {
     let mut context = context;
     let answer = context.insert("new", text);
-    tell_change(rt, "Context::insert", answer, context)
+    tell_change(rt, "Context::insert", answer, context);
 }
 
-fn tell_replace(rt: &impl Print, context: Context, text: &str) -> TeraResult<()> {
+fn tell_replace(rt: &impl Print, context: Context, text: &str) {
     let mut context = context;
     let answer = context.insert("k1000", text);
     tell_change(
@@ -67,28 +68,29 @@ fn tell_replace(rt: &impl Print, context: Context, text: &str) -> TeraResult<()>
         "Context::insert of a name that is there",
         answer,
         context,
-    )
+    );
 }
 
-fn tell_insert_value(rt: &impl Print, context: Context, value: Value) -> TeraResult<()> {
+fn tell_insert_value(rt: &impl Print, context: Context, value: Value) {
     let mut context = context;
     let answer = context.insert_value("new", value);
-    tell_change(rt, "Context::insert_value", answer, context)
+    tell_change(rt, "Context::insert_value", answer, context);
 }
 
-fn tell_extend(rt: &impl Print, context: Context, source: Context) -> TeraResult<()> {
+fn tell_extend(rt: &impl Print, context: Context, source: Context) {
     let mut context = context;
     let answer = context.extend(source);
-    tell_change(rt, "Context::extend", answer, context)
+    tell_change(rt, "Context::extend", answer, context);
 }
 
 /// Lines and texts of scripts.
 pub fn tell_lines(rt: &(impl Print + AllocGlobal), made: &Made) -> TeraResult<()> {
     let (alloc, text) = (rt.alloc(), made.text.as_str());
     let line = format!(in alloc; "set a [\"{text}\"]")?;
-    tell(rt, "read_line", widened(read_line(alloc, line.as_bytes())))?;
+    tell(rt, "read_line", widened(read_line(alloc, line.as_bytes())));
     let quoted = format!(in alloc; "{text}\" rest")?;
-    tell(rt, "take_text", unquoted(alloc, quoted.as_bytes()))
+    tell(rt, "take_text", unquoted(alloc, quoted.as_bytes()));
+    Ok(())
 }
 
 // The text, and how many bytes it took.

@@ -5,28 +5,28 @@ use std::alloc::Global;
 use tera_report::{Error, ErrorKind, TeraResult, escape_text};
 
 /// Refusals of values and arguments.
-pub fn tell_refusals(rt: &(impl Print + AllocGlobal), made: &Made) -> TeraResult<()> {
+pub fn tell_refusals(rt: &(impl Print + AllocGlobal), made: &Made) {
     let (alloc, text) = (rt.alloc(), made.text.as_str());
-    tell_error(rt, "Error::message", Error::message(alloc, text))?;
+    tell_error(rt, "Error::message", Error::message(alloc, text));
     tell_error(
         rt,
         "Error::message_of",
         Error::message_of(alloc, &[text, text]),
-    )?;
+    );
     let cause = anyhow::Error::msg("a cause");
-    tell(rt, "Error::chain", caused(Error::chain(alloc, text, cause)))?;
+    tell(rt, "Error::chain", caused(Error::chain(alloc, text, cause)));
     tell_error(
         rt,
         "Error::invalid_arg_type",
         Error::invalid_arg_type(alloc, text, text),
-    )?;
+    );
     tell_error(
         rt,
         "Error::out_of_range_arg",
         Error::out_of_range_arg(alloc, text, text),
-    )?;
-    tell_error(rt, "Error::missing_arg", Error::missing_arg(alloc, text))?;
-    tell(rt, "escape_text", escape_text(alloc, text))
+    );
+    tell_error(rt, "Error::missing_arg", Error::missing_arg(alloc, text));
+    tell(rt, "escape_text", escape_text(alloc, text));
 }
 
 // The error itself, where there was no memory for it.
@@ -46,29 +46,30 @@ pub fn is_want(error: &Error) -> bool {
 /// Refusals of templates.
 pub fn tell_templates(rt: &(impl Print + AllocGlobal), made: &Made) -> TeraResult<()> {
     let (alloc, text) = (rt.alloc(), made.text.as_str());
-    tell_error(rt, "Error::circular_extend", chained(alloc, made)?)?;
+    tell_error(rt, "Error::circular_extend", chained(alloc, made)?);
     let chain = names(alloc, made.count)?;
     tell_error(
         rt,
         "Error::circular_include",
         Error::circular_include(alloc, text, chain),
-    )?;
+    );
     tell_error(
         rt,
         "Error::missing_parent",
         Error::missing_parent(alloc, text, text),
-    )?;
+    );
     tell_error(
         rt,
         "Error::template_not_found",
         Error::template_not_found(alloc, text),
-    )?;
+    );
     tell_error(
         rt,
         "Error::component_not_found",
         Error::component_not_found(alloc, text),
-    )?;
-    tell(rt, "Error::syntax_error", caused(syntax(alloc, made)?))
+    );
+    tell(rt, "Error::syntax_error", caused(syntax(alloc, made)?));
+    Ok(())
 }
 
 fn chained(alloc: Global, made: &Made) -> TeraResult<Error> {
@@ -94,7 +95,7 @@ pub fn tell_copies(rt: &(impl Print + AllocGlobal), made: &Made) -> TeraResult<(
 // What could not be made is told as an operand that could not.
 fn tell_copy(rt: &(impl Print + AllocGlobal), name: &str, error: Error) -> TeraResult<()> {
     let error = caused(error)?;
-    let told = tell(rt, name, error.kind().clone(rt.alloc()));
+    tell(rt, name, error.kind().clone(rt.alloc()));
     drop(error);
-    told
+    Ok(())
 }

@@ -13,63 +13,65 @@ use tera_values::{Key, Value};
 /// Single values that take memory.
 pub fn tell_values(rt: &(impl Print + AllocGlobal), made: &Made) -> TeraResult<()> {
     let (alloc, text) = (rt.alloc(), made.text.as_str());
-    tell_value(rt, "char::to_value", 'é'.to_value(alloc))?;
-    tell_value(rt, "&str::to_value", text.to_value(alloc))?;
+    tell_value(rt, "char::to_value", 'é'.to_value(alloc));
+    tell_value(rt, "&str::to_value", text.to_value(alloc));
     tell_value(
         rt,
         "CowStr::to_value",
         CowStr::Borrowed(text).to_value(alloc),
-    )?;
+    );
     let key = Key::String(RcStr::from_str(alloc, text)?);
-    tell_value(rt, "Key::to_value", key.to_value(alloc))?;
-    tell_value(rt, "&char::to_value", (&'é').to_value(alloc))?;
-    tell_value(rt, "&&str::to_value", (&text).to_value(alloc))?;
-    tell_value(rt, "&String::to_value", (&made.text).to_value(alloc))?;
-    tell_value(rt, "&Value::to_value", (&made.list).to_value(alloc))?;
-    tell_value(rt, "&[u8]::to_value", text.as_bytes().to_value(alloc))?;
-    tell_value(rt, "Option::to_value", Some(text).to_value(alloc))
+    tell_value(rt, "Key::to_value", key.to_value(alloc));
+    tell_value(rt, "&char::to_value", (&'é').to_value(alloc));
+    tell_value(rt, "&&str::to_value", (&text).to_value(alloc));
+    tell_value(rt, "&String::to_value", (&made.text).to_value(alloc));
+    tell_value(rt, "&Value::to_value", (&made.list).to_value(alloc));
+    tell_value(rt, "&[u8]::to_value", text.as_bytes().to_value(alloc));
+    tell_value(rt, "Option::to_value", Some(text).to_value(alloc));
+    Ok(())
 }
 
 /// Collections.
 pub fn tell_collections(rt: &(impl Print + AllocGlobal), made: &Made) -> TeraResult<()> {
     let (alloc, count) = (rt.alloc(), made.count);
-    tell_value(rt, "Vec::to_value", names(alloc, count)?.to_value(alloc))?;
-    tell_value(rt, "BTreeSet::to_value", set(alloc, count)?.to_value(alloc))?;
-    tell_slice(rt, items(alloc, count)?)?;
+    tell_value(rt, "Vec::to_value", names(alloc, count)?.to_value(alloc));
+    tell_value(rt, "BTreeSet::to_value", set(alloc, count)?.to_value(alloc));
+    tell_slice(rt, items(alloc, count)?);
     tell_value(
         rt,
         "HashMap::to_value",
         table(alloc, count)?.to_value(alloc),
-    )?;
+    );
     tell_value(
         rt,
         "BTreeMap::to_value",
         tree(alloc, count)?.to_value(alloc),
-    )?;
+    );
     tell_value(
         rt,
         "IndexMap::to_value",
         index(alloc, count)?.to_value(alloc),
-    )?;
+    );
     tell_value(
         rt,
         "FunctionResult::into_result",
         names(alloc, count)?.into_result(alloc),
-    )?;
+    );
     let answer: TeraResult<Vec<String>> = Ok(names(alloc, count)?);
-    tell_value(rt, "Result::into_result", answer.into_result(alloc))?;
+    tell_value(rt, "Result::into_result", answer.into_result(alloc));
     let failed: TeraResult<u8> = Err(Error::message(alloc, made.text.as_str()));
     tell_value(
         rt,
         "Result::into_result of an error",
         failed.into_result(alloc),
-    )
+    );
+    Ok(())
 }
 
-fn tell_slice(rt: &(impl Print + AllocGlobal), items: Vec<Value>) -> TeraResult<()> {
+fn tell_slice(rt: &(impl Print + AllocGlobal), items: Vec<Value>) {
     let value = items.as_slice().to_value(rt.alloc());
     drop(items);
-    tell_value(rt, "&[Value]::to_value", value)
+    tell_value(rt, "&[Value]::to_value", value);
 }
 
 fn set(alloc: Global, count: usize) -> TeraResult<BTreeSet<usize>> {
@@ -109,8 +111,9 @@ fn index(alloc: Global, count: usize) -> TeraResult<IndexMap<String, usize>> {
 pub fn tell_keys(rt: &(impl Print + AllocGlobal), made: &Made) -> TeraResult<()> {
     let (alloc, text) = (rt.alloc(), made.text.as_str());
     let owned = String::from_str(alloc, text)?;
-    tell(rt, "String::to_key", owned.to_key(alloc))?;
-    tell(rt, "CowStr::to_key", CowStr::Borrowed(text).to_key(alloc))?;
+    tell(rt, "String::to_key", owned.to_key(alloc));
+    tell(rt, "CowStr::to_key", CowStr::Borrowed(text).to_key(alloc));
     let owned = CowStr::Owned(String::from_str(alloc, text)?);
-    tell(rt, "CowStr::to_key of its own", owned.to_key(alloc))
+    tell(rt, "CowStr::to_key of its own", owned.to_key(alloc));
+    Ok(())
 }

@@ -30,28 +30,34 @@ pub struct Made {
 }
 
 impl Made {
-    pub fn of(alloc: Global, count: usize) -> TeraResult<Made> {
-        let text = text(alloc, count)?;
-        let plain = Value::normal_string(alloc, text.as_str())?;
-        let list = Value::of_array(items(alloc, count)?);
-        let texts = texts(alloc, count)?;
-        let map = Value::of_map(map(alloc, count)?);
-        let raw = Value::bytes(raw(alloc, text.as_str())?);
-        let key = Value::normal_string(alloc, "k1000")?;
-        Ok(Made {
+    /// Those that take no memory, and none of the others.
+    pub fn bare(alloc: Global, count: usize) -> Made {
+        Made {
             count,
-            text,
-            plain,
-            list,
-            texts,
-            map,
-            raw,
-            key,
+            text: String::new(alloc),
+            plain: Value::none(),
+            list: Value::none(),
+            texts: Value::none(),
+            map: Value::none(),
+            raw: Value::none(),
+            key: Value::none(),
             zero: Value::from(0u8),
             none: Value::none(),
             below: Value::from(-1i8),
             wide: Value::from(u128::MAX),
-        })
+        }
+    }
+
+    /// Makes the others.
+    pub fn fill(&mut self, alloc: Global) -> TeraResult<()> {
+        self.text = text(alloc, self.count)?;
+        self.plain = Value::normal_string(alloc, self.text.as_str())?;
+        self.list = Value::of_array(items(alloc, self.count)?);
+        self.texts = texts(alloc, self.count)?;
+        self.map = Value::of_map(map(alloc, self.count)?);
+        self.raw = Value::bytes(raw(alloc, self.text.as_str())?);
+        self.key = Value::normal_string(alloc, "k1000")?;
+        Ok(())
     }
 }
 

@@ -55,31 +55,32 @@ fn started(rt: &HostRuntime) -> TeraResult<()> {
 }
 
 fn tell_calls(rt: &HostRuntime, count: usize) -> TeraResult<()> {
-    let made = Made::of(rt.alloc(), count)?;
-    let told = tell_each(rt, &made);
+    let mut made = Made::bare(rt.alloc(), count);
+    let told = tell_each(rt, &mut made);
     drop(made);
     told
 }
 
-fn tell_each(rt: &HostRuntime, made: &Made) -> TeraResult<()> {
-    errors::tell_refusals(rt, made)?;
+fn tell_each(rt: &HostRuntime, made: &mut Made) -> TeraResult<()> {
+    made.fill(rt.alloc())?;
+    errors::tell_refusals(rt, made);
     errors::tell_templates(rt, made)?;
     errors::tell_copies(rt, made)?;
     reports::tell_reports(rt, made)?;
     reports::tell_changes(rt, made)?;
-    paper::tell_papers(rt, made)?;
+    paper::tell_papers(rt, made);
     values::tell_makers(rt, made)?;
-    values::tell_copies(rt, made)?;
-    values::tell_look_ups(rt, made)?;
+    values::tell_copies(rt, made);
+    values::tell_look_ups(rt, made);
     values::tell_maps(rt, made)?;
-    numbers::tell_refusals(rt, made)?;
-    numbers::tell_scalars(rt, made)?;
+    numbers::tell_refusals(rt, made);
+    numbers::tell_scalars(rt, made);
     given::tell_values(rt, made)?;
     given::tell_collections(rt, made)?;
     given::tell_keys(rt, made)?;
-    arguments::tell_taken(rt, made)?;
-    arguments::tell_refused(rt, made)?;
-    arguments::tell_integers(rt, made)?;
+    arguments::tell_taken(rt, made);
+    arguments::tell_refused(rt, made);
+    arguments::tell_integers(rt, made);
     named::tell_named(rt, made)?;
     named::tell_inputs(rt, made)?;
     contexts::tell_contexts(rt, made)?;

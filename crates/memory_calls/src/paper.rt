@@ -6,12 +6,12 @@ use tera_report::TeraResult;
 use tera_report::sink::{Growing, Room, Sink};
 
 /// What text goes to.
-pub fn tell_papers(rt: &(impl Print + AllocGlobal), made: &Made) -> TeraResult<()> {
+pub fn tell_papers(rt: &(impl Print + AllocGlobal), made: &Made) {
     let (alloc, text) = (rt.alloc(), made.text.as_str());
-    tell(rt, "Growing::new", Ok(Growing::new(alloc).into_text()))?;
-    tell(rt, "Growing::with_capacity", with_room(alloc, text))?;
-    tell(rt, "Growing::put", grown(alloc, text))?;
-    tell(rt, "Room::new", in_a_room(alloc, text))
+    tell(rt, "Growing::new", Ok(Growing::new(alloc).into_text()));
+    tell(rt, "Growing::with_capacity", with_room(alloc, text));
+    tell(rt, "Growing::put", grown(alloc, text));
+    tell(rt, "Room::new", in_a_room(alloc, text));
 }
 
 fn with_room(alloc: Global, text: &str) -> TeraResult<String> {

@@ -24,24 +24,25 @@ pub fn tell_reports(rt: &(impl Print + AllocGlobal), made: &Made) -> TeraResult<
     let (alloc, text) = (rt.alloc(), made.text.as_str());
     let message = String::from_str(alloc, text)?;
     let report = ReportError::new(alloc, message, text, text, &span());
-    tell(rt, "ReportError::new", report)?;
+    tell(rt, "ReportError::new", report);
     let message = String::from_str(alloc, text)?;
     let bare = ReportError::new_without_source(alloc, message, &span());
-    tell(rt, "ReportError::new_without_source", Ok(bare))?;
+    tell(rt, "ReportError::new_without_source", Ok(bare));
     let ended = ReportError::unexpected_end_of_input(alloc, &span());
-    tell(rt, "ReportError::unexpected_end_of_input", ended)?;
-    tell_sample(rt, sample(alloc, made)?)?;
+    tell(rt, "ReportError::unexpected_end_of_input", ended);
+    tell_sample(rt, sample(alloc, made)?);
     tell_nodes(rt, made)
 }
 
-fn tell_sample(rt: &(impl Print + AllocGlobal), report: ReportError) -> TeraResult<()> {
-    let copy = report.clone(rt.alloc());
-    let text = report.generate_report(rt.alloc());
+fn tell_sample(rt: &(impl Print + AllocGlobal), report: ReportError) {
+    let alloc = rt.alloc();
+    tell(rt, "ReportError::clone", report.clone(alloc));
+    tell(
+        rt,
+        "ReportError::generate_report",
+        report.generate_report(alloc),
+    );
     drop(report);
-    let told = tell(rt, "ReportError::clone", copy);
-    let told_text = tell(rt, "ReportError::generate_report", text);
-    told?;
-    told_text
 }
 
 /// Reports that are changed.
@@ -49,10 +50,11 @@ pub fn tell_changes(rt: &(impl Print + AllocGlobal), made: &Made) -> TeraResult<
     let (alloc, text) = (rt.alloc(), made.text.as_str());
     let mut report = sample(alloc, made)?;
     let answer = report.set_source(alloc, "given.html", text);
-    tell_change(rt, "ReportError::set_source", answer, report)?;
+    tell_change(rt, "ReportError::set_source", answer, report);
     let mut noted = sample(alloc, made)?;
     let answer = noted.add_note(alloc, text, "given.html", text, &span());
-    tell_change(rt, "ReportError::add_note", answer, noted)
+    tell_change(rt, "ReportError::add_note", answer, noted);
+    Ok(())
 }
 
 // Nodes with their places.
@@ -62,11 +64,12 @@ fn tell_nodes(rt: &(impl Print + AllocGlobal), made: &Made) -> TeraResult<()> {
         rt,
         "Spanned::new",
         Spanned::new(alloc, numbers(alloc, made)?, span()),
-    )?;
+    );
     let node = Spanned::new(alloc, numbers(alloc, made)?, span())?;
     let copy = node.clone(alloc);
     drop(node);
-    tell(rt, "Spanned::clone", copy)
+    tell(rt, "Spanned::clone", copy);
+    Ok(())
 }
 
 // The numbers up to that of the parts.

@@ -2,6 +2,7 @@
 use crate::answers::tell_error;
 use std::alloc::Global;
 use std::cmp::Ordering;
+use std::io;
 use tera_context::{Answer, Context, Step, run};
 use tera_report::{Error, TeraResult};
 use tera_script::{Reading, read_line};
@@ -23,7 +24,7 @@ fn tell_lists(
 ) -> TeraResult<()> {
     for list in script.split("--\n") {
         let steps = steps_of(rt.alloc(), list)?;
-        tell_answers(rt, run(context, steps))?;
+        tell_answers(rt, run(context, steps));
     }
     Ok(())
 }
@@ -53,45 +54,46 @@ fn read(alloc: Global, line: &str) -> TeraResult<Step> {
     }
 }
 
-fn tell_answers(rt: &impl Print, answers: TeraResult<Vec<TeraResult<Answer>>>) -> TeraResult<()> {
+fn tell_answers(rt: &impl Print, answers: TeraResult<Vec<TeraResult<Answer>>>) {
     match answers {
         Ok(answers) => tell_list(rt, answers),
         Err(refused) => tell_error(rt, "run", refused),
     }
 }
 
-fn tell_list(rt: &impl Print, answers: Vec<TeraResult<Answer>>) -> TeraResult<()> {
-    let told = tell_each(rt, answers.as_slice());
+fn tell_list(rt: &impl Print, answers: Vec<TeraResult<Answer>>) {
+    tell_each(rt, answers.as_slice());
     drop(answers);
-    told
 }
 
-fn tell_each(rt: &impl Print, answers: &[TeraResult<Answer>]) -> TeraResult<()> {
+fn tell_each(rt: &impl Print, answers: &[TeraResult<Answer>]) {
     for answer in answers {
         match answer {
-            Ok(answer) => tell_answer(rt, answer)?,
-            Err(refused) => println!(rt; "error: {refused}")?,
+            Ok(answer) => tell_answer(rt, answer),
+            Err(refused) => tell_refusal(rt, refused),
         }
     }
-    Ok(())
+}
+
+fn tell_refusal(rt: &impl Print, refused: &Error) {
+    let _ = println!(rt; "error: {refused}");
 }
 
 // The answer as a reply to a script has it.
-fn tell_answer(rt: &impl Print, answer: &Answer) -> TeraResult<()> {
-    match answer {
-        Answer::Done => println!(rt; "ok")?,
-        Answer::Truth(truth) => println!(rt; "{truth}")?,
-        Answer::Order(order) => println!(rt; "{}", order_name(*order))?,
-        Answer::Found(None) => println!(rt; "nothing")?,
-        Answer::Found(Some(value)) => tell_found(rt, value)?,
-        Answer::Size(None) => println!(rt; "nothing")?,
-        Answer::Size(Some(size)) => println!(rt; "size {size}")?,
-        Answer::Kind(kind) => println!(rt; "kind {}", kind.name())?,
-        Answer::Text(text) => println!(rt; "text {text}")?,
-        Answer::Texts(names) => println!(rt; "fields {names:?}")?,
-        Answer::Walked(names) => println!(rt; "walk {names:?}")?,
-    }
-    Ok(())
+fn tell_answer(rt: &impl Print, answer: &Answer) {
+    let _ = match answer {
+        Answer::Done => println!(rt; "ok"),
+        Answer::Truth(truth) => println!(rt; "{truth}"),
+        Answer::Order(order) => println!(rt; "{}", order_name(*order)),
+        Answer::Found(None) => println!(rt; "nothing"),
+        Answer::Found(Some(value)) => told_found(rt, value),
+        Answer::Size(None) => println!(rt; "nothing"),
+        Answer::Size(Some(size)) => println!(rt; "size {size}"),
+        Answer::Kind(kind) => println!(rt; "kind {}", kind.name()),
+        Answer::Text(text) => println!(rt; "text {text}"),
+        Answer::Texts(names) => println!(rt; "fields {names:?}"),
+        Answer::Walked(names) => println!(rt; "walk {names:?}"),
+    };
 }
 
 fn order_name(order: Option<Ordering>) -> &'static str {
@@ -103,12 +105,11 @@ fn order_name(order: Option<Ordering>) -> &'static str {
     }
 }
 
-fn tell_found(rt: &impl Print, value: &Value) -> TeraResult<()> {
+fn told_found(rt: &impl Print, value: &Value) -> io::Result<()> {
     match value.as_str() {
-        Some(text) => println!(rt; "value {text:?}")?,
-        None if value.is_undefined() => println!(rt; "value undefined")?,
-        None if value.is_none() => println!(rt; "value none")?,
-        None => println!(rt; "value {value}")?,
+        Some(text) => println!(rt; "value {text:?}"),
+        None if value.is_undefined() => println!(rt; "value undefined"),
+        None if value.is_none() => println!(rt; "value none"),
+        None => println!(rt; "value {value}"),
     }
-    Ok(())
 }

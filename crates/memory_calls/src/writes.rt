@@ -60,13 +60,12 @@ impl Put for Escaped<'_> {
 }
 
 // Writers that take all at once, one byte at a time, three with interruptions, and none.
-fn tell_put<P: Put>(rt: &(impl Print + AllocGlobal), name: &str, it: &P) -> TeraResult<()> {
-    tell_rooms(rt, name, it, usize::MAX, false)?;
-    tell_rooms(rt, name, it, 1, false)?;
-    tell_rooms(rt, name, it, 3, true)?;
-    print!(rt; "{name} by 0: ")?;
-    tell_once(rt, it, Shelf::new(rt.alloc(), 5, 0, false))?;
-    Ok(())
+fn tell_put<P: Put>(rt: &(impl Print + AllocGlobal), name: &str, it: &P) {
+    tell_rooms(rt, name, it, usize::MAX, false);
+    tell_rooms(rt, name, it, 1, false);
+    tell_rooms(rt, name, it, 3, true);
+    let _ = print!(rt; "{name} by 0: ");
+    tell_once(rt, it, Shelf::new(rt.alloc(), 5, 0, false));
 }
 
 // Writers with room for no byte, for one, .., until what is written has room.
@@ -76,38 +75,44 @@ fn tell_rooms<P: Put>(
     it: &P,
     step: usize,
     interrupts: bool,
-) -> TeraResult<()> {
+) {
     for room in 0..usize::MAX {
-        print!(rt; "{name} by {step} in {room}: ")?;
-        if tell_once(rt, it, Shelf::new(rt.alloc(), room, step, interrupts))? {
-            return Ok(());
+        let _ = print!(rt; "{name} by {step} in {room}: ");
+        if tell_once(rt, it, Shelf::new(rt.alloc(), room, step, interrupts)) {
+            return;
         }
     }
-    Ok(())
 }
 
 // Whether it was written.
-fn tell_once<P: Put>(rt: &impl Print, it: &P, out: Shelf) -> TeraResult<bool> {
+fn tell_once<P: Put>(rt: &impl Print, it: &P, out: Shelf) -> bool {
     let mut out = out;
     match it.put(&mut out) {
-        Ok(()) => {
-            let text = str::from_utf8(out.taken.as_slice()).unwrap_or("no text");
-            println!(rt; "ok {text:?}")?;
-            Ok(true)
-        }
-        Err(fault) => {
-            println!(rt; "{} bytes, {fault:?}", out.taken.len())?;
-            Ok(false)
-        }
+        Ok(()) => tell_taken(rt, out),
+        Err(fault) => tell_fault(rt, out, fault),
     }
+}
+
+fn tell_taken(rt: &impl Print, out: Shelf) -> bool {
+    let text = str::from_utf8(out.taken.as_slice()).unwrap_or("no text");
+    let _ = println!(rt; "ok {text:?}");
+    drop(out);
+    true
+}
+
+fn tell_fault(rt: &impl Print, out: Shelf, fault: io::Error) -> bool {
+    let _ = println!(rt; "{} bytes, {fault:?}", out.taken.len());
+    drop(out);
+    drop(fault);
+    false
 }
 
 /// Writes each value that a line of the script sets, and some errors.
 pub fn tell_writes(rt: &(impl Print + AllocGlobal), script: &str) -> TeraResult<()> {
     for line in script.lines() {
-        tell_owned(rt, read(rt.alloc(), line)?)?;
+        tell_owned(rt, read(rt.alloc(), line)?);
     }
-    tell_numbers(rt)?;
+    tell_numbers(rt);
     tell_errors(rt)
 }
 
@@ -125,17 +130,16 @@ fn set_by(alloc: Global, call: Call) -> TeraResult<Value> {
     }
 }
 
-fn tell_owned(rt: &(impl Print + AllocGlobal), value: Value) -> TeraResult<()> {
-    let told = tell_value(rt, &value);
+fn tell_owned(rt: &(impl Print + AllocGlobal), value: Value) {
+    tell_value(rt, &value);
     drop(value);
-    told
 }
 
-fn tell_value(rt: &(impl Print + AllocGlobal), value: &Value) -> TeraResult<()> {
-    tell_put(rt, "Value::format", &Formatted { it: value })?;
-    tell_put(rt, "Value", &Shown { it: value })?;
+fn tell_value(rt: &(impl Print + AllocGlobal), value: &Value) {
+    tell_put(rt, "Value::format", &Formatted { it: value });
+    tell_put(rt, "Value", &Shown { it: value });
     if let Some(text) = value.as_str() {
-        tell_put(rt, "escape_html", &Escaped { it: text })?;
+        tell_put(rt, "escape_html", &Escaped { it: text });
     }
     match value.as_key(rt.alloc()) {
         Ok(key) => tell_key(rt, key),
@@ -143,50 +147,53 @@ fn tell_value(rt: &(impl Print + AllocGlobal), value: &Value) -> TeraResult<()> 
     }
 }
 
-fn tell_key(rt: &(impl Print + AllocGlobal), key: Key<'static>) -> TeraResult<()> {
-    let told = tell_put(rt, "Key::format", &FormattedKey { it: &key });
-    let told_shown = tell_put(rt, "Key", &Shown { it: &key });
+fn tell_key(rt: &(impl Print + AllocGlobal), key: Key<'static>) {
+    tell_put(rt, "Key::format", &FormattedKey { it: &key });
+    tell_put(rt, "Key", &Shown { it: &key });
     drop(key);
-    told?;
-    told_shown
 }
 
-fn tell_error(rt: &(impl Print + AllocGlobal), error: Error) -> TeraResult<()> {
-    let told = tell_put(rt, "Error", &Shown { it: &error });
-    let told_kind = tell_put(rt, "ErrorKind", &Shown { it: error.kind() });
+fn tell_error(rt: &(impl Print + AllocGlobal), error: Error) {
+    tell_put(rt, "Error", &Shown { it: &error });
+    tell_put(rt, "ErrorKind", &Shown { it: error.kind() });
     drop(error);
-    told?;
-    told_kind
 }
 
-fn tell_numbers(rt: &(impl Print + AllocGlobal)) -> TeraResult<()> {
-    tell_put(rt, "Span", &Shown { it: &span() })?;
-    tell_put(
-        rt,
-        "Number",
-        &Shown {
-            it: &Number::Integer(-75),
-        },
-    )?;
+fn tell_numbers(rt: &(impl Print + AllocGlobal)) {
+    tell_put(rt, "Span", &Shown { it: &span() });
+    let number = Number::Integer(-75);
+    tell_put(rt, "Number", &Shown { it: &number });
     let past = ConversionRefused::OutOfRange {
         value: Value::from(300u16),
         target: "u8",
     };
-    let told = tell_put(rt, "ConversionRefused", &Shown { it: &past });
+    tell_put(rt, "ConversionRefused", &Shown { it: &past });
     drop(past);
-    told
 }
 
 fn tell_errors(rt: &(impl Print + AllocGlobal)) -> TeraResult<()> {
     let alloc = rt.alloc();
+    tell_error(rt, Error::circular_extend(alloc, "t", chain(alloc)?));
+    tell_error(rt, Error::from(io::Error::from(io::ErrorKind::NotFound)));
+    tell_error(rt, reported(alloc)?);
+    Ok(())
+}
+
+fn chain(alloc: Global) -> TeraResult<Vec<String>> {
     let mut chain = Vec::new(alloc);
     chain.push(String::from_str(alloc, "a\n")?)?;
     chain.push(String::from_str(alloc, "é")?)?;
-    tell_error(rt, Error::circular_extend(alloc, "t", chain))?;
-    tell_error(rt, Error::from(io::Error::from(io::ErrorKind::NotFound)))?;
+    Ok(chain)
+}
+
+fn reported(alloc: Global) -> TeraResult<Error> {
     let message = String::from_str(alloc, "bad")?;
-    let mut report = ReportError::new(alloc, message, "a.html", "\t{{ y", &span())?;
+    let report = ReportError::new(alloc, message, "a.html", "\t{{ y", &span())?;
+    Ok(Error::new(ErrorKind::RenderingError(Box::new(alloc, noted(alloc, report)?)?)))
+}
+
+fn noted(alloc: Global, report: ReportError) -> TeraResult<ReportError> {
+    let mut report = report;
     report.add_note(alloc, "é", "b.html", "z", &span())?;
-    let report = Box::new(alloc, report)?;
-    tell_error(rt, Error::new(ErrorKind::RenderingError(report)))
+    Ok(report)
 }
