@@ -4,19 +4,33 @@ ghost use Rattle.std.specs.Option.{option_copied, is_some};
 ghost use Rattle.std.specs.Ordering.{is_eq};
 ghost use Rattle.tera_meaning.specs.Meaning.{meaning};
 ghost use Rattle.tera_meaning.specs.Order.{same};
+ghost use Rattle.tera_meaning.specs.Tree.{object, members};
 ghost use Rattle.tera_values.specs.Unlike.{maps_order, unlike};
 
 use crate::compare::order;
+use crate::value::ValueInner;
 use crate::{Map, Value};
 
 /// Whether two values mean the same.
+#[inline(always)]
 #[cycle(equal)]
 pub(crate) fn equal(left: &Value, right: &Value) -> bool
     ensures { result ≡ same (meaning left.now) (meaning right.now) }
 {
-    match (left.as_map(), right.as_map()) {
-        (Some(all), Some(others)) => pairs_equal(all, others),
+    match &left.inner {
+        ValueInner::Map(all) => map_equal(all, right),
         _ => order(left, right).is_eq(),
+    }
+}
+
+// Whether a map and a value mean the same.
+#[cycle(equal)]
+fn map_equal(left: &Map, right: &Value) -> bool
+    ensures { result ≡ same (meaning (object (members left.now))) (meaning right.now) }
+{
+    match right.as_map() {
+        Some(all) => pairs_equal(left, all),
+        None => false,
     }
 }
 

@@ -4,7 +4,7 @@ use Rattle.tera_meaning.specs.Form.{Form}
 use Rattle.tera_meaning.specs.KeyMeaning.{KeyForm}
 use Rattle.tera_meaning.specs.Meaning.{meaning}
 use Rattle.tera_meaning.specs.Order.{same}
-use Rattle.tera_meaning.specs.Tree.{object, members, depth, members_depth}
+use Rattle.tera_meaning.specs.Tree.{object, members, members_depth}
 use Rattle.tera_values.specs.Key.{key_form}
 use Rattle.tera_values.specs.Unlike.{least_met, unlike}
 use Rattle.tera_values.proofs.EqualLemmas.{none_new, uneven, met_here, met_nowhere}
@@ -12,17 +12,10 @@ use Rattle.tera_values.proofs.PartsLaws.{first_depth, map_of_members}
 use Rattle.tera_values.proofs.UnlikeLemmas.{from_left}
 use Rattle.tera_values.proofs.equal.+equal.Goals as goal
 
-pub equal-pairs_equal-requires : goal.equal-pairs_equal-requires
-equal-pairs_equal-requires t c =
-    let all = c.in-Some-Some.all.now in
-    let left : depth (object (members all)) ≡ depth c.args.left.now = ap depth (map_of_members c.args.left.now all (c.in-Some-Some.ensures)) in
-    (omega (arith, left), tt)
-
-pub equal-returns-in-Some-Some : goal.equal-returns-in-Some-Some
-equal-returns-in-Some-Some t c =
-    let left = map_of_members c.args.left.now c.in-Some-Some.all.now c.in-Some-Some.ensures in
-    let right = map_of_members c.args.right.now c.in-Some-Some.others.now c.in-Some-Some.ensures' in
-    c.pairs_equal.ensures ∙ (λ i. same (meaning (left i)) (meaning (right i)))
+pub map_equal-returns-in-Some : goal.map_equal-returns-in-Some
+map_equal-returns-in-Some t c =
+    let right = map_of_members c.args.right.now c.in-Some.all.now c.in-Some.ensures in
+    c.pairs_equal.ensures ∙ ap (λ v. same (meaning (object (members c.args.left.now))) (meaning v)) right
 
 pub pairs_equal-returns-then-len : goal.pairs_equal-returns-then-len
 pairs_equal-returns-then-len t c =

@@ -5,13 +5,16 @@ use Rattle.tera_values.proofs.UnlikeLemmas.{from_left, left_walk}
 use Rattle.tera_values.proofs.equal.+equal.Given as goal
 
 abbrev pub decreases-equal : goal.decreases-equal
-decreases-equal l = 3 * depth l.left.now
+decreases-equal l = 4 * depth l.left.now
+
+abbrev pub decreases-map_equal : goal.decreases-map_equal
+decreases-map_equal l = 4 * members_depth (members l.left.now) + 3
 
 abbrev pub decreases-pairs_equal : goal.decreases-pairs_equal
-decreases-pairs_equal l = 3 * members_depth (members l.left.now) + 2
+decreases-pairs_equal l = 4 * members_depth (members l.left.now) + 2
 
 abbrev pub decreases-alike : goal.decreases-alike
-decreases-alike l = 3 * depth l.value.now + 1
+decreases-alike l = 4 * depth l.value.now + 1
 
 -- what is left is no deeper, and meets the first difference
 abbrev pub invariant-pairs_equal-loop-key : goal.invariant-pairs_equal-loop-key
