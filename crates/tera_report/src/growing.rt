@@ -7,7 +7,7 @@ ghost use Rattle.tera_report.specs.Sink.{PutsThese};
 use std::alloc::{AllocError, Global};
 
 // What a text with something in it grows by at least.
-const LEAST_GROWTH: usize = 128;
+const LEAST_GROWTH: usize = 256;
 
 /// A text that takes memory as it grows.
 #[derive(Drop)]

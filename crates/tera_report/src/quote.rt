@@ -138,6 +138,8 @@ fn is_plain(bytes: &[u8]) -> bool
         is_plain_long(bytes)
     } else if len >= 8 {
         is_plain_8(bytes, 0) && is_plain_8(bytes, len - 8)
+    } else if len >= 4 {
+        is_plain_4(bytes, 0) && is_plain_4(bytes, len - 4)
     } else {
         plain_len(bytes) == len
     }
@@ -180,5 +182,18 @@ fn is_plain_8(bytes: &[u8], at: usize) -> bool
         | block.simd_eq(u8x8::splat(b'"'))
         | block.simd_eq(u8x8::splat(b'\\'))
         | block.simd_gt(u8x8::splat(126))).to_bitmask()
+        == 0
+}
+
+#[inline(always)]
+fn is_plain_4(bytes: &[u8], at: usize) -> bool
+    requires { at + 4 ≤ length bytes.now }
+    ensures { OnTrue result (PlainBetween bytes.now at (at + 4)) }
+{
+    let block = u8x4::from_slice(&bytes[at..]);
+    (block.simd_lt(u8x4::splat(b' '))
+        | block.simd_eq(u8x4::splat(b'"'))
+        | block.simd_eq(u8x4::splat(b'\\'))
+        | block.simd_gt(u8x4::splat(126))).to_bitmask()
         == 0
 }
