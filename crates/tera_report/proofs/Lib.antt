@@ -2,7 +2,7 @@ mod EqualReports
 pub mod EscapeLaws
 mod LaneLemmas
 pub mod PartLaws
-pub mod PlainLanes
+mod PlainLanes
 pub mod PutLaws
 mod QuoteLemmas
 mod ReportLemmas

@@ -1,5 +1,6 @@
 -- From the mask of a block's marked bytes to bytes that are plain.
-use Rattle.std.proofs.Common.{◌≡◌, ℕ, ◌+◌, ◌%◌, ◌^◌, ◌≤◌, Bool, true, false, ◌||◌, ◌==◌, cond, eqb, ltb, List, length, map, replicate, bit_or, refl, sym, ap, ◌∙◌, arith}
+use Rattle.std.proofs.Common.{◌≡◌, ℕ, ◌+◌, ◌%◌, ◌^◌, ◌≤◌, Bool, true, false, ◌||◌, ◌==◌, cond, eqb, ltb, List, length, map, replicate, bit_or}
+use Rattle.std.proofs.Common.{refl, sym, ap, ◌∙◌, arith}
 use Rattle.std.proofs.Math.Bool.{or_assoc}
 use Rattle.std.proofs.lemmas.Bool.{eqb-true}
 use Rattle.std.proofs.lemmas.Simd.{zip2_splat, zip2_splat_left, zip2_of_maps, map-map, mask_l-mod, length-chunk, none_from_empty_mask}
@@ -7,26 +8,10 @@ use Rattle.std.proofs.lemmas.List.{length-map}
 use Rattle.std.specs.Bool.{OnTrue}
 use Rattle.std.specs.Simd.Lanes.{zip2, mask_l, top, chunk}
 use Rattle.tera_report.specs.Quoted.{is_marked, PlainBetween}
-
--- all ones where the test passes
-abbrev ones : Bool → ℕ
-ones b = cond b 255 0
-
-abbrev hit : ℕ → ℕ → ℕ
-hit a b = cond (eqb a b) 255 0
+use Rattle.tera_report.proofs.LaneLemmas.{ones, hit, either, top_ones}
 
 abbrev below : ℕ → ℕ → ℕ
 below a b = cond (ltb a b) 255 0
-
-either : (p q : Bool) → bit_or (ones p) (ones q) ≡ ones (p || q)
-either true true = refl
-either true false = refl
-either false true = refl
-either false false = refl
-
-top_ones : (b : Bool) → top 7 (ones b) ≡ b
-top_ones true = refl
-top_ones false = refl
 
 any_of_four : (p q r s : Bool) → top 7 (bit_or (bit_or (bit_or (ones p) (ones q)) (ones r)) (ones s)) ≡ (p || (q || (r || s)))
 any_of_four p q r s = simp (either, top_ones, or_assoc)
