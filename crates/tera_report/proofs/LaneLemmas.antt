@@ -11,19 +11,19 @@ use lib.Count.{count_trailing_zeros}
 use Rattle.tera_report.specs.Escaping.{is_special, IsPlain}
 
 -- all ones where the test passes
-abbrev ones : Bool → ℕ
+abbrev pub ones : Bool → ℕ
 ones b = cond b 255 0
 
-abbrev hit : ℕ → ℕ → ℕ
+abbrev pub hit : ℕ → ℕ → ℕ
 hit a b = cond (eqb a b) 255 0
 
-either : (p q : Bool) → bit_or (ones p) (ones q) ≡ ones (p || q)
+pub either : (p q : Bool) → bit_or (ones p) (ones q) ≡ ones (p || q)
 either true true = refl
 either true false = refl
 either false true = refl
 either false false = refl
 
-top_ones : (b : Bool) → top 7 (ones b) ≡ b
+pub top_ones : (b : Bool) → top 7 (ones b) ≡ b
 top_ones true = refl
 top_ones false = refl
 

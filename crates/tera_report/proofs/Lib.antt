@@ -2,6 +2,7 @@ mod EqualReports
 pub mod EscapeLaws
 mod LaneLemmas
 pub mod PartLaws
+mod PlainLanes
 pub mod PutLaws
 mod QuoteLemmas
 mod ReportLemmas

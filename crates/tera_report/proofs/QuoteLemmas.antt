@@ -16,7 +16,8 @@ use Rattle.std.specs.Char.Escape.{IsEscapeDebug, escape_default}
 use Rattle.std.specs.Cmp.Lexicographic.{bytes_decides}
 use Rattle.std.specs.Fmt.{◌++?◌, debug_escape, debug_str, debug_items, comma_space, digits}
 use Rattle.std.specs.List.{list_all}
-use Rattle.tera_report.specs.Quoted.{IsText, is_ascii_text, is_marked, escapes, quoted, Quotes, QuotesItems, Cuts, SkipsPlain, Escapes, EscapesMarked}
+use Rattle.tera_report.specs.Quoted.{IsText, is_ascii_text, is_marked, escapes, quoted, Quotes, QuotesItems, Cuts, SkipsPlain, PlainBetween}
+use Rattle.tera_report.specs.Quoted.{Escapes, EscapesMarked}
 use Rattle.tera_report.proofs.PutLaws.{texts_joined}
 
 -- what `escape_debug` gives for an ASCII character
@@ -57,6 +58,9 @@ escapes_plain (x ∷ xs) plain =
     let first = plain_escape x (plain 0 (omega arith)) in
     let others = escapes_plain xs (λ k h. plain (suc k) (omega arith)) in
     cc
+
+pub escapes_between : (xs : List ℕ) → PlainBetween xs 0 (length xs) → escapes xs ≡ xs
+escapes_between xs plain = escapes_plain xs (λ k h. plain k (omega arith) h)
 
 -- a character begins where only plain bytes stand before, or the text ends there
 pub boundary_after_plain : (bs : List ℕ) (at : ℕ) → IsUtf8 bs → at ≤ length bs

@@ -1,6 +1,6 @@
 -- What stands for a text where it is quoted, and for a list of texts.
-use Rattle.std.specs.Prelude.{◌≡◌, ◌<◌, ◌++◌, ◌||◌, ◌==◌, ℕ, Bool, true, List, ◌∷◌, [], IsTrue}
-use Rattle.std.specs.Prelude.{Option, IfSome, length, slice_index, nat_lt}
+use Rattle.std.specs.Prelude.{◌≡◌, ◌<◌, ◌≤◌, ◌++◌, ◌||◌, ◌==◌, ℕ, Bool, true, false, List, ◌∷◌, []}
+use Rattle.std.specs.Prelude.{IsTrue, Option, IfSome, length, slice_index, nat_lt}
 use Rattle.std.specs.Char.{is_ascii}
 use Rattle.std.specs.Fmt.{debug_escape, debug_str, debug_items, debug_list}
 use Rattle.std.specs.List.{flat_map, list_all}
@@ -41,6 +41,11 @@ QuotesList texts bytes = IsText (debug_list debug_str texts) bytes
 -- or one past ASCII
 abbrev pub is_marked : ℕ → Bool
 is_marked byte = nat_lt byte 32 || (byte == 34 || (byte == 92 || nat_lt 126 byte))
+
+-- no byte from start on and before end is marked
+abbrev pub PlainBetween : List ℕ → ℕ → ℕ → Type 0
+PlainBetween bytes start end =
+    (k : ℕ) → start ≤ k → k < end → is_marked (slice_index bytes k) ≡ false
 
 -- the bytes stand between the quotes for a marked character: exactly known for an ASCII character
 abbrev pub EscapesMarked : ℕ → List ℕ → Type 0

@@ -6,6 +6,9 @@ ghost use Rattle.tera_report.specs.Sink.{PutsThese};
 
 use std::alloc::{AllocError, Global};
 
+// What a text with something in it grows by at least.
+const LEAST_GROWTH: usize = 256;
+
 /// A text that takes memory as it grows.
 #[derive(Drop)]
 pub struct Growing {
@@ -48,7 +51,26 @@ impl Growing {
         ensures puts { PutsThese GrowingTakes GrowingFails result text.now self.old self.new }
         ensures unchanged { OnErr result (grown_bytes self.new ≡ grown_bytes self.old) }
     {
+        if self.text.capacity() - self.text.len() < text.len() {
+            self.grow(text.len())?;
+        }
         self.text.push_str(text)
+    }
+
+    // Gets memory for so many bytes more. A first piece gets what it needs, as it may be the only
+    // one; behind a second, others follow.
+    #[inline(never)]
+    fn grow(&mut self, more: usize) -> Result<(), AllocError>
+        ensures bytes { grown_bytes self.new ≡ grown_bytes self.old }
+        ensures len { grown_len self.new ≡ grown_len self.old }
+        ensures capacity { grown_capacity self.old ≤ grown_capacity self.new }
+    {
+        let least = if self.text.is_empty() {
+            0
+        } else {
+            LEAST_GROWTH
+        };
+        self.text.reserve(more.max(least))
     }
 
     /// The text. Takes no memory.

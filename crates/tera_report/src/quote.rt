@@ -1,12 +1,14 @@
 //! Texts in debug form: one between double quotes, and a list of them between brackets.
 ghost use Rattle.std.specs.Prelude.{◌≡◌, ◌<◌, ◌≤◌, true, false, ℕ, [], length, slice_index, IsTrue};
-ghost use Rattle.std.specs.Prelude.{IfSome, IfNone, map, string_bytes};
+ghost use Rattle.std.specs.Prelude.{IfSome, IfNone, map, string_bytes, ◌+◌};
+ghost use Rattle.std.specs.Bool.{OnTrue};
 ghost use Rattle.tera_report.specs.Quoted.{Quotes, QuotesItems, QuotesList, Escapes, EscapesMarked};
-ghost use Rattle.tera_report.specs.Quoted.{Cuts, SkipsPlain};
+ghost use Rattle.tera_report.specs.Quoted.{Cuts, SkipsPlain, PlainBetween};
 ghost use Rattle.tera_report.specs.Quoted.{is_ascii_text, is_marked, escapes};
 ghost use Rattle.tera_report.specs.Sink.{Puts};
 
 use crate::sink::Sink;
+use std::simd::prelude::*;
 
 /// Puts the text in debug form: between double quotes, with escapes for quotes, backslashes and
 /// control characters. Which characters past ASCII have an escape is the library's choice. Takes no
@@ -43,9 +45,18 @@ fn put_quoted_items<S: Sink>(texts: &[String], out: &mut S) -> Result<(), S::Fau
     Ok(())
 }
 
-// What stands between the quotes. A run of characters that stand for themselves is put in one
-// piece.
+// What stands between the quotes. A text with no marked byte stands for itself, which most do.
 fn put_escaped<S: Sink>(text: &str, out: &mut S) -> Result<(), S::Fault>
+    ensures { Puts S.takes S.fails result (Escapes text.now) out.old out.new }
+{
+    if is_plain(text.as_bytes()) {
+        return out.put(text);
+    }
+    put_runs(text, out)
+}
+
+// The same for any text. A run of characters that stand for themselves is put in one piece.
+fn put_runs<S: Sink>(text: &str, out: &mut S) -> Result<(), S::Fault>
     ensures { Puts S.takes S.fails result (Escapes text.now) out.old out.new }
 {
     let mut rest = text;
@@ -115,4 +126,74 @@ fn is_marked(byte: u8) -> bool
     ensures { result ≡ is_marked byte }
 {
     byte < b' ' || byte == b'"' || byte == b'\\' || 126 < byte
+}
+
+// Whether no byte is marked. Two looks that overlap cover a short text, and the last look at a
+// long one overlaps the one before.
+fn is_plain(bytes: &[u8]) -> bool
+    ensures { OnTrue result (PlainBetween bytes.now 0 (length bytes.now)) }
+{
+    let len = bytes.len();
+    if len >= 16 {
+        is_plain_long(bytes)
+    } else if len >= 8 {
+        is_plain_8(bytes, 0) && is_plain_8(bytes, len - 8)
+    } else if len >= 4 {
+        is_plain_4(bytes, 0) && is_plain_4(bytes, len - 4)
+    } else {
+        plain_len(bytes) == len
+    }
+}
+
+fn is_plain_long(bytes: &[u8]) -> bool
+    requires { 16 ≤ length bytes.now }
+    ensures { OnTrue result (PlainBetween bytes.now 0 (length bytes.now)) }
+{
+    let mut at = 0;
+    while bytes.len() - at > 16 {
+        if !is_plain_16(bytes, at) {
+            return false;
+        }
+        at += 16;
+    }
+    is_plain_16(bytes, bytes.len() - 16)
+}
+
+#[inline(always)]
+fn is_plain_16(bytes: &[u8], at: usize) -> bool
+    requires { at + 16 ≤ length bytes.now }
+    ensures { OnTrue result (PlainBetween bytes.now at (at + 16)) }
+{
+    let block = u8x16::from_slice(&bytes[at..]);
+    (block.simd_lt(u8x16::splat(b' '))
+        | block.simd_eq(u8x16::splat(b'"'))
+        | block.simd_eq(u8x16::splat(b'\\'))
+        | block.simd_gt(u8x16::splat(126))).to_bitmask()
+        == 0
+}
+
+#[inline(always)]
+fn is_plain_8(bytes: &[u8], at: usize) -> bool
+    requires { at + 8 ≤ length bytes.now }
+    ensures { OnTrue result (PlainBetween bytes.now at (at + 8)) }
+{
+    let block = u8x8::from_slice(&bytes[at..]);
+    (block.simd_lt(u8x8::splat(b' '))
+        | block.simd_eq(u8x8::splat(b'"'))
+        | block.simd_eq(u8x8::splat(b'\\'))
+        | block.simd_gt(u8x8::splat(126))).to_bitmask()
+        == 0
+}
+
+#[inline(always)]
+fn is_plain_4(bytes: &[u8], at: usize) -> bool
+    requires { at + 4 ≤ length bytes.now }
+    ensures { OnTrue result (PlainBetween bytes.now at (at + 4)) }
+{
+    let block = u8x4::from_slice(&bytes[at..]);
+    (block.simd_lt(u8x4::splat(b' '))
+        | block.simd_eq(u8x4::splat(b'"'))
+        | block.simd_eq(u8x4::splat(b'\\'))
+        | block.simd_gt(u8x4::splat(126))).to_bitmask()
+        == 0
 }

@@ -1,43 +1,14 @@
-use Rattle.std.proofs.Common.{rules, refl, ◌++◌, [], sym}
-use Rattle.std.specs.Fmt.{debug_escape}
-use Rattle.tera_report.specs.Quoted.{Escapes, escapes}
-use Rattle.tera_report.proofs.PutLaws.{leads_on, leads_more, leads_broke, leads_last, puts_these}
-use Rattle.tera_report.proofs.QuoteLemmas.{run_stands}
+use Rattle.std.proofs.Common.{sym, subst, length}
+use Rattle.std.specs.Bool.{OnTrue}
+use Rattle.tera_report.specs.Quoted.{Escapes, PlainBetween}
+use Rattle.tera_report.proofs.PutLaws.{puts_these}
+use Rattle.tera_report.proofs.QuoteLemmas.{escapes_between}
 use Rattle.tera_report.proofs.quote.put_escaped.Goals as goal
 
-pub runs-init : goal.runs-init
-runs-init g c = (search rules, record { done = []; leads = λ rest has. has; took = g.met.S.Sink.nothing _ })
-
-pub runs-preserved : goal.runs-preserved
-runs-preserved g c =
-    let run = c.in-Some.run'.now in
-    let (bytes, stands, marked) = c.in_ok-put_marked.ensures in
-    let first = leads_on g.S.Sink.takes g.met.S.Sink.joined run c.runs.invariant.1 c.in_ok-put.ensures in (
-      search rules,
-      leads_more g.S.Sink.takes g.met.S.Sink.joined bytes first (run_stands c.runs.rest.now run _ bytes c.in-Some.marked c.in-Some.ensures.cut stands) marked,
-    )
-
-pub returns-in_err-put : goal.returns-in_err-put
-returns-in_err-put g c =
-    let after = c.in-Some.after.now in
-    let bytes = debug_escape 34 c.in-Some.marked in
-    let stands = run_stands c.runs.rest.now c.in-Some.run'.now after bytes c.in-Some.marked c.in-Some.ensures.cut (λ _ _. refl) (escapes after) (λ _. refl) in
-    let bad = leads_broke g.S.Sink.takes g.S.Sink.fails g.met.S.Sink.failed_later g.met.S.Sink.failed_early _ (bytes ++ escapes after) c.runs.invariant.1 stands
-    c.in_err-put.ensures in
-    search rules
-
-pub returns-in_err-put_marked : goal.returns-in_err-put_marked
-returns-in_err-put_marked g c =
-    let run = c.in-Some.run'.now in
-    let after = c.in-Some.after.now in
-    let (bytes, stands, refused) = c.in_err-put_marked.ensures in
-    let first = leads_on g.S.Sink.takes g.met.S.Sink.joined run c.runs.invariant.1 c.in_ok-put.ensures in
-    let bad = leads_broke g.S.Sink.takes g.S.Sink.fails g.met.S.Sink.failed_later g.met.S.Sink.failed_early bytes (escapes after) first
-    (run_stands c.runs.rest.now run after bytes c.in-Some.marked c.in-Some.ensures.cut stands (escapes after) (λ _. refl)) refused in
-    search rules
-
-pub returns : goal.returns
-returns g c =
-    let rest = c.runs.rest.now in
-    leads_last g.S.Sink.takes g.S.Sink.fails g.met.S.Sink.failed_later g.met.S.Sink.joined _ c.put-2.result c.runs.invariant.1
-    (puts_these g.S.Sink.takes g.S.Sink.fails (Escapes rest) _ rest _ _ (λ ascii. sym (c.in_default.ensures.plain ascii)) c.put-2.ensures)
+pub returns-then-is_plain : goal.returns-then-is_plain
+returns-then-is_plain g c =
+    let text = c.args.text.now in
+    let bytes = c.as_bytes.result.now in
+    let looked = subst (λ b. OnTrue b (PlainBetween bytes 0 (length bytes))) c.if-is_plain.true c.is_plain.ensures in
+    let plain = subst (λ t. PlainBetween t 0 (length t)) c.as_bytes.ensures.value looked in
+    puts_these g.S.Sink.takes g.S.Sink.fails (Escapes text) _ text _ _ (λ _. sym (escapes_between text plain)) c.put.ensures

@@ -4,7 +4,7 @@ use denote.Text.{Utf8}
 use denote.Shadow.{shadow}
 use Rattle.tera_report.specs.Quoted.{Escapes}
 use Rattle.tera_report.proofs.PutLaws.{Leads}
-use Rattle.tera_report.proofs.quote.put_escaped.Given as goal
+use Rattle.tera_report.proofs.quote.put_runs.Given as goal
 
 abbrev pub invariant-runs : goal.invariant-runs
 invariant-runs g l = shadow (Utf8 l.rest) × Leads g.S.Sink.takes (Escapes l.fn.text) (Escapes l.rest) l.fn.out l.out
