@@ -27,14 +27,14 @@ pub other_word : (word other : List ℕ) (n : Integer) → number_in word ≡ So
 other_word word other n e not = grind (arith, bytes_eq-Decides)
 
 -- a word that spells a number, as the reader has it
-pub value_of_number : (word : List ℕ) (n : Integer) → number_in word ≡ Some n → value_in word ≡ Some (number n)
+pub of_number : (word : List ℕ) (n : Integer) → number_in word ≡ Some n → value_in word ≡ Some (number n)
 unfolding value_in number_in unsigned_in digits_at
-value_of_number word n e =
+of_number word n e =
     let no = λ (other : List ℕ). other_word word other n e in
     rw (no (codes "undefined") refl, no (codes "none") refl, no (codes "true") refl, no (codes "false") refl) (ap number_value e)
 
 number_value_only : (word : List ℕ) (n : Integer) → SpellsNumber word n → value_in word ≡ Some (number n)
-number_value_only word n h = value_of_number word n (number_only word n h)
+number_value_only word n h = of_number word n (number_only word n h)
 
 -- the bytes of a number
 digits_are_word : (digits : List ℕ) → list_all is_ascii_digit digits ≡ true → list_all is_word_byte digits ≡ true

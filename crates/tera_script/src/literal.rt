@@ -166,7 +166,7 @@ fn take_bytes(alloc: Global, bytes: &[u8]) -> Result<Option<(Value, &[u8])>, All
 }
 
 // The literal without quotes at the front, and the bytes behind it.
-#[tactic(auto, using(crate::proofs::Words::value_of_number), unfolding(crate::specs::Readers::plain_at))]
+#[tactic(auto, using(crate::proofs::Words::of_number), unfolding(crate::specs::Readers::plain_at))]
 fn take_plain(bytes: &[u8]) -> Option<(Value, &[u8])>
     ensures { option_map with_rest result ≡ plain_at bytes.now }
 {
