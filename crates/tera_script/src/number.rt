@@ -8,7 +8,7 @@ ghost use Rattle.tera_script.specs.Number.{signed};
 ghost use Rattle.tera_script.specs.Readers.{Stops, BeginsWithDigit, digits_at, suffix_in};
 ghost use Rattle.tera_script.specs.Readers.{integer_of, is_of_kind};
 ghost use Rattle.tera_script.specs.Readers.{unsigned_in, number_in, with_rest, integer_held};
-ghost use Rattle.tera_script.specs.Readers.{suffix_kind, front, past, is_word_byte};
+ghost use Rattle.tera_script.specs.Readers.{suffix_kind, front, past, is_word_byte, digits_from};
 ghost use Rattle.tera_meaning.specs.Tree.{number};
 
 use crate::word::ends_word;
@@ -123,8 +123,9 @@ fn short_digits(bytes: &[u8]) -> Option<(u64, &[u8])>
 pub(crate) fn take_digits(bytes: &[u8]) -> Option<(u128, &[u8])>
     ensures { option_map with_rest result ≡ digits_at bytes.now }
 {
-    let mut magnitude: u128 = 0;
-    let mut rest = bytes;
+    let (few, behind) = few_digits(bytes);
+    let mut magnitude = u128::from(few);
+    let mut rest = behind;
     while let Some((digit, others)) = first_digit(rest) {
         magnitude = with_digit(magnitude, digit)?;
         rest = others;
@@ -133,6 +134,22 @@ pub(crate) fn take_digits(bytes: &[u8]) -> Option<(u128, &[u8])>
         return None;
     }
     Some((magnitude, rest))
+}
+
+// The number of the first digits at the front, of which 64 bits hold the sums, and the bytes behind
+// them.
+fn few_digits(bytes: &[u8]) -> (u64, &[u8])
+    ensures { digits_from result.0 result.1.now ≡ digits_from 0 bytes.now }
+{
+    let mut magnitude: u64 = 0;
+    let mut rest = bytes;
+    while let Some((digit, others)) = first_digit(rest)
+        && magnitude < FEW
+    {
+        magnitude = magnitude * 10 + u64::from(digit - b'0');
+        rest = others;
+    }
+    (magnitude, rest)
 }
 
 // The digit at the front, and the bytes behind it. `None` where no digit stands there.
