@@ -140,3 +140,13 @@ number_only word n h =
       suffix_only h.suffix,
     )
     (integer_only h.minus (digits_value 10 h.digits) h.suffix n h.value h.kind)
+
+-- digits alone, which no minus begins
+pub short_number : (minus : Bool) (word : List ℕ) (m : ℕ) → digits_at word ≡ Some (m, []) → unsigned_in minus word ≡ integer_of minus m None
+unfolding unsigned_in suffix_in
+short_number minus word m digits = rw digits refl
+
+pub no_minus : (word : List ℕ) (m : ℕ) → digits_at word ≡ Some (m, []) → number_in word ≡ unsigned_in false word
+unfolding number_in digits_at
+no_minus [] m digits = cc
+no_minus (b ∷ word) m digits = grind (arith, nat_tests)

@@ -221,3 +221,13 @@ module _ (decoded rest bytes : List ℕ) (read : behind decoded (text_from rest 
   escaped next c e ends unclosed found =
       sym (behind_both decoded (encode_utf8 c) (text_from next at_token))
       ∙ ap (behind decoded) (sym (letter_next e ends unclosed ∙ ap then_text (sym found))) ∙ read
+
+-- a run and the quote that closes it
+plain_spelling : (run : List ℕ) → AllByRecursion IsPlain run → SpellsText run run
+plain_spelling [] h = ([], tt, refl, refl)
+plain_spelling (b ∷ run) h =
+    let more = plain_spelling run h.1 in
+    (itself b ∷ more.0, (h.0, more.1), ap (λ xs. b ∷ xs) more.2, ap (λ xs. b ∷ xs) more.3)
+
+pub run_closed : {bytes run rest after : List ℕ} → BeginsWithRun bytes run rest → rest ≡ 34 ∷ after → BeginsWithText bytes run (length run + 1)
+run_closed {bytes} {run} {rest} {after} r e = (run, after, plain_spelling run r.0, r.1 ∙ ap (λ xs. run ++ xs) e, refl)

@@ -1,5 +1,5 @@
 -- Words: literals without quotes and brackets.
-use Rattle.std.proofs.Common.{◌≡◌, ℕ, Bool, true, false, List, [], ◌∷◌, ◌++◌, length, Some, None, refl, ap, ◌∙◌, arith, ◌≤◌, ◌<◌, take, ◌-◌}
+use Rattle.std.proofs.Common.{◌≡◌, ℕ, Bool, true, false, IsTrue, cond, List, [], ◌∷◌, ◌++◌, length, Some, None, refl, ap, sym, ◌∙◌, arith, ◌≤◌, ◌<◌, take, ◌-◌}
 use Rattle.std.specs.Prelude.{codes}
 use Rattle.std.specs.Char.{is_ascii_digit}
 use Rattle.std.specs.List.{list_all}
@@ -14,7 +14,7 @@ use Rattle.tera_meaning.specs.Tree.{undefined, none, truth, number, text, bytes,
 use Rattle.tera_script.specs.Number.{sign_of, suffix_of, SpellsNumber}
 use Rattle.tera_script.specs.Literal.{SpellsTree, tree_value}
 use Rattle.tera_script.specs.Word.{is_blank}
-use Rattle.tera_script.specs.Readers.{Stops, front, past, digits_at, unsigned_in, number_in, is_word_byte, number_value, value_in}
+use Rattle.tera_script.specs.Readers.{Stops, front, past, digits_from, digits_at, unsigned_in, number_in, is_word_byte, number_value, value_in}
 use Rattle.tera_script.proofs.Fronts.{front_is, past_is}
 use Rattle.tera_script.proofs.Integers.{number_found, number_only, digits_only}
 
@@ -26,12 +26,15 @@ value_found word v e = grind (arith, bytes_eq-Decides, number_found)
 pub other_word : (word other : List ℕ) (n : Integer) → number_in word ≡ Some n → number_in other ≡ None → bytes_eq word other ≡ false
 other_word word other n e not = grind (arith, bytes_eq-Decides)
 
-number_value_only : (word : List ℕ) (n : Integer) → SpellsNumber word n → value_in word ≡ Some (number n)
+-- a word that spells a number, as the reader has it
+pub of_number : (word : List ℕ) (n : Integer) → number_in word ≡ Some n → value_in word ≡ Some (number n)
 unfolding value_in number_in unsigned_in digits_at
-number_value_only word n h =
-    let e = number_only word n h in
+of_number word n e =
     let no = λ (other : List ℕ). other_word word other n e in
     rw (no (codes "undefined") refl, no (codes "none") refl, no (codes "true") refl, no (codes "false") refl) (ap number_value e)
+
+number_value_only : (word : List ℕ) (n : Integer) → SpellsNumber word n → value_in word ≡ Some (number n)
+number_value_only word n h = of_number word n (number_only word n h)
 
 -- the bytes of a number
 digits_are_word : (digits : List ℕ) → list_all is_ascii_digit digits ≡ true → list_all is_word_byte digits ≡ true
@@ -46,6 +49,19 @@ number_is_word word n h =
     let d = numeral_is_word h.minus h.digits h.numeral in
     let s : list_all is_word_byte (suffix_of h.suffix) ≡ true = grind arith in
     rw (h.spelled, list_all-append is_word_byte (sign_of h.minus ++ h.digits) (suffix_of h.suffix), d) s
+
+-- digits that no byte of a word follows are the whole word
+digit_is_word : (b : ℕ) → IsTrue (is_ascii_digit b) → is_word_byte b ≡ true
+digit_is_word b d = grind (arith, nat_tests)
+
+pub whole_word : (xs rest ys : List ℕ) (first n : ℕ) → IsTrue (is_ascii_digit first) × (xs ≡ first ∷ ys) → Stops is_word_byte rest
+    → digits_from n (front is_word_byte rest) ≡ digits_from 0 (front is_word_byte xs) → digits_at (front is_word_byte xs) ≡ Some (n, [])
+unfolding digits_at
+whole_word xs rest ys first n begins stops same =
+    let found : digits_from 0 (front is_word_byte xs) ≡ Some (n, []) = sym same ∙ ap (digits_from n) (front_is is_word_byte [] rest refl stops) in
+    let word : front is_word_byte xs ≡ first ∷ front is_word_byte ys
+    = ap (front is_word_byte) (begins.1) ∙ ap (λ b. cond b (first ∷ front is_word_byte ys) []) (digit_is_word first (begins.0)) in
+    rw found (rw word (grind (arith, nat_tests)))
 
 -- a literal is a word that names the value
 pub record IsWord (literal : List ℕ) (value : Form) : Type 0 where

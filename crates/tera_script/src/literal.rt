@@ -7,7 +7,7 @@ ghost use Rattle.tera_script.specs.Readers.{IsQuotedAt, IsLiteralAt, IsArrayAt, 
 
 use crate::hex::take_hex;
 use crate::key::take_key;
-use crate::number::{number_in, value_of};
+use crate::number::{number_in, take_short, value_of};
 use crate::text::take_text;
 use crate::word::{past_blanks, split_word};
 use std::alloc::{AllocError, Global};
@@ -166,10 +166,13 @@ fn take_bytes(alloc: Global, bytes: &[u8]) -> Result<Option<(Value, &[u8])>, All
 }
 
 // The literal without quotes at the front, and the bytes behind it.
-#[tactic(auto, unfolding(crate::specs::Readers::plain_at))]
+#[tactic(auto, using(crate::proofs::Words::of_number), unfolding(crate::specs::Readers::plain_at))]
 fn take_plain(bytes: &[u8]) -> Option<(Value, &[u8])>
     ensures { option_map with_rest result ≡ plain_at bytes.now }
 {
+    if let Some((number, rest)) = take_short(bytes) {
+        return Some((value_of(number), rest));
+    }
     let (word, rest) = split_word(bytes);
     let value = value_in(word)?;
     Some((value, rest))

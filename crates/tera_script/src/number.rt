@@ -1,6 +1,6 @@
 //! Numbers: an optional minus, digits and an optional suffix that names a kind.
 ghost use Rattle.std.specs.Prelude.{◌≡◌, ℕ, List, Option, Some, None, SomeIff, MatchOption, IsTrue};
-ghost use Rattle.std.specs.Prelude.{cond, ◌+◌, ◌*◌, ◌^◌, ◌<◌};
+ghost use Rattle.std.specs.Prelude.{cond, [], false, IfSome, ◌+◌, ◌*◌, ◌^◌, ◌<◌};
 ghost use Rattle.std.specs.Char.{digit_value, is_ascii_digit};
 ghost use Rattle.std.specs.Option.{option_map};
 ghost use Rattle.tera_meaning.specs.Integer.{i128 as kind_i128};
@@ -8,9 +8,10 @@ ghost use Rattle.tera_script.specs.Number.{signed};
 ghost use Rattle.tera_script.specs.Readers.{Stops, BeginsWithDigit, digits_at, suffix_in};
 ghost use Rattle.tera_script.specs.Readers.{integer_of, is_of_kind};
 ghost use Rattle.tera_script.specs.Readers.{unsigned_in, number_in, with_rest, integer_held};
-ghost use Rattle.tera_script.specs.Readers.{suffix_kind};
+ghost use Rattle.tera_script.specs.Readers.{suffix_kind, front, past, is_word_byte, digits_from};
 ghost use Rattle.tera_meaning.specs.Tree.{number};
 
+use crate::word::ends_word;
 use tera_values::Value;
 
 /// A number in its kind.
@@ -65,13 +66,66 @@ fn unsigned_in(minus: bool, bytes: &[u8]) -> Option<Integer>
     integer_of(minus, magnitude, suffix)
 }
 
+// What can take one more digit with no test of what 64 bits hold.
+const FEW: u64 = 100_000_000_000_000_000;
+
+/// The number without a suffix that is the whole word at the front, and the bytes behind it. It is
+/// read in one pass, with sums of 64 bits; `None` says no more than that this was not enough.
+#[tactic(auto, unfolding(crate::specs::Readers::number_in))]
+pub(crate) fn take_short(bytes: &[u8]) -> Option<(Integer, &[u8])>
+    ensures number { IfSome result (λ found.
+        number_in (front is_word_byte bytes.now) ≡ Some (integer_held found.0)) }
+    ensures rest { IfSome result (λ found. past is_word_byte bytes.now ≡ found.1.now) }
+{
+    match bytes {
+        [b'-', digits @ ..] => short_number(true, digits),
+        _ => short_number(false, bytes),
+    }
+}
+
+// The same behind a sign.
+fn short_number(minus: bool, bytes: &[u8]) -> Option<(Integer, &[u8])>
+    ensures number { IfSome result (λ found.
+        unsigned_in minus (front is_word_byte bytes.now) ≡ Some (integer_held found.0)) }
+    ensures unsigned { IfSome result (λ found. number_in (front is_word_byte bytes.now)
+        ≡ unsigned_in false (front is_word_byte bytes.now)) }
+    ensures rest { IfSome result (λ found. past is_word_byte bytes.now ≡ found.1.now) }
+{
+    let (magnitude, rest) = short_digits(bytes)?;
+    let number = in_first_kind(minus, u128::from(magnitude))?;
+    Some((number, rest))
+}
+
+// The digits that are the whole word at the front, and the bytes behind them.
+fn short_digits(bytes: &[u8]) -> Option<(u64, &[u8])>
+    ensures digits { IfSome result (λ found.
+        digits_at (front is_word_byte bytes.now) ≡ Some (found.0, [])) }
+    ensures rest { IfSome result (λ found. past is_word_byte bytes.now ≡ found.1.now) }
+{
+    let (first, others) = first_digit(bytes)?;
+    let mut magnitude = u64::from(first - b'0');
+    let mut rest = others;
+    while let Some((digit, behind)) = first_digit(rest) {
+        if magnitude >= FEW {
+            return None;
+        }
+        magnitude = magnitude * 10 + u64::from(digit - b'0');
+        rest = behind;
+    }
+    if !ends_word(rest) {
+        return None;
+    }
+    Some((magnitude, rest))
+}
+
 /// The number of the digits at the front, one or more, and the bytes behind them.
 #[tactic(auto, unfolding(crate::specs::Readers::digits_at))]
 pub(crate) fn take_digits(bytes: &[u8]) -> Option<(u128, &[u8])>
     ensures { option_map with_rest result ≡ digits_at bytes.now }
 {
-    let mut magnitude: u128 = 0;
-    let mut rest = bytes;
+    let (few, behind) = few_digits(bytes);
+    let mut magnitude = u128::from(few);
+    let mut rest = behind;
     while let Some((digit, others)) = first_digit(rest) {
         magnitude = with_digit(magnitude, digit)?;
         rest = others;
@@ -80,6 +134,22 @@ pub(crate) fn take_digits(bytes: &[u8]) -> Option<(u128, &[u8])>
         return None;
     }
     Some((magnitude, rest))
+}
+
+// The number of the first digits at the front, of which 64 bits hold the sums, and the bytes behind
+// them.
+fn few_digits(bytes: &[u8]) -> (u64, &[u8])
+    ensures { digits_from result.0 result.1.now ≡ digits_from 0 bytes.now }
+{
+    let mut magnitude: u64 = 0;
+    let mut rest = bytes;
+    while let Some((digit, others)) = first_digit(rest)
+        && magnitude < FEW
+    {
+        magnitude = magnitude * 10 + u64::from(digit - b'0');
+        rest = others;
+    }
+    (magnitude, rest)
 }
 
 // The digit at the front, and the bytes behind it. `None` where no digit stands there.

@@ -1,13 +1,14 @@
 //! The texts of a script.
 
-ghost use Rattle.std.specs.Prelude.{◌≡◌, ℕ, List, ◌++◌, IfOk, MatchOption, ◌<◌, ◌≤◌, ◌⊎◌, IsUtf8};
-ghost use Rattle.std.specs.Prelude.{string_bytes, length, slice_index};
+ghost use Rattle.std.specs.Prelude.{◌≡◌, ℕ, List, ◌++◌, IfOk, IfSome, MatchOption, ◌<◌, ◌≤◌, ◌⊎◌};
+ghost use Rattle.std.specs.Prelude.{IsUtf8, string_bytes, length, slice_index};
 ghost use Rattle.tera_script.specs.Text.{BeginsWithText};
 ghost use Rattle.tera_script.specs.TextParts.{IsPlain, BeginsWithRun};
 
 use crate::escape::take_escape;
 use bstr::ByteSlice;
 use std::alloc::{AllocError, Global};
+use std::str;
 
 /// A text that some bytes begin with.
 #[derive(Debug, Drop)]
@@ -26,6 +27,10 @@ pub fn take_text(alloc: Global, bytes: &[u8]) -> Result<Option<TakenText>, Alloc
         ((text : List ℕ) (used : ℕ) → IsUtf8 text → BeginsWithText bytes.now text used → ⊥)
         (λ taken. BeginsWithText bytes.now (string_bytes taken.text) taken.used)) }
 {
+    if let Some((short, used)) = short_text(bytes) {
+        let text = String::from_str(alloc, short)?;
+        return Ok(Some(TakenText { text, used }));
+    }
     let Some((decoded, used)) = decode_text(alloc, bytes)? else {
         return Ok(None);
     };
@@ -33,6 +38,42 @@ pub fn take_text(alloc: Global, bytes: &[u8]) -> Result<Option<TakenText>, Alloc
         Ok(text) => Ok(Some(TakenText { text, used })),
         Err(_) => Ok(None),
     }
+}
+
+// How many bytes a short text has at most, its closing quote among them.
+const SHORT: usize = 32;
+
+/// The text at the front where it is short and has no escape, and how many bytes it takes. It
+/// stands in the bytes as it is; `None` says no more than that this is not so.
+fn short_text(bytes: &[u8]) -> Option<(&str, usize)>
+    ensures { IfSome result (λ found. BeginsWithText bytes.now found.0.now found.1) }
+{
+    let length = short_run(bytes)?;
+    let (run, rest) = bytes.split_at(length);
+    let Some((quote, _)) = rest.split_first() else {
+        return None;
+    };
+    if *quote != b'"' {
+        return None;
+    }
+    match str::from_utf8(run) {
+        Ok(text) => Some((text, length + 1)),
+        Err(_) => None,
+    }
+}
+
+/// How many bytes at the front stand for themselves, where they are few: a search in few bytes ends
+/// soonest.
+#[tactic(auto, unfolding(bstr::specs::Bytes::is_in))]
+fn short_run(bytes: &[u8]) -> Option<usize>
+    ensures within { IfSome result (λ found. found < length bytes.now) }
+    ensures plain { IfSome result
+        (λ found. (k : ℕ) → k < found → IsPlain (slice_index bytes.now k)) }
+    ensures ends { IfSome result (λ found. (slice_index bytes.now found ≡ 34)
+        ⊎ (slice_index bytes.now found ≡ 92)) }
+{
+    let (near, _) = bytes.split_at(bytes.len().min(SHORT));
+    near.find_byteset(b"\"\\")
 }
 
 /// The bytes that the text at the front stands for, UTF-8 or not, and how many bytes it takes.

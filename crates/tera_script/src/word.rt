@@ -1,10 +1,10 @@
 //! Blanks, names and operands: the parts of a line that stand one behind another.
-ghost use Rattle.std.specs.Prelude.{◌≡◌, ℕ, List, IfSome};
+ghost use Rattle.std.specs.Prelude.{◌≡◌, ℕ, List, IfSome, IsTrue};
 ghost use Rattle.std.specs.List.{list_all};
 ghost use Rattle.std.specs.Option.{option_map};
 ghost use Rattle.tera_script.specs.Word.{is_blank, is_name_start, is_name_byte, IsName};
 ghost use Rattle.tera_script.specs.Readers.{front, past, gap_at, name_at, operand_at, named_rest};
-ghost use Rattle.tera_script.specs.Readers.{is_word_byte, is_of};
+ghost use Rattle.tera_script.specs.Readers.{is_word_byte, is_of, Stops};
 
 fn is_blank(byte: u8) -> bool
     ensures { result ≡ is_blank byte }
@@ -28,6 +28,16 @@ fn is_word_byte(byte: u8) -> bool
     ensures { result ≡ is_word_byte byte }
 {
     is_name_byte(byte) || byte == b'-'
+}
+
+/// Whether a literal without quotes ends before these bytes.
+pub(crate) fn ends_word(bytes: &[u8]) -> bool
+    ensures { IsTrue result → Stops is_word_byte bytes.now }
+{
+    match bytes {
+        [byte, ..] => !is_word_byte(*byte),
+        [] => true,
+    }
 }
 
 // Which bytes a part of a line is made of.
