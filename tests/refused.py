@@ -27,7 +27,7 @@ VALUES = {
     "b": 'x"00ff7f4142434445464748494a4b4c4d4e4f5051"', "l": '[1, "two", [3u64, s"four"], {"five": 5}]',
     "m": '{"k": [1, s"<"], 1: "one", true: none, "other": {"in": 2}}', "n": "7", "u": "340282366920938463463374607431768211455",
     "z": "0", "key": '"k"', "one": "1", "item": "[3u64, s\"four\"]", "none": "none", "copy": '{"k": [1, s"<"]}'}
-FINDS = ["get l", "path m \"other.in\"", "attr m \"k\"", "item m one", "item l n", "slice l 1 _ _", "slice t _ _ -1", "slice n _ _ _",
+FINDS = ["get l", "path m \"other.in\"", "attr m \"k\"", "item m key", "item m one", "item l n", "slice l 1 _ _", "slice t _ _ -1", "slice n _ _ _",
          "slice l _ _ 0", "reverse l", "reverse t", "reverse b", "reverse n", "negate n", "negate t", "read u8 n", "read u8 u",
          "read i128 u", "read usize t", "mark_safe t", "mark_safe l", "get absent", "attr m \"absent\"", "path absent \"a\"",
          *[f"{word} {left} {right}" for word in second.OPERATORS for left, right in (("n", "n"), ("n", "z"), ("u", "n"), ("t", "n"))]]
@@ -38,7 +38,13 @@ MANY = ", ".join(f'"n{number:02}": [{number}, s"x"]' for number in range(60, 0, 
 CHANGES = ["remove n", "remove absent", "extend {}", f'extend {{{MANY}, "t": "another text, longer than twenty bytes"}}',
            "mark_safe t", "set l [[[1]]]", 'set m {"k": 1, "j": "no less than twenty bytes", "k": 2}']
 # no line of these takes memory, wherever the script stands
-FREE = ("has", "len", "truthy", "kind", "is_safe", "eq", "cmp", "try_cmp", "remove")
+FREE = ("has", "len", "truthy", "kind", "is_safe", "eq", "cmp", "try_cmp", "remove", "print")
+# nor does one that begins so and keeps nothing: what it finds is lent to the reply
+LENT = ("get ", "path ", "attr ", "item m key")
+
+
+def is_lent(line):
+    return line.startswith(LENT) and "-> " not in line
 
 
 def every_call():
@@ -111,15 +117,16 @@ class Runs:
 
     def missing(self):
         """The lines that have to want memory and did not, and those that may not and did."""
-        free = [line.split()[0] in FREE for line in self.lines]
+        free = [line.split()[0] in FREE or is_lent(line) for line in self.lines]
         held = [line for at, line in enumerate(self.lines) if self.must_want(at, line) and at not in self.wanting]
         return held + [line for at, line in enumerate(self.lines) if free[at] and at in self.wanting]
 
     def must_want(self, at, line):
-        """What is found and copied, shown as a text, or refused with a text takes memory for it."""
+        """What is copied, shown as a text of its own, or refused with a text takes memory for it."""
         word, answer = line.split()[0], self.whole[at]
-        shows = word in ("print", "escape", "fields", "walk") and answer not in ("text ", "fields []", "walk []")
-        copies = word in ("get", "path", "attr", "item", "slice", "reverse") and '"' in answer and "-> " not in line
+        found = self.whole[at - 1] if "-> " in line else answer  # the line before finds the same, and keeps nothing
+        shows = word in ("escape", "fields", "walk") and answer not in ("text ", "fields []", "walk []")
+        copies = word in ("get", "path", "attr", "item", "slice", "reverse") and '"' in found and not is_lent(line)
         return shows or copies or answer.startswith("error: ")
 
 

@@ -1,9 +1,9 @@
 //! Calls on the values of a context, and what they keep.
 use crate::held::hold;
-use crate::made::{answers, equal, has, kept, name, plain, with};
-use made_values::{at_texts, text};
+use crate::made::{answers, equal, has, kept, name, plain, print, with};
+use made_values::{at_texts, shows, text};
 use std::alloc::Global;
-use tera_context::{Call, Context};
+use tera_context::{Call, Context, Step, lend};
 use tera_values::Value;
 
 fn is_safe(alloc: Global, context: &mut Context, of: &str, wanted: &str) -> bool {
@@ -107,6 +107,32 @@ fn nothing_is_kept_where_nothing_is_found(rt: HostRuntime) {
     let absent = kept(alloc, get(alloc, "x"), "c");
     assert!(rt; answers(alloc, &mut context, absent, "Ok(Found(None))"));
     assert!(rt; answers(alloc, &mut context, has(alloc, "c"), "Ok(Truth(false))"));
+    drop(context);
+}
+
+// What the context lends for the step, in words of Debug.
+fn lends(alloc: Global, context: &Context, asked: Step, wanted: &str) -> bool {
+    let is_so = shows(alloc, &lend(context, &asked), wanted);
+    drop(asked);
+    is_so
+}
+
+#[test]
+fn what_is_not_kept_is_lent(rt: HostRuntime) {
+    let alloc = rt.alloc();
+    let context = with(alloc, "a", Value::from(7u64));
+    let found = "Some(Found(Some(Value { inner: U64(7) })))";
+    let printed = "Some(Print(Value { inner: U64(7) }))";
+    hold(
+        &rt,
+        &[
+            lends(alloc, &context, plain(get(alloc, "a")), found),
+            lends(alloc, &context, plain(get(alloc, "x")), "Some(Found(None))"),
+            lends(alloc, &context, print(alloc, "a"), printed),
+            lends(alloc, &context, kept(alloc, get(alloc, "a"), "c"), "None"),
+            lends(alloc, &context, has(alloc, "a"), "None"),
+        ],
+    );
     drop(context);
 }
 

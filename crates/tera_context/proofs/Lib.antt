@@ -1,5 +1,6 @@
 mod Extends
 mod Found
+mod LentLemmas
 mod Made
 mod Names
 mod Runs

@@ -1,3 +1,4 @@
 pub mod Call
 pub mod Context
+pub mod Lent
 pub mod Steps

@@ -7,10 +7,12 @@ mod computes;
 mod context;
 mod entries;
 mod finds;
+mod lends;
 mod steps;
 
 pub use call::{Answer, Call, Step};
 pub use context::Context;
+pub use lends::{Lent, lend};
 pub use steps::{run, step};
 pub use tera_arguments::{
     ArgFromValue, Autoescape, Kwargs, KwargsIter, KwargsOf, Parts, StringInput,

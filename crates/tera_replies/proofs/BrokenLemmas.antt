@@ -8,7 +8,7 @@ use Rattle.tera_report.proofs.SentLaws.{sends_nothing, sends_joined}
 use Rattle.tera_replies.specs.Output.{BrokeOn}
 use Rattle.tera_replies.specs.Replay.{lines_given, AllAnswered, AreAnswered, MemoryFailed, ReadingFailed, WritingFailed}
 use Rattle.tera_replies.specs.Reply.{AreReplies}
-use Rattle.tera_replies.specs.Script.{BadLine, Splits, without_return, ended, last_line}
+use Rattle.tera_replies.specs.Script.{Splits, without_return, ended, last_line}
 use Rattle.tera_replies.proofs.SplitLemmas.{Splits-more, splits}
 
 module _ {S : Type 0} (takes fails : S → List ℕ → S → Type 0) (flushes flush_fails : S → S → Type 0) where

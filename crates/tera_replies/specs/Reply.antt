@@ -14,6 +14,7 @@ use Rattle.tera_meaning.specs.Meaning.{layout}
 use Rattle.tera_meaning.specs.Outcome.{Outcome}
 use Rattle.tera_meaning.specs.Printed.{is_exact_inside, PrintsInside}
 use Rattle.tera_meaning.specs.Tree.{undefined, none, truth, number, text, bytes, array, object}
+use Rattle.tera_context.specs.Lent.{LentForm, StandsFor}
 use Rattle.tera_replies.specs.Script.{ended}
 
 abbrev pub order_name : Option Ordering → List ℕ
@@ -60,6 +61,11 @@ IsReply (Err refusal) line =
 abbrev pub IsReplyLine : Outcome → List ℕ → Type 0
 IsReplyLine outcome written =
     (line : List ℕ) × IsReply outcome line × (written ≡ ended line)
+
+-- the same of what a context lends in the place of an answer
+abbrev pub IsLentLine : LentForm → List ℕ → Type 0
+IsLentLine lent written =
+    (outcome : Outcome) × StandsFor lent outcome × IsReplyLine outcome written
 
 abbrev pub IsListedLine : List ℕ → List (List ℕ) → List ℕ → Type 0
 IsListedLine word texts written =

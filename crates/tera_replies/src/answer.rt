@@ -1,5 +1,5 @@
 //! The line that answers a call.
-ghost use Rattle.std.specs.Prelude.{◌≡◌, ℕ, List, ◌++◌, Ok, Err, Some, IfOk, IfErr};
+ghost use Rattle.std.specs.Prelude.{◌≡◌, ℕ, List, ◌++◌, false, Ok, Err, Some, IfOk, IfErr};
 ghost use Rattle.std.specs.Prelude.{codes, decimal, map};
 ghost use Rattle.std.specs.String.{string_bytes};
 ghost use Rattle.tera_report.specs.Errors.{kind_of, refusal_of};
@@ -7,10 +7,14 @@ ghost use Rattle.tera_report.specs.Quoted.{QuotesList};
 ghost use Rattle.tera_report.specs.Refusal.{Tells};
 ghost use Rattle.tera_report.specs.Sink.{Puts, PutsThese, Sends};
 ghost use Rattle.tera_meaning.specs.Answer.{found};
+ghost use Rattle.tera_meaning.specs.Meaning.{layout};
 ghost use Rattle.tera_meaning.specs.Outcome.{is_want};
+ghost use Rattle.tera_meaning.specs.Printed.{Prints};
 ghost use Rattle.tera_context.specs.Call.{answer_of};
+ghost use Rattle.tera_context.specs.Lent.{lent_form, printed};
 ghost use Rattle.tera_replies.specs.Output.{BrokeOn};
-ghost use Rattle.tera_replies.specs.Reply.{IsFormOf, IsListedLine, IsReplyLine, order_name};
+ghost use Rattle.tera_replies.specs.Reply.{IsFormOf, IsLentLine, IsListedLine};
+ghost use Rattle.tera_replies.specs.Reply.{IsReplyLine, order_name};
 ghost use Rattle.tera_replies.specs.Script.{ended};
 ghost use Rattle.tera_replies.specs.Stated.{outcome_stated};
 ghost use Rattle.tera_replies.specs.Stretch.{ReplyStops};
@@ -19,7 +23,7 @@ use crate::fault::{Fault, WriteError, put, written};
 use crate::terse::Terse;
 use itoa::Buffer;
 use std::cmp::Ordering;
-use tera_context::Answer;
+use tera_context::{Answer, Lent};
 use tera_report::quote::put_quoted_list;
 use tera_report::sink::Sink;
 use tera_report::{Error, ErrorKind, TeraResult};
@@ -47,6 +51,20 @@ pub fn write_answer<W: Sink>(answer: TeraResult<Answer>, out: &mut W) -> Result<
     }
 }
 
+/// Writes the line that answers a call by what the context lends, with its line feed. Takes no
+/// memory, and fails only where a write does. No such answer is want of memory.
+pub(crate) fn write_lent<W: Sink>(lent: Lent<'_>, out: &mut W) -> Result<bool, Fault>
+    ensures ok { IfOk result (λ wanted. (line : List ℕ)
+        × IsLentLine (lent_form lent.entry) line
+        × Sends W.takes W.flushes out.old line out.new
+        × (wanted ≡ false)) }
+    ensures err { IfErr result (ReplyStops (IsLentLine (lent_form lent.entry))
+        (λ text. BrokeOn W.takes W.fails W.flushes W.flush_fails out.old text out.new)) }
+{
+    written(put_lent(lent, out))?;
+    Ok(false)
+}
+
 // Whether the error is want of memory. No other is.
 fn is_want(error: &Error) -> bool
     ensures { result ≡ is_want (Err (refusal_of (kind_of error.now))) }
@@ -72,6 +90,17 @@ fn put_answer<W: Sink>(answer: &Answer, out: &mut W) -> Result<(), WriteError>
         Answer::Text(text) => put_line("text ", text.as_str(), out),
         Answer::Texts(names) => put_texts("fields ", names.as_slice(), out),
         Answer::Walked(names) => put_texts("walk ", names.as_slice(), out),
+    }
+}
+
+// Puts the line for what the context lends.
+fn put_lent<W: Sink>(lent: Lent<'_>, out: &mut W) -> Result<(), WriteError>
+    ensures { Puts W.takes W.fails result (IsLentLine (lent_form lent.entry)) out.old out.new }
+{
+    match lent {
+        Lent::Found(None) => put("nothing\n", out),
+        Lent::Found(Some(value)) => put_value(value, out),
+        Lent::Print(value) => put_printed(value, out),
     }
 }
 
@@ -137,6 +166,23 @@ fn put_form<W: Sink>(value: &Value, out: &mut W) -> Result<(), WriteError>
         return put("none", out);
     }
     value.print_inside_to(&mut Terse::new(out))
+}
+
+// Puts the line for the text that a value prints, which is put where it goes.
+#[inline(never)]
+fn put_printed<W: Sink>(value: &Value, out: &mut W) -> Result<(), WriteError>
+    ensures { Puts W.takes W.fails result (IsLentLine (printed value.now)) out.old out.new }
+{
+    put("text ", out)?;
+    put_text(value, out)?;
+    put("\n", out)
+}
+
+// Puts the text that a value prints.
+fn put_text<W: Sink>(value: &Value, out: &mut W) -> Result<(), WriteError>
+    ensures { Puts W.takes W.fails result (Prints (layout value.now)) out.old out.new }
+{
+    value.print_to(&mut Terse::new(out))
 }
 
 // Puts the line for a refusal.

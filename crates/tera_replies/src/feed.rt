@@ -11,13 +11,13 @@ ghost use Rattle.tera_replies.specs.Script.{HasNoLineFeed, without_return, last_
 ghost use Rattle.tera_replies.specs.Stretch.{bad_at, Goes, IfWriteFailed, Runs, Stops, LineStops};
 ghost use Rattle.tera_replies.specs.Stretch.{start};
 
-use crate::answer::write_answer;
+use crate::answer::{write_answer, write_lent};
 use crate::fault::Fault;
 use itoa::Buffer;
 use memchr::memchr;
 use std::alloc::Global;
 use std::str::from_utf8;
-use tera_context::{Context, step};
+use tera_context::{Context, lend, step};
 use tera_report::sink::Sink;
 use tera_report::words::characters;
 use tera_report::{ReportError, Span};
@@ -178,7 +178,10 @@ pub fn answer_line<W: Sink>(
     match read_line(alloc, line)? {
         Reading::Skipped => Ok(false),
         Reading::Bad => Err(Fault::BadLine(bad_line(alloc, number, line)?)),
-        Reading::Says(call) => write_answer(step(context, call), out),
+        Reading::Says(call) => match lend(context, &call) {
+            Some(lent) => write_lent(lent, out),
+            None => write_answer(step(context, call), out),
+        },
     }
 }
 

@@ -1,17 +1,18 @@
 -- A line that is skipped says nothing, and one that says a call is answered by one reply.
-use Rattle.std.proofs.Common.{ℕ, Bool, List, [], ◌∷◌, Result, sym, subst}
+use Rattle.std.proofs.Common.{◌≡◌, ℕ, Bool, false, List, [], ◌∷◌, Result, sym, ap, subst}
 use Rattle.tera_meaning.specs.Outcome.{Outcome, is_want}
 use Rattle.tera_meaning.specs.Request.{Command}
 use Rattle.tera_meaning.specs.State.{State}
 use Rattle.tera_meaning.specs.Step.{IsStep}
 use Rattle.tera_context.specs.Call.{command_of}
+use Rattle.tera_context.specs.Lent.{LentForm, StandsFor, found, printed, lent_form}
 use Rattle.tera_context.specs.Steps.{ShowsOneOf}
 use Rattle.tera_context.specs.declared.call.Answer.{Answer}
 use Rattle.tera_context.proofs.ShownLaws.{shown_outcome}
 use Rattle.tera_report.proofs.SentLaws.{sends_nothing}
 use Rattle.tera_report.specs.declared.errors.Error.{Error}
 use Rattle.tera_script.specs.Line.{Says}
-use Rattle.tera_replies.specs.Reply.{IsReplyLine}
+use Rattle.tera_replies.specs.Reply.{IsLentLine, IsReplyLine}
 use Rattle.tera_replies.specs.Script.{ended}
 use Rattle.tera_replies.specs.Stated.{outcome_stated}
 use Rattle.tera_replies.specs.Stretch.{Runs}
@@ -36,16 +37,59 @@ says_stated n old new line command answer says steps reply (text, is_reply, ende
     subst (λ written. P written (is_want (outcome_stated answer))) (sym ended_is)
     (subst (P (ended text)) (sym (want_shown answer shown.0 shown.1)) runs)
 
-pub returns-in-Says-clause-ok : goal.returns-in-Says-clause-ok
-returns-in-Says-clause-ok g c =
+-- what is lent stands for no want of memory
+not_wanted : (lent : LentForm) (outcome : Outcome) → StandsFor lent outcome → is_want outcome ≡ false
+not_wanted (found part) outcome is = ap is_want is
+not_wanted (printed value) outcome (text, prints, is) = ap is_want is
+
+-- the reply by what is lent, and a run of the line
+says_lent : (n : ℕ) (state : State) (line : List ℕ) (command : Command) (lent : LentForm) → Says line command
+    → ((outcome : Outcome) → StandsFor lent outcome → IsStep state command outcome state) → (reply : List ℕ) → IsLentLine lent reply
+    → Runs n state (line ∷ []) reply false state
+says_lent n state line command lent says steps reply (outcome, stands, (text, is_reply, ended_is)) =
+    let P : List ℕ → Bool → Type 0 = λ written w. Runs n state (line ∷ []) written w state in
+    let runs = Runs-says n state state line text command outcome says (steps outcome stands) is_reply in
+    subst (λ written. P written false) (sym ended_is) (subst (P (ended text)) (not_wanted lent outcome stands) runs)
+
+pub returns-in-Some-clause-ok : goal.returns-in-Some-clause-ok
+returns-in-Some-clause-ok g c =
+    let says = rw c.in-Says.is at c.in_ok-read_line.ensures.reading in
+    answered c.write_lent.result _ _ (λ wanted (line, reply, sent, is).
+    let lent = lent_form c.in-Some.lent in
+    let runs = says_lent c.args.number _ c.args.line.now (command_of c.in-Says.call) lent says c.in-Some.ensures.step line reply in
+    (line, subst (λ (w : Bool). Runs c.args.number c.args.context.now (c.args.line.now ∷ []) line w c.args.context.now) (sym is) runs, sent))
+    c.write_lent.ensures.ok
+
+pub returns-in-Some-clause-err : goal.returns-in-Some-clause-err
+returns-in-Some-clause-err g c =
+    let says = rw c.in-Says.is at c.in_ok-read_line.ensures.reading in
+    line_stops c.write_lent.result _ _ _ _ _ _ (λ reply replies. (
+      _,
+      _,
+      says_lent c.args.number _ c.args.line.now (command_of c.in-Says.call) (lent_form c.in-Some.lent) says c.in-Some.ensures.step
+          reply replies,
+    )) c.write_lent.ensures.err
+
+pub returns-in-Some-clause-ran : goal.returns-in-Some-clause-ran
+returns-in-Some-clause-ran g c =
+    let says = rw c.in-Says.is at c.in_ok-read_line.ensures.reading in
+    line_ran c.write_lent.result _ _ _ (λ reply replies. (
+      _,
+      _,
+      says_lent c.args.number _ c.args.line.now (command_of c.in-Says.call) (lent_form c.in-Some.lent) says c.in-Some.ensures.step
+          reply replies,
+    )) c.write_lent.ensures.err
+
+pub returns-in-None-clause-ok : goal.returns-in-None-clause-ok
+returns-in-None-clause-ok g c =
     let says = rw c.in-Says.is at c.in_ok-read_line.ensures.reading in
     answered c.write_answer.result _ _ (λ wanted (line, reply, sent, is).
     let runs = says_stated c.args.number _ c.step.new.context c.args.line.now (command_of c.in-Says.call) c.step.result says c.step.ensures line reply in
     (line, subst (λ (w : Bool). Runs c.args.number c.args.context.now (c.args.line.now ∷ []) line w c.step.new.context) (sym is) runs, sent))
     c.write_answer.ensures.ok
 
-pub returns-in-Says-clause-err : goal.returns-in-Says-clause-err
-returns-in-Says-clause-err g c =
+pub returns-in-None-clause-err : goal.returns-in-None-clause-err
+returns-in-None-clause-err g c =
     let says = rw c.in-Says.is at c.in_ok-read_line.ensures.reading in
     line_stops c.write_answer.result _ _ _ _ _ _ (λ reply replies. (
       _,
@@ -54,8 +98,8 @@ returns-in-Says-clause-err g c =
           (command_of c.in-Says.call) c.step.result says c.step.ensures reply replies,
     )) c.write_answer.ensures.err
 
-pub returns-in-Says-clause-ran : goal.returns-in-Says-clause-ran
-returns-in-Says-clause-ran g c =
+pub returns-in-None-clause-ran : goal.returns-in-None-clause-ran
+returns-in-None-clause-ran g c =
     let says = rw c.in-Says.is at c.in_ok-read_line.ensures.reading in
     line_ran c.write_answer.result _ _ _ (λ reply replies. (
       _,

@@ -1,5 +1,5 @@
 -- What is sent to a room is taken by it, together.
-use Rattle.std.proofs.Common.{◌≡◌, ℕ, ◌+◌, ◌≤◌, inl, inr, List, [], ◌∷◌, length, length-append, sym, ap, subst, arith}
+use Rattle.std.proofs.Common.{◌≡◌, ℕ, inl, inr, List, [], ◌∷◌, length, length-append, sym, ap, subst, arith}
 use Rattle.std.specs.List.{FoldsTo, flat_map}
 use Rattle.tera_report.specs.Room.{RoomTakes, RoomFails, HasRoomFor}
 use Rattle.tera_report.specs.Sink.{Use, put, flush, bytes_put, Uses, Sends}

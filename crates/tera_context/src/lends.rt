@@ -1,0 +1,62 @@
+//! What a context lends in the place of an answer.
+ghost use Rattle.std.specs.Prelude.{◌≡◌, IfSome};
+ghost use Rattle.std.specs.Option.{option_copied, option_map};
+ghost use Rattle.tera_meaning.specs.Lookup;
+ghost use Rattle.tera_meaning.specs.Outcome.{Outcome};
+ghost use Rattle.tera_meaning.specs.Path;
+ghost use Rattle.tera_meaning.specs.State.{form_at};
+ghost use Rattle.tera_meaning.specs.Step.{IsStep};
+ghost use Rattle.tera_context.specs.Call.{command_of};
+ghost use Rattle.tera_context.specs.Lent.{lent_at, lent_form, StandsFor};
+
+use crate::call::{Call, Step};
+use crate::context::Context;
+use tera_values::Value;
+
+/// What a step finds, or what it prints, as the context holds it.
+#[derive(Debug, Drop)]
+pub enum Lent<'a> {
+    /// What is found, or nothing: the answer `Found`.
+    Found(Option<&'a Value>),
+    /// The value whose printed text is the answer `Text`.
+    Print(&'a Value),
+}
+
+/// What stands for the answer of a step that keeps nothing, lent: what `Get`, `Path` and `Attr`
+/// find, or nothing; what `Item` finds in a map at a text; and what `Print` prints. `None` of each
+/// other step, where there is nothing at that item, and where there is nothing to print: these are
+/// for `step`. Takes no memory.
+pub fn lend<'a>(context: &'a Context, step: &'a Step) -> Option<Lent<'a>>
+    ensures lent { option_map lent_form result ≡ lent_at context.now (command_of step.now) }
+    ensures step { IfSome result (λ lent. (outcome : Outcome) → StandsFor (lent_form lent) outcome
+        → IsStep context.now (command_of step.now) outcome context.now) }
+{
+    if step.into.is_some() {
+        return None;
+    }
+    match &step.call {
+        Call::Get { name } => Some(Lent::Found(context.get(name))),
+        Call::Path { of, path } => Some(Lent::Found(path_from(context, of, path))),
+        Call::Attr { of, attr } => Some(Lent::Found(attr_of(context, of, attr))),
+        Call::Item { of, item } => {
+            let part = attr_of(context, of, context.get(item)?.as_str()?)?;
+            Some(Lent::Found(Some(part)))
+        }
+        Call::Print { of } => Some(Lent::Print(context.get(of)?)),
+        _ => None,
+    }
+}
+
+// What a path leads to from the value of a name.
+fn path_from<'a>(context: &'a Context, of: &str, path: &'a str) -> Option<&'a Value>
+    ensures { option_copied result ≡ Path.path (form_at context.now of.now) path.now }
+{
+    context.get(of)?.get_from_path(path)
+}
+
+// What the value of a name has at a text.
+fn attr_of<'a>(context: &'a Context, of: &str, attr: &'a str) -> Option<&'a Value>
+    ensures { option_copied result ≡ Lookup.attr (form_at context.now of.now) attr.now }
+{
+    context.get(of)?.get_attr(attr)
+}
