@@ -7,10 +7,10 @@ ghost use Rattle.tera_meaning.specs.Printed.{printed_truth};
 ghost use Rattle.tera_meaning.specs.Tree.{array, items, members, object};
 ghost use Rattle.tera_report.specs.Errors.{IsOutOfMemory};
 ghost use Rattle.tera_report.specs.Room.{RoomTakes, RoomFails, IsDecided};
-ghost use Rattle.tera_report.specs.Sink.{OfSome, Puts};
+ghost use Rattle.tera_report.specs.Sink.{OfSome, Puts, PutsThese};
 ghost use Rattle.tera_report.specs.Watch.{WatchedTakes, WatchedFails};
 ghost use Rattle.tera_report.specs.Writer.{Breaks};
-ghost use Rattle.tera_values.specs.Key.{key_form, meaning_of_key};
+ghost use Rattle.tera_values.specs.Key.{key_form, meaning_of_key, shown_key};
 ghost use Rattle.tera_values.specs.Print.{PrintsItems, WritesInside, WritesPrinted};
 ghost use Rattle.tera_values.specs.Print.{printed_if_exact, PrintsPairs, PrintsPair};
 ghost use Rattle.tera_values.specs.Print.{PrintsKey, PrintsNothing};
@@ -140,12 +140,12 @@ pub(crate) fn put_value<S: Sink>(value: &Value, out: &mut S) -> Result<(), S::Fa
     match &value.inner {
         ValueInner::Undefined => Ok(()),
         ValueInner::None => Ok(()),
-        ValueInner::Bool(b) => out.put(truth_text(*b)),
+        ValueInner::Bool(b) => put_bare(truth_text(*b), out),
         ValueInner::U64(n) => put_integer(*n, out),
         ValueInner::I64(z) => put_integer(*z, out),
         ValueInner::U128(n) => put_integer(*n, out),
         ValueInner::I128(z) => put_integer(*z, out),
-        ValueInner::String(text, _) => out.put(text.as_str()),
+        ValueInner::String(text, _) => put_bare(text.as_str(), out),
         ValueInner::Array(items) => put_array(items.as_slice(), out),
         ValueInner::Bytes(bytes) => put_lossy(bytes.as_slice(), out),
         ValueInner::Map(all) => put_map(all, out),
@@ -163,8 +163,18 @@ fn put_inside<S: Sink>(value: &Value, out: &mut S) -> Result<(), S::Fault>
     }
 }
 
+// Puts a text as it is. It is not copied into `put_value`, nor are the next two, so that a number
+// costs no registers that only these save.
+#[inline(never)]
+fn put_bare<S: Sink>(text: &str, out: &mut S) -> Result<(), S::Fault>
+    ensures { PutsThese S.takes S.fails result text.now out.old out.new }
+{
+    out.put(text)
+}
+
 // Puts items between brackets.
 #[cycle(print)]
+#[inline(never)]
 fn put_array<S: Sink>(all: &[Value], out: &mut S) -> Result<(), S::Fault>
     ensures { Puts S.takes S.fails result
         (Prints (layout (array (items all.now)))) out.old out.new }
@@ -192,6 +202,7 @@ fn put_items<S: Sink>(items: &[Value], out: &mut S) -> Result<(), S::Fault>
 
 // Puts pairs between braces.
 #[cycle(print)]
+#[inline(never)]
 fn put_map<S: Sink>(map: &Map, out: &mut S) -> Result<(), S::Fault>
     ensures { Puts S.takes S.fails result
         (Prints (layout (object (members map.now)))) out.old out.new }
@@ -235,8 +246,17 @@ fn put_key<S: Sink>(key: &Key<'static>, out: &mut S) -> Result<(), S::Fault>
 {
     match key.as_str() {
         Some(text) => put_quoted(text, out),
-        None => key.print_to(out),
+        None => put_other_key(key, out),
     }
+}
+
+// Puts a key that is no text. It is not copied into `put_key`: most keys are texts.
+#[inline(never)]
+fn put_other_key<S: Sink>(key: &Key<'static>, out: &mut S) -> Result<(), S::Fault>
+    ensures { PutsThese S.takes S.fails result
+        (shown_key (meaning_of_key key.now)) out.old out.new }
+{
+    key.print_to(out)
 }
 
 // The word for a truth value.
