@@ -1,6 +1,6 @@
 -- The bytes of characters, turned where they stand.
-use Rattle.std.specs.Prelude.{◌≡◌, ◌⊎◌, ◌<◌, ◌≤◌, ◌+◌, ◌-◌, ℕ, zero, suc, true, ◌&&◌, List, [], ◌∷◌, ◌++◌, reverse, length, take, drop, get_or}
-use Rattle.std.proofs.Common.{refl, sym, ap, ap₂, ◌∙◌, subst, arith, inl, inr, append_assoc, append-nil}
+use Rattle.std.specs.Prelude.{◌≡◌, ◌<◌, ◌≤◌, ◌+◌, ◌-◌, ℕ, true, ◌&&◌, List, [], ◌∷◌, ◌++◌, reverse, length, take, drop, get_or}
+use Rattle.std.proofs.Common.{refl, sym, ap, ap₂, ◌∙◌, subst, arith, append_assoc, append-nil}
 use Rattle.std.proofs.lemmas.List.{reverse-append, length-reverse, length-append, length-take-le, length-drop, get_or-drop, get_or-take}
 use Rattle.std.proofs.lemmas.List.{take_at, drop_at, drop-drop, drop_all, take-append-drop}
 use Rattle.std.proofs.lemmas.List.{set-append_right, get_or-append_right, append_cancel_left, reverse-reverse}

@@ -1,4 +1,4 @@
-use Rattle.std.proofs.Common.{◌≡◌, ℕ, List, IfOk, subst, sym, ap, ◌∙◌, reverse}
+use Rattle.std.proofs.Common.{◌≡◌, ℕ, List, IfOk, subst, ap, ◌∙◌, reverse}
 use Rattle.std.specs.Str.{chars, encode_utf8_all}
 use Rattle.std.specs.String.{string_bytes}
 use Rattle.tera_scalars.proofs.TurnLemmas.{behind_left}

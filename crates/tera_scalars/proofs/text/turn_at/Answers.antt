@@ -1,4 +1,4 @@
-use Rattle.std.proofs.Common.{◌≡◌, ◌++◌, ◌≤◌, sym, ap, ◌∙◌, take, drop, arith, refl, length, swap, ◌+◌, List, ℕ}
+use Rattle.std.proofs.Common.{◌≡◌, ◌++◌, sym, ap, ◌∙◌, take, arith, refl, length, swap, ◌+◌, List, ℕ}
 use Rattle.std.specs.Char.{encode_utf8}
 use Rattle.std.proofs.lemmas.List.{length-take-le, take-append-drop}
 use Rattle.tera_scalars.proofs.TurnLemmas.{one_turned, few_turned, four_turned}

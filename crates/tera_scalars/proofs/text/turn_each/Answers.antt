@@ -1,6 +1,6 @@
-use Rattle.std.proofs.Common.{◌≡◌, ◌<◌, ◌≤◌, length, drop, sym, subst, arith}
-use Rattle.std.specs.Str.{IsUtf8, IsAscii}
-use Rattle.tera_scalars.proofs.TurnLemmas.{none_turned, others, same_length, turned_more, ascii_passed, all_turned}
+use Rattle.std.proofs.Common.{sym, subst, arith}
+use Rattle.std.specs.Str.{IsUtf8}
+use Rattle.tera_scalars.proofs.TurnLemmas.{none_turned, others, turned_more, ascii_passed, all_turned}
 use Rattle.tera_scalars.proofs.text.turn_each.Goals as goal
 
 pub pieces-init : goal.pieces-init

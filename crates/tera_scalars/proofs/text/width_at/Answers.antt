@@ -1,5 +1,5 @@
-use Rattle.std.proofs.Common.{◌≡◌, ◌<◌, ◌≤◌, ◌+◌, ℕ, drop, refl, arith}
-use Rattle.tera_scalars.proofs.TurnLemmas.{Spells, widths_at, spells_within}
+use Rattle.std.proofs.Common.{refl, arith}
+use Rattle.tera_scalars.proofs.TurnLemmas.{widths_at, spells_within}
 use Rattle.tera_scalars.proofs.text.width_at.Goals as goal
 
 pub returns-then-first-lt128-clause-spells : goal.returns-then-first-lt128-clause-spells
