@@ -4,3 +4,4 @@ mod LossyLemmas
 mod PlaceLemmas
 pub mod PositionLaws
 mod TextLemmas
+mod TurnLemmas
