@@ -163,8 +163,8 @@ fn put_inside<S: Sink>(value: &Value, out: &mut S) -> Result<(), S::Fault>
     }
 }
 
-// Puts a text as it is. It is not copied into `put_value`, nor are the next two, so that a number
-// costs no registers that only these save.
+// Puts a text as it is. This, `put_array` and `put_map` are not copied into `put_value`, so that a
+// number there costs no registers that only they save.
 #[inline(never)]
 fn put_bare<S: Sink>(text: &str, out: &mut S) -> Result<(), S::Fault>
     ensures { PutsThese S.takes S.fails result text.now out.old out.new }
