@@ -1,8 +1,10 @@
 -- Items that a walk takes one at a time.
 use Rattle.std.specs.Prelude.{◌≡◌, ◌≢◌, ◌<◌, ◌≤◌, ◌+◌, ◌-◌, ◌*◌, ◌^◌, min, ℕ, zero, suc, ℤ, pos, negsuc, int_lt, Bool, true, false, List, [], ◌∷◌, ◌++◌}
 use Rattle.std.specs.Prelude.{length, slice_get, Option, Some, Result, Ok, Err, IfOk, IfErr}
-use Rattle.std.proofs.Common.{refl, sym, ap, ◌∙◌, subst, arith, inl, inr, length-append, ltb-true}
+use Rattle.std.proofs.Common.{refl, sym, ap, ◌∙◌, subst, arith, inl, inr, length-append, ltb-true, reverse, take}
 use Rattle.std.proofs.lemmas.Bool.{cases_lt}
+use Rattle.std.proofs.lemmas.List.{length-reverse, take_more}
+use Rattle.std.proofs.lemmas.Option.{get_or_from_slice_get}
 use Rattle.std.specs.Str.{chars, encode_utf8_all}
 use Rattle.std.specs.Option.{unwrap_or}
 use Rattle.tera_report.specs.Errors.{Refuses}
@@ -73,6 +75,15 @@ module _ {X : Type 0} where
   copied xs ys made x y from until by place next inside fits is h same put on =
       subst (IsSoFar xs from until by next) (sym (put ∙ ap (λ z. ys ++ z ∷ []) same))
       (subst (λ p. IsSoFar xs from until by p (ys ++ x ∷ [])) (sym on) (one_more xs ys x from until by place inside fits is h))
+
+  -- a copy of the next one from the back was put
+  pub last_copied : (xs ys made : List X) (x y : X) (place : ℕ) → place < length xs → slice_get (reverse xs) place ≡ Some x → y ≡ x
+      → ys ≡ take place (reverse xs) → made ≡ ys ++ y ∷ [] → made ≡ take (place + 1) (reverse xs)
+  last_copied xs ys made x y place inside is same so_far put =
+      let within : place < length (reverse xs) = omega (arith, length-reverse xs) in
+      put ∙ (λ j. so_far j ++ same j ∷ [])
+      ∙ ap (λ z. take place (reverse xs) ++ z ∷ []) (sym (get_or_from_slice_get (reverse xs) place x x is))
+      ∙ sym (take_more (reverse xs) place x within)
 
   pub all_so_far : (xs ys : List X) (from until by place : ℕ) → until ≤ place → IsSoFar xs from until by place ys
       → IsStrided xs from until by ys

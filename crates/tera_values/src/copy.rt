@@ -1,10 +1,10 @@
 //! Copies of values, deep.
-ghost use Rattle.std.specs.Prelude.{◌≡◌, false, [], IfOk, IfErr, IsOk};
+ghost use Rattle.std.specs.Prelude.{◌≡◌, false, [], IfOk, IfErr, IsOk, string_bytes};
 ghost use Rattle.tera_meaning.specs.Read.{iterable_in};
 ghost use Rattle.tera_report.specs.Errors.{IsOutOfMemory};
 
-use crate::Value;
 use crate::value::ValueInner;
+use crate::{Map, Value};
 use std::alloc::{AllocError, Global};
 use tera_report::TeraResult;
 
@@ -24,7 +24,9 @@ impl Value {
 
     /// A clone, with an error that says nothing but want of memory: so what is answered is small.
     ///
-    /// Takes memory as `clone` does.
+    /// Takes memory as `clone` does. It is inlined, so that what takes no memory is copied with no
+    /// call.
+    #[inline(always)]
     #[cycle(copy)]
     pub fn copy(&self, alloc: Global) -> Result<Value, AllocError>
         ensures ok { IfOk result (λ v. v ≡ self.now) }
@@ -39,17 +41,18 @@ impl Value {
             ValueInner::U128(n) => ValueInner::U128(*n),
             ValueInner::I128(z) => ValueInner::I128(*z),
             ValueInner::String(text, safe) => {
-                ValueInner::String(String::from_str(alloc, text.as_str())?, *safe)
+                ValueInner::String(text_copy(alloc, text.as_str())?, *safe)
             }
             ValueInner::Array(all) => ValueInner::Array(copies(alloc, all.as_slice())?),
-            ValueInner::Bytes(held) => ValueInner::Bytes(held.as_slice().to_vec(alloc)?),
-            ValueInner::Map(all) => ValueInner::Map(all.copy(alloc)?),
+            ValueInner::Bytes(held) => ValueInner::Bytes(bytes_copy(alloc, held.as_slice())?),
+            ValueInner::Map(all) => ValueInner::Map(map_copy(alloc, all)?),
         };
         Ok(Value { inner })
     }
 }
 
 /// A copy of each item, in their order.
+#[inline(never)]
 #[cycle(copy)]
 pub(crate) fn copies(alloc: Global, all: &[Value]) -> Result<Vec<Value>, AllocError>
     ensures ok { IfOk result (λ v. v.items ≡ all.now) }
@@ -60,4 +63,29 @@ pub(crate) fn copies(alloc: Global, all: &[Value]) -> Result<Vec<Value>, AllocEr
         made.push_reserved(value.copy(alloc)?);
     }
     Ok(made)
+}
+
+// A copy of a text. What takes memory stands apart, so that `copy` stays short.
+#[inline(never)]
+fn text_copy(alloc: Global, text: &str) -> Result<String, AllocError>
+    ensures { IfOk result (λ made. string_bytes made ≡ text.now) }
+{
+    String::from_str(alloc, text)
+}
+
+// A copy of bytes.
+#[inline(never)]
+fn bytes_copy(alloc: Global, held: &[u8]) -> Result<Vec<u8>, AllocError>
+    ensures { IfOk result (λ made. made.items ≡ held.now) }
+{
+    held.to_vec(alloc)
+}
+
+// A copy of a map.
+#[inline(never)]
+#[cycle(copy)]
+fn map_copy(alloc: Global, all: &Map) -> Result<Map, AllocError>
+    ensures { IfOk result (λ made. made ≡ all.now) }
+{
+    all.copy(alloc)
 }

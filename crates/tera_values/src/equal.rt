@@ -11,14 +11,17 @@ use crate::compare::order;
 use crate::value::ValueInner;
 use crate::{Map, Value};
 
-/// Whether two values mean the same.
+/// Whether two values mean the same. Numbers that are both held in the same 64 bits are compared
+/// with no call.
 #[inline(always)]
 #[cycle(equal)]
 pub(crate) fn equal(left: &Value, right: &Value) -> bool
     ensures { result ≡ same (meaning left.now) (meaning right.now) }
 {
-    match &left.inner {
-        ValueInner::Map(all) => map_equal(all, right),
+    match (&left.inner, &right.inner) {
+        (ValueInner::U64(n), ValueInner::U64(m)) => n == m,
+        (ValueInner::I64(z), ValueInner::I64(y)) => z == y,
+        (ValueInner::Map(all), _) => map_equal(all, right),
         _ => order(left, right).is_eq(),
     }
 }

@@ -10,7 +10,6 @@ ghost use Rattle.tera_report.specs.Refusal.{Refusal};
 ghost use Rattle.tera_scalars.specs.Positions.{turned};
 
 use crate::Value;
-use crate::copy::copies;
 use crate::refused::{not_reversible, not_sliceable, step_of_zero};
 use crate::value::ValueInner;
 use std::alloc::{AllocError, Global};
@@ -125,8 +124,10 @@ fn reversed_items(alloc: Global, all: &[Value]) -> Result<Vec<Value>, AllocError
     ensures ok { IfOk result (λ ys. ys.items ≡ reverse all.now) }
     ensures succeeds { all.now ≡ [] → IsOk result }
 {
-    let mut made = copies(alloc, all)?;
-    made.reverse();
+    let mut made = Vec::with_capacity(alloc, all.len())?;
+    for place in 0..all.len() {
+        made.push_reserved(item_from(all, true, place).copy(alloc)?);
+    }
     Ok(made)
 }
 
@@ -153,6 +154,7 @@ fn strided_items(
 }
 
 // The item so many behind the first one, or before the last one.
+#[inline(always)]
 fn item_from(all: &[Value], backwards: bool, at: usize) -> &Value
     requires { at < length all.now }
     ensures { slice_get (turned backwards all.now) at ≡ Some result.now }

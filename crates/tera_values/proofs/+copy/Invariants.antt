@@ -4,10 +4,10 @@ use Rattle.tera_meaning.specs.Tree.{items, members, depth, items_depth, members_
 use Rattle.tera_values.proofs.+copy.Given as goal
 
 abbrev pub decreases-value::Value::copy : goal.decreases-value::Value::copy
-decreases-value::Value::copy l = 3 * depth l.self.now + 1
+decreases-value::Value::copy l = 4 * depth l.self.now + 1
 
 abbrev pub decreases-copy::copies : goal.decreases-copy::copies
-decreases-copy::copies l = 3 * items_depth (items l.all.now) + 2
+decreases-copy::copies l = 4 * items_depth (items l.all.now) + 2
 
 -- those so far are copied, and there is room for the others
 abbrev pub invariant-copy::copies-loop-value : goal.invariant-copy::copies-loop-value
@@ -19,4 +19,7 @@ invariant-copy::copies-loop-value l =
     }
 
 abbrev pub decreases-map::Map::copy : goal.decreases-map::Map::copy
-decreases-map::Map::copy l = 3 * members_depth (members l.self.now) + 3
+decreases-map::Map::copy l = 4 * members_depth (members l.self.now) + 3
+
+abbrev pub decreases-copy::map_copy : goal.decreases-copy::map_copy
+decreases-copy::map_copy l = 4 * members_depth (members l.all.now) + 4

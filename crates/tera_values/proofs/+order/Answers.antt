@@ -17,8 +17,8 @@ compare::array_order-returns-in-Some t c =
     let right = array_of_items c.args.right.now c.in-Some.all.now c.in-Some.ensures in
     c.items_order.ensures ∙ ap (λ v. compare (meaning (array (items c.args.left.now))) (meaning v)) right
 
-pub compare::items_order-order-first-requires : goal.compare::items_order-order-first-requires
-compare::items_order-order-first-requires t c =
+pub compare::items_order-item_order-first-requires : goal.compare::items_order-item_order-first-requires
+compare::items_order-item_order-first-requires t c =
     let item = c.index-left-place in
     let inside : c.loop-place.place < length c.args.left.now = omega (arith, c.loop-place-test.true, c.min-place-end.ensures) in
     let less_deep = depth_at c.args.left.now c.loop-place.place item.result inside item.is in

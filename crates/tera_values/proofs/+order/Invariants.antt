@@ -13,6 +13,9 @@ decreases-compare::order l = 6 * depth l.left.now + 1
 abbrev pub decreases-compare::array_order : goal.decreases-compare::array_order
 decreases-compare::array_order l = 6 * items_depth (items l.left.now) + 6
 
+abbrev pub decreases-compare::item_order : goal.decreases-compare::item_order
+decreases-compare::item_order l = 6 * depth l.left.now + 2
+
 abbrev pub decreases-compare::items_order : goal.decreases-compare::items_order
 decreases-compare::items_order l = 6 * items_depth (items l.left.now) + 5
 
