@@ -17,8 +17,8 @@ use std::alloc::{AllocError, Global};
 use std::str::Chars;
 use tera_report::words::characters;
 
-/// The characters of a text in the opposite order. All bytes are turned at once, after those of each
-/// character past ASCII were turned where they stand, so that they come out in order.
+/// The characters of a text in the opposite order. All bytes are turned at once, after those of
+/// each character past ASCII were turned where they stand, so that they come out in order.
 ///
 /// Takes memory for the answer in one step; the only refusal is want of it.
 pub fn reversed_text(alloc: Global, text: &str) -> Result<String, AllocError>
