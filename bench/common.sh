@@ -17,7 +17,8 @@ build_replay() {
     program=$top/crates/tera_replay/out/tera_replay
 }
 
-# Builds bench/NAME/main.rt.in over these libraries, which are proved first, in a folder of its own.
+# Builds bench/NAME/main.rt.in over these libraries, in a folder of its own: what `./replay --prove` has proved of them is
+# taken as it is, and the rest is proved first.
 build_over() {
     name=bench_$1
     source=$top/bench/$1/main.rt.in
@@ -25,9 +26,9 @@ build_over() {
     mkdir -p "$work/crates/$name/src"
     git -C "$work" init -q
     for crate in "$@"; do
-        mkdir "$work/crates/$crate"
-        for part in src specs proofs; do
-            cp -r "$top/crates/$crate/$part" "$work/crates/$crate"
+        mkdir -p "$work/crates/$crate/out"
+        for part in src specs proofs out/rlib; do
+            [ ! -d "$top/crates/$crate/$part" ] || cp -r "$top/crates/$crate/$part" "$work/crates/$crate/$part"
         done
         grep "^$crate:" "$top/crates.txt" >>"$work/crates.txt"
     done

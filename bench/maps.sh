@@ -1,6 +1,6 @@
 #!/bin/sh
 # Instructions a key of comparing, cloning, looking up, printing and building maps of text keys, and of cloning an array.
-# usage: bench/maps.sh   (proves the libraries first, in a folder of its own)
+# usage: bench/maps.sh   (in a folder of its own; what is not proved of the libraries is proved first)
 . "$(dirname "$0")/common.sh"
 build_over maps tera_report tera_meaning tera_scalars tera_values
 

@@ -1,6 +1,6 @@
 #!/bin/sh
 # Instructions a byte of slices and of reversal, on texts of one letter: of one byte, of two and of three.
-# usage: bench/slices.sh   (proves the libraries first, in a folder of its own)
+# usage: bench/slices.sh   (in a folder of its own; what is not proved of the libraries is proved first)
 . "$(dirname "$0")/common.sh"
 build_over slices tera_report tera_meaning tera_scalars tera_values
 
