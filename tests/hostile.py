@@ -181,6 +181,9 @@ def deep_questions(lines):
 class ListRuns(refused.Runs):
     """Lists that are run one after another; a request is refused in the runs themselves, or where a list is made."""
 
+    # `run` gives what is found or printed away
+    lends = False
+
     def __init__(self, lists):
         self.lists = lists
         self.lines = [plain(line) for one in lists for line in one]

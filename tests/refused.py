@@ -38,13 +38,9 @@ MANY = ", ".join(f'"n{number:02}": [{number}, s"x"]' for number in range(60, 0, 
 CHANGES = ["remove n", "remove absent", "extend {}", f'extend {{{MANY}, "t": "another text, longer than twenty bytes"}}',
            "mark_safe t", "set l [[[1]]]", 'set m {"k": 1, "j": "no less than twenty bytes", "k": 2}']
 # no line of these takes memory, wherever the script stands
-FREE = ("has", "len", "truthy", "kind", "is_safe", "eq", "cmp", "try_cmp", "remove", "print")
-# nor does one that begins so and keeps nothing: what it finds is lent to the reply
-LENT = ("get ", "path ", "attr ", "item m key")
-
-
-def is_lent(line):
-    return line.startswith(LENT) and "-> " not in line
+FREE = ("has", "len", "truthy", "kind", "is_safe", "eq", "cmp", "try_cmp", "remove")
+# nor does one of the program that begins so and keeps nothing: what it finds or prints is lent to the reply
+LENT = ("get ", "path ", "attr ", "item m key", "print ")
 
 
 def every_call():
@@ -73,6 +69,9 @@ def answers(lines, refused=None):
 
 class Runs:
     """The runs of one script, and which of its steps were seen to want memory."""
+
+    # whether what is found or printed, and kept nowhere, is lent
+    lends = True
 
     def __init__(self, program, library, lines):
         self.program, self.library, self.lines = program, library, lines
@@ -117,17 +116,20 @@ class Runs:
 
     def missing(self):
         """The lines that have to want memory and did not, and those that may not and did."""
-        free = [line.split()[0] in FREE or is_lent(line) for line in self.lines]
+        free = [line.split()[0] in FREE or self.is_lent(line) for line in self.lines]
         held = [line for at, line in enumerate(self.lines) if self.must_want(at, line) and at not in self.wanting]
         return held + [line for at, line in enumerate(self.lines) if free[at] and at in self.wanting]
+
+    def is_lent(self, line):
+        return self.lends and line.startswith(LENT) and "-> " not in line
 
     def must_want(self, at, line):
         """What is copied, shown as a text of its own, or refused with a text takes memory for it."""
         word, answer = line.split()[0], self.whole[at]
         found = self.whole[at - 1] if "-> " in line else answer  # the line before finds the same, and keeps nothing
-        shows = word in ("escape", "fields", "walk") and answer not in ("text ", "fields []", "walk []")
-        copies = word in ("get", "path", "attr", "item", "slice", "reverse") and '"' in found and not is_lent(line)
-        return shows or copies or answer.startswith("error: ")
+        shows = word in ("print", "escape", "fields", "walk") and answer not in ("text ", "fields []", "walk []")
+        copies = word in ("get", "path", "attr", "item", "slice", "reverse") and '"' in found
+        return (shows or copies) and not self.is_lent(line) or answer.startswith("error: ")
 
 
 def main():
