@@ -7,18 +7,23 @@ function, with its type and trait as the prover spells them ('Value.format', 'Va
 another item. An edit of a definition or of a macro has a line 'only: PATH' too: the function that it makes false, such as
 a law. Its file may stand in specs/, FUNCTION is PATH's, and the edit is tried alone, on that function.
 
-A check takes an edit of each of many functions, and the edits of a large crate are tried in several lists at once. An
-edit is refused where a goal of its function's contract is not proved: a return's, or an invariant's, but not that a sum
-fits, that a call is allowed or that a loop ends. What a shared check does not show to be refused is tried alone, and
-then from nothing. Where a proof by hand names what the edit took away, it is tried without that part; a goal that is
+A check takes an edit of each of many functions. An edit is refused where a goal of its function's contract is not proved: a
+return's, or an invariant's, but not that a sum fits, that a call is allowed or that a loop ends. What a shared check does not
+show to be refused is tried alone, and then from nothing. Where a proof by hand names what the edit took away, it is tried without that part; a goal that is
 then open counts only where the prover finds values at which it is false, or where it is proved of the right body
 without that part.
 
 Prints a line 'pass ..' or 'FAIL ..' for each edit, and 'wrong bodies: end'. It uses the libraries that `rt ci` built, and
 begins with a copy of the work that checks kept in out/. With `--gate LOG` it runs beside an `rt ci` that writes LOG: the edits
 of a crate are tried once the log says that it is proved, in half of the lanes until the log has its last line.
+
+As `rt ci` keeps what it proved, this keeps on the machine which edits were refused, by a sum of all that the answer stands
+on: the kit, this script, the crate's files and those of all crates below it, and the edit. Such an edit is not tried again,
+and its line says so. `--anew` tries all.
 """
 import argparse
+import contextlib
+import hashlib
 import importlib.machinery
 import importlib.util
 import os
@@ -48,6 +53,10 @@ UNCOVERED = re.compile(r"borrow checker (?:does not cover|has no part)")
 RETURNS = re.compile(r"(?:[\w:]+-)?returns(?:-|$)")
 KEPT = re.compile(r"-(?:init|preserved)(?:-|$)|(?:^|-)invariant_of-")
 SAFE = re.compile(r"(?:^|-)(?:overflow_|nonzero_|(?:slice_|offset_)?bounds-)|-(?:requires|smaller)(?:-|$)")
+
+
+MANY = 50  # the edits of a check that two jobs share
+MONTH = 30 * 24 * 3600  # how many seconds an answer that no run asks for is kept
 
 
 def kit():
@@ -277,6 +286,39 @@ class Said:
         return next(cause for cause in causes if causes[cause])
 
 
+class Kept:
+    """The goals that edits were refused by in earlier runs on this machine, each in a file whose name is the sum of all that it
+    stands on. A crate whose files change while it is looked at keeps nothing."""
+
+    def __init__(self, is_anew):
+        home = os.environ.get("XDG_CACHE_HOME") or os.path.expanduser("~/.cache")
+        self.at, self.is_anew, self.judge = f"{home}/dithvong/wrong", is_anew, read(os.path.abspath(__file__))
+        with contextlib.suppress(OSError):
+            for it in os.scandir(self.at):
+                if it.stat().st_mtime < time.time() - MONTH:
+                    os.unlink(it.path)
+
+    def place(self, edit, stamp):
+        told = repr((self.judge, stamp, edit.name, edit.file, edit.changes, edit.breaks))
+        return f"{self.at}/{hashlib.sha256(told.encode()).hexdigest()}"
+
+    def goal(self, edit, stamp):
+        """The goal that the edit was refused by, if it was."""
+        if self.is_anew or edit.fault:
+            return None
+        with contextlib.suppress(OSError):
+            os.utime(self.place(edit, stamp))
+            return read(self.place(edit, stamp))
+        return None
+
+    def keep(self, edit, stamp, goal):
+        with contextlib.suppress(OSError):
+            os.makedirs(self.at, 0o700, exist_ok=True)
+            with tempfile.NamedTemporaryFile("w", dir=self.at, delete=False, encoding="utf-8") as it:
+                it.write(goal)
+            os.replace(it.name, self.place(edit, stamp))
+
+
 def parts(lost):
     return ", ".join(sorted({goal or file for file, goal in lost}))
 
@@ -300,16 +342,17 @@ def left_out(text, goals):
 
 
 def flags_of(edits):
-    """The flags of a check of the edits' functions, or of the whole crate where an edit stands in none."""
+    """The flags of a check of the edits' functions, or of the whole crate where an edit stands in none. Two jobs share what
+    takes minutes."""
     only = [f"--only={it.only}" for it in edits if it.only]
-    return ["--jobs", "1", *(dict.fromkeys(only) if len(only) == len(edits) else [])]
+    return ["--jobs", "2" if len(edits) > MANY else "1", *(dict.fromkeys(only) if len(only) == len(edits) else [])]
 
 
 class Trial:
     """The checks of a crate's edits, each over the work of those before it, and how many edits are refused and are not."""
 
     def __init__(self, rt, crate, kept, told):
-        self.rt, self.crate, self.kept, self.told, self.counts = rt, crate, kept, told, [0, 0]
+        self.rt, self.crate, self.kept, self.told, self.counts, self.refused = rt, crate, kept, told, [0, 0], []
 
     def checked(self, title, edits, proofs=None):
         """The lines of a check of the edits' functions, or of the whole crate where an edit stands in none."""
@@ -323,6 +366,7 @@ class Trial:
 
     def settle(self, edit, goals, fault):
         self.counts[not goals] += 1
+        self.refused += [(edit, goals[0])] if goals else []
         print(f"pass {edit.name} is refused by {goals[0]}" if goals else f"FAIL {edit.name}: {fault}", flush=True)
 
     def run(self, edits):
@@ -383,13 +427,6 @@ def edits_below(folder, crate):
     return [Edit(it, folder, crate) for it in paths]
 
 
-def shares(edits, most=200):
-    """The edits in as few lists of about that many as can be, those of one function in one list."""
-    functions = [*dict.fromkeys(os.path.dirname(it.path) for it in edits)]
-    parts = -(-len(edits) // most)
-    return [[it for it in edits if functions.index(os.path.dirname(it.path)) % parts == part] for part in range(parts)]
-
-
 class Gate:
     """A run of `rt ci` beside this one, by its log; or none, and then all crates are proved already. What an earlier run
     on this machine has proved is kept, and so is proved."""
@@ -415,35 +452,44 @@ class Gate:
 
 def tried(rt, edits, given):
     """Tries the crates' edits side by side, and returns for each list of them how many are refused and how many are not."""
-    gate = Gate(given.gate, rt.processors())
+    gate, earlier = Gate(given.gate, rt.processors()), Kept(given.anew)
 
     def counted(crate, some, kept):
+        stamp = crate.stamp()
+        goals = {it: earlier.goal(it, stamp) for it in some}
+        for edit in filter(goals.get, some):
+            print(f"pass {edit.name} is refused by {goals[edit]}, as an earlier run on this machine saw", flush=True)
+        left = [it for it in some if not goals[it]]
+        refused, failed = counted_anew(crate, left, kept, stamp) if left else (0, 0)
+        return [len(some) - len(left) + refused, failed]
+
+    def counted_anew(crate, some, kept, stamp):
         if given.gate and not gate.proves(crate):
             print(f"FAIL {crate.name}: it is not proved, so its {len(some)} wrong bodies were not tried", flush=True)
             return [0, len(some)]
         while not gate.has_ended():
             if gate.lanes.acquire(timeout=2):
                 try:
-                    return counted_now(crate, some, kept)
+                    return counted_now(crate, some, kept, stamp)
                 finally:
                     gate.lanes.release()
-        return counted_now(crate, some, kept)
+        return counted_now(crate, some, kept, stamp)
 
-    def counted_now(crate, some, kept):
+    def counted_now(crate, some, kept, stamp):
         if not os.path.isdir(kept) and os.path.isdir(f"{crate.folder}/out/incremental"):
             shutil.copytree(f"{crate.folder}/out/incremental", kept)
         os.makedirs(kept, exist_ok=True)
         trial = Trial(rt, crate, kept, given.told)
         trial.run(some)
+        for edit, goal in trial.refused if crate.stamp() == stamp else ():
+            earlier.keep(edit, stamp, goal)
         return trial.counts
 
     with tempfile.TemporaryDirectory(prefix="wrong-") as room, ThreadPoolExecutor(rt.processors()) as lanes:
         above = os.path.abspath(given.kept) if given.kept else room
-        lists = [(crate, part, some) for crate in edits for part, some in enumerate(shares(edits[crate]))]
-        if given.gate:
-            # the crates that are proved first
-            lists.sort(key=lambda it: len(it[0].below()))
-        counts = [lanes.submit(counted, crate, some, f"{above}/{crate.name}-{part}") for crate, part, some in lists]
+        # beside a gate, the crates that are proved first
+        crates = sorted(edits, key=lambda it: len(it.below())) if given.gate else edits
+        counts = [lanes.submit(counted, it, edits[it], f"{above}/{it.name}") for it in crates]
         return [it.result() for it in counts]
 
 
@@ -454,6 +500,7 @@ def main():
     words.add_argument("--edit", default="", metavar="WORD", help="just the edits whose paths have this word")
     words.add_argument("--kept", help="a folder in which work is kept between runs")
     words.add_argument("--gate", metavar="LOG", default="", help="what a run of `rt ci` beside this one prints")
+    words.add_argument("--anew", action="store_true", help="try again what an earlier run on this machine saw refused")
     words.add_argument("--told", help="a file to which what the prover said is appended")
     given = words.parse_args()
     os.chdir(os.path.dirname(os.path.dirname(os.path.abspath(__file__))))
