@@ -56,7 +56,8 @@ pub record Goes (old : Place) (bytes text : List ℕ) (new : Place) : Type 0 whe
   pub wanted_is : new.wanted ≡ (old.wanted || wanted)
   pub runs : Runs old.number old.state (map without_return lines) text wanted new.state
 
--- The same, up to a bad line, of which this is the report.
+-- From a place these bytes were read up to a bad line, of which this is the report, and answered by
+-- the text.
 pub record StopsAtBad (old : Place) (bytes : List ℕ) (report : Report) (text : List ℕ)
     : Type 0 where
   pub read : List ℕ
@@ -67,7 +68,7 @@ pub record StopsAtBad (old : Place) (bytes : List ℕ) (report : Report) (text :
   pub bad : IsBad (without_return place.part)
   pub report_is : report ≡ line_report (bad_at place.number (without_return place.part))
 
--- The same of a beginning of the bytes.
+-- From a place a beginning of these bytes was read, and answered by the text.
 pub record Begins (old : Place) (bytes : List ℕ) (text : List ℕ) : Type 0 where
   pub read : List ℕ
   pub unread : List ℕ

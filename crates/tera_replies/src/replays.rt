@@ -50,7 +50,8 @@ pub fn replay<S: Source + Drop, W: Writer, E: Writer>(
     replay_from(alloc, &mut input, &mut watched_out, &mut watched_err)
 }
 
-/// The same of any source and any sinks.
+/// Answers the script that a source gives, as `replay` does that of a reader; answers and reports
+/// go to any sinks.
 pub fn replay_from<S: Source, W: Sink, E: Sink>(
     alloc: Global,
     input: &mut S,

@@ -98,7 +98,7 @@ fn quotient(left: i128, right: i128) -> Result<i128, NoResult>
     left.checked_div_euclid(right).ok_or(NoResult::NotExact)
 }
 
-// Its remainder.
+// The remainder of a Euclidean division.
 fn remainder(left: i128, right: i128) -> Result<i128, NoResult>
     ensures { told remainder left right result ≡ computed remainder left right }
 {

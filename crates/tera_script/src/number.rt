@@ -83,7 +83,7 @@ pub(crate) fn take_short(bytes: &[u8]) -> Option<(Integer, &[u8])>
     }
 }
 
-// The same behind a sign.
+// The number of these digits, with a minus before them or none, and the bytes behind it.
 fn short_number(minus: bool, bytes: &[u8]) -> Option<(Integer, &[u8])>
     ensures number { IfSome result (λ found.
         unsigned_in minus (front is_word_byte bytes.now) ≡ Some (integer_held found.0)) }
