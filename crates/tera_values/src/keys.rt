@@ -13,11 +13,9 @@ use indexmap::{IndexSet, set};
 use std::alloc::{AllocError, Global};
 use std::{mem, vec};
 
-/// How many keys are looked up one after another: so few are found as soon without a hash.
-const FEW: usize = 16;
-
-/// For how many keys and values the first of them makes room.
-pub(crate) const FIRST: usize = 8;
+/// How many keys are looked up one after another: so few are found as soon without a hash. The first
+/// of them makes room for all, and for their values.
+pub(crate) const FEW: usize = 12;
 
 /// The keys of a map, in their order.
 #[derive(Drop)]
@@ -161,7 +159,7 @@ fn put_in(held: &mut IndexSet<Key<'static>>, key: Key<'static>) -> Result<(usize
 pub(crate) fn first_key(alloc: Global, key: Key<'static>) -> Result<Keys, AllocError>
     ensures { IfOk result (λ made. keys_held made ≡ key.entry ∷ []) }
 {
-    let mut few = Vec::with_capacity(alloc, FIRST)?;
+    let mut few = Vec::with_capacity(alloc, FEW)?;
     few.push_reserved(key);
     few_of(alloc, few)
 }
