@@ -1,11 +1,11 @@
 -- From the code's maps to pair lists.
-use Rattle.std.specs.Prelude.{◌≡◌, Bool, List, [], ◌∷◌, length, map}
+use Rattle.std.specs.Prelude.{◌≡◌, ℕ, Bool, List, [], ◌∷◌, length, map}
 use Rattle.std.specs.Coded.{Coded, coded×, coded_list}
 use Rattle.std.specs.List.{IsDistinct}
 use Rattle.std.specs.Ordering.{on, eq_by_cmp}
 use Rattle.std.specs.Vec.Iter.{into_iter_items}
 use Rattle.tera_meaning.specs.Form.{Form}
-use Rattle.tera_meaning.specs.KeyMeaning.{KeyForm, key_order}
+use Rattle.tera_meaning.specs.KeyMeaning.{KeyForm, key_order, text_key}
 use Rattle.tera_meaning.specs.Stored.{coded_form, coded_integer, coded_key, coded_key_text}
 use Rattle.tera_values.specs.Key.{key_form, meaning_of_key}
 use Rattle.tera_values.specs.declared.key.Key.{Key}
@@ -17,6 +17,10 @@ use Rattle.tera_values.specs.declared.keys.OwnKeys.TheVariants.{Few as FewLeft, 
 -- whether two keys are equal
 abbrev pub keys_tie : Key → Key → Bool
 keys_tie = on meaning_of_key (eq_by_cmp key_order)
+
+-- whether a key is this text
+abbrev pub is_text_key : List ℕ → Key → Bool
+is_text_key t k = eq_by_cmp key_order (text_key t) (meaning_of_key k)
 
 -- the keys of a list or of a set
 abbrev pub keys_held : Keys → List Key

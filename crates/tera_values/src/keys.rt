@@ -6,7 +6,7 @@ ghost use Rattle.std.specs.List.{IsDistinct, list_any, position_or_len};
 ghost use Rattle.std.specs.Ordering.{eq_by_cmp};
 ghost use Rattle.indexmap.specs.IndexSet.{insert_key, spare};
 ghost use Rattle.tera_meaning.specs.KeyMeaning.{key_order, text_key};
-ghost use Rattle.tera_values.specs.Map.{keys_tie, keys_held, keys_left, AreKeysLike};
+ghost use Rattle.tera_values.specs.Map.{keys_tie, is_text_key, keys_held, keys_left, AreKeysLike};
 
 use crate::Key;
 use indexmap::{IndexSet, set};
@@ -34,25 +34,45 @@ pub(crate) fn place_of(keys: &Keys, key: &Key<'_>) -> Option<usize>
     match keys {
         Keys::Empty => None,
         Keys::Few(few) => place_among(few.as_slice(), key),
-        Keys::Many(many) => many.get_index_of(key),
+        Keys::Many(many) => place_in(many, key),
     }
 }
 
-// The same, among few keys.
+// The same, in a set. It stands apart, so that a look-up among few keys stays short.
+#[inline(never)]
+fn place_in(many: &IndexSet<Key<'static>>, key: &Key<'_>) -> Option<usize>
+    ensures { result ≡ position (keys_tie key.now) many.now.keys }
+{
+    many.get_index_of(key)
+}
+
+// The same, among few keys. Most are texts.
 fn place_among(few: &[Key<'static>], key: &Key<'_>) -> Option<usize>
     ensures { result ≡ position (keys_tie key.now) few.now }
 {
-    few.iter().position(|held| is_key(key, held))
+    match key {
+        Key::String(text) => place_of_text(few, text.as_str()),
+        Key::Str(text) => place_of_text(few, *text),
+        _ => few.iter().position(|held| key == held),
+    }
 }
 
-// Whether two keys are equal. Most are texts.
-fn is_key(key: &Key<'_>, held: &Key<'static>) -> bool
-    ensures { result ≡ keys_tie key.now held.now }
+// The place of the key that is this text.
+fn place_of_text(few: &[Key<'static>], text: &str) -> Option<usize>
+    ensures { result ≡ position (is_text_key text.now) few.now }
 {
-    match (key, held) {
-        (Key::String(text), Key::String(other)) => is_text(text.as_str(), other.as_str()),
-        (Key::Str(text), Key::String(other)) => is_text(*text, other.as_str()),
-        _ => key == held,
+    few.iter().position(|held| is_text_key(text, held))
+}
+
+// Whether a key is this text.
+#[inline(always)]
+fn is_text_key(text: &str, held: &Key<'static>) -> bool
+    ensures { result ≡ is_text_key text.now held.now }
+{
+    match held {
+        Key::String(other) => is_text(text, other.as_str()),
+        Key::Str(other) => is_text(text, *other),
+        _ => false,
     }
 }
 
