@@ -4,6 +4,7 @@ mod CopyLemmas
 mod DecidedParts
 mod EqualLemmas
 mod FieldLemmas
+mod KeyLemmas
 mod LookupLemmas
 pub mod PartsLaws
 mod PathLemmas

@@ -1,26 +1,37 @@
 -- From the code's maps to pair lists.
-use Rattle.std.specs.Prelude.{◌≡◌, Bool, List, [], ◌∷◌, length, map, Option, None}
-use Rattle.std.specs.Prelude.{Some}
-use Rattle.std.specs.Global.{Box}
+use Rattle.std.specs.Prelude.{◌≡◌, ℕ, Bool, List, [], ◌∷◌, length, map}
 use Rattle.std.specs.Coded.{Coded, coded×, coded_list}
-use Rattle.std.specs.HashSet.{HashSet}
 use Rattle.std.specs.List.{IsDistinct}
 use Rattle.std.specs.Ordering.{on, eq_by_cmp}
+use Rattle.std.specs.Vec.Iter.{into_iter_items}
 use Rattle.tera_meaning.specs.Form.{Form}
-use Rattle.tera_meaning.specs.KeyMeaning.{KeyForm, key_order}
+use Rattle.tera_meaning.specs.KeyMeaning.{KeyForm, key_order, text_key}
 use Rattle.tera_meaning.specs.Stored.{coded_form, coded_integer, coded_key, coded_key_text}
 use Rattle.tera_values.specs.Key.{key_form, meaning_of_key}
 use Rattle.tera_values.specs.declared.key.Key.{Key}
+use Rattle.tera_values.specs.declared.keys.Keys.{Keys}
+use Rattle.tera_values.specs.declared.keys.Keys.TheVariants.{Empty, Few, Many}
+use Rattle.tera_values.specs.declared.keys.OwnKeys.{OwnKeys}
+use Rattle.tera_values.specs.declared.keys.OwnKeys.TheVariants.{Few as FewLeft, Many as ManyLeft}
 
 -- whether two keys are equal
 abbrev pub keys_tie : Key → Key → Bool
 keys_tie = on meaning_of_key (eq_by_cmp key_order)
 
-module _ {S : Type 0} where
-  -- the keys of a set that is made with the first of them
-  abbrev pub keys_held : Option (Box (HashSet Key S)) → List Key
-  keys_held None = []
-  keys_held (Some held) = held.value.keys
+-- whether a key is this text
+abbrev pub is_text_key : List ℕ → Key → Bool
+is_text_key t k = eq_by_cmp key_order (text_key t) (meaning_of_key k)
+
+-- the keys of a list or of a set
+abbrev pub keys_held : Keys → List Key
+keys_held Empty = []
+keys_held (Few few) = few.value.items
+keys_held (Many many) = many.value.keys
+
+-- the keys that are still to be given away
+abbrev pub keys_left : OwnKeys → List Key
+keys_left (FewLeft few) = into_iter_items few
+keys_left (ManyLeft many) = many
 
 -- each key, as it is held, beside the value at its place
 abbrev pub pairs_held : {V : Type 0} → List Key → List V → List (KeyForm × V)

@@ -1,45 +1,129 @@
-//! The keys of a map: a set that knows their order, behind a pointer.
-//! The first key makes it.
-ghost use Rattle.std.specs.Prelude.{◌≡◌, ◌∷◌, [], IfOk, OnOk, OnErr, position, is_some, not, false};
+//! The keys of a map: a list while they are few, and else a set that knows their order.
+//! Each stands behind a pointer, which the first key makes.
+ghost use Rattle.std.specs.Prelude.{◌≡◌, ◌∷◌, ◌+◌, ◌≤◌, [], length, IfOk, OnOk, OnErr, position};
+ghost use Rattle.std.specs.Prelude.{MatchOption, is_some, not, false};
 ghost use Rattle.std.specs.List.{IsDistinct, list_any, position_or_len};
-ghost use Rattle.indexmap.specs.IndexSet.{insert_key};
-ghost use Rattle.tera_values.specs.Map.{keys_tie, keys_held, AreKeysLike};
+ghost use Rattle.std.specs.Ordering.{eq_by_cmp};
+ghost use Rattle.indexmap.specs.IndexSet.{insert_key, spare};
+ghost use Rattle.tera_meaning.specs.KeyMeaning.{key_order, text_key};
+ghost use Rattle.tera_values.specs.Map.{keys_tie, is_text_key, keys_held, keys_left, AreKeysLike};
 
 use crate::Key;
-use indexmap::IndexSet;
+use indexmap::{IndexSet, set};
 use std::alloc::{AllocError, Global};
+use std::{mem, vec};
+
+/// How many keys are looked up one after another: so few are found as soon without a hash. The first
+/// of them makes room for all, and for their values.
+pub(crate) const FEW: usize = 12;
+
+/// The keys of a map, in their order.
+#[derive(Drop)]
+pub(crate) enum Keys {
+    Empty,
+    Few(Box<Vec<Key<'static>>>),
+    Many(Box<IndexSet<Key<'static>>>),
+}
 
 /// The place of the key that is equal to this one.
-pub(crate) fn place_of(keys: &Option<Box<IndexSet<Key<'static>>>>, key: &Key<'_>) -> Option<usize>
+#[tactic(auto, using(crate::proofs::KeyLemmas::found_where_placed))]
+pub(crate) fn place_of(keys: &Keys, key: &Key<'_>) -> Option<usize>
     ensures place { result ≡ position (keys_tie key.now) (keys_held keys.now) }
     ensures found { is_some result ≡ list_any (keys_tie key.now) (keys_held keys.now) }
 {
     match keys {
-        Some(held) => held.get_index_of(key),
-        None => None,
+        Keys::Empty => None,
+        Keys::Few(few) => place_among(few.as_slice(), key),
+        Keys::Many(many) => place_in(many, key),
+    }
+}
+
+// The same, in a set. It stands apart, so that a look-up among few keys stays short.
+#[inline(never)]
+fn place_in(many: &IndexSet<Key<'static>>, key: &Key<'_>) -> Option<usize>
+    ensures { result ≡ position (keys_tie key.now) many.now.keys }
+{
+    many.get_index_of(key)
+}
+
+// The same, among few keys. Most are texts.
+fn place_among(few: &[Key<'static>], key: &Key<'_>) -> Option<usize>
+    ensures { result ≡ position (keys_tie key.now) few.now }
+{
+    match key {
+        Key::String(text) => place_of_text(few, text.as_str()),
+        Key::Str(text) => place_of_text(few, *text),
+        _ => few.iter().position(|held| key == held),
+    }
+}
+
+// The place of the key that is this text.
+fn place_of_text(few: &[Key<'static>], text: &str) -> Option<usize>
+    ensures { result ≡ position (is_text_key text.now) few.now }
+{
+    few.iter().position(|held| is_text_key(text, held))
+}
+
+// Whether a key is this text.
+#[inline(always)]
+fn is_text_key(text: &str, held: &Key<'static>) -> bool
+    ensures { result ≡ is_text_key text.now held.now }
+{
+    match held {
+        Key::String(other) => is_text(text, other.as_str()),
+        Key::Str(other) => is_text(text, *other),
+        _ => false,
+    }
+}
+
+// Whether two texts are equal. Keys of one length that differ, mostly do so in the last byte.
+#[inline(always)]
+#[tactic(auto, using(crate::proofs::KeyLemmas::unlike))]
+fn is_text(text: &str, other: &str) -> bool
+    ensures { result ≡ eq_by_cmp key_order (text_key text.now) (text_key other.now) }
+{
+    let (left, right) = (text.as_bytes(), other.as_bytes());
+    let len = left.len();
+    if len != right.len() {
+        return false;
+    }
+    if len != 0 && left[len - 1] != right[len - 1] {
+        return false;
+    }
+    text == other
+}
+
+// The place of the key that is equal to this one, or else that behind all, and whether it is new.
+#[tactic(auto, using(crate::proofs::KeyLemmas::placing))]
+fn place_for(few: &[Key<'static>], key: &Key<'_>) -> (usize, bool)
+    ensures place { result.0 ≡ position_or_len (keys_tie key.now) few.now }
+    ensures new { result.1 ≡ not (list_any (keys_tie key.now) few.now) }
+{
+    match place_among(few, key) {
+        Some(place) => (place, false),
+        None => (few.len(), true),
     }
 }
 
 /// The keys, in their order.
-#[tactic(auto, using(crate::proofs::ColumnLemmas::no_keys))]
-pub(crate) fn key_slice<'a>(keys: &'a Option<Box<IndexSet<Key<'static>>>>) -> &'a [Key<'static>]
-    ensures keys { result.now ≡ keys_held keys.now }
-    ensures distinct { IsDistinct keys_tie (keys_held keys.now) }
+pub(crate) fn key_slice(keys: &Keys) -> &[Key<'static>]
+    ensures { result.now ≡ keys_held keys.now }
 {
     match keys {
-        Some(held) => held.as_slice(),
-        None => &[],
+        Keys::Empty => &[],
+        Keys::Few(few) => few.as_slice(),
+        Keys::Many(many) => many.as_slice(),
     }
 }
 
 /// Puts a key behind the others where none is equal to it. Answers the place of the one that is, or
 /// of the new one, and whether it is new.
-#[tactic(auto, using(crate::proofs::ColumnLemmas::no_keys))]
 pub(crate) fn put_key(
     alloc: Global,
-    keys: &mut Option<Box<IndexSet<Key<'static>>>>,
+    keys: &mut Keys,
     key: Key<'static>,
 ) -> Result<(usize, bool), AllocError>
+    requires { IsDistinct keys_tie (keys_held keys.old) }
     ensures keys { OnOk result
         (keys_held keys.new ≡ insert_key keys_tie (keys_held keys.old) key.entry) }
     ensures place { IfOk result (λ put. put.0
@@ -52,11 +136,25 @@ pub(crate) fn put_key(
         (list_any (keys_tie key.entry) (keys_held keys.old) ≡ false) }
 {
     match keys {
-        Some(held) => put_in(held, key),
-        None => {
-            *keys = Some(first_key(alloc, key)?);
+        Keys::Empty => {
+            *keys = first_key(alloc, key)?;
             Ok((0, true))
         }
+        Keys::Few(few) => {
+            let (place, is_new) = place_for(few.as_slice(), &key);
+            if !is_new {
+                return Ok((place, false));
+            }
+            if place < FEW {
+                few.push(key)?;
+                return Ok((place, true));
+            }
+            let mut many = set_of(alloc, few)?;
+            many.insert(key).unwrap();
+            *keys = Keys::Many(many);
+            Ok((place, true))
+        }
+        Keys::Many(many) => put_in(many, key),
     }
 }
 
@@ -77,35 +175,67 @@ fn put_in(held: &mut IndexSet<Key<'static>>, key: Key<'static>) -> Result<(usize
     }
 }
 
-/// The set of one key.
-pub(crate) fn first_key(
-    alloc: Global,
-    key: Key<'static>,
-) -> Result<Box<IndexSet<Key<'static>>>, AllocError>
-    ensures keys { IfOk result (λ held. held.value.keys ≡ key.entry ∷ []) }
-    ensures distinct { IfOk result (λ held. IsDistinct keys_tie held.value.keys) }
+/// A list of one key.
+pub(crate) fn first_key(alloc: Global, key: Key<'static>) -> Result<Keys, AllocError>
+    ensures { IfOk result (λ made. keys_held made ≡ key.entry ∷ []) }
 {
-    let mut made = IndexSet::new(alloc);
-    match made.insert(key) {
-        Ok(_) => match Box::new(alloc, made) {
-            Ok(held) => Ok(held),
-            Err(_) => Err(AllocError),
-        },
+    let mut few = Vec::with_capacity(alloc, FEW)?;
+    few.push_reserved(key);
+    few_of(alloc, few)
+}
+
+// The keys of a list.
+fn few_of(alloc: Global, few: Vec<Key<'static>>) -> Result<Keys, AllocError>
+    ensures { IfOk result (λ made. keys_held made ≡ few.entry.items) }
+{
+    match Box::new(alloc, few) {
+        Ok(few) => Ok(Keys::Few(few)),
         Err(_) => Err(AllocError),
     }
 }
 
-/// Copies of the keys, in their order.
-pub(crate) fn copied_keys(
+// The set of the keys of a list, with room for one more, into which they are moved. For want of
+// memory the list stays as it is.
+fn set_of(
     alloc: Global,
-    keys: &Option<Box<IndexSet<Key<'static>>>>,
-) -> Result<Option<Box<IndexSet<Key<'static>>>>, AllocError>
+    few: &mut Vec<Key<'static>>,
+) -> Result<Box<IndexSet<Key<'static>>>, AllocError>
+    requires { IsDistinct keys_tie few.old.items }
+    ensures keys { IfOk result (λ many. many.value.keys ≡ few.old.items) }
+    ensures room { IfOk result (λ many. 1 ≤ spare many.value) }
+    ensures err { OnErr result (few.new.items ≡ few.old.items) }
+{
+    let Ok(mut many) = Box::new(alloc, IndexSet::with_capacity(alloc, few.len() + FEW)?) else {
+        return Err(AllocError);
+    };
+    for key in mem::replace(few, Vec::new(alloc)) {
+        many.insert(key).unwrap();
+    }
+    Ok(many)
+}
+
+/// Copies of the keys, in their order.
+pub(crate) fn copied_keys(alloc: Global, keys: &Keys) -> Result<Keys, AllocError>
+    requires { IsDistinct keys_tie (keys_held keys.now) }
     ensures { IfOk result (λ made. AreKeysLike (keys_held keys.now) (keys_held made)) }
 {
     match keys {
-        Some(held) => Ok(Some(copied_set(alloc, held.as_slice())?)),
-        None => Ok(None),
+        Keys::Empty => Ok(Keys::Empty),
+        Keys::Few(few) => few_of(alloc, copied_list(alloc, few.as_slice())?),
+        Keys::Many(many) => Ok(Keys::Many(copied_set(alloc, many.as_slice())?)),
     }
+}
+
+// A list of copies of distinct keys, in their order.
+fn copied_list(alloc: Global, keys: &[Key<'static>]) -> Result<Vec<Key<'static>>, AllocError>
+    requires { IsDistinct keys_tie keys.now }
+    ensures { IfOk result (λ made. AreKeysLike keys.now made.items) }
+{
+    let mut made = Vec::with_capacity(alloc, keys.len())?;
+    for key in keys {
+        made.push_reserved(key.copy(alloc)?);
+    }
+    Ok(made)
 }
 
 // A set of copies of distinct keys, in their order.
@@ -126,16 +256,31 @@ fn copied_set(
     }
 }
 
-/// The keys as a set, in their order.
-#[tactic(auto, using(crate::proofs::ColumnLemmas::no_keys))]
-pub(crate) fn own_keys(
-    alloc: Global,
-    keys: Option<Box<IndexSet<Key<'static>>>>,
-) -> IndexSet<Key<'static>>
-    ensures { result.keys ≡ keys_held keys.entry }
+/// The keys that are left of a walk that gives them away.
+#[derive(Drop)]
+pub(crate) enum OwnKeys {
+    Few(vec::IntoIter<Key<'static>>),
+    Many(set::IntoIter<Key<'static>>),
+}
+
+/// The keys, to be given away in their order.
+pub(crate) fn own_keys(alloc: Global, keys: Keys) -> OwnKeys
+    ensures { keys_left result ≡ keys_held keys }
 {
     match keys {
-        Some(held) => Box::into_inner(held),
-        None => IndexSet::new(alloc),
+        Keys::Empty => OwnKeys::Few(Vec::new(alloc).into_iter()),
+        Keys::Few(few) => OwnKeys::Few(Box::into_inner(few).into_iter()),
+        Keys::Many(many) => OwnKeys::Many(Box::into_inner(many).into_iter()),
+    }
+}
+
+/// The next of the keys that are left.
+pub(crate) fn next_key(keys: &mut OwnKeys) -> Option<Key<'static>>
+    ensures { MatchOption result ((keys_left keys.old ≡ []) × (keys_left keys.new ≡ []))
+        (λ key. keys_left keys.old ≡ key ∷ keys_left keys.new) }
+{
+    match keys {
+        OwnKeys::Few(few) => few.next(),
+        OwnKeys::Many(many) => many.next(),
     }
 }

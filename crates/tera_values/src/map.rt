@@ -11,9 +11,10 @@ ghost use Rattle.tera_report.specs.Errors.{IsOutOfMemory};
 ghost use Rattle.tera_values.specs.Key.{key_form};
 
 use crate::copy::copies;
-use crate::keys::{copied_keys, key_slice, own_keys, place_of, put_key};
+use crate::keys::{
+    FEW, Keys, OwnKeys, copied_keys, key_slice, next_key, own_keys, place_of, put_key,
+};
 use crate::{Key, Value};
-use indexmap::{IndexSet, set};
 use std::alloc::{AllocError, Global};
 use std::marker::Model;
 use std::{fmt, mem, slice, vec};
@@ -25,7 +26,7 @@ use tera_report::TeraResult;
 #[cycle(value)]
 #[derive(Drop)]
 pub struct Map {
-    keys: Option<Box<IndexSet<Key<'static>>>>,
+    keys: Keys,
     values: Vec<Value>,
 }
 
@@ -60,7 +61,7 @@ impl Map {
         ensures { result ≡ [] }
     {
         Map {
-            keys: None,
+            keys: Keys::Empty,
             values: Vec::new(alloc),
         }
     }
@@ -184,11 +185,7 @@ impl fmt::Debug for Map {
 }
 
 // Makes room for the value of a key, where the key is not there.
-fn make_room(
-    keys: &Option<Box<IndexSet<Key<'static>>>>,
-    values: &mut Vec<Value>,
-    key: &Key<'_>,
-) -> Result<(), AllocError>
+fn make_room(keys: &Keys, values: &mut Vec<Value>, key: &Key<'_>) -> Result<(), AllocError>
     ensures items { values.new.items ≡ values.old.items }
     ensures room { OnOk result (list_any (keys_tie key.now) (keys_held keys.now) ≡ false
         → vec_len values.new < vec_capacity values.new) }
@@ -197,7 +194,7 @@ fn make_room(
     if values.len() < values.capacity() || place_of(keys, key).is_some() {
         return Ok(());
     }
-    values.reserve(1)
+    values.reserve(FEW)
 }
 
 /// The pairs of a map that are left of a walk.
@@ -255,7 +252,7 @@ impl IntoIterator for Map {
         let Map { keys, values } = self;
         let keys = own_keys(*values.allocator(), keys);
         OwnPairs {
-            keys: keys.into_iter(),
+            keys,
             values: values.into_iter(),
         }
     }
@@ -264,7 +261,7 @@ impl IntoIterator for Map {
 /// The pairs of a map that are left of a walk that gives them away.
 #[derive(Drop)]
 pub struct OwnPairs {
-    keys: set::IntoIter<Key<'static>>,
+    keys: OwnKeys,
     values: vec::IntoIter<Value>,
 }
 
@@ -273,15 +270,15 @@ impl Model for OwnPairs {
     ghost use Rattle.std.specs.Vec.Iter.{into_iter_items};
     ghost use Rattle.tera_meaning.specs.Form.{Form};
     ghost use Rattle.tera_meaning.specs.KeyMeaning.{KeyForm};
-    ghost use Rattle.tera_values.specs.Map.{coded_pairs, pairs_held, AreColumns};
+    ghost use Rattle.tera_values.specs.Map.{coded_pairs, pairs_held, keys_left, AreColumns};
 
     ghost Value = { List (KeyForm × Form) };
 
     ghost coded = { coded_pairs };
 
-    ghost view = { λ p. pairs_held p.keys (into_iter_items p.values) };
+    ghost view = { λ p. pairs_held (keys_left p.keys) (into_iter_items p.values) };
 
-    ghost invariant = { λ p. AreColumns p.keys (into_iter_items p.values) };
+    ghost invariant = { λ p. AreColumns (keys_left p.keys) (into_iter_items p.values) };
 }
 
 impl Iterator for OwnPairs {
@@ -295,7 +292,7 @@ impl Iterator for OwnPairs {
     ghost remaining = { item_count (λ s. s) };
 
     fn next(&mut self) -> Option<(Key<'static>, Value)> {
-        let key = self.keys.next()?;
+        let key = next_key(&mut self.keys)?;
         let value = self.values.next()?;
         Some((key, value))
     }
