@@ -11,11 +11,13 @@ use Rattle.tera_meaning.specs.Path.{path as path_from}
 use Rattle.tera_meaning.specs.Printed.{Prints}
 use Rattle.tera_meaning.specs.Question.{Question, print}
 use Rattle.tera_meaning.specs.Read.{text_in}
-use Rattle.tera_meaning.specs.Request.{Request, Command, ask, find}
+use Rattle.tera_meaning.specs.Request.{Request, Command, ask, asking, find}
 use Rattle.tera_meaning.specs.Search.{Search, get, path, attr, item}
 use Rattle.tera_meaning.specs.State.{State, form_at}
 use Rattle.tera_context.specs.declared.lends.Lent.{Lent}
 use Rattle.tera_context.specs.declared.lends.Lent.TheVariants.{Found, Print}
+use Rattle.tera_context.specs.declared.lends.LookUp.{LookUp}
+use Rattle.tera_context.specs.declared.lends.LookUp.TheVariants as asked
 
 -- what is found, or nothing; or the value whose printed text is the answer
 pub data LentForm : Type 0 where
@@ -25,6 +27,14 @@ pub data LentForm : Type 0 where
 abbrev pub lent_form : Lent → LentForm
 lent_form (Found part) = found (option_copied part)
 lent_form (Print value) = printed value.now
+
+-- the command that a look-up is
+abbrev pub looked_up : LookUp → Command
+looked_up (asked.Get name) = asking (find (get name.now))
+looked_up (asked.Path name p) = asking (find (path name.now p.now))
+looked_up (asked.Attr name t) = asking (find (attr name.now t.now))
+looked_up (asked.Item name i) = asking (find (item name.now i.now))
+looked_up (asked.Print name) = asking (ask print name.now)
 
 -- what is found by lending it, or nothing: what a name has, what a path leads to, what a map has at
 -- a text. All else that is found is a copy

@@ -1,13 +1,13 @@
 //! What a context lends in the place of an answer.
-ghost use Rattle.std.specs.Prelude.{◌≡◌, IfSome};
+ghost use Rattle.std.specs.Prelude.{◌≡◌, IfSome, MatchOption, None};
 ghost use Rattle.std.specs.Option.{option_copied, option_map};
 ghost use Rattle.tera_meaning.specs.Lookup;
 ghost use Rattle.tera_meaning.specs.Outcome.{Outcome};
 ghost use Rattle.tera_meaning.specs.Path;
-ghost use Rattle.tera_meaning.specs.State.{form_at};
+ghost use Rattle.tera_meaning.specs.State.{State, form_at};
 ghost use Rattle.tera_meaning.specs.Step.{IsStep};
 ghost use Rattle.tera_context.specs.Call.{command_of};
-ghost use Rattle.tera_context.specs.Lent.{lent_at, lent_form, StandsFor};
+ghost use Rattle.tera_context.specs.Lent.{lent_at, lent_form, looked_up, StandsFor};
 
 use crate::call::{Call, Step};
 use crate::context::Context;
@@ -22,6 +22,21 @@ pub enum Lent<'a> {
     Print(&'a Value),
 }
 
+/// A call that keeps nothing and whose answer may be lent, with its names and texts lent too.
+#[derive(Debug, Clone, Copy)]
+pub enum LookUp<'a> {
+    /// As `Call::Get`.
+    Get { name: &'a str },
+    /// As `Call::Path`.
+    Path { of: &'a str, path: &'a str },
+    /// As `Call::Attr`.
+    Attr { of: &'a str, attr: &'a str },
+    /// As `Call::Item`.
+    Item { of: &'a str, item: &'a str },
+    /// As `Call::Print`.
+    Print { of: &'a str },
+}
+
 /// What stands for the answer of a step that keeps nothing, lent: what `Get`, `Path` and `Attr`
 /// find, or nothing; what `Item` finds in a map at a text; and what `Print` prints. `None` of each
 /// other step, where there is nothing at that item, and where there is nothing to print: these are
@@ -31,18 +46,41 @@ pub fn lend<'a>(context: &'a Context, step: &'a Step) -> Option<Lent<'a>>
     ensures step { IfSome result (λ lent. (outcome : Outcome) → StandsFor (lent_form lent) outcome
         → IsStep context.now (command_of step.now) outcome context.now) }
 {
+    look_up(context, look_up_in(step)?)
+}
+
+/// The same of a call whose names are lent, as they stand in a line, so that none is copied.
+pub fn look_up<'a>(context: &'a Context, asked: LookUp<'a>) -> Option<Lent<'a>>
+    ensures lent { option_map lent_form result ≡ lent_at context.now (looked_up asked.entry) }
+    ensures step { IfSome result (λ lent. (outcome : Outcome) → StandsFor (lent_form lent) outcome
+        → IsStep context.now (looked_up asked.entry) outcome context.now) }
+{
+    match asked {
+        LookUp::Get { name } => Some(Lent::Found(context.get(name))),
+        LookUp::Path { of, path } => Some(Lent::Found(path_from(context, of, path))),
+        LookUp::Attr { of, attr } => Some(Lent::Found(attr_of(context, of, attr))),
+        LookUp::Item { of, item } => {
+            let part = attr_of(context, of, context.get(item)?.as_str()?)?;
+            Some(Lent::Found(Some(part)))
+        }
+        LookUp::Print { of } => Some(Lent::Print(context.get(of)?)),
+    }
+}
+
+// The look-up that a step is. `None` where it keeps something or is no look-up.
+fn look_up_in(step: &Step) -> Option<LookUp<'_>>
+    ensures { MatchOption result ((state : State) → lent_at state (command_of step.now) ≡ None)
+        (λ asked. looked_up asked ≡ command_of step.now) }
+{
     if step.into.is_some() {
         return None;
     }
     match &step.call {
-        Call::Get { name } => Some(Lent::Found(context.get(name))),
-        Call::Path { of, path } => Some(Lent::Found(path_from(context, of, path))),
-        Call::Attr { of, attr } => Some(Lent::Found(attr_of(context, of, attr))),
-        Call::Item { of, item } => {
-            let part = attr_of(context, of, context.get(item)?.as_str()?)?;
-            Some(Lent::Found(Some(part)))
-        }
-        Call::Print { of } => Some(Lent::Print(context.get(of)?)),
+        Call::Get { name } => Some(LookUp::Get { name }),
+        Call::Path { of, path } => Some(LookUp::Path { of, path }),
+        Call::Attr { of, attr } => Some(LookUp::Attr { of, attr }),
+        Call::Item { of, item } => Some(LookUp::Item { of, item }),
+        Call::Print { of } => Some(LookUp::Print { of }),
         _ => None,
     }
 }

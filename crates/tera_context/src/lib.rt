@@ -12,7 +12,7 @@ mod steps;
 
 pub use call::{Answer, Call, Step};
 pub use context::Context;
-pub use lends::{Lent, lend};
+pub use lends::{Lent, LookUp, lend, look_up};
 pub use steps::{run, step};
 pub use tera_arguments::{
     ArgFromValue, Autoescape, Kwargs, KwargsIter, KwargsOf, Parts, StringInput,

@@ -4,6 +4,11 @@ ghost use Rattle.std.specs.Prelude.{◌++◌};
 ghost use Rattle.std.specs.Prelude.{IfOk, OnOk, IfErr, IfSome, IfNone, length};
 ghost use Rattle.tera_report.specs.Sink.{Sends};
 ghost use Rattle.tera_report.specs.Errors.{report_of};
+ghost use Rattle.tera_meaning.specs.Outcome.{Outcome};
+ghost use Rattle.tera_meaning.specs.Request.{Command};
+ghost use Rattle.tera_meaning.specs.Step.{IsStep};
+ghost use Rattle.tera_context.specs.Lent.{StandsFor, lent_form};
+ghost use Rattle.tera_script.specs.Line.{Says};
 ghost use Rattle.tera_replies.specs.declared.fault.Fault.TheVariants.{OutOfMemory, WriteFailed};
 ghost use Rattle.tera_replies.specs.Output.{BrokeOn};
 ghost use Rattle.tera_replies.specs.Replay.{line_report, source_of, whole_line};
@@ -17,11 +22,11 @@ use itoa::Buffer;
 use memchr::memchr;
 use std::alloc::Global;
 use std::str::from_utf8;
-use tera_context::{Context, lend, step};
+use tera_context::{Context, Lent, lend, look_up, step};
 use tera_report::sink::Sink;
 use tera_report::words::characters;
 use tera_report::{ReportError, Span};
-use tera_script::{Reading, read_line};
+use tera_script::{Reading, look_up_of, read_line};
 
 /// What a replay keeps between two pieces of its script.
 #[derive(Drop)]
@@ -175,6 +180,9 @@ pub fn answer_line<W: Sink>(
     ensures ran { IfErr result (IfWriteFailed ((text : List ℕ) × (wanted : Bool)
         × Runs number context.old (line.now ∷ []) text wanted context.new)) }
 {
+    if let Some(lent) = lent_for(context, line) {
+        return write_lent(lent, out);
+    }
     match read_line(alloc, line)? {
         Reading::Skipped => Ok(false),
         Reading::Bad => Err(Fault::BadLine(bad_line(alloc, number, line)?)),
@@ -183,6 +191,15 @@ pub fn answer_line<W: Sink>(
             None => write_answer(step(context, call), out),
         },
     }
+}
+
+// What the context lends for a look-up that the line says, which then takes no memory.
+fn lent_for<'a>(context: &'a Context, line: &'a [u8]) -> Option<Lent<'a>>
+    ensures { IfSome result (λ lent. (command : Command) × Says line.now command
+        × ((outcome : Outcome) → StandsFor (lent_form lent) outcome
+        → IsStep context.now command outcome context.now)) }
+{
+    look_up(context, look_up_of(line)?)
 }
 
 // The report of a bad line. A line that is no UTF-8 shows nothing.

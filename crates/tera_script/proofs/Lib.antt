@@ -7,6 +7,7 @@ mod Integers
 mod Keys
 mod Lines
 mod Literals
+mod LookUps
 mod Maps
 mod Names
 mod Openings

@@ -9,6 +9,7 @@ mod key;
 mod laws;
 mod line;
 mod literal;
+mod look_up;
 mod name;
 mod number;
 mod operand;
@@ -26,6 +27,7 @@ pub use laws::{
     skipped_says_nothing,
 };
 pub use line::{Reading, read_line};
+pub use look_up::look_up_of;
 pub use text::{TakenText, take_text};
 pub use text_laws::{one_closing_quote, one_text, text_is_utf8, worked_texts};
 pub use worked::{

@@ -43,9 +43,10 @@ pub fn read_line(alloc: Global, line: &[u8]) -> Result<Reading, AllocError>
     }
 }
 
-// Whether the bytes are UTF-8. Most lines are ASCII, which is told eight bytes at a time.
+/// Whether the bytes are UTF-8. Most lines are ASCII, which is told eight bytes at a time.
+#[inline(always)]
 #[tactic(auto, using(crate::proofs::Utf8::ascii_texts))]
-fn is_utf8(bytes: &[u8]) -> bool
+pub(crate) fn is_utf8(bytes: &[u8]) -> bool
     ensures { MatchBool result (IsUtf8 bytes.now) (¬ IsUtf8 bytes.now) }
 {
     bytes.is_ascii() || str::from_utf8(bytes).is_ok()

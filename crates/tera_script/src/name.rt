@@ -1,4 +1,4 @@
-//! Names as texts of their own.
+//! Names as texts.
 ghost use Rattle.std.specs.Prelude.{◌≡◌, IfOk, IfSome};
 ghost use Rattle.std.specs.Option.{option_map};
 ghost use Rattle.std.specs.String.{string_bytes};
@@ -7,14 +7,21 @@ ghost use Rattle.tera_script.specs.Word.{IsName};
 use std::alloc::{AllocError, Global};
 use std::str;
 
-/// A name as a text of its own. It is ASCII, so nothing is left to be found out.
+/// A name as a text. It is ASCII, so nothing is left to be found out.
 #[tactic(auto, using(crate::proofs::Utf8::name_utf8))]
+pub(crate) fn name_in(name: &[u8]) -> &str
+    requires { IsName name.now }
+    ensures { result.now ≡ name.now }
+{
+    unsafe { str::from_utf8_unchecked(name) }
+}
+
+/// A name as a text of its own.
 pub(crate) fn name_text(alloc: Global, name: &[u8]) -> Result<String, AllocError>
     requires { IsName name.now }
     ensures { IfOk result (λ text. string_bytes text ≡ name.now) }
 {
-    let text = unsafe { str::from_utf8_unchecked(name) };
-    String::from_str(alloc, text)
+    String::from_str(alloc, name_in(name))
 }
 
 /// A name that may be there, as a text of its own.

@@ -45,7 +45,7 @@ const SHORT: usize = 32;
 
 /// The text at the front where it is short and has no escape, and how many bytes it takes. It
 /// stands in the bytes as it is; `None` says no more than that this is not so.
-fn short_text(bytes: &[u8]) -> Option<(&str, usize)>
+pub(crate) fn short_text(bytes: &[u8]) -> Option<(&str, usize)>
     ensures { IfSome result (λ found. BeginsWithText bytes.now found.0.now found.1) }
 {
     let length = short_run(bytes)?;

@@ -1,10 +1,12 @@
 //! Copies of values, deep.
-ghost use Rattle.std.specs.Prelude.{◌≡◌, false, [], IfOk, IfErr, IsOk, string_bytes};
+ghost use Rattle.std.specs.Prelude.{◌≡◌, ◌+◌, ◌<◌, true, false, [], ◌∷◌, ◌++◌, IfOk, IfErr};
+ghost use Rattle.std.specs.Prelude.{IsOk, OnOk, MatchOption};
+ghost use Rattle.std.specs.Vec.{vec_len, vec_capacity};
 ghost use Rattle.tera_meaning.specs.Read.{iterable_in};
 ghost use Rattle.tera_report.specs.Errors.{IsOutOfMemory};
 
+use crate::Value;
 use crate::value::ValueInner;
-use crate::{Map, Value};
 use std::alloc::{AllocError, Global};
 use tera_report::TeraResult;
 
@@ -27,10 +29,20 @@ impl Value {
     /// Takes memory as `clone` does. It is inlined, so that what takes no memory is copied with no
     /// call.
     #[inline(always)]
-    #[cycle(copy)]
     pub fn copy(&self, alloc: Global) -> Result<Value, AllocError>
         ensures ok { IfOk result (λ v. v ≡ self.now) }
         ensures succeeds { iterable_in self.now ≡ false → IsOk result }
+    {
+        match self.plain_copy() {
+            Some(copy) => Ok(copy),
+            None => self.owner_copy(alloc),
+        }
+    }
+
+    // A copy of what owns no memory.
+    #[inline(always)]
+    fn plain_copy(&self) -> Option<Value>
+        ensures { MatchOption result (iterable_in self.now ≡ true) (λ v. v ≡ self.now) }
     {
         let inner = match &self.inner {
             ValueInner::Undefined => ValueInner::Undefined,
@@ -40,12 +52,26 @@ impl Value {
             ValueInner::I64(z) => ValueInner::I64(*z),
             ValueInner::U128(n) => ValueInner::U128(*n),
             ValueInner::I128(z) => ValueInner::I128(*z),
+            _ => return None,
+        };
+        Some(Value { inner })
+    }
+
+    // A copy of what owns memory. It stands apart, so that `copy` stays short.
+    #[inline(never)]
+    #[cycle(copy)]
+    fn owner_copy(&self, alloc: Global) -> Result<Value, AllocError>
+        requires { iterable_in self.now ≡ true }
+        ensures { IfOk result (λ v. v ≡ self.now) }
+    {
+        let inner = match &self.inner {
             ValueInner::String(text, safe) => {
-                ValueInner::String(text_copy(alloc, text.as_str())?, *safe)
+                ValueInner::String(String::from_str(alloc, text.as_str())?, *safe)
             }
             ValueInner::Array(all) => ValueInner::Array(copies(alloc, all.as_slice())?),
-            ValueInner::Bytes(held) => ValueInner::Bytes(bytes_copy(alloc, held.as_slice())?),
-            ValueInner::Map(all) => ValueInner::Map(map_copy(alloc, all)?),
+            ValueInner::Bytes(held) => ValueInner::Bytes(held.as_slice().to_vec(alloc)?),
+            ValueInner::Map(all) => ValueInner::Map(all.copy(alloc)?),
+            _ => unreachable!(),
         };
         Ok(Value { inner })
     }
@@ -60,32 +86,28 @@ pub(crate) fn copies(alloc: Global, all: &[Value]) -> Result<Vec<Value>, AllocEr
 {
     let mut made = Vec::with_capacity(alloc, all.len())?;
     for value in all {
-        made.push_reserved(value.copy(alloc)?);
+        push_copy(alloc, &mut made, value)?;
     }
     Ok(made)
 }
 
-// A copy of a text. What takes memory stands apart, so that `copy` stays short.
-#[inline(never)]
-fn text_copy(alloc: Global, text: &str) -> Result<String, AllocError>
-    ensures { IfOk result (λ made. string_bytes made ≡ text.now) }
-{
-    String::from_str(alloc, text)
-}
-
-// A copy of bytes.
-#[inline(never)]
-fn bytes_copy(alloc: Global, held: &[u8]) -> Result<Vec<u8>, AllocError>
-    ensures { IfOk result (λ made. made.items ≡ held.now) }
-{
-    held.to_vec(alloc)
-}
-
-// A copy of a map.
-#[inline(never)]
+/// Puts a copy behind the items, where there is room for it. What owns no memory is put by itself,
+/// so that no more than it takes is moved.
+#[inline(always)]
 #[cycle(copy)]
-fn map_copy(alloc: Global, all: &Map) -> Result<Map, AllocError>
-    ensures { IfOk result (λ made. made ≡ all.now) }
+pub(crate) fn push_copy(
+    alloc: Global,
+    made: &mut Vec<Value>,
+    value: &Value,
+) -> Result<(), AllocError>
+    requires { vec_len made.old < vec_capacity made.old }
+    ensures items { OnOk result (made.new.items ≡ made.old.items ++ value.now ∷ []) }
+    ensures len { OnOk result (vec_len made.new ≡ vec_len made.old + 1) }
+    ensures capacity { OnOk result (vec_capacity made.new ≡ vec_capacity made.old) }
 {
-    all.copy(alloc)
+    match value.plain_copy() {
+        Some(copy) => made.push_reserved(copy),
+        None => made.push_reserved(value.owner_copy(alloc)?),
+    }
+    Ok(())
 }

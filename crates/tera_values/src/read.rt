@@ -64,7 +64,7 @@ impl Value {
     pub fn into_vec(self) -> Option<Vec<Value>>
         ensures { MatchOption result (items_in self ≡ None) (λ xs. items_in self ≡ Some xs.items) }
     {
-        match self.inner {
+        match self.into_inner() {
             ValueInner::Array(all) => Some(all),
             _ => None,
         }
@@ -88,7 +88,7 @@ impl Value {
         ensures { MatchOption result (members_in self ≡ None)
             (λ m. members_in self ≡ Some m) }
     {
-        match self.inner {
+        match self.into_inner() {
             ValueInner::Map(pairs) => Some(pairs),
             _ => None,
         }
@@ -110,7 +110,7 @@ impl Value {
     pub fn mark_safe(self) -> Value
         ensures { result ≡ marked_safe self }
     {
-        let inner = match self.inner {
+        let inner = match self.into_inner() {
             ValueInner::String(text, _) => ValueInner::String(text, true),
             ValueInner::Undefined => ValueInner::Undefined,
             ValueInner::None => ValueInner::None,

@@ -10,6 +10,7 @@ ghost use Rattle.tera_report.specs.Refusal.{Refusal};
 ghost use Rattle.tera_scalars.specs.Positions.{turned};
 
 use crate::Value;
+use crate::copy::push_copy;
 use crate::refused::{not_reversible, not_sliceable, step_of_zero};
 use crate::value::ValueInner;
 use std::alloc::{AllocError, Global};
@@ -126,7 +127,7 @@ fn reversed_items(alloc: Global, all: &[Value]) -> Result<Vec<Value>, AllocError
 {
     let mut made = Vec::with_capacity(alloc, all.len())?;
     for place in 0..all.len() {
-        made.push_reserved(item_from(all, true, place).copy(alloc)?);
+        push_copy(alloc, &mut made, item_from(all, true, place))?;
     }
     Ok(made)
 }
@@ -147,7 +148,8 @@ fn strided_items(
     let mut made = Vec::with_capacity(alloc, stride.count())?;
     let mut at = stride.from;
     while at < stride.until {
-        made.push(item_from(all, backwards, at).copy(alloc)?)?;
+        made.reserve(1)?;
+        push_copy(alloc, &mut made, item_from(all, backwards, at))?;
         at = at.saturating_add(stride.by);
     }
     Ok(made)

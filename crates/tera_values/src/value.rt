@@ -3,7 +3,7 @@ ghost use Rattle.std.specs.Prelude.{◌≡◌, true, false, IfOk, IfErr};
 ghost use Rattle.tera_meaning.specs.Tree.{undefined, none, bytes, array, object, items, members};
 ghost use Rattle.tera_meaning.specs.Tree.{no_members};
 ghost use Rattle.tera_report.specs.Errors.{IsOutOfMemory};
-ghost use Rattle.tera_values.specs.View.{marked};
+ghost use Rattle.tera_values.specs.View.{form_of, marked};
 
 use crate::Map;
 use std::alloc::Global;
@@ -12,7 +12,7 @@ use tera_report::TeraResult;
 
 /// A value that a template computes with. Mirrors `tera::Value`.
 #[cycle(value)]
-#[derive(Debug, Drop)]
+#[derive(Debug)]
 pub struct Value {
     pub(crate) inner: ValueInner,
 }
@@ -53,6 +53,32 @@ impl Model for Value {
     ghost size_decreases = { λ v h. deep_le-value_size v.inner };
 }
 
+/// What owns no memory ends by a look at its kind, where it stands: most items of arrays do.
+impl Drop for Value {
+    #[inline(always)]
+    #[cycle(value)]
+    fn drop(self) {
+        let Value { inner } = self;
+        match inner {
+            ValueInner::Undefined
+            | ValueInner::None
+            | ValueInner::Bool(_)
+            | ValueInner::U64(_)
+            | ValueInner::I64(_)
+            | ValueInner::U128(_)
+            | ValueInner::I128(_) => {}
+            owner => end(owner),
+        }
+    }
+}
+
+// Gives back the memory of an owner. It stands apart, so that `drop` stays short.
+#[inline(never)]
+#[cycle(value)]
+fn end(owner: ValueInner) {
+    drop(owner);
+}
+
 impl Value {
     /// The value of a name that isn't there. Mirrors `Value::undefined`. Takes no memory.
     pub fn undefined() -> Value
@@ -70,6 +96,15 @@ impl Value {
         Value {
             inner: ValueInner::None,
         }
+    }
+
+    // What it is, handed on.
+    #[inline(always)]
+    pub(crate) fn into_inner(self) -> ValueInner
+        ensures { form_of result ≡ self }
+    {
+        let Value { inner } = self;
+        inner
     }
 
     /// A text that is to be escaped where it is shown. Mirrors `Value::normal_string`.

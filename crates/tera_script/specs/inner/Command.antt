@@ -86,6 +86,12 @@ IsSourceOf value None =
     (pairs : List (KeyForm × Form)) (state : State) → value ≡ object (members pairs)
     → ¬ AreNamed pairs state
 
+-- operands of a shape, and behind them no more than blanks
+pub record IsWhole (shape : Shape) (bytes : List ℕ) (given : Given shape) : Type 0 where
+  pub rest : List ℕ
+  pub found : IsGivenAt shape bytes (Some (given, rest))
+  pub blanks : AreBlanks rest
+
 -- a part of which this holds stands before blanks
 pub record Before (P : List ℕ → Type 0) (bytes : List ℕ) : Type 0 where
   pub part : List ℕ

@@ -6,11 +6,13 @@ use Rattle.tera_values.proofs.CopyLemmas.{same_pairs}
 use Rattle.tera_values.proofs.PartsLaws.{depth_at}
 use Rattle.tera_values.proofs.+copy.Goals as goal
 
-pub copy::copies-copy-requires : goal.copy::copies-copy-requires
-copy::copies-copy-requires t c =
+pub copy::copies-push_copy-requires : goal.copy::copies-push_copy-requires
+copy::copies-push_copy-requires t c =
     let item = c.value-item in
-    let less_deep = depth_at c.args.all.now c.loop-value.value-index item.result c.loop-value-test.true item.is in
-    (omega (arith, less_deep), tt)
+    let less_deep = depth_at c.args.all.now c.loop-value.value-index item.result c.loop-value-test.true item.is in (
+      omega (arith, less_deep),
+      omega (arith, c.loop-value.invariant.so_many, c.loop-value.invariant.room, c.loop-value-test.true),
+    )
 
 pub map::Map::copy-copies-requires : goal.map::Map::copy-copies-requires
 map::Map::copy-copies-requires t c =
@@ -26,6 +28,3 @@ map::Map::copy-returns t c =
     ap (pairs_held made) values
     ∙ same_pairs (keys_held c.self.inside.keys) made c.self.inside.values.items c.in_ok-copied_keys.ensures.forms
     ∙ c.self.view_is
-
-pub copy::copies-push_reserved-requires : goal.copy::copies-push_reserved-requires
-copy::copies-push_reserved-requires t c = omega (arith, c.loop-value.invariant.so_many, c.loop-value.invariant.room, c.loop-value-test.true)

@@ -3,9 +3,6 @@ use Rattle.std.specs.Vec.{vec_len, vec_capacity}
 use Rattle.tera_meaning.specs.Tree.{items, members, depth, items_depth, members_depth}
 use Rattle.tera_values.proofs.+copy.Given as goal
 
-abbrev pub decreases-value::Value::copy : goal.decreases-value::Value::copy
-decreases-value::Value::copy l = 4 * depth l.self.now + 1
-
 abbrev pub decreases-copy::copies : goal.decreases-copy::copies
 decreases-copy::copies l = 4 * items_depth (items l.all.now) + 2
 
@@ -21,5 +18,8 @@ invariant-copy::copies-loop-value l =
 abbrev pub decreases-map::Map::copy : goal.decreases-map::Map::copy
 decreases-map::Map::copy l = 4 * members_depth (members l.self.now) + 3
 
-abbrev pub decreases-copy::map_copy : goal.decreases-copy::map_copy
-decreases-copy::map_copy l = 4 * members_depth (members l.all.now) + 4
+abbrev pub decreases-copy::push_copy : goal.decreases-copy::push_copy
+decreases-copy::push_copy l = 4 * depth l.value.now + 1
+
+abbrev pub decreases-value::Value::owner_copy : goal.decreases-value::Value::owner_copy
+decreases-value::Value::owner_copy l = 4 * depth l.self.now

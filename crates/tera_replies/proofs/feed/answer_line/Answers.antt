@@ -53,32 +53,59 @@ says_lent n state line command lent says steps reply (outcome, stands, (text, is
 
 pub returns-in-Some-clause-ok : goal.returns-in-Some-clause-ok
 returns-in-Some-clause-ok g c =
-    let says = rw c.in-Says.is at c.in_ok-read_line.ensures.reading in
+    let (command, says, steps) = c.in-Some.ensures in
     answered c.write_lent.result _ _ (λ wanted (line, reply, sent, is).
     let lent = lent_form c.in-Some.lent in
-    let runs = says_lent c.args.number _ c.args.line.now (command_of c.in-Says.call) lent says c.in-Some.ensures.step line reply in
+    let runs = says_lent c.args.number _ c.args.line.now command lent says steps line reply in
     (line, subst (λ (w : Bool). Runs c.args.number c.args.context.now (c.args.line.now ∷ []) line w c.args.context.now) (sym is) runs, sent))
     c.write_lent.ensures.ok
 
 pub returns-in-Some-clause-err : goal.returns-in-Some-clause-err
 returns-in-Some-clause-err g c =
-    let says = rw c.in-Says.is at c.in_ok-read_line.ensures.reading in
+    let (command, says, steps) = c.in-Some.ensures in
     line_stops c.write_lent.result _ _ _ _ _ _ (λ reply replies. (
       _,
       _,
-      says_lent c.args.number _ c.args.line.now (command_of c.in-Says.call) (lent_form c.in-Some.lent) says c.in-Some.ensures.step
-          reply replies,
+      says_lent c.args.number _ c.args.line.now command (lent_form c.in-Some.lent) says steps reply replies,
     )) c.write_lent.ensures.err
 
 pub returns-in-Some-clause-ran : goal.returns-in-Some-clause-ran
 returns-in-Some-clause-ran g c =
-    let says = rw c.in-Says.is at c.in_ok-read_line.ensures.reading in
+    let (command, says, steps) = c.in-Some.ensures in
     line_ran c.write_lent.result _ _ _ (λ reply replies. (
       _,
       _,
-      says_lent c.args.number _ c.args.line.now (command_of c.in-Says.call) (lent_form c.in-Some.lent) says c.in-Some.ensures.step
-          reply replies,
+      says_lent c.args.number _ c.args.line.now command (lent_form c.in-Some.lent) says steps reply replies,
     )) c.write_lent.ensures.err
+
+pub returns-in-Some-lend-clause-ok : goal.returns-in-Some-lend-clause-ok
+returns-in-Some-lend-clause-ok g c =
+    let says = rw c.in-Says.is at c.in_ok-read_line.ensures.reading in
+    answered c.write_lent-in-Some-lend.result _ _ (λ wanted (line, reply, sent, is).
+    let lent = lent_form c.in-Some-lend.lent in
+    let runs = says_lent c.args.number _ c.args.line.now (command_of c.in-Says.call) lent says c.in-Some-lend.ensures.step line reply in
+    (line, subst (λ (w : Bool). Runs c.args.number c.args.context.now (c.args.line.now ∷ []) line w c.args.context.now) (sym is) runs, sent))
+    c.write_lent-in-Some-lend.ensures.ok
+
+pub returns-in-Some-lend-clause-err : goal.returns-in-Some-lend-clause-err
+returns-in-Some-lend-clause-err g c =
+    let says = rw c.in-Says.is at c.in_ok-read_line.ensures.reading in
+    line_stops c.write_lent-in-Some-lend.result _ _ _ _ _ _ (λ reply replies. (
+      _,
+      _,
+      says_lent c.args.number _ c.args.line.now (command_of c.in-Says.call) (lent_form c.in-Some-lend.lent) says c.in-Some-lend.ensures.step
+          reply replies,
+    )) c.write_lent-in-Some-lend.ensures.err
+
+pub returns-in-Some-lend-clause-ran : goal.returns-in-Some-lend-clause-ran
+returns-in-Some-lend-clause-ran g c =
+    let says = rw c.in-Says.is at c.in_ok-read_line.ensures.reading in
+    line_ran c.write_lent-in-Some-lend.result _ _ _ (λ reply replies. (
+      _,
+      _,
+      says_lent c.args.number _ c.args.line.now (command_of c.in-Says.call) (lent_form c.in-Some-lend.lent) says c.in-Some-lend.ensures.step
+          reply replies,
+    )) c.write_lent-in-Some-lend.ensures.err
 
 pub returns-in-None-clause-ok : goal.returns-in-None-clause-ok
 returns-in-None-clause-ok g c =

@@ -1,4 +1,4 @@
-use Rattle.std.proofs.Common.{◌<◌, ◌^◌, arith, rules}
+use Rattle.std.proofs.Common.{◌<◌, ◌^◌, ◌∙◌, ◌++◌, ◌∷◌, [], ap, arith, refl, rules}
 use Rattle.tera_values.proofs.SliceLemmas.{none_so_far, copied, all_so_far}
 use Rattle.tera_values.proofs.slice.strided_items.Goals as goal
 
@@ -10,8 +10,9 @@ loop-at-init c =
 pub loop-at-preserved : goal.loop-at-preserved
 loop-at-preserved c =
     let fits : c.args.stride.until < 2 ^ 64 = search rules in
+    let put = c.in_ok-push_copy.ensures.items ∙ ap (λ ys. ys ++ c.item_from.result.now ∷ []) c.reserve.ensures.items in
     copied _ _ _ _ _ c.args.stride.from c.args.stride.until c.args.stride.by _ _ c.loop-at-test.true fits c.item_from.ensures
-    c.loop-at.invariant c.in_ok-copy.ensures.ok c.in_ok-push.ensures.items c.saturating_add-at.ensures
+    c.loop-at.invariant refl put c.saturating_add-at.ensures
 
 pub loop-at-smaller : goal.loop-at-smaller
 loop-at-smaller c =

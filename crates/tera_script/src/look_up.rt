@@ -1,0 +1,135 @@
+//! Look-ups that are lent from their line.
+ghost use Rattle.std.specs.Prelude.{◌≡◌, ◌++◌, Some, IfSome, IsUtf8};
+ghost use Rattle.tera_context.specs.Lent.{looked_up};
+ghost use Rattle.tera_script.specs.Line.{Says};
+ghost use Rattle.tera_script.specs.inner.Command.{IsTextAt, IsWhole};
+ghost use Rattle.tera_script.specs.declared.verb.Shape.TheVariants as shape;
+
+use crate::line::is_utf8;
+use crate::name::name_in;
+use crate::operand::take_names;
+use crate::text::short_text;
+use crate::word::{are_blanks, past_gap, take_operand};
+use tera_context::LookUp;
+
+/// The look-up that a line says, with its names and its text lent, so that it takes no memory.
+/// `None` of any other line, and where the text is long or has an escape, or blanks begin the line:
+/// these are for `read_line`.
+///
+/// Its first byte tells most lines that are no look-up, where it is called.
+#[inline(always)]
+pub fn look_up_of(line: &[u8]) -> Option<LookUp<'_>>
+    ensures { IfSome result (λ asked. Says line.now (looked_up asked)) }
+{
+    match line.first()? {
+        b'a' | b'g' | b'i' | b'p' => read_look_up(line),
+        _ => None,
+    }
+}
+
+// The same of a line that may say one.
+#[inline(never)]
+fn read_look_up(line: &[u8]) -> Option<LookUp<'_>>
+    ensures { IfSome result (λ asked. Says line.now (looked_up asked)) }
+{
+    let asked = look_up_at(line)?;
+    if is_utf8(line) { Some(asked) } else { None }
+}
+
+// The look-up that the bytes say, if they are UTF-8.
+fn look_up_at(bytes: &[u8]) -> Option<LookUp<'_>>
+    ensures { IfSome result (λ asked. IsUtf8 bytes.now → Says bytes.now (looked_up asked)) }
+{
+    match bytes.first()? {
+        b'a' => {
+            let operands = behind(b"attr".as_slice(), bytes)?;
+            let (of, attr) = name_and_text(operands)?;
+            Some(LookUp::Attr { of, attr })
+        }
+        b'g' => {
+            let operands = behind(b"get".as_slice(), bytes)?;
+            let name = one_name(operands)?;
+            Some(LookUp::Get { name })
+        }
+        b'i' => {
+            let operands = behind(b"item".as_slice(), bytes)?;
+            let (of, item) = two_names(operands)?;
+            Some(LookUp::Item { of, item })
+        }
+        b'p' => path_or_print_at(bytes),
+        _ => None,
+    }
+}
+
+// The same of the two words that begin alike.
+fn path_or_print_at(bytes: &[u8]) -> Option<LookUp<'_>>
+    ensures { IfSome result (λ asked. IsUtf8 bytes.now → Says bytes.now (looked_up asked)) }
+{
+    if let Some(operands) = behind(b"path".as_slice(), bytes) {
+        let (of, path) = name_and_text(operands)?;
+        return Some(LookUp::Path { of, path });
+    }
+    let operands = behind(b"print".as_slice(), bytes)?;
+    let of = one_name(operands)?;
+    Some(LookUp::Print { of })
+}
+
+// The bytes behind a word.
+fn behind<'a>(word: &[u8], bytes: &'a [u8]) -> Option<&'a [u8]>
+    ensures { IfSome result (λ rest. bytes.now ≡ word.now ++ rest.now) }
+{
+    bytes.strip_prefix(word)
+}
+
+// A name, where no more than blanks stand behind it.
+fn one_name(bytes: &[u8]) -> Option<&str>
+    ensures { IfSome result (λ name. IsWhole shape.Name bytes.now name.now) }
+{
+    let (name, rest) = take_operand(bytes)?;
+    if are_blanks(rest) {
+        Some(name_in(name))
+    } else {
+        None
+    }
+}
+
+// Two names, where no more than blanks stand behind them.
+fn two_names(bytes: &[u8]) -> Option<(&str, &str)>
+    ensures { IfSome result (λ found. IsWhole shape.Names bytes.now (found.0.now, found.1.now)) }
+{
+    let ((left, right), rest) = take_names(bytes)?;
+    if are_blanks(rest) {
+        Some((name_in(left), name_in(right)))
+    } else {
+        None
+    }
+}
+
+// A name and a text, where no more than blanks stand behind them.
+fn name_and_text(bytes: &[u8]) -> Option<(&str, &str)>
+    ensures { IfSome result (λ found. IsWhole shape.Text bytes.now (found.0.now, found.1.now)) }
+{
+    let (name, behind) = take_operand(bytes)?;
+    let (text, rest) = lent_text(behind)?;
+    if are_blanks(rest) {
+        Some((name_in(name), text))
+    } else {
+        None
+    }
+}
+
+// The text behind a gap, where it is short and has no escape, and the bytes behind it.
+fn lent_text(bytes: &[u8]) -> Option<(&str, &[u8])>
+    ensures { IfSome result (λ found. IsTextAt bytes.now (Some (found.0.now, found.1.now))) }
+{
+    let literal = past_gap(bytes)?;
+    let Some((quote, quoted)) = literal.split_first() else {
+        return None;
+    };
+    if *quote != b'"' {
+        return None;
+    }
+    let (text, used) = short_text(quoted)?;
+    let (_, rest) = quoted.split_at(used);
+    Some((text, rest))
+}
