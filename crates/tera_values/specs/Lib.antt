@@ -8,3 +8,4 @@ pub mod Kind
 pub mod Print
 pub mod Computed
 pub mod Converted
+pub mod inner

@@ -21,6 +21,7 @@ mod print;
 mod read;
 mod refused;
 mod slice;
+mod stage;
 mod unlike;
 mod value;
 mod well_made;

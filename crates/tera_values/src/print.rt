@@ -15,6 +15,7 @@ ghost use Rattle.tera_values.specs.Print.{PrintsItems, WritesInside, WritesPrint
 ghost use Rattle.tera_values.specs.Print.{printed_if_exact, PrintsPairs, PrintsPair};
 ghost use Rattle.tera_values.specs.Print.{PrintsKey, PrintsNothing};
 
+use crate::stage::Stage;
 use crate::value::ValueInner;
 use crate::{Key, Map, Value};
 use std::alloc::Global;
@@ -82,7 +83,7 @@ impl Value {
     pub fn print_to<S: Sink>(&self, out: &mut S) -> Result<(), S::Fault>
         ensures { Puts S.takes S.fails result (Prints (layout self.now)) out.old out.new }
     {
-        put_value(self, out)
+        put_whole(self, out)
     }
 
     /// Puts what is printed of the value inside an array or a map, piece by piece. Answers an error
@@ -92,7 +93,7 @@ impl Value {
     pub fn print_inside_to<S: Sink>(&self, out: &mut S) -> Result<(), S::Fault>
         ensures { Puts S.takes S.fails result (PrintsInside (layout self.now)) out.old out.new }
     {
-        put_inside(self, out)
+        put_whole_inside(self, out)
     }
 
     /// Puts the printed text into a room, where it fits. Else the room holds a beginning of it
@@ -128,8 +129,41 @@ impl fmt::Display for Value {
     ghost styled_output = { λ v _. printed_if_exact (layout v) };
 
     fn fmt<W: fmt::Write>(&self, f: &mut fmt::Formatter<W>) -> fmt::Result {
-        put_value(self, f)
+        put_whole(self, f)
     }
+}
+
+// Puts the printed text. That of an array or a map is many short pieces, which are gathered. Texts
+// and numbers are told apart from these in one go.
+fn put_whole<S: Sink>(value: &Value, out: &mut S) -> Result<(), S::Fault>
+    ensures { Puts S.takes S.fails result (Prints (layout value.now)) out.old out.new }
+{
+    match &value.inner {
+        ValueInner::Array(_) => put_gathered(value, out),
+        ValueInner::Map(_) => put_gathered(value, out),
+        ValueInner::String(text, _) => put_bare(text.as_str(), out),
+        _ => put_unquoted(value, out),
+    }
+}
+
+// The same inside an array or a map.
+fn put_whole_inside<S: Sink>(value: &Value, out: &mut S) -> Result<(), S::Fault>
+    ensures { Puts S.takes S.fails result (PrintsInside (layout value.now)) out.old out.new }
+{
+    match value.as_str() {
+        Some(text) => put_quoted(text, out),
+        None => put_whole(value, out),
+    }
+}
+
+// Puts the printed text in pieces as long as a stage holds.
+#[inline(never)]
+fn put_gathered<S: Sink>(value: &Value, out: &mut S) -> Result<(), S::Fault>
+    ensures { Puts S.takes S.fails result (Prints (layout value.now)) out.old out.new }
+{
+    let mut stage = Stage::new(out);
+    put_value(value, &mut stage)?;
+    stage.send()
 }
 
 // Puts the printed text.
@@ -159,7 +193,21 @@ fn put_inside<S: Sink>(value: &Value, out: &mut S) -> Result<(), S::Fault>
 {
     match value.as_str() {
         Some(text) => put_quoted(text, out),
-        None => put_value(value, out),
+        None => put_unquoted(value, out),
+    }
+}
+
+// Puts the printed text. Most values that are no text are numbers of 64 bits: these are told apart
+// once, and then put.
+#[cycle(print)]
+#[inline(always)]
+fn put_unquoted<S: Sink>(value: &Value, out: &mut S) -> Result<(), S::Fault>
+    ensures { Puts S.takes S.fails result (Prints (layout value.now)) out.old out.new }
+{
+    match &value.inner {
+        ValueInner::U64(n) => put_integer(*n, out),
+        ValueInner::I64(z) => put_integer(*z, out),
+        _ => put_value(value, out),
     }
 }
 

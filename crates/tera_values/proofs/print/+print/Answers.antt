@@ -74,7 +74,7 @@ put_inside-returns-in-Some g t c =
 
 pub put_inside-returns-in-None : goal.put_inside-returns-in-None
 put_inside-returns-in-None g t c =
-    MatchResult-weaker c.put_value.result c.put_value.ensures
+    MatchResult-weaker c.put_unquoted.result c.put_unquoted.ensures
     (λ _ put. (put.0, other_inside c.args.value.now put.0 c.in-None.ensures put.1, put.2))
     (λ _ bad. (bad.0, other_inside c.args.value.now bad.0 c.in-None.ensures bad.1, bad.2))
 

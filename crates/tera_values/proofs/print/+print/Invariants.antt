@@ -5,16 +5,19 @@ use Rattle.tera_values.proofs.PrintLemmas.{IsDone}
 use Rattle.tera_values.proofs.print.+print.Given as goal
 
 abbrev pub decreases-put_value : goal.decreases-put_value
-decreases-put_value g l = 5 * depth l.value.now + 1
+decreases-put_value g l = 6 * depth l.value.now + 1
+
+abbrev pub decreases-put_unquoted : goal.decreases-put_unquoted
+decreases-put_unquoted g l = 6 * depth l.value.now + 2
 
 abbrev pub decreases-put_inside : goal.decreases-put_inside
-decreases-put_inside g l = 5 * depth l.value.now + 2
+decreases-put_inside g l = 6 * depth l.value.now + 3
 
 abbrev pub decreases-put_items : goal.decreases-put_items
-decreases-put_items g l = 5 * items_depth (items l.items.now) + 3
+decreases-put_items g l = 6 * items_depth (items l.items.now) + 4
 
 abbrev pub decreases-put_array : goal.decreases-put_array
-decreases-put_array g l = 5 * items_depth (items l.all.now) + 4
+decreases-put_array g l = 6 * items_depth (items l.all.now) + 5
 
 -- what was put is what is printed of the items before
 abbrev pub invariant-put_items-loop-item : goal.invariant-put_items-loop-item
@@ -22,13 +25,13 @@ invariant-put_items-loop-item g l =
     (done : List ℕ) × IsDone l.fn.items done (drop l.item-index l.others) × g.S.Sink.takes l.fn.out done l.out
 
 abbrev pub decreases-put_pair : goal.decreases-put_pair
-decreases-put_pair g l = 5 * depth l.value.now + 3
+decreases-put_pair g l = 6 * depth l.value.now + 4
 
 abbrev pub decreases-put_pairs : goal.decreases-put_pairs
-decreases-put_pairs g l = 5 * members_depth (members l.map.now) + 4
+decreases-put_pairs g l = 6 * members_depth (members l.map.now) + 5
 
 abbrev pub decreases-put_map : goal.decreases-put_map
-decreases-put_map g l = 5 * members_depth (members l.map.now) + 5
+decreases-put_map g l = 6 * members_depth (members l.map.now) + 6
 
 -- what was put is what is printed of the pairs before those that are left, which are no deeper
 abbrev pub invariant-put_pairs-loop-key : goal.invariant-put_pairs-loop-key
