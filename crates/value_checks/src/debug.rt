@@ -20,6 +20,7 @@ fn single_values_show_what_holds_them(rt: HostRuntime) {
         &[
             tells(alloc, Value::undefined(), "Value { inner: Undefined }"),
             tells(alloc, Value::none(), "Value { inner: None }"),
+            tells(alloc, Value::from(()), "Value { inner: None }"),
             tells(alloc, Value::from(true), "Value { inner: Bool(true) }"),
             tells(alloc, Value::from(7u64), "Value { inner: U64(7) }"),
             tells(alloc, Value::from(-7i64), "Value { inner: I64(-7) }"),

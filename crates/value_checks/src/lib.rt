@@ -1,7 +1,9 @@
 //! Tests of values and of keys through their public calls: how they compare, what is read of them,
-//! what they print, what is told of writers that fail, and that calls which take memory find it.
+//! what they become, what their Debug tells, and what is told of writers that fail.
 #![tactic(auto)]
 
+#[cfg(test)]
+mod conversions;
 #[cfg(test)]
 mod debug;
 #[cfg(test)]
@@ -13,7 +15,7 @@ mod key_texts;
 #[cfg(test)]
 mod keys;
 #[cfg(test)]
-mod maps;
+mod numbers;
 #[cfg(test)]
 mod order;
 #[cfg(test)]
@@ -24,7 +26,5 @@ mod printed;
 mod quoted;
 #[cfg(test)]
 mod read;
-#[cfg(test)]
-mod sizes;
 #[cfg(test)]
 mod writer;
