@@ -2,13 +2,7 @@
 #![tactic(auto)]
 
 #[cfg(test)]
-mod ample;
-#[cfg(test)]
 mod calls;
-#[cfg(test)]
-mod contexts;
-#[cfg(test)]
-mod entries;
 #[cfg(test)]
 mod held;
 #[cfg(test)]
