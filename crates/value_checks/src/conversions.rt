@@ -4,7 +4,7 @@ use made_values::{shows, text};
 use std::alloc::Global;
 use std::fmt::Display;
 use tera_report::Error;
-use tera_values::{BinaryOp, ConversionRefused, IntType, Number, Value};
+use tera_values::{ConversionRefused, Number, Value};
 
 // The value becomes that.
 fn becomes<T>(of: Value, wanted: T) -> bool
@@ -189,44 +189,6 @@ fn what_is_debugged(rt: HostRuntime) {
             is_debugged(alloc, Value::from(300u64), outside),
             displays(alloc, &number, "-5"),
             shows(alloc, &number, "Integer(-5)"),
-        ],
-    );
-}
-
-#[test]
-fn integer_types_show_their_names(rt: HostRuntime) {
-    let alloc = rt.alloc();
-    hold(
-        &rt,
-        &[
-            shows(alloc, &IntType::U8, "U8"),
-            shows(alloc, &IntType::U16, "U16"),
-            shows(alloc, &IntType::U32, "U32"),
-            shows(alloc, &IntType::U64, "U64"),
-            shows(alloc, &IntType::U128, "U128"),
-            shows(alloc, &IntType::Usize, "Usize"),
-            shows(alloc, &IntType::I8, "I8"),
-            shows(alloc, &IntType::I16, "I16"),
-            shows(alloc, &IntType::I32, "I32"),
-            shows(alloc, &IntType::I64, "I64"),
-            shows(alloc, &IntType::I128, "I128"),
-            shows(alloc, &IntType::Isize, "Isize"),
-        ],
-    );
-}
-
-#[test]
-fn operators_show_their_names(rt: HostRuntime) {
-    let alloc = rt.alloc();
-    hold(
-        &rt,
-        &[
-            shows(alloc, &BinaryOp::Add, "Add"),
-            shows(alloc, &BinaryOp::Sub, "Sub"),
-            shows(alloc, &BinaryOp::Mul, "Mul"),
-            shows(alloc, &BinaryOp::Rem, "Rem"),
-            shows(alloc, &BinaryOp::FloorDiv, "FloorDiv"),
-            shows(alloc, &BinaryOp::Pow, "Pow"),
         ],
     );
 }

@@ -1,13 +1,11 @@
 //! Tests of values and of keys through their public calls: how they compare, what is read of them,
-//! what they become, what their Debug tells, and what is told of writers that fail.
+//! what they become, and what their Debug tells.
 #![tactic(auto)]
 
 #[cfg(test)]
 mod conversions;
 #[cfg(test)]
 mod debug;
-#[cfg(test)]
-mod faults;
 #[cfg(test)]
 mod held;
 #[cfg(test)]
@@ -26,5 +24,3 @@ mod printed;
 mod quoted;
 #[cfg(test)]
 mod read;
-#[cfg(test)]
-mod writer;
