@@ -1,7 +1,8 @@
-//! Contexts by their entries, compared and copied, and what Debug tells of answers.
+//! Contexts by their entries, compared, extended and copied; what Debug tells of answers; and what
+//! is lent.
 use made_values::{safe, shows};
 use std::alloc::Global;
-use tera_context::{Context, Step, context, run, step};
+use tera_context::{Context, Step, context, lend, run, step};
 use tera_report::TeraResult;
 use tera_script::{Reading, read_line};
 use tera_values::Value;
@@ -74,6 +75,25 @@ fn context_macro_can_capture_local_name(rt: HostRuntime) {
     assert!(rt; is_by_hand(alloc, local_names(alloc)));
 }
 
+fn ages(alloc: Global) -> TeraResult<Context> {
+    Ok(context! { alloc; name => "John Doe", age => &42, })
+}
+
+// What was found is that number.
+fn is_number(found: Option<&Value>, number: i64) -> bool {
+    let wanted = Value::from(number);
+    let is_so = found == Some(&wanted);
+    drop(wanted);
+    is_so
+}
+
+#[test]
+fn context_tests(rt: HostRuntime) {
+    let context = or_empty(rt.alloc(), ages(rt.alloc()));
+    assert!(rt; context.contains_key("age") && is_number(context.get("age"), 42));
+    drop(context);
+}
+
 #[test]
 fn any_number_of_commas_stands_behind_an_entry(rt: HostRuntime) {
     let alloc = rt.alloc();
@@ -87,6 +107,39 @@ fn numbered(alloc: Global, of: &[(&str, i64)]) -> Context {
         let _ = context.insert_value(*name, Value::from(*number));
     }
     context
+}
+
+// The target with the source.
+fn extended(target: Context, source: Context) -> Context {
+    let mut target = target;
+    let _ = target.extend(source);
+    target
+}
+
+// The target with the source is a context of these, each of which is there with its number.
+fn extends(alloc: Global, names: [&[(&str, i64)]; 3]) -> bool {
+    let [target, source, wanted] = names;
+    let made = extended(numbered(alloc, target), numbered(alloc, source));
+    let are_there = have_numbers(&made, wanted);
+    are_equal(made, numbered(alloc, wanted)) && are_there
+}
+
+fn have_numbers(context: &Context, wanted: &[(&str, i64)]) -> bool {
+    for (name, number) in wanted {
+        if !is_number(context.get(*name), *number) {
+            return false;
+        }
+    }
+    true
+}
+
+#[test]
+fn example_of_extend(rt: HostRuntime) {
+    let alloc = rt.alloc();
+    let (first, later) = ([("a", 1), ("b", 2)], [("b", 3), ("d", 4)]);
+    assert!(rt; extends(alloc, [&first, &later, &[("a", 1), ("b", 3), ("d", 4)]]));
+    assert!(rt; extends(alloc, [&first, &[], &first]));
+    assert!(rt; extends(alloc, [&[], &first, &first]));
 }
 
 // They are not equal.
@@ -191,6 +244,38 @@ fn answers_show_what_they_hold(rt: HostRuntime) {
     let mut context = Context::new(alloc);
     for (line, wanted) in ANSWERS {
         assert!(rt; answers(alloc, &mut context, line, wanted), "{line}");
+    }
+    drop(context);
+}
+
+// What the context lends for the step that the line says, in words of Debug.
+fn lends(alloc: Global, context: &Context, line: &str, wanted: &str) -> bool {
+    match read_line(alloc, line.as_bytes()) {
+        Ok(Reading::Says(said)) => is_lent(alloc, context, said, wanted),
+        _ => false,
+    }
+}
+
+fn is_lent(alloc: Global, context: &Context, said: Step, wanted: &str) -> bool {
+    let is_so = shows(alloc, &lend(context, &said), wanted);
+    drop(said);
+    is_so
+}
+
+const LENT: [(&str, &str); 5] = [
+    ("get con", "Some(Found(Some(Value { inner: I64(69) })))"),
+    ("get x", "Some(Found(None))"),
+    ("print con", "Some(Print(Value { inner: I64(69) }))"),
+    ("get con -> c", "None"),
+    ("has con", "None"),
+];
+
+#[test]
+fn what_is_not_kept_is_lent(rt: HostRuntime) {
+    let alloc = rt.alloc();
+    let context = by_hand(alloc);
+    for (line, wanted) in LENT {
+        assert!(rt; lends(alloc, &context, line, wanted), "{line}");
     }
     drop(context);
 }
