@@ -238,6 +238,50 @@ const ANSWERS: [(&str, &str); 15] = [
     ("fields m", "Ok(Texts([\"a\", \"b\"]))"),
 ];
 
+// A literal, the variant that holds what it says with what stands in it, and the kind.
+const SAID: [(&str, &str, &str); 14] = [
+    ("undefined", "Undefined", "Undefined"),
+    ("none", "None", "None"),
+    ("true", "Bool(true)", "Bool"),
+    ("7u64", "U64(7)", "U64"),
+    ("-7i64", "I64(-7)", "I64"),
+    ("7u128", "U128(7)", "U128"),
+    ("-7i128", "I128(-7)", "I128"),
+    ("\"a\"", "String(\"a\", false)", "String"),
+    ("s\"a\"", "String(\"a\", true)", "String"),
+    ("x\"61ff\"", "Bytes([97, 255])", "Bytes"),
+    ("[]", "Array([])", "Array"),
+    ("[none]", "Array([Value { inner: None }])", "Array"),
+    ("{}", "Map({})", "Map"),
+    (
+        "{\"b\": none, 1u64: none, -1: none, true: none}",
+        "Map({String(\"b\"): Value { inner: None }, U64(1): Value { inner: None }, \
+        I64(-1): Value { inner: None }, Bool(true): Value { inner: None }})",
+        "Map",
+    ),
+];
+
+// What the literal says, set as `a`, and its kind are shown so.
+fn shows_held(alloc: Global, context: &mut Context, said: &str, held: &str, kind: &str) -> bool {
+    let set = format!(in alloc; "set a {said}").unwrap_or(String::new(alloc));
+    let found = format!(in alloc; "Ok(Found(Some(Value {{ inner: {held} }})))");
+    let found = found.unwrap_or(String::new(alloc));
+    let told = format!(in alloc; "Ok(Kind({kind}))").unwrap_or(String::new(alloc));
+    answers(alloc, context, set.as_str(), "Ok(Done)")
+        && answers(alloc, context, "get a", found.as_str())
+        && answers(alloc, context, "kind a", told.as_str())
+}
+
+#[test]
+fn values_and_kinds_show_what_they_are(rt: HostRuntime) {
+    let alloc = rt.alloc();
+    let mut context = Context::new(alloc);
+    for (said, held, kind) in SAID {
+        assert!(rt; shows_held(alloc, &mut context, said, held, kind), "{said}");
+    }
+    drop(context);
+}
+
 #[test]
 fn answers_show_what_they_hold(rt: HostRuntime) {
     let alloc = rt.alloc();

@@ -1,7 +1,6 @@
 //! What keys print.
-use crate::debug::tells;
 use crate::held::hold;
-use crate::keys::owned;
+use crate::keys::{owned, tells};
 use crate::printed::displays;
 use std::alloc::Global;
 use tera_values::Key;

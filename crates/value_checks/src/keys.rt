@@ -1,9 +1,9 @@
 //! Keys of every kind beside one another: what is equal, what hashes alike, what is copied.
-use crate::debug::tells;
 use crate::held::hold;
 use crate::order::{are_equal, rise};
 use made_values::{or_undefined, shows};
 use std::alloc::Global;
+use std::fmt::Debug;
 use std::hash::{DefaultHasher, Hash, Hasher};
 use std::rc::RcStr;
 use tera_values::Key;
@@ -96,6 +96,13 @@ fn keys_in_order(rt: HostRuntime) {
     ];
     rise(&rt, &rising);
     drop(rising);
+}
+
+/// Its debug text is that.
+pub fn tells<D: Debug + Drop>(alloc: Global, it: D, wanted: &str) -> bool {
+    let is_so = shows(alloc, &it, wanted);
+    drop(it);
+    is_so
 }
 
 // The debug text of its value, which tells the kind and the flag, is that.

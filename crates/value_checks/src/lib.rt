@@ -1,11 +1,9 @@
 //! Tests of values and of keys through their public calls: how they compare, what is read of them,
-//! what they become, and what their Debug tells.
+//! what they become, and what keys show.
 #![tactic(auto)]
 
 #[cfg(test)]
 mod conversions;
-#[cfg(test)]
-mod debug;
 #[cfg(test)]
 mod held;
 #[cfg(test)]
