@@ -148,7 +148,12 @@ def calls_refused_onwards(given):
 # On every call that heeds no name for what is found there may be one all the same.
 IGNORED = ["@has l", "@eq l l", "@cmp l m", "@try_cmp l m", "@contains m key", "@len m", "@truthy m", "@fields m", "@walk m", "@kind l",
            "@print t", "@escape t", "@is_safe t", "@set extra [1, \"<\"]", "@remove extra", "@extend {\"extra\": \"a text of more than twenty bytes\"}",
-           "@get l", "@negate t", "@mark_safe t", "@read u8 u", "has ignored"]
+           "has ignored", "@get l", "@negate t", "@mark_safe t", "@read u8 u", "has ignored"]
+
+
+# What the calls of the program's script do not find, refuse or compute.
+BESIDE = ["item m none", "item m l", "item l t", "item t one", "item t none", "negate u", "set wide 170141183460469231731687303715884105727",
+          "mul wide wide", "pow one wide", "sub u n", "contains none one", "reverse none", "slice none _ _ _"]
 
 
 def plain(line):
@@ -219,7 +224,7 @@ class ListRuns(refused.Runs):
 
 
 def runs_refused(given):
-    first = refused.every_call() + IGNORED
+    first = refused.every_call() + BESIDE + IGNORED
     runs = ListRuns([first, list(deep_questions([plain(line) for line in first]))])
     for number, heard, is_refused in given.refusals(given.calls, runs.given):
         out = lines_of(heard[0])
@@ -253,14 +258,44 @@ def runs_of_any_size(given):
     same([err, str(status), *lines_of(out)], ["", "0", *lines_of(wanted)])
 
 
+# ---- what lines say, by their Debug
+
+ONE, TWO = 'of: "a"', 'left: "a", right: "b"'
+CALLS = [
+    ("get a -> b", 'Get { name: "a" }', "b"), ("get a", 'Get { name: "a" }'), ("has a", 'Has { name: "a" }'),
+    ("set a 7u64", 'Set { name: "a", value: Value { inner: U64(7) } }'), ("remove a", 'Remove { name: "a" }'),
+    ("mark_safe a", f"MarkSafe {{ {ONE} }}"), ("mark_safe a -> b", f"MarkSafe {{ {ONE} }}", "b"), ("len a", f"Len {{ {ONE} }}"),
+    ("truthy a", f"Truthy {{ {ONE} }}"), ("kind a", f"Kind {{ {ONE} }}"), ("is_safe a", f"IsSafe {{ {ONE} }}"),
+    ("print a", f"Print {{ {ONE} }}"), ("escape a", f"Escape {{ {ONE} }}"), ("fields a", f"Fields {{ {ONE} }}"), ("walk a", f"Walk {{ {ONE} }}"),
+    ("eq a b", f"Equal {{ {TWO} }}"), ("cmp a b", f"Compare {{ {TWO} }}"), ("try_cmp a b", f"TryCompare {{ {TWO} }}"),
+    ("contains a b", f'Contains {{ {ONE}, needle: "b" }}'), ('path a "b.0"', f'Path {{ {ONE}, path: "b.0" }}'),
+    ('attr a "\u00e9\\""', f'Attr {{ {ONE}, attr: "\u00e9\\"" }}'), ("item a b", f'Item {{ {ONE}, item: "b" }}'),
+    ("slice a -1 _ 2", f"Slice {{ {ONE}, start: Some(-1), end: None, step: Some(2) }}"), ("reverse a", f"Reverse {{ {ONE} }}"),
+    *((f"{word} a b", f"Binary {{ op: {word.title().replace('_', '')}, {TWO} }}") for word in second.OPERATORS),
+    ("negate a -> c", f"Negate {{ {ONE} }}", "c"),
+    *((f"read {name} a", f"Read {{ {ONE}, to: {name.title()} }}") for name in second.TYPES)]
+# the names of a context stand in the order of their bytes
+NAMES = ["b", "\u00e9", "", "ab"]
+
+
+def lines_by_debug(given):
+    """Each call and each of its operands stands in the debug text of what a line says."""
+    rows = [(line, f"Says(Step {{ call: {call}, into: {f'Some({quoted(into[0])})' if into else None} }})") for line, call, *into in CALLS]
+    source = calls.context(dict.fromkeys(NAMES, second.NONE))
+    rows.append((f"extend {{{', '.join(f'{quoted(name)}: none' for name in NAMES)}}}", f"Says(Step {{ call: Extend {{ source: {source} }}, into: None }})"))
+    rows += [("# get a", "Skipped"), (" ", "Skipped"), ("has \u00e9", "Bad"), ("frob a", "Bad")]
+    out, err, status, _ = given.run(given.calls, "read\n" + "".join(f"{line}\n" for line, _ in rows))
+    same([err, str(status), *lines_of(out)], ["", "0", *(f"read_line: ok {said}" for _, said in rows)])
+
+
 # ---- writers that fail
 
-WRITTEN = ["true", "-12345i128", '"text\\u{e9}<&\'\\">"', 's"<b>"', '""', "none", 'x"ff41"', '["\\u{e9}\\n", [x"ff", 7], s"a\\"b"]',
+WRITTEN = ["true", "-12345i128", "18446744073709551615u64", "-9223372036854775808i64", '"text\\u{e9}<&\'\\">"', 's"<b>"', '""', "none", 'x"ff41"', '["\\u{e9}\\n", [x"ff", 7], s"a\\"b"]',
            '{"\\u{e9}": {"k": [none, 1]}}', "170141183460469231731687303715884105728"]
 FAULTS = ['kind: StorageFull, error: "the shelf is full"', 'kind: BrokenPipe, error: "nobody reads on"', 'kind: Other, error: "odd"']
 # what std answers for `{}` where a write takes nothing, and what these crates answer
 NONE_SHOWN, NONE_TAKEN = 'Error { kind: WriteZero, message: "failed to write whole buffer" }', "Kind(WriteZero)"
-OWN = ("Value::format", "Key::format", "escape_html")
+OWN = ("Value::format", "Value::format_inside", "Key::format", "escape_html")
 
 
 def written(name, text):
@@ -268,9 +303,9 @@ def written(name, text):
     size = len(text.encode())
     for step in (2**64 - 1, 1, 3):
         for room in range(size):
-            yield f"{name} by {step} in {room}: {room} bytes, Custom {{ {FAULTS[room % 3]} }}"
+            yield f"{name} by {step} in {room}: {list(text.encode()[:room])}, Custom {{ {FAULTS[room % 3]} }}"
         yield f"{name} by {step} in {size}: ok {quoted(text)}"
-    yield f"{name} by 0: " + (f"0 bytes, {NONE_TAKEN if name in OWN else NONE_SHOWN}" if text else 'ok ""')
+    yield f"{name} by 0: " + (f"[], {NONE_TAKEN if name in OWN else NONE_SHOWN}" if text else 'ok ""')
 
 
 def texts_written():
@@ -278,7 +313,7 @@ def texts_written():
     for literal in WRITTEN:
         value, _ = second.read_literal(literal, 0)
         text = second.printed(value)
-        yield from (("Value::format", text), ("Value", text))
+        yield from (("Value::format", text), ("Value::format_inside", second.printed((value,))[1:-1]), ("Value", text))
         if isinstance(value, second.Text):
             yield "escape_html", second.escaped(text)
         if second.key_of(value) is not None:
@@ -286,7 +321,7 @@ def texts_written():
         else:
             yield from (("Error", "Not a valid key type"), ("ErrorKind", "Not a valid key type"))
     yield from (("Span", " @ 1:0-1:2"), ("Number", "-75"), ("ConversionRefused", "Value `300` is out of range for `u8`"))
-    chain = "Circular extend detected for template 't'. Inheritance chain: `[\"a\\n\", \"\u00e9\"]`"
+    chain = "Circular extend detected for template 't'. Inheritance chain: `[\"a\\n\u00e9\"]`"
     not_found = "Io error while writing rendered value to output: NotFound"
     report = calls.report_text("bad", "a.html", "\t{{ y", [("\u00e9", "b.html", "z")])
     for text in (chain, not_found, report):
@@ -408,6 +443,7 @@ TESTS = {
     "runs over lists with each request for memory refused in turn": runs_refused,
     "an extend of two names with each request for memory refused in turn": row_of_extend,
     "runs over lists on operands of 0, 1 and 1,000 parts": runs_of_any_size,
+    "what lines say, by their debug text": lines_by_debug,
     "writers that fail at each byte, take one a write, are interrupted or take none": writers_that_fail,
     "values of 64 levels": deep_values,
     "65 levels are a bad line": too_deep,

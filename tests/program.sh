@@ -292,7 +292,7 @@ step_refused
 tell "a step's want of memory is its answer where standard error fails" $?
 python3 tests/refused.py "$program" "$work/refuse.so" >"$work/out" 2>"$work/err"
 tell "every call with each request for memory refused in turn" $?
-for script in first calls maps walks look_ups slices arithmetic worked extends; do
+for script in first calls maps walks look_ups slices arithmetic order printed worked extends; do
     script=examples/$script.replay
     python3 tests/refused.py "$program" "$work/refuse.so" "$script" >"$work/out" 2>"$work/err"
     tell "$script with each request for memory refused in turn" $?

@@ -39,29 +39,11 @@ pub fn two_of<T: Drop>(alloc: Global, first: T, second: T) -> Vec<T> {
     and(one_of(alloc, first), second)
 }
 
-/// The numbers below that one, rising.
-pub fn rising(alloc: Global, count: i64) -> Vec<i64> {
-    let mut items = Vec::new(alloc);
-    for number in 0..count {
-        items = and(items, number);
-    }
-    items
-}
-
 /// A set of two.
 pub fn set_of<T: Ord + Drop>(alloc: Global, first: T, second: T) -> BTreeSet<T> {
     let mut set = BTreeSet::new(alloc);
     let _ = set.insert(first);
     let _ = set.insert(second);
-    set
-}
-
-/// The set of the numbers below that one.
-pub fn falling_set(alloc: Global, count: i64) -> BTreeSet<i64> {
-    let mut set = BTreeSet::new(alloc);
-    for number in 0..count {
-        let _ = set.insert(count.wrapping_sub(number).wrapping_sub(1));
-    }
     set
 }
 
@@ -93,16 +75,7 @@ pub fn row_of<K: Eq + Hash + Drop, T: Drop>(
     map
 }
 
-/// So many numbers, rising from 0, each at a text past ASCII with it, in the order of keys.
-pub fn many_in_tree(alloc: Global, count: i64) -> BTreeMap<String, i64> {
-    let mut map = BTreeMap::new(alloc);
-    for number in 0..count {
-        let _ = map.insert(numbered(alloc, number), number);
-    }
-    map
-}
-
-/// The same in a hashed map.
+/// So many numbers, rising from 0, each at a text past ASCII with it, in a hashed map.
 pub fn many_in_table(alloc: Global, count: i64) -> HashMap<String, i64> {
     let mut map = HashMap::new(alloc);
     for number in 0..count {
@@ -111,16 +84,7 @@ pub fn many_in_table(alloc: Global, count: i64) -> HashMap<String, i64> {
     map
 }
 
-/// The same in the order in which they are put.
-pub fn many_in_row(alloc: Global, count: i64) -> IndexMap<String, i64> {
-    let mut map = IndexMap::new(alloc);
-    for number in 0..count {
-        let _ = map.insert(numbered(alloc, number), number);
-    }
-    map
-}
-
-/// The text of that number.
-pub fn numbered(alloc: Global, number: i64) -> String {
+// The text of that number.
+fn numbered(alloc: Global, number: i64) -> String {
     format!(in alloc; "key é {number}").unwrap_or(String::new(alloc))
 }

@@ -11,7 +11,7 @@ use tera_report::TeraResult;
 use tera_values::{Key, Map, Value};
 
 // The copy of the map that is taken.
-pub fn copied_map(alloc: Global, value: &Value) -> TeraResult<Value> {
+fn copied_map(alloc: Global, value: &Value) -> TeraResult<Value> {
     let map: Map = taken(alloc, value)?;
     Ok(Value::of_map(map))
 }

@@ -5,7 +5,6 @@ use Rattle.tera_meaning.specs.Integer.{i64}
 use Rattle.tera_meaning.specs.KeyMeaning.{KeyForm, text_key, borrowed}
 use Rattle.tera_meaning.specs.Pairs.{key_form_order, put}
 use Rattle.tera_meaning.specs.Tree.{array, object, items, members}
-use Rattle.tera_values.specs.Key.{integer_key}
 use Rattle.tera_values.specs.View.{integer}
 
 -- the items with each of the others put behind, or left out
@@ -32,9 +31,6 @@ IsMapOf ps value = (made : List (KeyForm × Form)) × Inserted [] ps made
 abbrev pub numbered : List ℤ → List Form
 numbered zs = map (λ z. integer i64 z) zs
 
--- the pair of a number at a text, and at a number
+-- the pair of a number at a text
 abbrev pub at_text : List ℕ → ℤ → KeyForm × Form
 at_text key z = (text_key (borrowed key), integer i64 z)
-
-abbrev pub at_number : ℤ → ℤ → KeyForm × Form
-at_number key z = (integer_key i64 key, integer i64 z)

@@ -9,7 +9,7 @@ ghost use Rattle.tera_meaning.specs.Tree.{bytes};
 ghost use Rattle.tera_values.specs.Key.{key_form};
 ghost use Rattle.tera_values.specs.View.{marked};
 ghost use Rattle.made_values.specs.Made.{Inserted, IsArrayOf, IsMapOf, numbered};
-ghost use Rattle.made_values.specs.Made.{at_text, at_number};
+ghost use Rattle.made_values.specs.Made.{at_text};
 
 use std::alloc::Global;
 use std::fmt::Debug;
@@ -96,15 +96,6 @@ pub fn numbers(alloc: Global, of: &[i64]) -> Value
     Value::of_array(items)
 }
 
-/// An array of the numbers below that one.
-pub fn numbers_below(alloc: Global, count: i64) -> Value {
-    let mut items = Vec::new(alloc);
-    for number in 0..count {
-        items = and(items, Value::from(number));
-    }
-    Value::of_array(items)
-}
-
 /// An array of so many arrays, each of a text past ASCII and a number, which rises from 0.
 pub fn many_items(alloc: Global, count: i64) -> Value {
     let mut items = Vec::new(alloc);
@@ -145,17 +136,6 @@ pub fn at_texts(alloc: Global, pairs: &[(&'static str, i64)]) -> Value
     let mut map = Map::new(alloc);
     for (key, number) in pairs {
         map = with(map, Key::Str(*key), Value::from(*number));
-    }
-    Value::of_map(map)
-}
-
-/// A map of a number at each of these numbers.
-pub fn at_numbers(alloc: Global, pairs: &[(i64, i64)]) -> Value
-    ensures { IsMapOf (map (λ p. at_number p.0 p.1) pairs.now) result }
-{
-    let mut map = Map::new(alloc);
-    for (key, number) in pairs {
-        map = with(map, Key::I64(*key), Value::from(*number));
     }
     Value::of_map(map)
 }

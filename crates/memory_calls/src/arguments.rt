@@ -1,5 +1,5 @@
 //! What values are taken as.
-use crate::answers::{tell, tell_error, tell_value};
+use crate::answers::{tell, tell_error};
 use crate::made::Made;
 use std::alloc::Global;
 use std::borrow::CowStr;
@@ -25,8 +25,12 @@ pub fn tell_taken(rt: &(impl Print + AllocGlobal), made: &Made) {
         taken::<Value, String>(alloc, &made.list),
     );
     tell(rt, "CowStr::from_value", owned(alloc, &made.list));
-    tell_value(rt, "Value::from_value", taken(alloc, &made.list));
-    tell_value(rt, "Map::from_value", as_value(taken(alloc, &made.map)));
+    tell(
+        rt,
+        "Value::from_value",
+        taken::<Value, Value>(alloc, &made.list),
+    );
+    tell(rt, "Map::from_value", as_value(taken(alloc, &made.map)));
     tell(
         rt,
         "Vec::from_value",
@@ -52,7 +56,8 @@ fn owned(alloc: Global, value: &Value) -> TeraResult<Option<String>> {
     }
 }
 
-fn as_value(map: TeraResult<Map>) -> TeraResult<Value> {
+/// The map as a value.
+pub fn as_value(map: TeraResult<Map>) -> TeraResult<Value> {
     Ok(Value::of_map(map?))
 }
 

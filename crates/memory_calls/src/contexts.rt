@@ -5,7 +5,6 @@ use std::alloc::Global;
 use tera_context::{Context, context};
 use tera_report::TeraResult;
 use tera_script::{read_line, take_text};
-use tera_values::Value;
 
 // The items under so many names.
 fn of_items(alloc: Global, count: usize) -> TeraResult<Context> {
@@ -17,17 +16,6 @@ fn of_items(alloc: Global, count: usize) -> TeraResult<Context> {
     Ok(context)
 }
 
-// As many names before these, and the first of these.
-fn of_others(alloc: Global, count: usize) -> TeraResult<Context> {
-    let mut context = Context::new(alloc);
-    for number in 0..count {
-        let name = name(alloc, number)?;
-        context.insert_value(format!(in alloc; "a{name}")?.as_str(), Value::from(true))?;
-    }
-    context.insert_value("k1000", Value::none())?;
-    Ok(context)
-}
-
 /// Contexts that are made, changed and copied.
 pub fn tell_contexts(rt: &(impl Print + AllocGlobal), made: &Made) -> TeraResult<()> {
     let (alloc, text) = (rt.alloc(), made.text.as_str());
@@ -36,10 +24,6 @@ pub fn tell_contexts(rt: &(impl Print + AllocGlobal), made: &Made) -> TeraResult
     tell_copy(rt, of_items(alloc, made.count)?);
     tell_insert(rt, of_items(alloc, made.count)?, text);
     tell_replace(rt, of_items(alloc, 1)?, text);
-    let value = Value::safe_string(alloc, text)?;
-    tell_insert_value(rt, of_items(alloc, made.count)?, value);
-    let source = of_others(alloc, made.count)?;
-    tell_extend(rt, of_items(alloc, made.count)?, source);
     Ok(())
 }
 
@@ -69,18 +53,6 @@ fn tell_replace(rt: &impl Print, context: Context, text: &str) {
         answer,
         context,
     );
-}
-
-fn tell_insert_value(rt: &impl Print, context: Context, value: Value) {
-    let mut context = context;
-    let answer = context.insert_value("new", value);
-    tell_change(rt, "Context::insert_value", answer, context);
-}
-
-fn tell_extend(rt: &impl Print, context: Context, source: Context) {
-    let mut context = context;
-    let answer = context.extend(source);
-    tell_change(rt, "Context::extend", answer, context);
 }
 
 /// Lines and texts of scripts.

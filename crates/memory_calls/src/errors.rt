@@ -95,7 +95,8 @@ pub fn tell_copies(rt: &(impl Print + AllocGlobal), made: &Made) -> TeraResult<(
 // What could not be made is told as an operand that could not.
 fn tell_copy(rt: &(impl Print + AllocGlobal), name: &str, error: Error) -> TeraResult<()> {
     let error = caused(error)?;
-    tell(rt, name, error.kind().clone(rt.alloc()));
+    let copy = error.kind().clone(rt.alloc());
     drop(error);
+    tell(rt, name, copy);
     Ok(())
 }

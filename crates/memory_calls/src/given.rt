@@ -1,5 +1,5 @@
 //! Values, keys and results that are given.
-use crate::answers::{tell, tell_value};
+use crate::answers::tell;
 use crate::made::{Made, item, items, name, names};
 use indexmap::IndexMap;
 use std::alloc::Global;
@@ -13,54 +13,54 @@ use tera_values::{Key, Value};
 /// Single values that take memory.
 pub fn tell_values(rt: &(impl Print + AllocGlobal), made: &Made) -> TeraResult<()> {
     let (alloc, text) = (rt.alloc(), made.text.as_str());
-    tell_value(rt, "char::to_value", 'é'.to_value(alloc));
-    tell_value(rt, "&str::to_value", text.to_value(alloc));
-    tell_value(
+    tell(rt, "char::to_value", 'é'.to_value(alloc));
+    tell(rt, "&str::to_value", text.to_value(alloc));
+    tell(
         rt,
         "CowStr::to_value",
         CowStr::Borrowed(text).to_value(alloc),
     );
     let key = Key::String(RcStr::from_str(alloc, text)?);
-    tell_value(rt, "Key::to_value", key.to_value(alloc));
-    tell_value(rt, "&char::to_value", (&'é').to_value(alloc));
-    tell_value(rt, "&&str::to_value", (&text).to_value(alloc));
-    tell_value(rt, "&String::to_value", (&made.text).to_value(alloc));
-    tell_value(rt, "&Value::to_value", (&made.list).to_value(alloc));
-    tell_value(rt, "&[u8]::to_value", text.as_bytes().to_value(alloc));
-    tell_value(rt, "Option::to_value", Some(text).to_value(alloc));
+    tell(rt, "Key::to_value", key.to_value(alloc));
+    tell(rt, "&char::to_value", (&'é').to_value(alloc));
+    tell(rt, "&&str::to_value", (&text).to_value(alloc));
+    tell(rt, "&String::to_value", (&made.text).to_value(alloc));
+    tell(rt, "&Value::to_value", (&made.list).to_value(alloc));
+    tell(rt, "&[u8]::to_value", text.as_bytes().to_value(alloc));
+    tell(rt, "Option::to_value", Some(text).to_value(alloc));
     Ok(())
 }
 
 /// Collections.
 pub fn tell_collections(rt: &(impl Print + AllocGlobal), made: &Made) -> TeraResult<()> {
     let (alloc, count) = (rt.alloc(), made.count);
-    tell_value(rt, "Vec::to_value", names(alloc, count)?.to_value(alloc));
-    tell_value(rt, "BTreeSet::to_value", set(alloc, count)?.to_value(alloc));
+    tell(rt, "Vec::to_value", names(alloc, count)?.to_value(alloc));
+    tell(rt, "BTreeSet::to_value", set(alloc, count)?.to_value(alloc));
     tell_slice(rt, items(alloc, count)?);
-    tell_value(
+    tell(
         rt,
         "HashMap::to_value",
         table(alloc, count)?.to_value(alloc),
     );
-    tell_value(
+    tell(
         rt,
         "BTreeMap::to_value",
         tree(alloc, count)?.to_value(alloc),
     );
-    tell_value(
+    tell(
         rt,
         "IndexMap::to_value",
         index(alloc, count)?.to_value(alloc),
     );
-    tell_value(
+    tell(
         rt,
         "FunctionResult::into_result",
         names(alloc, count)?.into_result(alloc),
     );
     let answer: TeraResult<Vec<String>> = Ok(names(alloc, count)?);
-    tell_value(rt, "Result::into_result", answer.into_result(alloc));
+    tell(rt, "Result::into_result", answer.into_result(alloc));
     let failed: TeraResult<u8> = Err(Error::message(alloc, made.text.as_str()));
-    tell_value(
+    tell(
         rt,
         "Result::into_result of an error",
         failed.into_result(alloc),
@@ -71,7 +71,7 @@ pub fn tell_collections(rt: &(impl Print + AllocGlobal), made: &Made) -> TeraRes
 fn tell_slice(rt: &(impl Print + AllocGlobal), items: Vec<Value>) {
     let value = items.as_slice().to_value(rt.alloc());
     drop(items);
-    tell_value(rt, "&[Value]::to_value", value);
+    tell(rt, "&[Value]::to_value", value);
 }
 
 fn set(alloc: Global, count: usize) -> TeraResult<BTreeSet<usize>> {

@@ -20,8 +20,6 @@ pub struct Made {
     pub map: Value,
     /// The bytes of the text, and one that is no UTF-8.
     pub raw: Value,
-    /// `k1000`
-    pub key: Value,
     pub zero: Value,
     pub none: Value,
     pub below: Value,
@@ -40,7 +38,6 @@ impl Made {
             texts: Value::none(),
             map: Value::none(),
             raw: Value::none(),
-            key: Value::none(),
             zero: Value::from(0u8),
             none: Value::none(),
             below: Value::from(-1i8),
@@ -56,7 +53,6 @@ impl Made {
         self.texts = texts(alloc, self.count)?;
         self.map = Value::of_map(map(alloc, self.count)?);
         self.raw = Value::bytes(raw(alloc, self.text.as_str())?);
-        self.key = Value::normal_string(alloc, "k1000")?;
         Ok(())
     }
 }

@@ -4,6 +4,7 @@
 //! - A number, and 2 where nothing is said: each call that takes memory, on operands of so many
 //!   parts. A line for each has its name, its answer, and what is still held of what it may change.
 //! - `run`: lists of steps, with lines `--` between them, each of which is run over one context.
+//! - `read`: what each line of a script says, by its Debug.
 //! - `write`: each value that a line sets is written, in each way that a text goes to a writer, to
 //!   writers that fail at each place, that take a byte at a time, are interrupted or take nothing.
 #![tactic(auto)]
@@ -48,6 +49,10 @@ fn started(rt: &HostRuntime) -> TeraResult<()> {
     if what == "run" {
         return runs::tell_runs(rt, rest);
     }
+    if what == "read" {
+        runs::tell_readings(rt, rest);
+        return Ok(());
+    }
     if what == "write" {
         return writes::tell_writes(rt, rest);
     }
@@ -71,10 +76,8 @@ fn tell_each(rt: &HostRuntime, made: &mut Made) -> TeraResult<()> {
     paper::tell_papers(rt, made);
     values::tell_makers(rt, made)?;
     values::tell_copies(rt, made);
-    values::tell_look_ups(rt, made);
     values::tell_maps(rt, made)?;
     numbers::tell_refusals(rt, made);
-    numbers::tell_scalars(rt, made);
     given::tell_values(rt, made)?;
     given::tell_collections(rt, made)?;
     given::tell_keys(rt, made)?;

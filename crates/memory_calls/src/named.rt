@@ -1,7 +1,7 @@
 //! Arguments by their names, and texts as they are shown.
 ghost use Rattle.tera_report.specs.Errors.{IsOutOfMemory};
 
-use crate::answers::{tell, tell_error, tell_value};
+use crate::answers::tell;
 use crate::arguments::taken;
 use crate::made::{Made, map};
 use std::alloc::Global;
@@ -39,37 +39,16 @@ pub fn tell_named(rt: &(impl Print + AllocGlobal), made: &Made) -> TeraResult<()
     let alloc = rt.alloc();
     let text = made.plain.clone(alloc)?;
     let pairs = Kwargs::from_pairs(alloc, [("m", text), ("n", Value::from(300u16))]);
-    tell_pairs(rt, "Kwargs::from_pairs", pairs);
+    tell(rt, "Kwargs::from_pairs", pairs);
     tell_copy(rt, Kwargs::new(map(alloc, made.count)?));
     tell_taken(rt, Kwargs::new(map(alloc, 2)?));
     Ok(())
 }
 
-// The pairs of the arguments.
-fn tell_pairs(rt: &impl Print, name: &str, answer: TeraResult<Kwargs>) {
-    match answer {
-        Ok(of) => tell_held(rt, name, of),
-        Err(refused) => tell_error(rt, name, refused),
-    }
-}
-
-fn tell_held(rt: &impl Print, name: &str, of: Kwargs) {
-    tell_each(rt, name, &of);
-    drop(of);
-}
-
-fn tell_each(rt: &impl Print, name: &str, of: &Kwargs) {
-    let _ = print!(rt; "{name}: ok map ");
-    for (key, value) in of.iter() {
-        let _ = print!(rt; "{key:?}: {value:?}, ");
-    }
-    let _ = println!(rt);
-}
-
 fn tell_copy(rt: &(impl Print + AllocGlobal), of: Kwargs) {
     let copy = of.clone(rt.alloc());
     drop(of);
-    tell_pairs(rt, "Kwargs::clone", copy);
+    tell(rt, "Kwargs::clone", copy);
 }
 
 // What an argument is taken as, that is there or not.
@@ -103,7 +82,7 @@ pub fn tell_inputs(rt: &(impl Print + AllocGlobal), made: &Made) -> TeraResult<(
     let alloc = rt.alloc();
     let input: StringInput<'_> = taken(alloc, &made.plain)?;
     tell(rt, "StringInput::rendered", shown(alloc, &input));
-    tell_value(rt, "StringInput::into_value", input.into_value(alloc));
+    tell(rt, "StringInput::into_value", input.into_value(alloc));
     Ok(())
 }
 

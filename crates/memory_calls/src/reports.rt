@@ -1,6 +1,6 @@
 //! Reports: made, copied, changed, as texts; and nodes with their places.
 use crate::answers::{tell, tell_change};
-use crate::made::{Made, name, span};
+use crate::made::{Made, name, names, span};
 use std::alloc::Global;
 use tera_report::{ReportError, Spanned, TeraResult};
 
@@ -63,20 +63,11 @@ fn tell_nodes(rt: &(impl Print + AllocGlobal), made: &Made) -> TeraResult<()> {
     tell(
         rt,
         "Spanned::new",
-        Spanned::new(alloc, numbers(alloc, made)?, span()),
+        Spanned::new(alloc, names(alloc, made.count)?, span()),
     );
-    let node = Spanned::new(alloc, numbers(alloc, made)?, span())?;
+    let node = Spanned::new(alloc, names(alloc, made.count)?, span())?;
     let copy = node.clone(alloc);
     drop(node);
     tell(rt, "Spanned::clone", copy);
     Ok(())
-}
-
-// The numbers up to that of the parts.
-fn numbers(alloc: Global, made: &Made) -> TeraResult<Vec<usize>> {
-    let mut numbers = Vec::new(alloc);
-    for number in 0..made.count {
-        numbers.push(number)?;
-    }
-    Ok(numbers)
 }

@@ -1,5 +1,5 @@
 //! Lists of steps that are run.
-use crate::answers::tell_error;
+use crate::answers::{tell, tell_error, widened};
 use std::alloc::Global;
 use std::cmp::Ordering;
 use std::io;
@@ -7,6 +7,14 @@ use tera_context::{Answer, Context, Step, run};
 use tera_report::{Error, TeraResult};
 use tera_script::{Reading, read_line};
 use tera_values::Value;
+
+/// Tells what each line of a script says.
+pub fn tell_readings(rt: &(impl Print + AllocGlobal), script: &str) {
+    for line in script.lines() {
+        let reading = read_line(rt.alloc(), line.as_bytes());
+        tell(rt, "read_line", widened(reading));
+    }
+}
 
 /// Runs the lists of steps that a script holds, each in one run, over one context. Lines `--` part
 /// them. A line with `@` before it keeps what its call finds under `ignored`, whatever it calls.
@@ -29,7 +37,8 @@ fn tell_lists(
     Ok(())
 }
 
-fn steps_of(alloc: Global, list: &str) -> TeraResult<Vec<Step>> {
+/// The steps that the lines say.
+pub fn steps_of(alloc: Global, list: &str) -> TeraResult<Vec<Step>> {
     let mut steps = Vec::new(alloc);
     for line in list.lines() {
         steps.push(step_of(alloc, line)?)?;

@@ -1,13 +1,13 @@
 //! What goes to a writer, to writers that fail.
 use crate::made::span;
+use crate::runs::steps_of;
 use crate::shelf::Shelf;
 use std::alloc::Global;
 use std::fmt::Display;
 use std::io::Write;
 use std::{io, str};
-use tera_context::Call;
+use tera_context::{Context, run};
 use tera_report::{Error, ErrorKind, ReportError, TeraResult, escape_html};
-use tera_script::{Reading, read_line};
 use tera_values::{ConversionRefused, Key, Number, Value};
 
 // What is written in one way.
@@ -34,6 +34,17 @@ struct Formatted<'a> {
 impl Put for Formatted<'_> {
     fn put(&self, out: &mut Shelf) -> io::Result<()> {
         self.it.format(out)
+    }
+}
+
+#[derive(Drop)]
+struct Inside<'a> {
+    it: &'a Value,
+}
+
+impl Put for Inside<'_> {
+    fn put(&self, out: &mut Shelf) -> io::Result<()> {
+        self.it.format_inside(out)
     }
 }
 
@@ -101,42 +112,44 @@ fn tell_taken(rt: &impl Print, out: Shelf) -> bool {
 }
 
 fn tell_fault(rt: &impl Print, out: Shelf, fault: io::Error) -> bool {
-    let _ = println!(rt; "{} bytes, {fault:?}", out.taken.len());
+    let _ = println!(rt; "{:?}, {fault:?}", out.taken.as_slice());
     drop(out);
     drop(fault);
     false
 }
 
-/// Writes each value that a line of the script sets, and some errors.
+/// Writes each value that a line of the script sets as `a`, and some errors.
 pub fn tell_writes(rt: &(impl Print + AllocGlobal), script: &str) -> TeraResult<()> {
-    for line in script.lines() {
-        tell_owned(rt, read(rt.alloc(), line)?);
-    }
+    let mut context = Context::new(rt.alloc());
+    let told = tell_lines(rt, &mut context, script);
+    drop(context);
+    told?;
     tell_numbers(rt);
     tell_errors(rt)
 }
 
-fn read(alloc: Global, line: &str) -> TeraResult<Value> {
-    match read_line(alloc, line.as_bytes())? {
-        Reading::Says(step) => set_by(alloc, step.call),
-        _ => Err(Error::message(alloc, line)),
+fn tell_lines(
+    rt: &(impl Print + AllocGlobal),
+    context: &mut Context,
+    script: &str,
+) -> TeraResult<()> {
+    for line in script.lines() {
+        let steps = steps_of(rt.alloc(), line)?;
+        drop(run(context, steps));
+        tell_held(rt, context.get("a"));
     }
+    Ok(())
 }
 
-fn set_by(alloc: Global, call: Call) -> TeraResult<Value> {
-    match call {
-        Call::Set { value, .. } => Ok(value),
-        _ => Err(Error::message(alloc, "it sets nothing")),
+fn tell_held(rt: &(impl Print + AllocGlobal), found: Option<&Value>) {
+    if let Some(value) = found {
+        tell_value(rt, value);
     }
-}
-
-fn tell_owned(rt: &(impl Print + AllocGlobal), value: Value) {
-    tell_value(rt, &value);
-    drop(value);
 }
 
 fn tell_value(rt: &(impl Print + AllocGlobal), value: &Value) {
     tell_put(rt, "Value::format", &Formatted { it: value });
+    tell_put(rt, "Value::format_inside", &Inside { it: value });
     tell_put(rt, "Value", &Shown { it: value });
     if let Some(text) = value.as_str() {
         tell_put(rt, "escape_html", &Escaped { it: text });
@@ -180,9 +193,9 @@ fn tell_errors(rt: &(impl Print + AllocGlobal)) -> TeraResult<()> {
 }
 
 fn chain(alloc: Global) -> TeraResult<Vec<String>> {
+    let name = String::from_str(alloc, "a\né")?;
     let mut chain = Vec::new(alloc);
-    chain.push(String::from_str(alloc, "a\n")?)?;
-    chain.push(String::from_str(alloc, "é")?)?;
+    chain.push(name)?;
     Ok(chain)
 }
 

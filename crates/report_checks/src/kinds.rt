@@ -8,8 +8,8 @@ use std::alloc::{AllocError, AllocFailed, Global};
 use std::io;
 use tera_report::{Error, ErrorKind};
 
-/// The kind of the error is its clone, and is not the other.
-pub fn is_its_clone(alloc: Global, error: Error, other: &ErrorKind) -> bool {
+// The kind of the error is its clone, and is not the other.
+fn is_its_clone(alloc: Global, error: Error, other: &ErrorKind) -> bool {
     let is_so = is_cloned(alloc, error.kind(), other);
     drop(error);
     is_so

@@ -15,8 +15,6 @@ mod made;
 #[cfg(test)]
 mod reports;
 #[cfg(test)]
-mod sizes;
-#[cfg(test)]
 mod sources;
 #[cfg(test)]
 mod spans;

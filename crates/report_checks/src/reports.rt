@@ -1,7 +1,7 @@
-//! Reports: their texts, what they are equal to, sizes, and writers that fail.
+//! Reports: their texts, what they are equal to, and writers that fail.
 use crate::failing::{fails_after, kind_of};
 use crate::held::hold;
-use crate::made::{displays, many, owned, shows};
+use crate::made::{displays, owned, shows};
 use std::alloc::Global;
 use std::io::ErrorKind as Fault;
 use tera_report::watch::Watched;
@@ -231,46 +231,6 @@ fn writers_that_fail(rt: HostRuntime) {
         );
     }
     assert!(rt; is_answered(alloc, NOTED.len(), None));
-}
-
-// So many characters, lines and notes.
-fn is_whole(alloc: Global, count: usize) -> bool {
-    let source = many(alloc, '\n', count);
-    let message = many(alloc, 'é', count);
-    let line = count.saturating_add(1);
-    let mut report = made(
-        alloc,
-        message.as_str(),
-        "f",
-        source.as_str(),
-        on(line, 0, count),
-    );
-    for _ in 0..count {
-        drop(report.add_note(alloc, "l", "f", "x", &on(1, 0, 1)));
-    }
-    is_cloned_whole(alloc, report)
-}
-
-// It is its clone and no other report, and makes a text.
-fn is_cloned_whole(alloc: Global, report: ReportError) -> bool {
-    let other = made(alloc, "other", "f", "", on(1, 0, 1));
-    let is_cloned = is_its_clone(alloc, &report, other);
-    let is_made = report.generate_report(alloc).is_ok();
-    drop(report);
-    is_cloned && is_made
-}
-
-#[test]
-fn with_ample_memory(rt: HostRuntime) {
-    let alloc = rt.alloc();
-    hold(
-        &rt,
-        &[
-            is_whole(alloc, 0),
-            is_whole(alloc, 1),
-            is_whole(alloc, 1000),
-        ],
-    );
 }
 
 #[test]

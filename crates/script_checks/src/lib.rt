@@ -1,6 +1,8 @@
-//! Tests of scripts: their texts and lines, and their replays.
+//! Tests of contexts, of lines and of whole scripts through their public calls.
 #![tactic(auto)]
 
+#[cfg(test)]
+mod contexts;
 #[cfg(test)]
 mod lines;
 #[cfg(test)]

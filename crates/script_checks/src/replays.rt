@@ -1,7 +1,6 @@
 //! Replays of scripts, in any pieces, and with reads, writes and flushes that fail.
 use std::alloc::Global;
 use std::io::{BufWriter, Error, ErrorKind, Read, Result, Write};
-use std::test::Fail;
 use tera_replies::{InputPieces, replay, replay_from};
 use tera_report::sink::Growing;
 
@@ -61,6 +60,46 @@ fn empty_shelf(alloc: Global, room: usize) -> Shelf {
     }
 }
 
+// Gives these bytes, as many at a read, and then ends.
+fn in_pieces(bytes: &[u8], size: usize) -> Slow<'_> {
+    Slow {
+        bytes,
+        size,
+        fails: false,
+    }
+}
+
+// Gives these bytes, as many at a read, and then is interrupted.
+fn interrupted(bytes: &[u8], size: usize) -> Slow<'_> {
+    Slow {
+        bytes,
+        size,
+        fails: true,
+    }
+}
+
+fn roomy(alloc: Global) -> Shelf {
+    empty_shelf(alloc, 4096)
+}
+
+// A status, and what is written to either writer.
+type Ended<'a> = (u8, &'a [u8], &'a [u8]);
+
+// The replay of that input to these writers ends so.
+fn ends(alloc: Global, input: Slow<'_>, out: Shelf, err: Shelf, wanted: Ended<'_>) -> bool {
+    let (mut out, mut err) = (out, err);
+    let status = replay(alloc, input, &mut out, &mut err);
+    let (ended, answers, report) = wanted;
+    let is_so = status == ended && out.held.as_slice() == answers && err.held.as_slice() == report;
+    drop(out);
+    drop(err);
+    is_so
+}
+
+const READING: &[u8] = b"error: reading failed\n";
+
+const WRITING: &[u8] = b"error: writing failed\n";
+
 // The reports of `frob` as the second and as the third line.
 const SECOND: &[u8] = b"error: bad line\n --> line 2:1:1\n  |\n1 | frob\n  | ^^^^\n";
 
@@ -95,7 +134,7 @@ ok\ntext {\"b\": 3, \"a\": 2}\nwalk [\"b\", \"a\"]\nwalk []\n\
 ok\nok\ngreater\n";
 
 #[test]
-fn scripts_are_answered_in_any_pieces(rt: HostRuntime) -> std::result::Result<(), Fail> {
+fn scripts_are_answered_in_any_pieces(rt: HostRuntime) {
     let alloc = rt.alloc();
     for (script, answers, report, want) in [
         (FIRST, FIRST_ANSWERS, b"".as_slice(), 0),
@@ -141,24 +180,23 @@ fn scripts_are_answered_in_any_pieces(rt: HostRuntime) -> std::result::Result<()
         ),
     ] {
         for size in [1, 2, 7, 4096] {
-            let mut out = empty_shelf(alloc, 4096);
-            let mut err = empty_shelf(alloc, 4096);
-            let input = Slow {
-                bytes: script,
-                size,
-                fails: false,
-            };
-            let status = replay(alloc, input, &mut out, &mut err);
-            assert_eq!(rt; status, want, "{script:?} by {size}");
-            assert_eq!(rt; out.held.as_slice(), answers, "{script:?} by {size}");
-            assert_eq!(rt; err.held.as_slice(), report, "{script:?} by {size}");
+            let wanted = (want, answers, report);
+            assert!(rt;
+                ends(
+                    alloc,
+                    in_pieces(script, size),
+                    roomy(alloc),
+                    roomy(alloc),
+                    wanted
+                ),
+                "{script:?} by {size}"
+            );
         }
     }
-    Ok(())
 }
 
 #[test]
-fn an_interrupted_read_is_a_failed_one(rt: HostRuntime) -> std::result::Result<(), Fail> {
+fn an_interrupted_read_is_a_failed_one(rt: HostRuntime) {
     let alloc = rt.alloc();
     for (script, answers) in [
         (b"eq a b\neq a".as_slice(), b"true\n".as_slice()),
@@ -166,183 +204,153 @@ fn an_interrupted_read_is_a_failed_one(rt: HostRuntime) -> std::result::Result<(
         (b"eq a b\nfrob", b"true\n"),
         (b"", b""),
     ] {
-        let mut out = empty_shelf(alloc, 4096);
-        let mut err = empty_shelf(alloc, 4096);
-        let input = Slow {
-            bytes: script,
-            size: 5,
-            fails: true,
-        };
-        let status = replay(alloc, input, &mut out, &mut err);
-        assert_eq!(rt; status, 1, "{script:?}");
-        assert_eq!(rt; out.held.as_slice(), answers, "{script:?}");
-        assert_eq!(rt; err.held.as_slice(), b"error: reading failed\n".as_slice());
+        let wanted = (1, answers, READING);
+        assert!(rt;
+            ends(
+                alloc,
+                interrupted(script, 5),
+                roomy(alloc),
+                roomy(alloc),
+                wanted
+            ),
+            "{script:?}"
+        );
     }
-    Ok(())
 }
 
 #[test]
-fn a_failed_write_ends_the_replay(rt: HostRuntime) -> std::result::Result<(), Fail> {
+fn a_failed_write_ends_the_replay(rt: HostRuntime) {
     let alloc = rt.alloc();
     for room in 0..FIRST_ANSWERS.len() {
-        let mut out = empty_shelf(alloc, room);
-        let mut err = empty_shelf(alloc, 4096);
-        let input = Slow {
-            bytes: FIRST,
-            size: 4096,
-            fails: false,
-        };
-        let status = replay(alloc, input, &mut out, &mut err);
-        assert_eq!(rt; status, 1, "{room}");
-        assert_eq!(rt; out.held.as_slice(), &FIRST_ANSWERS[..room], "{room}");
-        assert_eq!(rt; err.held.as_slice(), b"error: writing failed\n".as_slice());
+        let out = empty_shelf(alloc, room);
+        let wanted = (1, &FIRST_ANSWERS[..room], WRITING);
+        assert!(rt;
+            ends(alloc, in_pieces(FIRST, 4096), out, roomy(alloc), wanted),
+            "{room}"
+        );
     }
-    Ok(())
 }
 
 #[test]
-fn a_report_that_is_not_written_changes_nothing(rt: HostRuntime) -> std::result::Result<(), Fail> {
+fn a_report_that_is_not_written_changes_nothing(rt: HostRuntime) {
     let alloc = rt.alloc();
     for room in 0..SECOND.len() {
-        let mut out = empty_shelf(alloc, 4096);
-        let mut err = empty_shelf(alloc, room);
-        let input = Slow {
-            bytes: b"eq a b\nfrob\n",
-            size: 4096,
-            fails: false,
-        };
-        let status = replay(alloc, input, &mut out, &mut err);
-        assert_eq!(rt; status, 2, "{room}");
-        assert_eq!(rt; out.held.as_slice(), b"true\n".as_slice(), "{room}");
-        assert_eq!(rt; err.held.as_slice(), &SECOND[..room], "{room}");
+        let err = empty_shelf(alloc, room);
+        let wanted = (2, b"true\n".as_slice(), &SECOND[..room]);
+        assert!(rt;
+            ends(
+                alloc,
+                in_pieces(b"eq a b\nfrob\n", 4096),
+                roomy(alloc),
+                err,
+                wanted
+            ),
+            "{room}"
+        );
     }
-    Ok(())
 }
 
-// What a replay of these pieces writes to `out` and to `err`, and its status.
-fn replayed(alloc: Global, pieces: &[&[u8]], fails: bool) -> (Growing, Growing, u8) {
+// A replay of these pieces writes that to `out` and to `err`, and ends with that status.
+fn pieces_end(alloc: Global, pieces: &[&[u8]], fails: bool, wanted: Ended<'_>) -> bool {
     let mut out = Growing::new(alloc);
     let mut err = Growing::new(alloc);
     let mut input = InputPieces::new(pieces, fails);
     let status = replay_from(alloc, &mut input, &mut out, &mut err);
-    (out, err, status)
+    let (ended, answers, report) = wanted;
+    status == ended && out.as_str().as_bytes() == answers && err.as_str().as_bytes() == report
 }
 
 #[test]
 fn pieces_that_end_are_answered(rt: HostRuntime) {
+    let alloc = rt.alloc();
     let cut: [&[u8]; 5] = [b"set a 1u64\nset b", b"", b" 1i128\neq a", b" b", b"\n"];
-    let (out, err, status) = replayed(rt.alloc(), &cut, false);
-    assert_eq!(rt; out.as_str(), "ok\nok\ntrue\n");
-    assert_eq!(rt; err.as_str(), "");
-    assert_eq!(rt; status, 0);
-
+    let answered: Ended<'_> = (0, b"ok\nok\ntrue\n", b"");
+    assert!(rt; pieces_end(alloc, &cut, false, answered));
     let bad: [&[u8]; 2] = [b"\n\n", b"frob"];
-    let (out, err, status) = replayed(rt.alloc(), &bad, false);
-    assert_eq!(rt; out.as_str(), "");
-    assert_eq!(rt; err.as_str(), THIRD);
-    assert_eq!(rt; status, 2);
+    assert!(rt; pieces_end(alloc, &bad, false, (2, b"", THIRD.as_bytes())));
 }
 
 #[test]
 fn pieces_that_fail_are_answered_up_to_the_last_whole_line(rt: HostRuntime) {
+    let alloc = rt.alloc();
     let cut: [&[u8]; 3] = [b"eq a b\ncm", b"p a b\nfr", b"ob"];
-    let (out, err, status) = replayed(rt.alloc(), &cut, true);
-    assert_eq!(rt; out.as_str(), "true\nequal\n");
-    assert_eq!(rt; err.as_str(), "error: reading failed\n");
-    assert_eq!(rt; status, 1);
-
+    assert!(rt; pieces_end(alloc, &cut, true, (1, b"true\nequal\n", READING)));
     let bad: [&[u8]; 2] = [b"eq a b\nfr", b"ob\n"];
-    let (out, err, status) = replayed(rt.alloc(), &bad, true);
-    assert_eq!(rt; out.as_str(), "true\n");
-    assert_eq!(rt; err.as_str().as_bytes(), SECOND);
-    assert_eq!(rt; status, 2);
-
-    let (out, err, status) = replayed(rt.alloc(), &[], true);
-    assert_eq!(rt; out.as_str(), "");
-    assert_eq!(rt; err.as_str(), "error: reading failed\n");
-    assert_eq!(rt; status, 1);
+    assert!(rt; pieces_end(alloc, &bad, true, (2, b"true\n", SECOND)));
+    assert!(rt; pieces_end(alloc, &[], true, (1, b"", READING)));
 }
 
-#[test]
-fn a_piece_that_finds_no_room_is_given_in_parts(rt: HostRuntime) -> std::result::Result<(), Fail> {
-    let alloc = rt.alloc();
-    let mut script = Vec::new(alloc);
-    let mut answers = Vec::new(alloc);
-    for _ in 0..2000 {
-        script.extend_from_slice(b"eq a b\n")?;
-        answers.extend_from_slice(b"true\n")?;
+// That line as many times.
+fn repeated(alloc: Global, line: &[u8], count: usize) -> Vec<u8> {
+    let mut lines = Vec::new(alloc);
+    for _ in 0..count {
+        let _ = lines.extend_from_slice(line);
     }
+    lines
+}
+
+#[test]
+fn a_piece_that_finds_no_room_is_given_in_parts(rt: HostRuntime) {
+    let alloc = rt.alloc();
+    let script = repeated(alloc, b"eq a b\n", 2000);
+    let answers = repeated(alloc, b"true\n", 2000);
     let pieces: [&[u8]; 2] = [script.as_slice(), b"frob"];
-    let (out, err, status) = replayed(alloc, &pieces, false);
-    assert_eq!(rt; out.as_str().as_bytes(), answers.as_slice());
-    assert_eq!(rt; err.as_str(), THE_2001ST);
-    assert_eq!(rt; status, 2);
-    Ok(())
+    let wanted = (2, answers.as_slice(), THE_2001ST.as_bytes());
+    assert!(rt; answers.len() == 10000 && pieces_end(alloc, &pieces, false, wanted));
 }
 
 #[test]
-fn a_bad_line_before_a_failed_read_is_told_alone(rt: HostRuntime) -> std::result::Result<(), Fail> {
+fn a_bad_line_before_a_failed_read_is_told_alone(rt: HostRuntime) {
     let alloc = rt.alloc();
-    let mut out = empty_shelf(alloc, 4096);
-    let mut err = empty_shelf(alloc, 4096);
-    let input = Slow {
-        bytes: b"eq a b\nfrob\n",
-        size: 4096,
-        fails: true,
-    };
-    let status = replay(alloc, input, &mut out, &mut err);
-    assert_eq!(rt; status, 2);
-    assert_eq!(rt; out.held.as_slice(), b"true\n".as_slice());
-    assert_eq!(rt; err.held.as_slice(), SECOND);
-    Ok(())
+    let wanted: Ended<'_> = (2, b"true\n", SECOND);
+    let input = interrupted(b"eq a b\nfrob\n", 4096);
+    assert!(rt; ends(alloc, input, roomy(alloc), roomy(alloc), wanted));
+}
+
+// Fails at a flush where it holds so many bytes.
+fn unflushed(alloc: Global, unflushed: usize) -> Shelf {
+    Shelf {
+        unflushed,
+        ..roomy(alloc)
+    }
 }
 
 #[test]
-fn a_failed_flush_is_a_failed_write(rt: HostRuntime) -> std::result::Result<(), Fail> {
+fn a_failed_flush_is_a_failed_write(rt: HostRuntime) {
     let alloc = rt.alloc();
-    for (script, unflushed, answers) in [
+    for (script, size, answers) in [
         (b"eq a b\neq a b\n".as_slice(), 0, b"".as_slice()),
         (b"eq a b\neq a b\n", 10, b"true\ntrue\n"),
         (b"eq a b\neq a b", 10, b"true\ntrue\n"),
         (b"eq a b\nfrob\n", 5, b"true\n"),
     ] {
-        let mut out = empty_shelf(alloc, 4096);
-        out.unflushed = unflushed;
-        let mut err = empty_shelf(alloc, 4096);
-        let input = Slow {
-            bytes: script,
-            size: 4096,
-            fails: false,
-        };
-        let status = replay(alloc, input, &mut out, &mut err);
-        assert_eq!(rt; status, 1, "{script:?}");
-        assert_eq!(rt; out.held.as_slice(), answers, "{script:?}");
-        assert_eq!(rt;
-            err.held.as_slice(),
-            b"error: writing failed\n".as_slice(),
+        let out = unflushed(alloc, size);
+        let wanted = (1, answers, WRITING);
+        assert!(rt;
+            ends(alloc, in_pieces(script, 4096), out, roomy(alloc), wanted),
             "{script:?}"
         );
     }
-    Ok(())
+}
+
+// The replay to a writer behind a buffer ends with that status, and has put these answers into it.
+fn is_flushed(alloc: Global, script: &[u8], answers: &[u8], ended: u8) -> Result<bool> {
+    let mut out = BufWriter::new(alloc, roomy(alloc))?;
+    let mut err = roomy(alloc);
+    let status = replay(alloc, in_pieces(script, 4096), &mut out, &mut err);
+    Ok(status == ended && out.get_ref().held.as_slice() == answers)
 }
 
 #[test]
-fn the_last_answers_are_flushed(rt: HostRuntime) -> std::result::Result<(), Fail> {
+fn the_last_answers_are_flushed(rt: HostRuntime) {
     let alloc = rt.alloc();
     for (script, answers, want) in [
         (b"eq a b\neq a b".as_slice(), b"true\ntrue\n".as_slice(), 0),
         (b"eq a b\nfrob\n", b"true\n", 2),
     ] {
-        let mut out = BufWriter::new(alloc, empty_shelf(alloc, 4096))?;
-        let mut err = empty_shelf(alloc, 4096);
-        let input = Slow {
-            bytes: script,
-            size: 4096,
-            fails: false,
-        };
-        let status = replay(alloc, input, &mut out, &mut err);
-        assert_eq!(rt; status, want, "{script:?}");
-        assert_eq!(rt; out.get_ref().held.as_slice(), answers, "{script:?}");
+        assert!(rt;
+            is_flushed(alloc, script, answers, want).unwrap_or(false),
+            "{script:?}"
+        );
     }
-    Ok(())
 }

@@ -1,21 +1,13 @@
 //! What keys print.
-use crate::debug::tells;
 use crate::held::hold;
-use crate::keys::owned;
+use crate::keys::{owned, tells};
 use crate::printed::displays;
 use std::alloc::Global;
 use tera_values::Key;
 
-// `format` puts that behind what the writer holds.
-fn formats_to(alloc: Global, key: &Key<'_>, wanted: &str) -> bool {
-    let mut out = Vec::from_slice(alloc, b"> ").unwrap_or(Vec::new(alloc));
-    let is_told = key.format(&mut out).is_ok();
-    is_told && out.as_slice().strip_prefix(b"> ".as_slice()) == Some(wanted.as_bytes())
-}
-
-// The key prints that, by `{}` at any width and fill, and to a writer.
+// The key prints that, by `{}` at a width and with a fill.
 fn prints(alloc: Global, key: Key<'static>, wanted: &str) -> bool {
-    let is_so = displays(alloc, &key, wanted) && formats_to(alloc, &key, wanted);
+    let is_so = displays(alloc, &key, wanted);
     drop(key);
     is_so
 }

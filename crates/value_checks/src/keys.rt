@@ -1,13 +1,12 @@
 //! Keys of every kind beside one another: what is equal, what hashes alike, what is copied.
-use crate::debug::tells;
 use crate::held::hold;
-use crate::order::{are_all, rise};
-use made_values::{or_undefined, repeated, shows};
+use crate::order::{are_equal, rise};
+use made_values::{or_undefined, shows};
 use std::alloc::Global;
-use std::cmp::Ordering;
+use std::fmt::Debug;
 use std::hash::{DefaultHasher, Hash, Hasher};
 use std::rc::RcStr;
-use tera_values::{Key, Value};
+use tera_values::Key;
 
 /// A key that owns that text, or one of another kind where memory is wanting.
 pub fn owned(alloc: Global, text: &str) -> Key<'static> {
@@ -19,32 +18,17 @@ pub fn owned(alloc: Global, text: &str) -> Key<'static> {
 
 #[test]
 fn one_number_is_one_key(rt: HostRuntime) {
-    let ones = [Key::U64(1), Key::I64(1), Key::U128(1), Key::I128(1)];
-    let greatest = [Key::U128(u128::MAX), Key::U64(u64::MAX)];
     hold(
         &rt,
         &[
-            are_all(&ones, Key::U64(1), Ordering::Equal),
-            are_all(&ones, Key::I64(1), Ordering::Equal),
-            are_all(&ones, Key::U128(1), Ordering::Equal),
-            are_all(&ones, Key::I128(1), Ordering::Equal),
-            are_all(&ones, Key::Str("1"), Ordering::Less),
-            are_all(&ones, Key::Bool(true), Ordering::Greater),
-            are_all(&greatest, Key::I128(-1), Ordering::Greater),
-            are_all(&greatest, Key::I64(-1), Ordering::Greater),
-            are_one(Key::I64(-1), Key::I128(-1)),
+            are_equal(Key::U64(1), Key::I64(1)),
+            are_equal(Key::I64(1), Key::U128(1)),
+            are_equal(Key::U128(1), Key::I128(1)),
+            are_equal(Key::I128(1), Key::U64(1)),
+            are_equal(Key::U64(u64::MAX), Key::U128(18446744073709551615)),
+            are_equal(Key::I64(-1), Key::I128(-1)),
         ],
     );
-    drop(ones);
-    drop(greatest);
-}
-
-// They are one key.
-fn are_one(left: Key<'static>, right: Key<'static>) -> bool {
-    let is_so = left == right && left.cmp(&right) == Ordering::Equal;
-    drop(left);
-    drop(right);
-    is_so
 }
 
 // What std's hasher answers once it is fed the value.
@@ -114,6 +98,13 @@ fn keys_in_order(rt: HostRuntime) {
     drop(rising);
 }
 
+/// Its debug text is that.
+pub fn tells<D: Debug + Drop>(alloc: Global, it: D, wanted: &str) -> bool {
+    let is_so = shows(alloc, &it, wanted);
+    drop(it);
+    is_so
+}
+
 // The debug text of its value, which tells the kind and the flag, is that.
 fn has_value(alloc: Global, key: Key<'static>, wanted: &str) -> bool {
     let value = or_undefined(key.as_value(alloc));
@@ -143,7 +134,7 @@ fn values_of_keys(rt: HostRuntime) {
 fn is_copied(alloc: Global, key: Key<'static>, wanted: &str) -> bool {
     let copy = key.clone(alloc).unwrap_or(Key::Str("none"));
     let is_told = shows(alloc, &copy, wanted);
-    are_one(copy, key) && is_told
+    are_equal(copy, key) && is_told
 }
 
 #[test]
@@ -159,51 +150,6 @@ fn copies_of_keys(rt: HostRuntime) {
             is_copied(alloc, Key::from(1i128), "I128(1)"),
             is_copied(alloc, Key::from("a"), "Str(\"a\")"),
             is_copied(alloc, owned(alloc, "a"), "String(\"a\")"),
-        ],
-    );
-}
-
-// The key's copy holds that text, and so does the value of the copy.
-fn holds(alloc: Global, key: &Key<'_>, text: &str) -> bool {
-    let copy = key.clone(alloc).unwrap_or(Key::Bool(false));
-    let value = or_undefined(copy.as_value(alloc));
-    let is_held = copy.as_str() == Some(text);
-    drop(copy);
-    is_text(value, text) && is_held
-}
-
-fn is_text(value: Value, text: &str) -> bool {
-    let is_so = value.as_str() == Some(text);
-    drop(value);
-    is_so
-}
-
-// Keys of so many characters hold them.
-fn hold_many(alloc: Global, count: usize) -> bool {
-    let made = repeated(alloc, 'é', count, "");
-    let is_so = made.len() == Some(count) && are_held(alloc, made.as_str().unwrap_or("none"));
-    drop(made);
-    is_so
-}
-
-// Keys of that text hold it, whether it is owned or lent.
-fn are_held(alloc: Global, text: &str) -> bool {
-    let key = owned(alloc, text);
-    let is_owned = holds(alloc, &key, text);
-    drop(key);
-    holds(alloc, &Key::Str(text), text) && is_owned
-}
-
-// Texts of no character, of one and of 1,000 are copied whole.
-#[test]
-fn texts_of_any_length(rt: HostRuntime) {
-    let alloc = rt.alloc();
-    hold(
-        &rt,
-        &[
-            hold_many(alloc, 0),
-            hold_many(alloc, 1),
-            hold_many(alloc, 1000),
         ],
     );
 }

@@ -1,11 +1,9 @@
 //! Tests of values and of keys through their public calls: how they compare, what is read of them,
-//! what they print, what is told of writers that fail, and that calls which take memory find it.
+//! what they become, and what keys show.
 #![tactic(auto)]
 
 #[cfg(test)]
-mod debug;
-#[cfg(test)]
-mod faults;
+mod conversions;
 #[cfg(test)]
 mod held;
 #[cfg(test)]
@@ -13,7 +11,7 @@ mod key_texts;
 #[cfg(test)]
 mod keys;
 #[cfg(test)]
-mod maps;
+mod numbers;
 #[cfg(test)]
 mod order;
 #[cfg(test)]
@@ -24,7 +22,3 @@ mod printed;
 mod quoted;
 #[cfg(test)]
 mod read;
-#[cfg(test)]
-mod sizes;
-#[cfg(test)]
-mod writer;

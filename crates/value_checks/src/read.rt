@@ -1,6 +1,7 @@
 //! What is read of values.
 use crate::held::hold;
-use made_values::{bytes, many_items, many_pairs, no_items, no_pairs, text};
+use made_values::{bytes, many_items, many_pairs, no_items, no_pairs, or_undefined, text};
+use std::alloc::Global;
 use tera_values::{Value, ValueKind};
 
 // Which tests of kinds hold of it, in the order of the kinds.
@@ -52,32 +53,25 @@ fn tests_of_kinds(rt: HostRuntime) {
     drop(all);
 }
 
-// It is of that kind and name, has so many parts and can be gone over, counts as true, and is not
-// marked safe.
-fn reads(value: Value, kind: ValueKind, name: &str, count: usize) -> bool {
-    let is_so = value.kind() == kind && value.name() == name && has_parts(&value, count);
+// It is of that kind and name, and can be gone over or not.
+fn reads(value: Value, kind: ValueKind, name: &str, has_parts: bool) -> bool {
+    let is_so = value.kind() == kind && value.name() == name;
+    let is_gone_over = value.can_be_iterated_on();
     drop(value);
-    is_so
-}
-
-fn has_parts(value: &Value, count: usize) -> bool {
-    value.len() == Some(count)
-        && value.can_be_iterated_on()
-        && value.is_truthy()
-        && !value.is_safe()
+    is_so && is_gone_over == has_parts
 }
 
 #[test]
-fn what_is_read_of_values_with_parts(rt: HostRuntime) {
+fn what_is_gone_over(rt: HostRuntime) {
     let alloc = rt.alloc();
-    let accented = text(alloc, "e\u{301}cole");
     hold(
         &rt,
         &[
-            reads(accented, ValueKind::String, "string", 6),
-            reads(bytes(alloc, b"ab"), ValueKind::Bytes, "bytes", 2),
-            reads(many_items(alloc, 2), ValueKind::Array, "array", 2),
-            reads(many_pairs(alloc, 3), ValueKind::Map, "map/struct", 3),
+            reads(text(alloc, "a"), ValueKind::String, "string", true),
+            reads(bytes(alloc, b"ab"), ValueKind::Bytes, "bytes", true),
+            reads(many_items(alloc, 2), ValueKind::Array, "array", true),
+            reads(many_pairs(alloc, 3), ValueKind::Map, "map/struct", true),
+            reads(Value::from(-1i8), ValueKind::I64, "i64", false),
         ],
     );
 }
@@ -139,37 +133,34 @@ fn bytes_are_lent(rt: HostRuntime) {
     assert!(rt; are_bytes(bytes(rt.alloc(), b"ab"), b"ab"));
 }
 
-// It counts as false.
-fn is_false(value: Value) -> bool {
-    let is_so = !value.is_truthy();
-    drop(value);
-    is_so
-}
-
-#[test]
-fn what_counts_as_false(rt: HostRuntime) {
-    let no_pairs = no_pairs(rt.alloc());
-    hold(
-        &rt,
-        &[
-            is_false(Value::from(false)),
-            is_false(Value::from(0u8)),
-            is_false(no_pairs),
-        ],
-    );
-}
-
-// It has no length, and is no map.
-fn is_single(value: Value) -> bool {
-    let has_no_length = value.len().is_none();
+// It is no map.
+fn is_no_map(value: Value) -> bool {
     let map = value.into_map();
-    let is_so = has_no_length && map.is_none();
+    let is_so = map.is_none();
     drop(map);
     is_so
 }
 
 #[test]
-fn numbers_have_no_length_and_none_is_no_map(rt: HostRuntime) {
-    assert!(rt; is_single(Value::from(-1i8)));
-    assert!(rt; is_single(Value::none()));
+fn none_is_no_map(rt: HostRuntime) {
+    assert!(rt; is_no_map(Value::none()));
+}
+
+// An `e`, an accent of its own and four letters.
+const ACCENTED: &str = "e\u{301}cole";
+
+// The text has so many characters, and reversed it is that text, which is not safe.
+fn turns(alloc: Global, of: Value, count: usize, wanted: &str) -> bool {
+    let made = or_undefined(of.reverse(alloc));
+    let is_counted = of.len() == Some(count);
+    drop(of);
+    let is_turned = made.as_str() == Some(wanted) && !made.is_safe();
+    drop(made);
+    is_counted && is_turned
+}
+
+#[test]
+fn len_and_reverse_use_chars(rt: HostRuntime) {
+    let alloc = rt.alloc();
+    assert!(rt; turns(alloc, text(alloc, ACCENTED), 6, "eloc\u{301}e"));
 }

@@ -4,8 +4,7 @@ use made_values::{shows, text};
 use std::alloc::Global;
 use std::fmt::Display;
 use tera_report::Error;
-use tera_scalars::{BinaryOp, Number};
-use tera_values::{ConversionRefused, IntType, Value};
+use tera_values::{ConversionRefused, Number, Value};
 
 // The value becomes that.
 fn becomes<T>(of: Value, wanted: T) -> bool
@@ -26,17 +25,6 @@ fn are_equal<T: PartialEq + Drop>(left: T, right: T) -> bool {
 fn let_go(refused: ConversionRefused) -> bool {
     drop(refused);
     false
-}
-
-// The value is refused.
-fn is_refused<T>(of: Value) -> bool
-where
-    T: TryFrom<Value, Error = ConversionRefused> + Drop,
-{
-    match T::try_from(of) {
-        Ok(_) => false,
-        Err(refused) => !let_go(refused),
-    }
 }
 
 // Both numbers become what stands beside them, the ends of the type.
@@ -72,67 +60,7 @@ fn ends_of_integer_types(rt: HostRuntime) {
                 (isize::MAX as u128, isize::MAX),
             ),
             ends((i128::MIN, i128::MIN), (i128::MAX as u128, i128::MAX)),
-        ],
-    );
-}
-
-// Both numbers are refused, told as they print, which the type of that name has not.
-fn has_neither<T>(alloc: Global, name: &str, below: i128, above: u128) -> bool
-where
-    T: TryFrom<Value, Error = ConversionRefused> + Drop,
-{
-    is_outside::<T>(alloc, name, below) && is_above::<T>(alloc, name, above)
-}
-
-fn is_outside<T>(alloc: Global, name: &str, number: i128) -> bool
-where
-    T: TryFrom<Value, Error = ConversionRefused> + Drop,
-{
-    let told = format!(in alloc; "Value `{number}` is out of range for `{name}`");
-    let told = told.unwrap_or(String::new(alloc));
-    is_told::<T>(alloc, Value::from(number), told.as_str())
-}
-
-fn is_above<T>(alloc: Global, name: &str, number: u128) -> bool
-where
-    T: TryFrom<Value, Error = ConversionRefused> + Drop,
-{
-    let told = format!(in alloc; "Value `{number}` is out of range for `{name}`");
-    let told = told.unwrap_or(String::new(alloc));
-    is_told::<T>(alloc, Value::from(number), told.as_str())
-}
-
-#[test]
-fn numbers_past_the_ends_of_integer_types(rt: HostRuntime) {
-    let alloc = rt.alloc();
-    let above_i128 = 170141183460469231731687303715884105728u128;
-    hold(
-        &rt,
-        &[
-            has_neither::<u8>(alloc, "u8", -1, 256),
-            has_neither::<u16>(alloc, "u16", -1, 65536),
-            has_neither::<u32>(alloc, "u32", -1, 4294967296),
-            has_neither::<u64>(alloc, "u64", -1, 18446744073709551616),
-            has_neither::<usize>(alloc, "usize", -1, 18446744073709551616),
-            is_outside::<u128>(alloc, "u128", -1),
-            has_neither::<i8>(alloc, "i8", -129, 128),
-            has_neither::<i16>(alloc, "i16", -32769, 32768),
-            has_neither::<i32>(alloc, "i32", -2147483649, 2147483648),
-            has_neither::<i64>(alloc, "i64", -9223372036854775809, 9223372036854775808),
-            has_neither::<isize>(alloc, "isize", -9223372036854775809, 9223372036854775808),
-            is_above::<i128>(alloc, "i128", above_i128),
-            is_above::<i128>(alloc, "i128", u128::MAX),
-        ],
-    );
-}
-
-#[test]
-fn truth_values_are_converted(rt: HostRuntime) {
-    hold(
-        &rt,
-        &[
             becomes(Value::from(true), true),
-            is_refused::<bool>(Value::from(1u8)),
         ],
     );
 }
@@ -166,16 +94,60 @@ where
     }
 }
 
+// The number is refused, told as it prints, which the type of that name has not.
+fn is_outside<T>(alloc: Global, of: Value, number: &str, name: &str) -> bool
+where
+    T: TryFrom<Value, Error = ConversionRefused> + Drop,
+{
+    let told = format!(in alloc; "Value `{number}` is out of range for `{name}`");
+    is_told::<T>(alloc, of, told.unwrap_or(String::new(alloc)).as_str())
+}
+
+// Both numbers beside the ends are refused.
+fn has_neither<T>(alloc: Global, name: &str, below: (i128, &str), above: (u128, &str)) -> bool
+where
+    T: TryFrom<Value, Error = ConversionRefused> + Drop,
+{
+    let is_below = is_outside::<T>(alloc, Value::from(below.0), below.1, name);
+    is_outside::<T>(alloc, Value::from(above.0), above.1, name) && is_below
+}
+
+const MINUS_ONE: (i128, &str) = (-1, "-1");
+
+const PAST_U64: (u128, &str) = (18446744073709551616, "18446744073709551616");
+
+const BELOW_I64: (i128, &str) = (-9223372036854775809, "-9223372036854775809");
+
+const PAST_I64: (u128, &str) = (9223372036854775808, "9223372036854775808");
+
+const PAST_I32: (u128, &str) = (2147483648, "2147483648");
+
 #[test]
-fn numbers_outside_are_told(rt: HostRuntime) {
+fn numbers_past_the_ends_of_integer_types(rt: HostRuntime) {
     let alloc = rt.alloc();
-    let past = "Value `300` is out of range for `u8`";
-    let below = "Value `-1` is out of range for `u8`";
+    let past_i128 = "170141183460469231731687303715884105728";
+    let past_u32 = (4294967296, "4294967296");
+    let below_i32 = (-2147483649, "-2147483649");
     hold(
         &rt,
         &[
-            is_told::<u8>(alloc, Value::from(300u64), past),
-            is_told::<u8>(alloc, Value::from(-1i8), below),
+            has_neither::<u8>(alloc, "u8", MINUS_ONE, (256, "256")),
+            has_neither::<u16>(alloc, "u16", MINUS_ONE, (65536, "65536")),
+            has_neither::<u32>(alloc, "u32", MINUS_ONE, past_u32),
+            has_neither::<u64>(alloc, "u64", MINUS_ONE, PAST_U64),
+            has_neither::<usize>(alloc, "usize", MINUS_ONE, PAST_U64),
+            is_outside::<u128>(alloc, Value::from(-1i128), "-1", "u128"),
+            has_neither::<i8>(alloc, "i8", (-129, "-129"), (128, "128")),
+            has_neither::<i16>(alloc, "i16", (-32769, "-32769"), (32768, "32768")),
+            has_neither::<i32>(alloc, "i32", below_i32, PAST_I32),
+            has_neither::<i64>(alloc, "i64", BELOW_I64, PAST_I64),
+            has_neither::<isize>(alloc, "isize", BELOW_I64, PAST_I64),
+            is_outside::<i128>(
+                alloc,
+                Value::from(170141183460469231731687303715884105728u128),
+                past_i128,
+                "i128",
+            ),
         ],
     );
 }
@@ -185,11 +157,13 @@ fn other_kinds_are_told(rt: HostRuntime) {
     let alloc = rt.alloc();
     let of_text = "Invalid type for the value, expected `u8` but got `string`";
     let of_none = "Invalid type for the value, expected `u8` but got `none`";
+    let of_number = "Invalid type for the value, expected `bool` but got `u64`";
     hold(
         &rt,
         &[
             is_told::<u8>(alloc, text(alloc, "x"), of_text),
             is_told::<u8>(alloc, Value::none(), of_none),
+            is_told::<bool>(alloc, Value::from(1u8), of_number),
         ],
     );
 }
@@ -215,44 +189,6 @@ fn what_is_debugged(rt: HostRuntime) {
             is_debugged(alloc, Value::from(300u64), outside),
             displays(alloc, &number, "-5"),
             shows(alloc, &number, "Integer(-5)"),
-        ],
-    );
-}
-
-#[test]
-fn integer_types_show_their_names(rt: HostRuntime) {
-    let alloc = rt.alloc();
-    hold(
-        &rt,
-        &[
-            shows(alloc, &IntType::U8, "U8"),
-            shows(alloc, &IntType::U16, "U16"),
-            shows(alloc, &IntType::U32, "U32"),
-            shows(alloc, &IntType::U64, "U64"),
-            shows(alloc, &IntType::U128, "U128"),
-            shows(alloc, &IntType::Usize, "Usize"),
-            shows(alloc, &IntType::I8, "I8"),
-            shows(alloc, &IntType::I16, "I16"),
-            shows(alloc, &IntType::I32, "I32"),
-            shows(alloc, &IntType::I64, "I64"),
-            shows(alloc, &IntType::I128, "I128"),
-            shows(alloc, &IntType::Isize, "Isize"),
-        ],
-    );
-}
-
-#[test]
-fn operators_show_their_names(rt: HostRuntime) {
-    let alloc = rt.alloc();
-    hold(
-        &rt,
-        &[
-            shows(alloc, &BinaryOp::Add, "Add"),
-            shows(alloc, &BinaryOp::Sub, "Sub"),
-            shows(alloc, &BinaryOp::Mul, "Mul"),
-            shows(alloc, &BinaryOp::Rem, "Rem"),
-            shows(alloc, &BinaryOp::FloorDiv, "FloorDiv"),
-            shows(alloc, &BinaryOp::Pow, "Pow"),
         ],
     );
 }
