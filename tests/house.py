@@ -3,9 +3,9 @@
 behind a 'FAIL ..' each place that breaks it. The last line is 'house: end'.
 
 - calls: each word of a call in crates/tera_script/specs is in a script of script_checks or examples/, has a row in
-  docs/SCRIPT.md, an entry in tests/second.py, and a line that tests/fuzz.py makes; all of these, and the comment of
-  tera_context's `Step`, let just those heed `->` that the specs do; and what `step` calls for it, or its arm there, has a
-  wrong body
+  docs/SCRIPT.md, an entry in tests/second.py, and a line that tests/fuzz.py makes; all of these, and the comments of
+  tera_context's `Step` and `Call`, let just those heed `->` that the specs do; and what `step` calls for it, or its arm
+  there, has a wrong body
 - imports: a crate imports a lower crate's proofs by its files of laws alone (docs/ARCHITECTURE.md says which these are)
 - lemmas: each is cited, and no two have one statement up to the names of variables
 - memory: each public call that takes memory has a row in tests/calls.py, by which its requests are refused, or a test
@@ -79,9 +79,12 @@ def words_told_to_keep(page, words):
 
 
 def calls_told_to_keep():
-    """The calls that the comment of `Step` says heed the name for what is found."""
-    text = re.sub(r"\s*\n///\s*", " ", read("crates/tera_context/src/call.rt"))
-    return set(re.findall(r"`(\w+)`", re.search(r"Only (.*?) heed that name", text)[1]))
+    """The calls that comments say heed the name for what is found: that of `Step`, and those that tell of `Get`."""
+    text = read("crates/tera_context/src/call.rt")
+    told = re.search(r"(?s)Only (.*?) heed that name", text)[1]
+    notes = re.findall(r"((?:    ///[^\n]*\n)+)    (\w+) \{", text)
+    alike = {call for note, call in notes if "as `Get` does" in re.sub(r"\s*///\s*", " ", note)}
+    return set(re.findall(r"`(\w+)`", told)) | alike
 
 
 def words_made():

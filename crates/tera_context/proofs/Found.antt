@@ -1,19 +1,19 @@
 -- What a search finds, or refuses.
-use Rattle.std.specs.Prelude.{◌≡◌, ℕ, List, Option, Some, None, Result, Ok, Err, IsErr, IsErrAnd, refl}
+use Rattle.std.specs.Prelude.{◌≡◌, ℕ, List, Option, Result, Ok, Err, IsErr, IsErrAnd, refl}
 use Rattle.std.proofs.Common.{sym, ◌∙◌, ap, subst, inl, inr}
 use Rattle.tera_report.specs.declared.errors.Error.{Error}
 use Rattle.tera_report.specs.Errors.{Raises, Refuses, IsOutOfMemory}
 use Rattle.tera_report.specs.Refusal.{Refusal, stated}
-use Rattle.tera_meaning.specs.Answer
 use Rattle.tera_meaning.specs.Form.{Form}
 use Rattle.tera_meaning.specs.Outcome.{Outcome}
 use Rattle.tera_meaning.specs.Request.{find}
-use Rattle.tera_meaning.specs.Search.{Search, found_at, one_found, IsCopy}
+use Rattle.tera_meaning.specs.Search.{Search, Found, found_at, one_found, IsCopy}
 use Rattle.tera_meaning.specs.State.{State}
 use Rattle.tera_meaning.specs.Step.{found_or_kept, keeping, IsStep}
 use Rattle.tera_meaning.proofs.StepLaws.{refused_answer, refused_left}
 use Rattle.tera_context.specs.declared.call.Answer.{Answer}
 use Rattle.tera_context.specs.Steps.{ShowsOneOf}
+use Rattle.tera_context.specs.inner.Finds.{Finds}
 use Rattle.tera_context.proofs.ShownLaws.{refusal_shown, want_shown}
 
 -- the step that a search is, and what shows it
@@ -23,28 +23,14 @@ IsSearchStep state search into new outcome = IsStep state (record { request = fi
 abbrev pub FindsAt : State → Search → Option (List ℕ) → Result Answer Error → State → Type 0
 FindsAt state search into result new = ShowsOneOf result (IsSearchStep state search into new)
 
-nothing_answered : (into : Option (List ℕ)) → Ok (Answer.found None) ≡ found_or_kept into (Ok None)
-nothing_answered None = refl
-nothing_answered (Some into) = refl
-
-nothing_kept : (state : State) (into : Option (List ℕ)) → state ≡ keeping state into (Ok None)
-nothing_kept state None = refl
-nothing_kept state (Some into) = refl
-
--- where nothing is found that is the answer, and nothing is kept
-pub nothing_found : (state : State) (search : Search) (into : Option (List ℕ)) → found_at state search ≡ Ok None
-    → IsStep state (record { request = find search; into = into }) (Ok (Answer.found None)) state
-nothing_found state search into is =
-    inl (nothing_answered into ∙ ap (found_or_kept into) (sym is), nothing_kept state into ∙ ap (keeping state into) (sym is))
-
 -- a search that wanted memory for a copy changes nothing
-pub copy_refused : (e : Error) (state : State) (search : Search) (into : Option (List ℕ)) → IsOutOfMemory e → IsCopy search
+copy_refused : (e : Error) (state : State) (search : Search) (into : Option (List ℕ)) → IsOutOfMemory e → IsCopy search
     → FindsAt state search into (Err e) state
 copy_refused e state search into want copy = want_shown (Err e) e (IsSearchStep state search into state) refl want (inr (inr (inl copy), refl, refl))
 
 -- a search that was refused changes nothing
-pub search_refused : (e : Error) (given : Result Form Refusal) (state : State) (search : Search) (into : Option (List ℕ))
-    → Refuses given e → found_at state search ≡ one_found given → IsCopy search → FindsAt state search into (Err e) state
+search_refused : (e : Error) (found : Found) (state : State) (search : Search) (into : Option (List ℕ))
+    → Refuses found e → found_at state search ≡ found → IsCopy search → FindsAt state search into (Err e) state
 search_refused e (Ok value) state search into want finds copy = copy_refused e state search into want copy
 search_refused e (Err refusal) state search into (inl shows) finds copy =
     refusal_shown (Err e) e (IsSearchStep state search into state) refl refusal shows (inl (
@@ -52,6 +38,15 @@ search_refused e (Err refusal) state search into (inl shows) finds copy =
       sym (ap (keeping state into) finds ∙ refused_left state into refusal),
     ))
 search_refused e (Err refusal) state search into (inr want) finds copy = copy_refused e state search into want copy
+
+pub refusal_found : (e : Error) (state : State) (search : Search) (into : Option (List ℕ)) → Refuses (found_at state search) e
+    → IsCopy search → Finds state search into (Err e) state
+refusal_found e state search into refuses copy = record { shown = search_refused e (found_at state search) state search into refuses refl copy }
+
+-- what refuses what is to be given refuses what is found
+pub given_refused : (e : Error) (given : Result Form Refusal) (found : Found) → Refuses given e → found ≡ one_found given → Refuses found e
+given_refused e (Ok value) found refuses is = subst (λ (f : Found). Refuses f e) (sym is) refuses
+given_refused e (Err refusal) found refuses is = subst (λ (f : Found). Refuses f e) (sym is) refuses
 
 -- a refused search that takes memory for a refusal's text alone changes nothing
 pub number_refused : (e : Error) (given : Result Form Refusal) (state : State) (search : Search) (into : Option (List ℕ))

@@ -5,8 +5,8 @@ use std::cmp::Ordering;
 use tera_scalars::BinaryOp;
 use tera_values::{IntType, Value, ValueKind};
 
-/// A call, and the name under which what it finds is to be kept. Only `Get`, `Path`, `Attr`,
-/// `Item`, `Slice`, `Reverse`, `Binary`, `Negate`, `Read` and `MarkSafe` heed that name.
+/// A call, and the name under which what it finds is to be kept. Only `Get`, the calls that answer
+/// as `Get` does, and `MarkSafe` heed that name.
 #[derive(Debug, Drop)]
 pub struct Step {
     pub call: Call,

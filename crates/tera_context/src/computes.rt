@@ -15,6 +15,7 @@ ghost use Rattle.tera_report.specs.Refusal.{stated};
 ghost use Rattle.tera_values.specs.Computed.{refusal_told};
 ghost use Rattle.tera_values.specs.Converted.{integer_type};
 ghost use Rattle.tera_context.specs.Steps.{ShowsOneOf};
+ghost use Rattle.tera_context.specs.inner.Finds.{Finds};
 
 use crate::asks::{absent_value, value_at};
 use crate::call::Answer;
@@ -58,9 +59,7 @@ pub(crate) fn calculate(
 #[inline(always)]
 fn keep_number(number: i128, context: &mut Context, into: String) -> TeraResult<Answer>
     ensures { (search : Search) → found_at context.old search ≡ Ok (Some (as_i128 number))
-        → ShowsOneOf result (λ outcome. IsStep context.old
-        (record { request = find search; into = Some (string_bytes into) })
-        outcome context.new) }
+        → Finds context.old search (Some (string_bytes into)) result context.new }
 {
     keep_or_answer(Value::from(number), context, Some(into))
 }

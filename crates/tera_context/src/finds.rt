@@ -1,14 +1,14 @@
 //! What is found in a context, and may be kept there.
 // Each function matches the one result that it takes, since `?` would move it twice more. What is
 // lent is copied by `copy`, whose result is small: an `Error` is made where it is answered.
-ghost use Rattle.std.specs.Prelude.{◌≡◌, Ok, Some};
+ghost use Rattle.std.specs.Prelude.{◌≡◌, ℕ, List, Option, Ok, Some};
 ghost use Rattle.std.specs.Option.{option_map};
 ghost use Rattle.std.specs.String.{string_bytes};
-ghost use Rattle.tera_meaning.specs.Request.{find};
 ghost use Rattle.tera_meaning.specs.Search;
-ghost use Rattle.tera_meaning.specs.Search.{Search, found_at};
-ghost use Rattle.tera_meaning.specs.Step.{IsStep};
-ghost use Rattle.tera_context.specs.Steps.{ShowsOneOf};
+ghost use Rattle.tera_meaning.specs.Search.{Search, found_at, IsCopy};
+ghost use Rattle.tera_meaning.specs.State.{State};
+ghost use Rattle.tera_report.specs.Errors.{Refuses};
+ghost use Rattle.tera_context.specs.inner.Finds.{Finds};
 
 use crate::asks::{absent_value, value_at};
 use crate::call::Answer;
@@ -19,16 +19,15 @@ use tera_values::Value;
 /// Finds the value of a name.
 #[inline(never)]
 pub(crate) fn get(context: &mut Context, name: &str, into: Option<String>) -> TeraResult<Answer>
-    ensures { ShowsOneOf result (λ outcome. IsStep context.old
-        (record { request = find (Search.get name.now); into = option_map string_bytes into })
-        outcome context.new) }
+    ensures { Finds context.old (Search.get name.now) (option_map string_bytes into) result
+        context.new }
 {
     let Some(held) = context.get(name) else {
         return Ok(Answer::Found(None));
     };
     match held.copy(context.allocator()) {
         Ok(copy) => keep_or_answer(copy, context, into),
-        Err(want) => Err(Error::from(want)),
+        Err(want) => refused(Error::from(want)),
     }
 }
 
@@ -40,11 +39,8 @@ pub(crate) fn path(
     path: &str,
     into: Option<String>,
 ) -> TeraResult<Answer>
-    ensures { ShowsOneOf result (λ outcome. IsStep context.old
-        (record {
-          request = find (Search.path of.now path.now);
-          into = option_map string_bytes into;
-        }) outcome context.new) }
+    ensures { Finds context.old (Search.path of.now path.now) (option_map string_bytes into) result
+        context.new }
 {
     let absent = absent_value();
     let Some(part) = value_at(context, of, &absent).get_from_path(path) else {
@@ -52,7 +48,7 @@ pub(crate) fn path(
     };
     match part.copy(context.allocator()) {
         Ok(copy) => keep_or_answer(copy, context, into),
-        Err(want) => Err(Error::from(want)),
+        Err(want) => refused(Error::from(want)),
     }
 }
 
@@ -64,11 +60,8 @@ pub(crate) fn attr(
     attr: &str,
     into: Option<String>,
 ) -> TeraResult<Answer>
-    ensures { ShowsOneOf result (λ outcome. IsStep context.old
-        (record {
-          request = find (Search.attr of.now attr.now);
-          into = option_map string_bytes into;
-        }) outcome context.new) }
+    ensures { Finds context.old (Search.attr of.now attr.now) (option_map string_bytes into) result
+        context.new }
 {
     let absent = absent_value();
     let Some(part) = value_at(context, of, &absent).get_attr(attr) else {
@@ -76,7 +69,7 @@ pub(crate) fn attr(
     };
     match part.copy(context.allocator()) {
         Ok(copy) => keep_or_answer(copy, context, into),
-        Err(want) => Err(Error::from(want)),
+        Err(want) => refused(Error::from(want)),
     }
 }
 
@@ -88,17 +81,14 @@ pub(crate) fn item(
     item: &str,
     into: Option<String>,
 ) -> TeraResult<Answer>
-    ensures { ShowsOneOf result (λ outcome. IsStep context.old
-        (record {
-          request = find (Search.item of.now item.now);
-          into = option_map string_bytes into;
-        }) outcome context.new) }
+    ensures { Finds context.old (Search.item of.now item.now) (option_map string_bytes into) result
+        context.new }
 {
     let absent = absent_value();
     let at = value_at(context, item, &absent);
     match value_at(context, of, &absent).get_item(context.allocator(), at) {
         Ok(found) => keep_or_answer(found, context, into),
-        Err(error) => Err(error),
+        Err(error) => refused(error),
     }
 }
 
@@ -112,31 +102,27 @@ pub(crate) fn slice(
     step: Option<i128>,
     into: Option<String>,
 ) -> TeraResult<Answer>
-    ensures { ShowsOneOf result (λ outcome. IsStep context.old
-        (record {
-          request = find (Search.slice of.now start end step);
-          into = option_map string_bytes into;
-        }) outcome context.new) }
+    ensures { Finds context.old (Search.slice of.now start end step) (option_map string_bytes into)
+        result context.new }
 {
     let absent = absent_value();
     let value = value_at(context, of, &absent);
     match value.slice(context.allocator(), start, end, step) {
         Ok(made) => keep_or_answer(made, context, into),
-        Err(error) => Err(error),
+        Err(error) => refused(error),
     }
 }
 
 /// Finds a value with its parts in the opposite order.
 #[inline(never)]
 pub(crate) fn reverse(context: &mut Context, of: &str, into: Option<String>) -> TeraResult<Answer>
-    ensures { ShowsOneOf result (λ outcome. IsStep context.old
-        (record { request = find (Search.reverse of.now); into = option_map string_bytes into })
-        outcome context.new) }
+    ensures { Finds context.old (Search.reverse of.now) (option_map string_bytes into) result
+        context.new }
 {
     let absent = absent_value();
     match value_at(context, of, &absent).reverse(context.allocator()) {
         Ok(made) => keep_or_answer(made, context, into),
-        Err(error) => Err(error),
+        Err(error) => refused(error),
     }
 }
 
@@ -148,9 +134,7 @@ pub(crate) fn keep_or_answer(
     into: Option<String>,
 ) -> TeraResult<Answer>
     ensures { (search : Search) → found_at context.old search ≡ Ok (Some found)
-        → ShowsOneOf result (λ outcome. IsStep context.old
-        (record { request = find search; into = option_map string_bytes into })
-        outcome context.new) }
+        → Finds context.old search (option_map string_bytes into) result context.new }
 {
     match into {
         Some(into) => {
@@ -159,4 +143,13 @@ pub(crate) fn keep_or_answer(
         }
         None => Ok(Answer::Found(Some(found))),
     }
+}
+
+// Answers why nothing is found.
+#[inline(always)]
+fn refused(error: Error) -> TeraResult<Answer>
+    ensures { (state : State) (search : Search) (into : Option (List ℕ)) → IsCopy search
+        → Refuses (found_at state search) error → Finds state search into result state }
+{
+    Err(error)
 }

@@ -26,9 +26,9 @@ use tera_values::Value;
 /// the order of their bytes, and nothing else.
 ///
 /// `Out of memory` may be answered by `Set` and `Extend`, by `MarkSafe` where `into` is given, by
-/// what finds something (`Get`, `Path`, `Attr`, `Item`, `Slice`, `Reverse`), by `Print`, `Escape`,
-/// `Fields` and `Walk`; and by `Contains`, `Binary`, `Negate` and `Read` for the text of a refusal,
-/// by the last three also where `into` is given. The other calls take no memory.
+/// `Print`, `Escape`, `Fields` and `Walk`, and by `Get` and the calls that answer as it does. Of
+/// these `Binary`, `Negate` and `Read` take memory only for the text of a refusal and where `into`
+/// is given, and `Contains` for such a text alone. The other calls take no memory.
 pub fn step(context: &mut Context, step: Step) -> TeraResult<Answer>
     ensures { ShowsOneOf result (λ outcome.
         IsStep context.old (command_of step) outcome context.new) }

@@ -28,4 +28,5 @@ returns-in-Some c =
     let right : form_at state c.args.right.now ≡ c.value_at-second.result.now = search rules in
     let found : found_at state (Search.calculate op c.args.left.now c.args.right.now) ≡ Ok (Some (as_i128 c.in-Ok.number)) =
     (λ i. one_found (calculated op (left i) (right i))) ∙ ap one_found (sym c.in-Ok.ensures.result) in
-    rw c.in-Some.is (c.keep_number.ensures (Search.calculate op c.args.left.now c.args.right.now) (search rules))
+    let kept = c.keep_number.ensures (Search.calculate op c.args.left.now c.args.right.now) (search rules) in
+    rw c.in-Some.is kept.shown

@@ -22,5 +22,5 @@ pub returns-in-Ok : goal.returns-in-Ok
 returns-in-Ok c =
     let state = c.args.context.now in
     let value : form_at state c.args.of.now ≡ c.value_at.result.now = search rules in
-    c.keep_or_answer.ensures (Search.negate c.args.of.now)
-    ((λ i. one_found (negated (value i))) ∙ ap one_found c.in-Ok.ensures.ok)
+    (c.keep_or_answer.ensures (Search.negate c.args.of.now)
+    ((λ i. one_found (negated (value i))) ∙ ap one_found c.in-Ok.ensures.ok)).shown

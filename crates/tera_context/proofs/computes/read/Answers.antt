@@ -25,5 +25,5 @@ returns-in-Ok c =
     let state = c.args.context.now in
     let type = integer_type c.args.to in
     let value : form_at state c.args.of.now ≡ c.value_at.result.now = search rules in
-    c.keep_or_answer.ensures (Search.read type c.args.of.now)
-    ((λ i. one_found (read_as type (value i))) ∙ ap one_found c.in-Ok.ensures.ok)
+    (c.keep_or_answer.ensures (Search.read type c.args.of.now)
+    ((λ i. one_found (read_as type (value i))) ∙ ap one_found c.in-Ok.ensures.ok)).shown

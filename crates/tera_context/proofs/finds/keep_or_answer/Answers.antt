@@ -4,5 +4,7 @@ use Rattle.tera_context.proofs.finds.keep_or_answer.Goals as goal
 
 pub returns-in_err-keep-in-Some : goal.returns-in_err-keep-in-Some
 returns-in_err-keep-in-Some c search found =
-    want_passed c.from_residual.result _ c.from_residual.ensures.1
-    (inr (inl (rw (c.in-Some.is) refl), refl, c.in_err-keep-in-Some.ensures.unchanged))
+    record {
+      shown = want_passed c.from_residual.result _ c.from_residual.ensures.1
+          (inr (inl (rw (c.in-Some.is) refl), refl, c.in_err-keep-in-Some.ensures.unchanged));
+    }

@@ -2,11 +2,11 @@ use Rattle.std.proofs.Common.{◌≡◌, ◌∙◌, Ok, ap, sym, rules}
 use Rattle.std.specs.Option.{option_map}
 use Rattle.std.specs.String.{string_bytes}
 use Rattle.tera_meaning.specs.Search
-use Rattle.tera_meaning.specs.Search.{one_found}
+use Rattle.tera_meaning.specs.Search.{found_at, one_found}
 use Rattle.tera_meaning.specs.State.{form_at}
 use Rattle.tera_meaning.specs.Slice.{sliced}
 use Rattle.tera_meaning.proofs.SliceLaws.{sliced_only}
-use Rattle.tera_context.proofs.Found.{search_refused}
+use Rattle.tera_context.proofs.Found.{given_refused}
 use Rattle.tera_context.proofs.finds.slice.Goals as goal
 
 pub returns-in-Err : goal.returns-in-Err
@@ -15,10 +15,10 @@ returns-in-Err c =
     let value : form_at state c.args.of.now ≡ c.value_at-value.result.now = search rules in
     let (outcome, is, refuses) = c.in-Err.ensures.err in
     let only = sliced_only c.value_at-value.result.now c.args.start c.args.end c.args.step outcome is in
-    search_refused c.in-Err.error outcome state
-    (Search.slice c.args.of.now c.args.start c.args.end c.args.step) (option_map string_bytes c.args.into)
-    refuses
-    ((λ i. one_found (sliced (value i) c.args.start c.args.end c.args.step)) ∙ ap one_found (sym only)) tt
+    let wanted = Search.slice c.args.of.now c.args.start c.args.end c.args.step in
+    c.refused.ensures state wanted (option_map string_bytes c.args.into) tt
+    (given_refused c.in-Err.error outcome (found_at state wanted) refuses
+    ((λ i. one_found (sliced (value i) c.args.start c.args.end c.args.step)) ∙ ap one_found (sym only)))
 
 pub returns-in-Ok : goal.returns-in-Ok
 returns-in-Ok c =
