@@ -144,8 +144,8 @@ Writes bytes fails InGave InFailed out err status =
     ⊎ (ReadingFailed bytes fails InGave InFailed out err status
     ⊎ MemoryFailed bytes InGave out err status)
 
--- The program is done with such a source: `out` got what it writes there and `err` its own; or `out`
--- broke on what it was to get, and `err` got the text for that.
+-- The program is done with such a source: `out` got what it writes there and `err` its own; or
+-- `out` broke on what it was to get, and `err` got the text for that.
 abbrev pub Replays : List ℕ → Option Bool → (List ℕ → Type 0) → (List ℕ → Type 0)
     → (List ℕ → Type 0) → (List ℕ → Type 0) → (List ℕ → Type 0) → ℕ → Type 0
 Replays bytes fails InGave InFailed OutGets OutBroke ErrGets status =

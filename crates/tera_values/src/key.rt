@@ -131,7 +131,7 @@ impl<'a> Key<'a> {
         self.format_watched(&mut Watched::new(out))
     }
 
-    /// Writes what `format` writes to a writer that is watched already, as one key of a longer text.
+    /// Writes what `format` writes, to a writer that is watched already.
     ///
     /// Takes no memory.
     pub fn format_watched<W: Writer>(&self, out: &mut Watched<'_, W>) -> io::Result<()>

@@ -13,8 +13,8 @@ use indexmap::{IndexSet, set};
 use std::alloc::{AllocError, Global};
 use std::{mem, vec};
 
-/// How many keys are looked up one after another: so few are found as soon without a hash. The first
-/// of them makes room for all, and for their values.
+/// How many keys are looked up one after another: so few are found as soon without a hash. The
+/// first of them makes room for all, and for their values.
 pub(crate) const FEW: usize = 12;
 
 /// The keys of a map, in their order.

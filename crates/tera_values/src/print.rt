@@ -43,7 +43,7 @@ impl Value {
         self.format_watched(&mut Watched::new(out))
     }
 
-    /// The same to a watched writer.
+    /// Writes what `format` writes, to a writer that is watched already.
     ///
     /// Takes no memory.
     pub fn format_watched<W: Writer>(&self, out: &mut Watched<'_, W>) -> io::Result<()>
@@ -67,7 +67,7 @@ impl Value {
         self.format_inside_watched(&mut Watched::new(out))
     }
 
-    /// The same to a watched writer.
+    /// Writes what `format_inside` writes, to a writer that is watched already.
     ///
     /// Takes no memory.
     pub fn format_inside_watched<W: Writer>(&self, out: &mut Watched<'_, W>) -> io::Result<()>
