@@ -209,7 +209,7 @@ class Lemma:
         self.module = above[-1] if above else ""
 
 
-NEXT = re.compile(r"(?m)^ *(?:module _|(?:pub )?(?:unfoldable |abbrev |opaque )*[^\W\d][\w'-]* :(?= |$))")
+NEXT = re.compile(r"(?m)^ *(?:module _|(?:pub )?ruleset |(?:pub )?(?:unfoldable |abbrev |opaque )*[^\W\d][\w'-]* :(?= |$))")
 
 
 def lemmas_of(path, text):

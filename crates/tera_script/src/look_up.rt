@@ -16,7 +16,7 @@ use tera_context::LookUp;
 /// `None` of any other line, and where the text is long or has an escape, or blanks begin the line:
 /// these are for `read_line`.
 ///
-/// Its first byte tells most lines that are no look-up, where it is called.
+/// It is inlined, since the first byte tells most lines that are no look-up.
 #[inline(always)]
 pub fn look_up_of(line: &[u8]) -> Option<LookUp<'_>>
     ensures { IfSome result (λ asked. Says line.now (looked_up asked)) }
@@ -27,7 +27,7 @@ pub fn look_up_of(line: &[u8]) -> Option<LookUp<'_>>
     }
 }
 
-// The same of a line that may say one.
+// The look-up that a line says, which by its first byte may be one.
 #[inline(never)]
 fn read_look_up(line: &[u8]) -> Option<LookUp<'_>>
     ensures { IfSome result (λ asked. Says line.now (looked_up asked)) }
@@ -61,7 +61,7 @@ fn look_up_at(bytes: &[u8]) -> Option<LookUp<'_>>
     }
 }
 
-// The same of the two words that begin alike.
+// The look-up that the bytes say by `path` or `print`, which begin alike.
 fn path_or_print_at(bytes: &[u8]) -> Option<LookUp<'_>>
     ensures { IfSome result (λ asked. IsUtf8 bytes.now → Says bytes.now (looked_up asked)) }
 {

@@ -38,7 +38,8 @@ pub(crate) fn place_of(keys: &Keys, key: &Key<'_>) -> Option<usize>
     }
 }
 
-// The same, in a set. It stands apart, so that a look-up among few keys stays short.
+// The place, in a set, of the key that is equal to this one. It stands apart, so that a look-up
+// among few keys stays short.
 #[inline(never)]
 fn place_in(many: &IndexSet<Key<'static>>, key: &Key<'_>) -> Option<usize>
     ensures { result ≡ position (keys_tie key.now) many.now.keys }
@@ -46,7 +47,7 @@ fn place_in(many: &IndexSet<Key<'static>>, key: &Key<'_>) -> Option<usize>
     many.get_index_of(key)
 }
 
-// The same, among few keys. Most are texts.
+// The place, among few keys, of the one that is equal to this. Most are texts.
 fn place_among(few: &[Key<'static>], key: &Key<'_>) -> Option<usize>
     ensures { result ≡ position (keys_tie key.now) few.now }
 {
@@ -158,7 +159,7 @@ pub(crate) fn put_key(
     }
 }
 
-// The same, of a set.
+// Puts a key into a set, behind the others, where none is equal to it.
 fn put_in(held: &mut IndexSet<Key<'static>>, key: Key<'static>) -> Result<(usize, bool), AllocError>
     ensures keys { OnOk result (held.new.keys ≡ insert_key keys_tie held.old.keys key.entry) }
     ensures place { IfOk result (λ put. put.0

@@ -146,7 +146,7 @@ fn put_whole<S: Sink>(value: &Value, out: &mut S) -> Result<(), S::Fault>
     }
 }
 
-// The same inside an array or a map.
+// Puts what is printed inside an array or a map; that of an array or a map is gathered.
 fn put_whole_inside<S: Sink>(value: &Value, out: &mut S) -> Result<(), S::Fault>
     ensures { Puts S.takes S.fails result (PrintsInside (layout value.now)) out.old out.new }
 {
