@@ -28,7 +28,7 @@ use tera_values::Value;
 /// `Out of memory` may be answered by `Set` and `Extend`, by `MarkSafe` where `into` is given, by
 /// `Print`, `Escape`, `Fields` and `Walk`, and by `Get` and the calls that answer as it does. Of
 /// these `Binary`, `Negate` and `Read` take memory only for the text of a refusal and where `into`
-/// is given, and `Contains` for such a text alone. The other calls take no memory.
+/// is given. `Contains` takes some for such a text alone, and the other calls take none.
 pub fn step(context: &mut Context, step: Step) -> TeraResult<Answer>
     ensures { ShowsOneOf result (λ outcome.
         IsStep context.old (command_of step) outcome context.new) }
