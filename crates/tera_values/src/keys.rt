@@ -1,6 +1,6 @@
 //! The keys of a map: a list while they are few, and else a set that knows their order.
 //! Each stands behind a pointer, which the first key makes.
-ghost use Rattle.std.specs.Prelude.{◌≡◌, ◌∷◌, ◌+◌, ◌≤◌, [], length, IfOk, OnOk, OnErr, position};
+ghost use Rattle.std.specs.Prelude.{◌≡◌, ◌∷◌, ◌++◌, ◌+◌, ◌≤◌, [], length, IfOk, OnOk, OnErr, position};
 ghost use Rattle.std.specs.Prelude.{MatchOption, is_some, not, false};
 ghost use Rattle.std.specs.List.{IsDistinct, list_any, position_or_len};
 ghost use Rattle.std.specs.Ordering.{eq_by_cmp};
@@ -13,9 +13,11 @@ use indexmap::{IndexSet, set};
 use std::alloc::{AllocError, Global};
 use std::{mem, vec};
 
-/// How many keys are looked up one after another: so few are found as soon without a hash. The
-/// first of them makes room for all, and for their values.
+/// How many keys are looked up one after another: so few are found as soon without a hash.
 pub(crate) const FEW: usize = 12;
+
+/// For how many keys and values the first makes room. The next room is for all of a few.
+pub(crate) const FIRST: usize = 2;
 
 /// The keys of a map, in their order.
 #[derive(Drop)]
@@ -147,7 +149,7 @@ pub(crate) fn put_key(
                 return Ok((place, false));
             }
             if place < FEW {
-                few.push(key)?;
+                push_key(few, key)?;
                 return Ok((place, true));
             }
             let mut many = set_of(alloc, few)?;
@@ -157,6 +159,18 @@ pub(crate) fn put_key(
         }
         Keys::Many(many) => put_in(many, key),
     }
+}
+
+// Puts a key behind few others.
+fn push_key(few: &mut Vec<Key<'static>>, key: Key<'static>) -> Result<(), AllocError>
+    ensures ok { OnOk result (few.new.items ≡ few.old.items ++ key.entry ∷ []) }
+    ensures err { OnErr result (few.new.items ≡ few.old.items) }
+{
+    if few.len() == few.capacity() {
+        few.reserve(FEW - FIRST)?;
+    }
+    few.push_reserved(key);
+    Ok(())
 }
 
 // Puts a key into a set, behind the others, where none is equal to it.
@@ -180,7 +194,7 @@ fn put_in(held: &mut IndexSet<Key<'static>>, key: Key<'static>) -> Result<(usize
 pub(crate) fn first_key(alloc: Global, key: Key<'static>) -> Result<Keys, AllocError>
     ensures { IfOk result (λ made. keys_held made ≡ key.entry ∷ []) }
 {
-    let mut few = Vec::with_capacity(alloc, FEW)?;
+    let mut few = Vec::with_capacity(alloc, FIRST)?;
     few.push_reserved(key);
     few_of(alloc, few)
 }

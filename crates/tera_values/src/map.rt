@@ -12,7 +12,7 @@ ghost use Rattle.tera_values.specs.Key.{key_form};
 
 use crate::copy::copies;
 use crate::keys::{
-    FEW, Keys, OwnKeys, copied_keys, key_slice, next_key, own_keys, place_of, put_key,
+    FEW, FIRST, Keys, OwnKeys, copied_keys, key_slice, next_key, own_keys, place_of, put_key,
 };
 use crate::{Key, Value};
 use std::alloc::{AllocError, Global};
@@ -194,7 +194,10 @@ fn make_room(keys: &Keys, values: &mut Vec<Value>, key: &Key<'_>) -> Result<(), 
     if values.len() < values.capacity() || place_of(keys, key).is_some() {
         return Ok(());
     }
-    values.reserve(FEW)
+    if values.is_empty() {
+        return values.reserve_exact(FIRST);
+    }
+    values.reserve(FEW - FIRST)
 }
 
 /// The pairs of a map that are left of a walk.

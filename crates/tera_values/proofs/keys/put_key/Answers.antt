@@ -14,5 +14,5 @@ returns-then-place-lt-FEW-clause-distinct c =
     let is : ks ≡ c.in-Few.few.value.items = ap keys_held c.in-Few.is in
     let none : list_any (keys_tie c.args.key) ks ≡ false = grind (arith, common_steps) in
     let was : c.deref_mut.result.now.items ≡ ks = (λ j. (c.deref_mut.ensures.value j).items) ∙ sym is in
-    let items : c.push.new.self.items ≡ ks ++ c.args.key ∷ [] = c.in_ok-push-in-Few.ensures.items ∙ (λ j. was j ++ c.args.key ∷ []) in
+    let items : c.push_key.new.few.items ≡ ks ++ c.args.key ∷ [] = c.in_ok-push_key-in-Few.ensures.ok ∙ (λ j. was j ++ c.args.key ∷ []) in
     subst (IsDistinct keys_tie) (sym items) (one_more_distinct ks c.args.key c.requires none)
