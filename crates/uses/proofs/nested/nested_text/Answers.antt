@@ -11,8 +11,8 @@ use Rattle.uses.proofs.nested.nested_text.Goals as goal
 pub returns-clause-ok : goal.returns-clause-ok
 unfolding digits debug_escape
 returns-clause-ok c =
-    let prints : IfOk c.to_text-2.result (λ text. Prints (layout nested) (string_bytes text)) =
-    subst (λ value. IfOk c.to_text-2.result (λ text. Prints (layout value) (string_bytes text)))
-    c.in_ok-nested_value.ensures.ok c.to_text-2.ensures.ok in
-    IfOk-weaker c.to_text-2.result (λ text. Prints (layout nested) (string_bytes text))
+    let prints : IfOk c.to_text.result (λ text. Prints (layout nested) (string_bytes text)) =
+    subst (λ value. IfOk c.to_text.result (λ text. Prints (layout value) (string_bytes text)))
+    c.in_ok-nested_value.ensures.ok c.to_text.ensures.ok in
+    IfOk-weaker c.to_text.result (λ text. Prints (layout nested) (string_bytes text))
     (λ text. string_bytes text ≡ codes "{\"a\": [1, {\"b\": \"x\"}]}") (λ text known. known refl) prints
