@@ -1,7 +1,7 @@
 //! What collections give, by what their parts give.
 use crate::given::{gives, text_key};
 use crate::held::hold;
-use crate::made::{and, none_of, one_of, owned, set_of, table_of, tree_of, two_of};
+use crate::made::{none_of, one_of, owned, set_of, table_of, tree_of, two_of, with_item};
 use made_values::safe;
 use std::alloc::Global;
 use std::collections::{BTreeMap, HashMap};
@@ -94,7 +94,7 @@ fn maps_in_order_are_maps(rt: HostRuntime) {
 // A list of bytes, a list of none, and nothing.
 fn lists_of_bytes(alloc: Global) -> Vec<Option<Vec<u8>>> {
     let lists = two_of(alloc, Some(one_of(alloc, 1u8)), None);
-    and(lists, Some(none_of(alloc)))
+    with_item(lists, Some(none_of(alloc)))
 }
 
 #[test]

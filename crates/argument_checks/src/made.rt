@@ -23,7 +23,7 @@ pub fn none_of<T>(alloc: Global) -> Vec<T> {
 }
 
 /// The list and one more item.
-pub fn and<T: Drop>(items: Vec<T>, item: T) -> Vec<T> {
+pub fn with_item<T: Drop>(items: Vec<T>, item: T) -> Vec<T> {
     let mut items = items;
     let _ = items.push(item);
     items
@@ -31,12 +31,12 @@ pub fn and<T: Drop>(items: Vec<T>, item: T) -> Vec<T> {
 
 /// A list of one item.
 pub fn one_of<T: Drop>(alloc: Global, item: T) -> Vec<T> {
-    and(Vec::new(alloc), item)
+    with_item(Vec::new(alloc), item)
 }
 
 /// A list of two items.
 pub fn two_of<T: Drop>(alloc: Global, first: T, second: T) -> Vec<T> {
-    and(one_of(alloc, first), second)
+    with_item(one_of(alloc, first), second)
 }
 
 /// A set of two.

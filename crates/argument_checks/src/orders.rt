@@ -16,14 +16,14 @@ fn falling(alloc: Global) -> Map {
     with(first, Key::Str("a"), Value::from(2u8))
 }
 
-// The same in the order of keys.
+// Two pairs in a tree, which stands in the order of its keys.
 fn in_tree(alloc: Global) -> BTreeMap<&'static str, u8> {
     let mut map = tree_of(alloc, "b", 1);
     let _ = map.insert("a", 2);
     map
 }
 
-// The same in a hashed map.
+// Two pairs in a hashed map.
 fn in_table(alloc: Global) -> HashMap<&'static str, u8> {
     let mut map = HashMap::new(alloc);
     let _ = map.insert("b", 1);

@@ -56,7 +56,7 @@ pub fn bytes(alloc: Global, of: &[u8]) -> Value
 }
 
 /// The items and one more.
-pub fn and(items: Vec<Value>, item: Value) -> Vec<Value>
+pub fn with_item(items: Vec<Value>, item: Value) -> Vec<Value>
     ensures { (result.items ≡ items.items ++ item ∷ []) ⊎ (result.items ≡ items.items) }
 {
     let mut items = items;
@@ -75,14 +75,14 @@ pub fn no_items(alloc: Global) -> Value
 pub fn one_item(alloc: Global, item: Value) -> Value
     ensures { IsArrayOf (item ∷ []) result }
 {
-    Value::of_array(and(Vec::new(alloc), item))
+    Value::of_array(with_item(Vec::new(alloc), item))
 }
 
 /// An array of two items.
 pub fn two_items(alloc: Global, first: Value, second: Value) -> Value
     ensures { IsArrayOf (first ∷ second ∷ []) result }
 {
-    Value::of_array(and(and(Vec::new(alloc), first), second))
+    Value::of_array(with_item(and(Vec::new(alloc), first), second))
 }
 
 /// An array of these numbers.
@@ -91,7 +91,7 @@ pub fn numbers(alloc: Global, of: &[i64]) -> Value
 {
     let mut items = Vec::new(alloc);
     for number in of {
-        items = and(items, Value::from(*number));
+        items = with_item(items, Value::from(*number));
     }
     Value::of_array(items)
 }
@@ -101,7 +101,7 @@ pub fn many_items(alloc: Global, count: i64) -> Value {
     let mut items = Vec::new(alloc);
     for number in 0..count {
         let both = two_items(alloc, text(alloc, "é<"), Value::from(number));
-        items = and(items, both);
+        items = with_item(items, both);
     }
     Value::of_array(items)
 }

@@ -17,7 +17,7 @@ fn tell_given<T: Debug + Drop>(rt: &impl Print, name: &str, given: T) {
     drop(given);
 }
 
-/// The same answer, as these calls have it.
+/// The answer, with any want of memory as an error of these calls.
 pub fn widened<T: Drop>(answer: Result<T, AllocError>) -> TeraResult<T> {
     Ok(answer?)
 }

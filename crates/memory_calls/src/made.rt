@@ -10,7 +10,7 @@ pub struct Made {
     pub count: usize,
     /// `é<é<..`
     pub text: String,
-    /// The same as a value.
+    /// That text as a value.
     pub plain: Value,
     /// Items as `item` says.
     pub list: Value,
