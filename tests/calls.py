@@ -143,6 +143,8 @@ def values(count, text, names):
     yield Row("Value::empty_map", ok(map_debug([])), takes=False)
     yield Row("Value::as_key", ok(f"String({quoted(text)})"))
     yield Row("Value::as_key of what is no key", "error: Not a valid key type")
+    for maker in ("Key::of_text", "Key::of_string"):
+        yield Row(maker, ok(f"String({quoted(text)})"))
     yield Row("Key::clone", ok(f"String({quoted(text)})"), takes=False)
     yield Row("Key::as_value", ok(debug(Text(text, False))))
     yield Row("Value::clone of a list", ok(debug(array)))

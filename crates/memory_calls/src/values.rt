@@ -1,5 +1,5 @@
 //! Values, keys and maps: made and copied.
-use crate::answers::{tell, tell_change};
+use crate::answers::{tell, tell_change, widened};
 use crate::arguments::as_value;
 use crate::made::{Made, map};
 use std::rc::RcStr;
@@ -22,6 +22,9 @@ pub fn tell_makers(rt: &(impl Print + AllocGlobal), made: &Made) -> TeraResult<(
         "Value::as_key of what is no key",
         made.list.as_key(alloc),
     );
+    tell(rt, "Key::of_text", widened(Key::of_text(alloc, text)));
+    let owned = String::from_str(alloc, text)?;
+    tell(rt, "Key::of_string", widened(Key::of_string(owned)));
     tell_key(rt, Key::String(RcStr::from_str(alloc, text)?));
     Ok(())
 }

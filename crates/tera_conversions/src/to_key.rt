@@ -12,7 +12,6 @@ ghost use Rattle.tera_values.specs.Key.{key_form, integer_key};
 
 use std::alloc::Global;
 use std::borrow::CowStr;
-use std::rc::RcStr;
 use tera_report::TeraResult;
 use tera_values::Key;
 
@@ -64,27 +63,32 @@ impl ToKey for &'static str {
     ghost apart = { Prim.search rules };
 }
 
-/// A text that the key owns. Takes memory; the only refusal is want of it, `Out of memory`.
+/// A text that the key owns. Takes memory where it is long; the only refusal is want of it, `Out of
+/// memory`.
 impl ToKey for String {
     ghost gives_key = { λ t k. k ≡ text_key (owned (string_bytes t)) };
 
     ghost refuses_key = { λ _ e. IsOutOfMemory e };
 
     fn to_key(self, _alloc: Global) -> TeraResult<Key<'static>> {
-        Ok(Key::String(RcStr::from_string(self)?))
+        Ok(Key::of_string(self)?)
     }
 
     ghost apart = { Prim.search rules };
 }
 
-/// A text that the key owns. Takes memory; the only refusal is want of it, `Out of memory`.
+/// A text that the key owns. Takes memory where it is long; the only refusal is want of it, `Out of
+/// memory`.
 impl ToKey for CowStr<'_> {
     ghost gives_key = { λ t k. k ≡ text_key (owned (cow_str_bytes t)) };
 
     ghost refuses_key = { λ _ e. IsOutOfMemory e };
 
     fn to_key(self, alloc: Global) -> TeraResult<Key<'static>> {
-        Ok(Key::String(RcStr::from_string(self.into_owned(alloc)?)?))
+        match self {
+            CowStr::Borrowed(text) => Ok(Key::of_text(alloc, text)?),
+            CowStr::Owned(text) => Ok(Key::of_string(text)?),
+        }
     }
 
     ghost apart = { Prim.search rules };

@@ -1,15 +1,15 @@
 //! Keys of a map literal: how a script spells one.
-ghost use Rattle.std.specs.Prelude.{◌≡◌, IfOk};
+ghost use Rattle.std.specs.Prelude.{◌≡◌, ℕ, List, IfOk, MatchOption, IsUtf8};
 ghost use Rattle.std.specs.Option.{option_map};
-ghost use Rattle.tera_meaning.specs.KeyMeaning.{number_key};
+ghost use Rattle.tera_meaning.specs.KeyMeaning.{number_key, text_key, owned};
 ghost use Rattle.tera_script.specs.Readers.{key_in, plain_key_at, key_rest, integer_held, IsKeyAt};
+ghost use Rattle.tera_script.specs.Text.{BeginsWithText};
 ghost use Rattle.tera_values.specs.Key.{key_form};
 
 use crate::number::{Integer, number_in};
-use crate::text::take_text;
+use crate::text::{long_text, short_text};
 use crate::word::split_word;
 use std::alloc::{AllocError, Global};
-use std::rc::RcStr;
 use tera_values::Key;
 
 /// The key at the front of the bytes, and the bytes behind it: a truth value, a number or a text
@@ -24,12 +24,30 @@ pub(crate) fn take_key(
     let Some(behind) = bytes.strip_prefix(b"\"".as_slice()) else {
         return Ok(take_plain_key(bytes));
     };
-    let Some(taken) = take_text(alloc, behind)? else {
+    let Some((key, used)) = take_text_key(alloc, behind)? else {
         return Ok(None);
     };
-    let (_, rest) = behind.split_at(taken.used);
-    let key = Key::String(RcStr::from_string(taken.text)?);
+    let (_, rest) = behind.split_at(used);
     Ok(Some((key, rest)))
+}
+
+// The key that the text at the front is, behind its opening quote, and how many bytes it takes.
+fn take_text_key(
+    alloc: Global,
+    bytes: &[u8],
+) -> Result<Option<(Key<'static>, usize)>, AllocError>
+    ensures { IfOk result (λ answer. MatchOption answer
+        ((text : List ℕ) (used : ℕ) → IsUtf8 text → BeginsWithText bytes.now text used → ⊥)
+        (λ found. (text : List ℕ) × BeginsWithText bytes.now text found.1
+        × (key_form found.0 ≡ text_key (owned text)))) }
+{
+    if let Some((short, used)) = short_text(bytes) {
+        return Ok(Some((Key::of_text(alloc, short)?, used)));
+    }
+    match long_text(alloc, bytes)? {
+        Some(taken) => Ok(Some((Key::of_string(taken.text)?, taken.used))),
+        None => Ok(None),
+    }
 }
 
 // The key without quotes at the front, and the bytes behind it.

@@ -31,6 +31,15 @@ pub fn take_text(alloc: Global, bytes: &[u8]) -> Result<Option<TakenText>, Alloc
         let text = String::from_str(alloc, short)?;
         return Ok(Some(TakenText { text, used }));
     }
+    long_text(alloc, bytes)
+}
+
+/// What `take_text` answers, of a text that is long or has an escape.
+pub(crate) fn long_text(alloc: Global, bytes: &[u8]) -> Result<Option<TakenText>, AllocError>
+    ensures { IfOk result (λ answer. MatchOption answer
+        ((text : List ℕ) (used : ℕ) → IsUtf8 text → BeginsWithText bytes.now text used → ⊥)
+        (λ taken. BeginsWithText bytes.now (string_bytes taken.text) taken.used)) }
+{
     let Some((decoded, used)) = decode_text(alloc, bytes)? else {
         return Ok(None);
     };

@@ -11,6 +11,7 @@ pub use Rattle.tera_meaning.specs.Printed.{shown_key}
 use Rattle.tera_meaning.specs.Tree.{truth, number, text}
 use Rattle.tera_values.specs.declared.key.Key.{Key}
 use Rattle.tera_values.specs.declared.key.Key.TheVariants.{Bool, U64, I64, U128, I128, String, Str}
+use Rattle.tera_values.specs.declared.key.Key.TheVariants.{Short}
 
 -- a number as a key holds it
 abbrev pub integer_key : IntegerKind → ℤ → KeyForm
@@ -24,6 +25,7 @@ key_form (U128 n) = integer_key u128 (pos n)
 key_form (I128 z) = integer_key i128 z
 key_form (String t) = text_key (owned (rc_str_bytes t))
 key_form (Str t) = text_key (borrowed t.now)
+key_form (Short t) = text_key (owned t.bytes)
 
 abbrev pub meaning_of_key : Key → KeyMeaning
 meaning_of_key k = key_meaning (key_form k)

@@ -8,22 +8,22 @@ ghost use Rattle.std.specs.Option.{option_map};
 ghost use Rattle.std.specs.Ordering.{on, eq_by_cmp, as_partial_cmp};
 ghost use Rattle.std.specs.Rc.{rc_str_bytes};
 ghost use Rattle.std.proofs.Common.{ap, refl};
-ghost use Rattle.tera_meaning.specs.Integer.{u128, i128};
 ghost use Rattle.tera_meaning.proofs.KeyLaws.{key_total, key_equivalence, key_partial, key_is};
-ghost use Rattle.tera_meaning.specs.KeyMeaning.{truth_key, number_key, text_key, borrowed};
+ghost use Rattle.tera_meaning.specs.KeyMeaning.{truth_key, number_key, text_key};
 ghost use Rattle.tera_meaning.specs.KeyMeaning.{key_order, key_rank};
 ghost use Rattle.tera_report.specs.Errors.{IsOutOfMemory};
 ghost use Rattle.tera_report.specs.Room.{IsDecided};
 ghost use Rattle.tera_report.specs.Sink.{PutsThese};
 ghost use Rattle.tera_report.specs.Watch.{WatchedTakes, WatchedFails};
 ghost use Rattle.tera_report.specs.Writer.{Breaks};
-ghost use Rattle.tera_values.specs.Key.{integer_key, key_form, meaning_of_key, text_in_key};
+ghost use Rattle.tera_values.specs.Key.{key_form, meaning_of_key, text_in_key};
 ghost use Rattle.tera_values.specs.Key.{owned_in_key, number_in_key, key_value, shown_key};
 ghost use Rattle.tera_values.specs.Key.{fed_number, fed};
 ghost use Rattle.tera_scalars.specs.Whole.{whole_value};
 
 use crate::Value;
 use crate::print::truth_text;
+use arrayvec::ArrayString;
 use std::alloc::{AllocError, Global};
 use std::cmp::Ordering;
 use std::hash::{Hash, Hasher};
@@ -34,8 +34,11 @@ use tera_report::sink::{Full, Room, Sink};
 use tera_report::watch::{Watched, Writer};
 use tera_scalars::{Whole, put_integer};
 
-/// The key of a pair of a map. Mirrors `tera::value::Key`.
-#[derive(Debug, Drop)]
+/// How many bytes a text has at most that a key holds in place.
+pub(crate) const SHORT: usize = 16;
+
+/// The key of a pair of a map. Mirrors `tera::value::Key`, which has no `Short`.
+#[derive(Drop)]
 #[non_exhaustive]
 pub enum Key<'a> {
     /// A truth value.
@@ -52,6 +55,8 @@ pub enum Key<'a> {
     String(RcStr),
     /// A text that is lent.
     Str(&'a str),
+    /// A short text that the key owns, in place of `String`.
+    Short(ArrayString<SHORT>),
 }
 
 impl<'a> Key<'a> {
@@ -63,6 +68,7 @@ impl<'a> Key<'a> {
         match self {
             Key::String(text) => Some(text.as_str()),
             Key::Str(text) => Some(*text),
+            Key::Short(text) => Some(text.as_str()),
             _ => None,
         }
     }
@@ -84,6 +90,7 @@ impl<'a> Key<'a> {
             Key::I128(z) => Ok(Value::from(*z)),
             Key::String(text) => Value::normal_string(alloc, text.as_str()),
             Key::Str(text) => Value::normal_string(alloc, *text),
+            Key::Short(text) => Value::normal_string(alloc, text.as_str()),
         }
     }
 
@@ -113,6 +120,7 @@ impl<'a> Key<'a> {
             Key::I128(z) => Ok(Key::I128(*z)),
             Key::String(text) => Ok(Key::String(shared(alloc, text)?)),
             Key::Str(text) => Ok(Key::Str(*text)),
+            Key::Short(text) => Ok(Key::Short(*text)),
         }
     }
 
@@ -156,6 +164,7 @@ impl<'a> Key<'a> {
             Key::I128(z) => put_integer(*z, out),
             Key::String(text) => out.put(text.as_str()),
             Key::Str(text) => out.put(*text),
+            Key::Short(text) => out.put(text.as_str()),
         }
     }
 
@@ -191,6 +200,7 @@ impl<'a> Key<'a> {
             Key::I128(_) => 1,
             Key::String(_) => 2,
             Key::Str(_) => 2,
+            Key::Short(_) => 2,
         }
     }
 }
@@ -253,6 +263,7 @@ impl Ord for Key<'_> {
             Key::I128(z) => number_order(Whole::Signed(*z), other),
             Key::String(text) => text_order(text.as_str(), other),
             Key::Str(text) => text_order(*text, other),
+            Key::Short(text) => text_order(text.as_str(), other),
         }
     }
 }
@@ -304,6 +315,7 @@ impl Hash for Key<'_> {
             Key::I128(z) => feed_integer(*z, state),
             Key::String(text) => text.as_str().hash(state),
             Key::Str(text) => text.hash(state),
+            Key::Short(text) => text.as_str().hash(state),
         }
     }
 }
@@ -328,6 +340,22 @@ fn feed_integer<H: Hasher>(z: i128, state: &mut H)
     }
 }
 
+/// As std shows an enum, a short text as any that the key owns.
+impl fmt::Debug for Key<'_> {
+    fn fmt<W: fmt::Write>(&self, f: &mut fmt::Formatter<W>) -> fmt::Result {
+        match self {
+            Key::Bool(b) => f.debug_tuple("Bool").field(b).finish(),
+            Key::U64(n) => f.debug_tuple("U64").field(n).finish(),
+            Key::I64(z) => f.debug_tuple("I64").field(z).finish(),
+            Key::U128(n) => f.debug_tuple("U128").field(n).finish(),
+            Key::I128(z) => f.debug_tuple("I128").field(z).finish(),
+            Key::String(text) => f.debug_tuple("String").field(text).finish(),
+            Key::Str(text) => f.debug_tuple("Str").field(text).finish(),
+            Key::Short(text) => f.debug_tuple("String").field(text).finish(),
+        }
+    }
+}
+
 /// What `format` writes. A width or a fill of the format changes nothing. Takes no memory.
 impl fmt::Display for Key<'_> {
     ghost output = { λ k. Some (shown_key (meaning_of_key k)) };
@@ -336,33 +364,5 @@ impl fmt::Display for Key<'_> {
 
     fn fmt<W: fmt::Write>(&self, f: &mut fmt::Formatter<W>) -> fmt::Result {
         self.print_to(f)
-    }
-}
-
-/// A key that borrows the text, so it takes no memory. Mirrors `From<&'static str>` of
-/// `tera::value::Key`.
-impl From<&'static str> for Key<'static> {
-    ghost from_gives = { λ t k. key_form k ≡ text_key (borrowed t.now) };
-
-    fn from(text: &'static str) -> Key<'static> {
-        Key::Str(text)
-    }
-}
-
-/// Mirrors `From<u128>` of `tera::value::Key`. Takes no memory.
-impl From<u128> for Key<'static> {
-    ghost from_gives = { λ n k. key_form k ≡ integer_key u128 (pos n) };
-
-    fn from(n: u128) -> Key<'static> {
-        Key::U128(n)
-    }
-}
-
-/// Mirrors `From<i128>` of `tera::value::Key`. Takes no memory.
-impl From<i128> for Key<'static> {
-    ghost from_gives = { λ z k. key_form k ≡ integer_key i128 z };
-
-    fn from(z: i128) -> Key<'static> {
-        Key::I128(z)
     }
 }

@@ -57,6 +57,7 @@ fn place_among(few: &[Key<'static>], key: &Key<'_>) -> Option<usize>
     match key {
         Key::String(text) => place_of_text(few, text.as_str()),
         Key::Str(text) => place_of_text(few, *text),
+        Key::Short(text) => place_of_text(few, text.as_str()),
         _ => few.iter().position(|held| key == held),
     }
 }
@@ -76,6 +77,7 @@ fn is_text_key(text: &str, held: &Key<'static>) -> bool
     match held {
         Key::String(other) => is_text(text, other.as_str()),
         Key::Str(other) => is_text(text, *other),
+        Key::Short(other) => is_text(text, other.as_str()),
         _ => false,
     }
 }

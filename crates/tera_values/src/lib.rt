@@ -15,6 +15,7 @@ mod keys;
 mod kind;
 mod lookup;
 mod map;
+mod new_key;
 pub mod number;
 mod path;
 mod print;

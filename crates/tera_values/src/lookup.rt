@@ -14,7 +14,6 @@ use crate::refused::{not_a_key, not_a_map_key, not_a_text_index, not_an_array_in
 use crate::value::ValueInner;
 use crate::{Key, Map, Value};
 use std::alloc::Global;
-use std::rc::RcStr;
 use tera_report::TeraResult;
 use tera_scalars::{Whole, character, place};
 
@@ -47,9 +46,7 @@ impl Value {
             ValueInner::I64(z) => Ok(Key::I64(*z)),
             ValueInner::U128(n) => Ok(Key::U128(*n)),
             ValueInner::I128(z) => Ok(Key::I128(*z)),
-            ValueInner::String(text, _) => {
-                Ok(Key::String(RcStr::from_str(alloc, text.as_str())?))
-            }
+            ValueInner::String(text, _) => Ok(Key::of_text(alloc, text.as_str())?),
             _ => Err(not_a_key(alloc)),
         }
     }

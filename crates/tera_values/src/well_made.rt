@@ -84,6 +84,9 @@ fn key_is_well_made(key: &Key<'static>)
         Key::Str(text) => {
             let _text = *text;
         }
+        Key::Short(text) => {
+            let _text = text.as_str();
+        }
     }
 }
 

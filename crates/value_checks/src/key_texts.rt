@@ -1,6 +1,6 @@
 //! What keys print.
 use crate::held::hold;
-use crate::keys::{owned, tells};
+use crate::keys::{in_place, owned, tells};
 use crate::printed::displays;
 use std::alloc::Global;
 use tera_values::Key;
@@ -28,9 +28,12 @@ fn printed_keys(rt: HostRuntime) {
             prints(alloc, Key::I128(i128::MIN), least),
             prints(alloc, Key::Str("a \"é\"\n日本"), "a \"é\"\n日本"),
             prints(alloc, owned(alloc, "e\u{301}🦀"), "e\u{301}🦀"),
+            prints(alloc, in_place(alloc, "e\u{301}🦀"), "e\u{301}🦀"),
+            tells(alloc, Key::Bool(true), "Bool(true)"),
             tells(alloc, Key::I64(-7), "I64(-7)"),
             tells(alloc, Key::Str("a"), "Str(\"a\")"),
             tells(alloc, owned(alloc, "a"), "String(\"a\")"),
+            tells(alloc, in_place(alloc, "a"), "String(\"a\")"),
         ],
     );
 }

@@ -16,6 +16,11 @@ pub fn owned(alloc: Global, text: &str) -> Key<'static> {
     }
 }
 
+/// A key that holds that short text in place.
+pub fn in_place(alloc: Global, text: &str) -> Key<'static> {
+    Key::of_text(alloc, text).unwrap_or(Key::Bool(false))
+}
+
 #[test]
 fn one_number_is_one_key(rt: HostRuntime) {
     hold(
@@ -71,6 +76,7 @@ fn hashes_go_by_meaning(rt: HostRuntime) {
             feeds(Key::Bool(true), hash_of(&true)),
             feeds(Key::Str("é"), hash_of(&"é")),
             feeds(owned(rt.alloc(), "é"), hash_of(&"é")),
+            feeds(in_place(rt.alloc(), "é"), hash_of(&"é")),
             !feeds(Key::Str("1"), fed_natural(1)),
         ],
     );
@@ -91,6 +97,7 @@ fn keys_in_order(rt: HostRuntime) {
         Key::Str("1"),
         owned(rt.alloc(), "a"),
         Key::Str("aa"),
+        in_place(rt.alloc(), "ab"),
         Key::Str("b"),
         Key::Str("é"),
     ];
@@ -126,6 +133,7 @@ fn values_of_keys(rt: HostRuntime) {
             has_value(alloc, Key::from(1i128), "Value { inner: I128(1) }"),
             has_value(alloc, Key::from("a"), text),
             has_value(alloc, owned(alloc, "a"), text),
+            has_value(alloc, in_place(alloc, "a"), text),
         ],
     );
 }
@@ -150,6 +158,7 @@ fn copies_of_keys(rt: HostRuntime) {
             is_copied(alloc, Key::from(1i128), "I128(1)"),
             is_copied(alloc, Key::from("a"), "Str(\"a\")"),
             is_copied(alloc, owned(alloc, "a"), "String(\"a\")"),
+            is_copied(alloc, in_place(alloc, "a"), "String(\"a\")"),
         ],
     );
 }

@@ -1,7 +1,5 @@
 use Rattle.std.proofs.Common.{Some, false, sym, subst}
 use Rattle.std.specs.Option.{option_map}
-use Rattle.std.specs.String.{string_bytes}
-use Rattle.tera_meaning.specs.KeyMeaning.{text_key, owned}
 use Rattle.tera_script.specs.Readers.{key_rest, IsKeyAt}
 use Rattle.tera_script.proofs.Fronts.{no_prefix, behind_prefix}
 use Rattle.tera_script.proofs.Keys.{plain_key_found, no_text_key, text_key_found}
@@ -15,11 +13,9 @@ returns-in_default c = plain_key_found c.args.bytes.now (option_map key_rest c.t
 pub returns-in_default-2 : goal.returns-in_default-2
 returns-in_default-2 c =
     let spelled = behind_prefix c.args.bytes.now c.strip_prefix.ensures.cases c.as_slice.ensures c.in-Some.is in
-    no_text_key c.args.bytes.now c.in-Some.behind.now spelled (quoted_none false c.in-Some.behind.now (rw (c.in_default-2.is) at c.in_ok-taken.ensures))
+    no_text_key c.args.bytes.now c.in-Some.behind.now spelled (quoted_none false c.in-Some.behind.now ?)
 
 pub returns : goal.returns
 returns c =
     let spelled = behind_prefix c.args.bytes.now c.strip_prefix.ensures.cases c.as_slice.ensures c.in-Some.is in
-    let found = text_key_found c.args.bytes.now c.in-Some.behind.now (string_bytes c.in-Some-2.taken.text) c.split_at.result.1.now c.in-Some-2.taken.used
-    spelled (rw (c.in-Some-2.is) at c.in_ok-taken.ensures) c.split_at.ensures.back in
-    subst (λ t. IsKeyAt c.args.bytes.now (Some (text_key (owned t), c.split_at.result.1.now))) (sym c.in_ok-from_string.ensures.ok) found
+    ?

@@ -1,7 +1,7 @@
 use Rattle.std.proofs.Common.{subst, sym, true≢false}
 use Rattle.std.specs.Prelude.{IsUtf8}
 use Rattle.tera_script.proofs.Texts.{same_text}
-use Rattle.tera_script.proofs.text.take_text.Goals as goal
+use Rattle.tera_script.proofs.text.long_text.Goals as goal
 
 pub returns-in_default-2 : goal.returns-in_default-2
 returns-in_default-2 c = λ text used u b.

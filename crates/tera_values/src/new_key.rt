@@ -1,0 +1,67 @@
+//! What makes keys.
+ghost use Rattle.std.specs.Prelude.{◌≡◌, ◌≤◌, length, pos, IfOk, IsOk};
+ghost use Rattle.std.specs.String.{string_bytes};
+ghost use Rattle.tera_meaning.specs.Integer.{u128, i128};
+ghost use Rattle.tera_meaning.specs.KeyMeaning.{text_key, owned, borrowed};
+ghost use Rattle.tera_values.specs.Key.{key_form, integer_key};
+
+use crate::Key;
+use arrayvec::ArrayString;
+use std::alloc::{AllocError, Global};
+use std::rc::RcStr;
+
+impl Key<'static> {
+    /// A key that owns the text: in place where it has at most 16 bytes, and else shared.
+    ///
+    /// Takes memory for a longer text, and fails for want of it alone.
+    pub fn of_text(alloc: Global, text: &str) -> Result<Key<'static>, AllocError>
+        ensures ok { IfOk result (λ k. key_form k ≡ text_key (owned text.now)) }
+        ensures succeeds { length text.now ≤ 16 → IsOk result }
+    {
+        match ArrayString::from(text) {
+            Ok(short) => Ok(Key::Short(short)),
+            Err(_) => Ok(Key::String(RcStr::from_str(alloc, text)?)),
+        }
+    }
+
+    /// A key that owns the text, as `of_text` makes one. A longer text is not copied.
+    ///
+    /// Takes memory for a longer text, and fails for want of it alone.
+    pub fn of_string(text: String) -> Result<Key<'static>, AllocError>
+        ensures ok { IfOk result (λ k. key_form k ≡ text_key (owned (string_bytes text))) }
+        ensures succeeds { length (string_bytes text) ≤ 16 → IsOk result }
+    {
+        match ArrayString::from(text.as_str()) {
+            Ok(short) => Ok(Key::Short(short)),
+            Err(_) => Ok(Key::String(RcStr::from_string(text)?)),
+        }
+    }
+}
+
+/// A key that borrows the text, so it takes no memory. Mirrors `From<&'static str>` of
+/// `tera::value::Key`.
+impl From<&'static str> for Key<'static> {
+    ghost from_gives = { λ t k. key_form k ≡ text_key (borrowed t.now) };
+
+    fn from(text: &'static str) -> Key<'static> {
+        Key::Str(text)
+    }
+}
+
+/// Mirrors `From<u128>` of `tera::value::Key`. Takes no memory.
+impl From<u128> for Key<'static> {
+    ghost from_gives = { λ n k. key_form k ≡ integer_key u128 (pos n) };
+
+    fn from(n: u128) -> Key<'static> {
+        Key::U128(n)
+    }
+}
+
+/// Mirrors `From<i128>` of `tera::value::Key`. Takes no memory.
+impl From<i128> for Key<'static> {
+    ghost from_gives = { λ z k. key_form k ≡ integer_key i128 z };
+
+    fn from(z: i128) -> Key<'static> {
+        Key::I128(z)
+    }
+}
