@@ -82,7 +82,7 @@ pub fn one_item(alloc: Global, item: Value) -> Value
 pub fn two_items(alloc: Global, first: Value, second: Value) -> Value
     ensures { IsArrayOf (first ∷ second ∷ []) result }
 {
-    Value::of_array(with_item(and(Vec::new(alloc), first), second))
+    Value::of_array(with_item(with_item(Vec::new(alloc), first), second))
 }
 
 /// An array of these numbers.
