@@ -12,9 +12,10 @@ use crate::text::short_text;
 use crate::word::{are_blanks, past_gap, take_operand};
 use tera_context::LookUp;
 
-/// The look-up that a line says, with its names and its text lent, so that it takes no memory.
-/// `None` of any other line, and where the text is long or has an escape, or blanks begin the line:
-/// these are for `read_line`.
+/// The look-up that a line says, with its names and its text lent. Takes no memory.
+///
+/// `None` of any other line, and of some look-ups: where the text is long or has an escape, and
+/// where blanks begin the line. `read_line` reads all of these.
 ///
 /// It is inlined, since the first byte tells most lines that are no look-up.
 #[inline(always)]
