@@ -131,8 +131,8 @@ impl fmt::Display for ErrorKind {
     }
 }
 
-/// The text of the kind, without that of the cause. A width or a fill of the format changes nothing.
-/// Takes no memory.
+/// The text of the kind, without that of the cause. A width or a fill of the format changes
+/// nothing. Takes no memory.
 impl fmt::Display for Error {
     ghost output = { λ e. text_of (refusal_of (kind_of e)) };
 

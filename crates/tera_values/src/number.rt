@@ -159,8 +159,8 @@ pub fn pow(alloc: Global, left: &Value, right: &Value) -> TeraResult<Value>
 /// The left operand is looked at first, then the right one. What is no number is refused with
 /// ``Only numbers can be used in arithmetic. This is a `N` ``, N being the name of its kind and the
 /// last blank left out. A number that no `i128` holds is refused with ``Operand `V` is out of range
-/// for integer arithmetic (must fit in i128)``. Then a division by 0 is refused with `Cannot divide by
-/// 0`, and an exponent that is below 0, or 2^32 or more, with `Exponent V is out of range for
+/// for integer arithmetic (must fit in i128)``. Then a division by 0 is refused with `Cannot divide
+/// by 0`, and an exponent that is below 0, or 2^32 or more, with `Exponent V is out of range for
 /// integer ** (must fit in u32)`. At last a result that no `i128` holds is refused with `Unable to
 /// perform L op R`, and so is a remainder whose quotient none holds.
 ///
