@@ -95,10 +95,11 @@ impl<'a> Key<'a> {
     }
 
     /// A key of the same form: the kind of an integer is kept, and a text that is lent stays lent.
-    /// A `String` shares its text, and a `Short` is copied. Mirrors `Clone` of `tera::value::Key`.
+    /// A `Key::String` shares its text, and a `Key::Short` is copied. Mirrors `Clone` of
+    /// `tera::value::Key`.
     ///
-    /// Takes memory where a `String` has a text whose count of owners is full; the only refusal is
-    /// want of it, `Out of memory`.
+    /// Takes memory where the text of a `Key::String` has a count of owners that is full; the only
+    /// refusal is want of it, `Out of memory`.
     pub fn clone(&self, alloc: Global) -> TeraResult<Key<'a>>
         ensures ok { IfOk result (λ k. key_form k ≡ key_form self.now) }
         ensures err { IfErr result IsOutOfMemory }
@@ -340,7 +341,7 @@ fn feed_integer<H: Hasher>(z: i128, state: &mut H)
     }
 }
 
-/// As std shows an enum, but that a `Short` is shown as a `String`.
+/// As std shows an enum, but that a `Key::Short` is shown as a `Key::String` is.
 impl fmt::Debug for Key<'_> {
     fn fmt<W: fmt::Write>(&self, f: &mut fmt::Formatter<W>) -> fmt::Result {
         match self {

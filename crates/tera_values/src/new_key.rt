@@ -12,7 +12,8 @@ use std::rc::RcStr;
 
 impl Key<'static> {
     /// A key that owns the text. At most 16 bytes are held in place, as `Short`; a longer text
-    /// becomes a `String`, which clones share. Stands for `From<Cow<str>>` of `tera::value::Key`.
+    /// becomes a `Key::String`, which clones share. Stands for `From<Cow<str>>` of
+    /// `tera::value::Key`.
     ///
     /// Takes memory for a longer text alone, and fails for want of it alone.
     pub fn of_text(alloc: Global, text: &str) -> Result<Key<'static>, AllocError>
@@ -26,7 +27,8 @@ impl Key<'static> {
     }
 
     /// A key that owns the text. At most 16 bytes are held in place, as `Short`; a longer text
-    /// becomes a `String`, without a copy of it. Stands for `From<String>` of `tera::value::Key`.
+    /// becomes a `Key::String`, without a copy of it. Stands for `From<String>` of
+    /// `tera::value::Key`.
     ///
     /// Takes memory for a longer text alone, and fails for want of it alone.
     pub fn of_string(text: String) -> Result<Key<'static>, AllocError>
