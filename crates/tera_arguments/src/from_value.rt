@@ -26,7 +26,8 @@ use tera_values::{Map, Number, Value};
 /// sealed: no other crate implements it.
 ///
 /// Each implementation says what it takes of a value, by the form in which the value is held, and
-/// with which errors it refuses.
+/// with which errors it refuses. A refusal takes memory for its text; want of it, `Out of memory`,
+/// is answered in its place.
 pub trait ArgFromValue<'k, V>: Sealed<V> {
     /// What a value is taken as.
     type Output;

@@ -49,8 +49,9 @@ pub fn lend<'a>(context: &'a Context, step: &'a Step) -> Option<Lent<'a>>
     look_up(context, look_up_in(step)?)
 }
 
-/// What stands for the answer of a look-up, lent, or `None`, as `lend` says of a step. The names
-/// are lent too, as they stand in a line, so that none is copied. Takes no memory.
+/// What stands for the answer of a look-up, lent: what is found, or nothing; or what is printed.
+/// `None` where `Item` finds nothing in a map at a text, and where there is nothing to print: these
+/// are for `step`. Takes no memory.
 pub fn look_up<'a>(context: &'a Context, asked: LookUp<'a>) -> Option<Lent<'a>>
     ensures lent { option_map lent_form result ≡ lent_at context.now (looked_up asked.entry) }
     ensures step { IfSome result (λ lent. (outcome : Outcome) → StandsFor (lent_form lent) outcome

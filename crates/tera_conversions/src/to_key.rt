@@ -63,8 +63,8 @@ impl ToKey for &'static str {
     ghost apart = { Prim.search rules };
 }
 
-/// A text that the key owns. Takes memory where it is long; the only refusal is want of it, `Out of
-/// memory`.
+/// A text that the key owns. Takes memory where it has more than 16 bytes; the only refusal is want
+/// of it, `Out of memory`.
 impl ToKey for String {
     ghost gives_key = { λ t k. k ≡ text_key (owned (string_bytes t)) };
 
@@ -77,8 +77,8 @@ impl ToKey for String {
     ghost apart = { Prim.search rules };
 }
 
-/// A text that the key owns. Takes memory where it is long; the only refusal is want of it, `Out of
-/// memory`.
+/// A text that the key owns. Takes memory where it has more than 16 bytes; the only refusal is want
+/// of it, `Out of memory`.
 impl ToKey for CowStr<'_> {
     ghost gives_key = { λ t k. k ≡ text_key (owned (cow_str_bytes t)) };
 

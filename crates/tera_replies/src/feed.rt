@@ -162,7 +162,10 @@ impl Feed {
 ///
 /// `BadLine` where the line is bad, `OutOfMemory` where no memory is found to read it or to report
 /// it: then nothing has changed. `WriteFailed` where the sink refused a part of the reply: then
-/// the line was run. Takes memory for what the line names and brings, and for its report.
+/// the line was run.
+///
+/// Takes memory for what the line names and brings, for what its step takes, and for its report. A
+/// look-up that the context lends by `look_up` takes none.
 pub fn answer_line<W: Sink>(
     alloc: Global,
     number: u128,

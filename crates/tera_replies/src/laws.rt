@@ -22,7 +22,7 @@ pub fn bytes_are_lines()
         × Splits bytes lines part }
 {}
 
-/// They are so in one way only.
+/// Bytes are lines and a part of one in one way only.
 pub fn lines_are_split_one_way()
     ensures { (bytes part other : List ℕ) (lines others : List (List ℕ)) → Splits bytes lines part
         → Splits bytes others other → (lines ≡ others) × (part ≡ other) }

@@ -23,14 +23,17 @@ use tera_report::watch::{Watched, Writer};
 /// How much is read at once.
 const PIECE: usize = 8192;
 
-/// Reads a script from `input`, writes what its calls answer to `out`, each answer before more is
-/// read, and a report of what ended it early to `err`. Answers the exit status: 0 where each line
-/// is answered and none of the answers is want of memory, 1 where one is, 2 at a bad line
-/// (its report), and else 1: `error: reading failed`, `error: writing failed` where a write to
-/// `out` or a flush of it fails, and `error: Out of memory` where the replay itself finds none. A
-/// report that cannot be written changes nothing.
+/// Reads a script from `input`, and writes what its calls answer to `out`, each answer before more
+/// is read. What ended it early is told to `err`.
 ///
-/// Takes memory for one line, for what its lines set, and for the reply to a refusal.
+/// Answers the exit status. It is 0 where each line is answered and none of the answers is want of
+/// memory, 1 where one is, and 2 at a bad line, whose report is told. Else it is 1, and told is
+/// `error: reading failed`, `error: writing failed` where a write to `out` or a flush of it fails,
+/// or `error: Out of memory` where the replay itself finds none. A report that cannot be written
+/// changes nothing.
+///
+/// Takes memory for the line at hand, for what the names hold, for one answer or the text of its
+/// refusal, and for the report of a bad line.
 pub fn replay<S: Source + Drop, W: Writer, E: Writer>(
     alloc: Global,
     mut input: S,

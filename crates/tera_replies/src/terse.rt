@@ -15,7 +15,7 @@ pub(crate) struct Terse<'a, W> {
 }
 
 impl<'a, W: Sink> Terse<'a, W> {
-    /// Over that sink.
+    /// A `Terse` over that sink.
     #[inline(always)]
     pub(crate) fn new(sink: &'a mut W) -> Terse<'a, W>
         ensures lent { sink_loan result ≡ sink.entry.ghost_name }

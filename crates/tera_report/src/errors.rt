@@ -131,7 +131,8 @@ impl fmt::Display for ErrorKind {
     }
 }
 
-/// The text of the kind. The cause is read by `source`.
+/// The text of the kind, without that of the cause. A width or a fill of the format changes
+/// nothing. Takes no memory.
 impl fmt::Display for Error {
     ghost output = { λ e. text_of (refusal_of (kind_of e)) };
 
@@ -149,6 +150,7 @@ impl fmt::Display for Error {
     }
 }
 
+/// Want of memory. Takes no memory.
 impl From<AllocError> for Error {
     ghost from_gives = { λ _ e. IsOutOfMemory e };
 
@@ -157,6 +159,7 @@ impl From<AllocError> for Error {
     }
 }
 
+/// Want of memory. Takes no memory.
 impl<T: Drop> From<AllocFailed<T>> for Error {
     ghost from_gives = { λ _ e. IsOutOfMemory e };
 

@@ -11,8 +11,8 @@ use crate::sink::Sink;
 use std::simd::prelude::*;
 
 /// Puts the text in debug form: between double quotes, with escapes for quotes, backslashes and
-/// control characters. Which characters past ASCII have an escape is the library's choice. Takes no
-/// memory.
+/// control characters. Which characters past ASCII have an escape is the library's choice. Answers
+/// an error only where the sink refused a piece. Takes no memory of its own.
 pub fn put_quoted<S: Sink>(text: &str, out: &mut S) -> Result<(), S::Fault>
     ensures { Puts S.takes S.fails result (Quotes text.now) out.old out.new }
 {
@@ -21,7 +21,8 @@ pub fn put_quoted<S: Sink>(text: &str, out: &mut S) -> Result<(), S::Fault>
     out.put("\"")
 }
 
-/// Puts the texts in debug form, between brackets and joined by commas. Takes no memory.
+/// Puts the texts in debug form, between brackets and joined by commas. Answers an error only where
+/// the sink refused a piece. Takes no memory of its own.
 pub fn put_quoted_list<S: Sink>(texts: &[String], out: &mut S) -> Result<(), S::Fault>
     ensures { Puts S.takes S.fails result
         (QuotesList (map string_bytes texts.now)) out.old out.new }
@@ -55,7 +56,8 @@ fn put_escaped<S: Sink>(text: &str, out: &mut S) -> Result<(), S::Fault>
     put_runs(text, out)
 }
 
-// The same for any text. A run of characters that stand for themselves is put in one piece.
+// Puts what stands between the quotes, run by run: characters that stand for themselves are put in
+// one piece.
 fn put_runs<S: Sink>(text: &str, out: &mut S) -> Result<(), S::Fault>
     ensures { Puts S.takes S.fails result (Escapes text.now) out.old out.new }
 {

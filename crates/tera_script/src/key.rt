@@ -13,8 +13,8 @@ use std::alloc::{AllocError, Global};
 use tera_values::Key;
 
 /// The key at the front of the bytes, and the bytes behind it: a truth value, a number or a text
-/// that is not marked safe. `None` where there is none that ends as a word does. Takes memory for
-/// texts, and fails for want of it alone.
+/// that is not marked safe. `None` where there is none that ends as a word does. Takes memory for a
+/// text that has an escape or more than 16 bytes, and fails for want of it alone.
 pub(crate) fn take_key(
     alloc: Global,
     bytes: &[u8],

@@ -16,10 +16,11 @@ use crate::text::short_text;
 use crate::word::{are_blanks, past_gap, take_operand};
 use tera_context::LookUp;
 
-/// The look-up that a line says plainly, with its names and its text lent, so that it takes no
-/// memory. `None` of every other line: where blanks begin it, a name for what is found ends it, or
-/// its text has an escape or more than 31 bytes, and where it says no look-up. These are for
-/// `read_line`.
+/// The look-up that a line says plainly, with its names and its text lent. Takes no memory.
+///
+/// `None` of every other line: where it says no look-up, where blanks begin it, where a name for
+/// what is found ends it, and where its text has an escape or more than 31 bytes. `read_line` reads
+/// these.
 ///
 /// It is inlined, since the first byte tells most lines that are no look-up.
 #[inline(always)]

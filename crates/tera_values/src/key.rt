@@ -34,7 +34,7 @@ use tera_report::sink::{Full, Room, Sink};
 use tera_report::watch::{Watched, Writer};
 use tera_scalars::{Whole, put_integer};
 
-/// How many bytes a text has at most that a key holds in place.
+/// How many bytes a text that a key holds in place has at most.
 pub(crate) const SHORT: usize = 16;
 
 /// The key of a pair of a map. Mirrors `tera::value::Key`, which has no `Short`.
@@ -55,7 +55,7 @@ pub enum Key<'a> {
     String(RcStr),
     /// A text that is lent.
     Str(&'a str),
-    /// A short text that the key owns, in place of `String`.
+    /// A text of at most 16 bytes that the key owns, held in the key itself.
     Short(ArrayString<SHORT>),
 }
 
@@ -94,11 +94,12 @@ impl<'a> Key<'a> {
         }
     }
 
-    /// A key of the same form: the kind of an integer is kept, a text that it owns is shared, and a
-    /// text that is lent stays lent. Mirrors `Clone` of `tera::value::Key`.
+    /// A key of the same form: the kind of an integer is kept, and a text that is lent stays lent.
+    /// A `Key::String` shares its text, and a `Key::Short` is copied. Mirrors `Clone` of
+    /// `tera::value::Key`.
     ///
-    /// Takes memory where it owns a text whose count of owners is full; the only refusal is want of
-    /// it, `Out of memory`.
+    /// Takes memory where the text of a `Key::String` has a count of owners that is full; the only
+    /// refusal is want of it, `Out of memory`.
     pub fn clone(&self, alloc: Global) -> TeraResult<Key<'a>>
         ensures ok { IfOk result (λ k. key_form k ≡ key_form self.now) }
         ensures err { IfErr result IsOutOfMemory }
@@ -340,7 +341,7 @@ fn feed_integer<H: Hasher>(z: i128, state: &mut H)
     }
 }
 
-/// As std shows an enum, a short text as any that the key owns.
+/// As std shows an enum, but that a `Key::Short` is shown as a `Key::String` is.
 impl fmt::Debug for Key<'_> {
     fn fmt<W: fmt::Write>(&self, f: &mut fmt::Formatter<W>) -> fmt::Result {
         match self {

@@ -14,10 +14,10 @@ use indexmap::{IndexSet, set};
 use std::alloc::{AllocError, Global};
 use std::{mem, vec};
 
-/// How many keys are looked up one after another: so few are found as soon without a hash.
+/// How many keys a list holds at most. They are looked up one after another, without a hash.
 pub(crate) const FEW: usize = 12;
 
-/// For how many keys and values the first makes room. The next room is for all of a few.
+/// For how many keys and values the first key makes room. The next room is for `FEW`.
 pub(crate) const FIRST: usize = 2;
 
 /// The keys of a map, in their order.
@@ -82,7 +82,7 @@ fn is_text_key(text: &str, held: &Key<'static>) -> bool
     }
 }
 
-// Whether two texts are equal. Keys of one length that differ, mostly do so in the last byte.
+// Whether two texts are equal. Most keys of one length that differ do so in the last byte.
 #[inline(always)]
 #[tactic(auto, using(crate::proofs::KeyLemmas::unlike))]
 fn is_text(text: &str, other: &str) -> bool

@@ -33,8 +33,9 @@ impl Value {
     /// The key that it is: a truth value, an integer in its kind, a text of its own. Mirrors
     /// `Value::as_key`.
     ///
-    /// Refuses every other value with `Not a valid key type`. Takes memory for a text, and for the
-    /// refusal's; want of it, `Out of memory`, is answered in the place of either.
+    /// Refuses every other value with `Not a valid key type`. Takes memory for a text of more than
+    /// 16 bytes and for that of the refusal; want of it, `Out of memory`, is answered in the place
+    /// of either.
     pub fn as_key(&self, alloc: Global) -> TeraResult<Key<'static>>
         ensures ok { IfOk result (λ key. as_key self.now ≡ Ok (key_form key)) }
         ensures err { IfErr result (Refuses (as_key self.now)) }

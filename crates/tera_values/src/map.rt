@@ -1,5 +1,5 @@
-//! How a map is kept: its keys in a set that knows their order, and its values in the same order.
-//! Nothing outside of this file and `keys.rt` knows it.
+//! How a map is kept: a list of values beside its keys, in one order. Nothing outside of this file
+//! and `keys.rt` knows it.
 ghost use Rattle.std.specs.Prelude.{◌≡◌, ◌<◌, [], None, length, IfOk, IfErr, OnOk, OnErr};
 ghost use Rattle.std.specs.Prelude.{slice_get, false};
 ghost use Rattle.std.specs.List.{list_any};
@@ -22,7 +22,7 @@ use tera_report::TeraResult;
 
 /// The pairs of a map, in the order in which their keys came. Mirrors `tera::value::Map`.
 ///
-/// The set of keys stands behind a pointer, made with the first key, so that values stay small.
+/// The keys stand behind a pointer, which the first key makes, so that values stay small.
 #[cycle(value)]
 #[derive(Drop)]
 pub struct Map {

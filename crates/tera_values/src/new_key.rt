@@ -11,9 +11,11 @@ use std::alloc::{AllocError, Global};
 use std::rc::RcStr;
 
 impl Key<'static> {
-    /// A key that owns the text: in place where it has at most 16 bytes, and else shared.
+    /// A key that owns the text. At most 16 bytes are held in place, as `Short`; a longer text
+    /// becomes a `Key::String`, which clones share. Stands for `From<Cow<str>>` of
+    /// `tera::value::Key`.
     ///
-    /// Takes memory for a longer text, and fails for want of it alone.
+    /// Takes memory for a longer text alone, and fails for want of it alone.
     pub fn of_text(alloc: Global, text: &str) -> Result<Key<'static>, AllocError>
         ensures ok { IfOk result (λ k. key_form k ≡ text_key (owned text.now)) }
         ensures succeeds { length text.now ≤ 16 → IsOk result }
@@ -24,9 +26,11 @@ impl Key<'static> {
         }
     }
 
-    /// A key that owns the text, as `of_text` makes one. A longer text is not copied.
+    /// A key that owns the text. At most 16 bytes are held in place, as `Short`; a longer text
+    /// becomes a `Key::String`, without a copy of it. Stands for `From<String>` of
+    /// `tera::value::Key`.
     ///
-    /// Takes memory for a longer text, and fails for want of it alone.
+    /// Takes memory for a longer text alone, and fails for want of it alone.
     pub fn of_string(text: String) -> Result<Key<'static>, AllocError>
         ensures ok { IfOk result (λ k. key_form k ≡ text_key (owned (string_bytes text))) }
         ensures succeeds { length (string_bytes text) ≤ 16 → IsOk result }

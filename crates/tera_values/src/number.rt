@@ -156,14 +156,15 @@ pub fn pow(alloc: Global, left: &Value, right: &Value) -> TeraResult<Value>
 /// What an operator computes of two numbers, whatever their kinds: the exact result, as a number of
 /// 128 bits with a sign.
 ///
-/// The left operand is looked at first, then the right one: no number is refused with ``Only
-/// numbers can be used in arithmetic. This is a `N` ``, N being the name of its kind, without the
-/// blank; one that no `i128` holds with ``Operand `V` is out of range for integer arithmetic (must
-/// fit in i128)``. Then a division by 0 is refused with `Cannot divide by 0`, an exponent that is
-/// below 0, or 2^32 or more, with `Exponent V is out of range for integer ** (must fit in u32)`,
-/// and a result, or the quotient of a remainder, that no `i128` holds with `Unable to perform L op
-/// R`. Takes memory for a refusal's text alone; want of it, `Out of memory`, is answered in its
-/// place.
+/// The left operand is looked at first, then the right one. What is no number is refused with
+/// ``Only numbers can be used in arithmetic. This is a `N` ``, N being the name of its kind and the
+/// last blank left out. A number that no `i128` holds is refused with ``Operand `V` is out of range
+/// for integer arithmetic (must fit in i128)``. Then a division by 0 is refused with `Cannot divide
+/// by 0`, and an exponent that is below 0, or 2^32 or more, with `Exponent V is out of range for
+/// integer ** (must fit in u32)`. At last a result that no `i128` holds is refused with `Unable to
+/// perform L op R`, and so is a remainder whose quotient none holds.
+///
+/// Takes memory for a refusal's text alone; want of it, `Out of memory`, is answered in its place.
 pub fn calculate(alloc: Global, op: BinaryOp, left: &Value, right: &Value) -> TeraResult<Value>
     ensures ok { IfOk result (λ v. calculated (operator_of op) left.now right.now ≡ Ok v) }
     ensures err { IfErr result (Refuses (calculated (operator_of op) left.now right.now)) }
@@ -245,9 +246,9 @@ pub fn compute(op: BinaryOp, left: &Value, right: &Value) -> Result<i128, NotCom
 /// `tera::value::number`, which is private there.
 ///
 /// Refuses what is no number with ``Only numbers can be negated. This is a `N` ``, N being the name
-/// of its kind, without the blank; and a number that no `i128` holds, or whose negation none holds,
-/// with `Cannot negate V: result would overflow i128`. Takes memory for a refusal's text alone;
-/// want of it, `Out of memory`, is answered in its place.
+/// of its kind, without the last blank. Refuses a number that no `i128` holds, or whose negation
+/// none holds, with `Cannot negate V: result would overflow i128`. Takes memory for a refusal's
+/// text alone; want of it, `Out of memory`, is answered in its place.
 pub fn negate(alloc: Global, value: &Value) -> TeraResult<Value>
     ensures ok { IfOk result (λ v. negated value.now ≡ Ok v) }
     ensures err { IfErr result (Refuses (negated value.now)) }

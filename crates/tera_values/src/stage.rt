@@ -22,7 +22,7 @@ pub(crate) struct Stage<'a, S> {
 }
 
 impl<'a, S: Sink> Stage<'a, S> {
-    /// Before that sink, with nothing kept back.
+    /// A stage before that sink, with nothing kept back.
     #[inline(always)]
     pub(crate) fn new(sink: &'a mut S) -> Stage<'a, S>
         ensures lent { stage_loan result ≡ sink.entry.ghost_name }

@@ -193,7 +193,7 @@ impl Error {
     }
 }
 
-// What `io_error` answers.
+/// What `io_error` answers. Takes no memory.
 impl From<io::Error> for Error {
     ghost from_gives = { λ error e.
         (refusal_of (kind_of e) ≡ writing_failed (io_kind error))
@@ -204,7 +204,7 @@ impl From<io::Error> for Error {
     }
 }
 
-// What `invalid_utf8` answers.
+/// What `invalid_utf8` answers. Takes no memory.
 impl From<FromUtf8Error> for Error {
     ghost from_gives = { λ error e. (refusal_of (kind_of e) ≡ not_utf8)
         × IsSomeAnd (source_of e) (IsMadeOf (⟦<FromUtf8Error as fmt::Display>⟧.output error)) };
