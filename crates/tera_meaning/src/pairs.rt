@@ -148,7 +148,7 @@ pub fn least_difference_decides<K: Ord, V: Ord>()
 {}
 
 /// Two maps compare by the least key at which their entries differ, in whatever order these stand.
-/// They tie, and mean the same, exactly where they differ at no key; and two that mean different
+/// Two maps tie, and mean the same, exactly where they differ at no key. Two that mean different
 /// things have such a least key.
 pub fn maps_compare_by_the_least_difference()
     ensures order { (ps qs : List (KeyMeaning × Meaning)) (k : KeyMeaning) → Rises key_order ps
