@@ -103,8 +103,8 @@ impl<'k> ArgFromValue<'k, Value> for u128 {
 }
 
 /// The number that it is, whatever its kind. Refuses what is no number with ``Invalid type for the
-/// value, expected `usize` but got `N` ``, N being the name of its kind. Refuses what is outside the
-/// type with ``Value `V` is out of range for `usize` ``. The last blank of each is left out.
+/// value, expected `usize` but got `N` ``, N being the name of its kind. Refuses what is outside
+/// the type with ``Value `V` is out of range for `usize` ``. The last blank of each is left out.
 impl<'k> ArgFromValue<'k, Value> for usize {
     type Output = usize;
 
@@ -193,8 +193,8 @@ impl<'k> ArgFromValue<'k, Value> for i128 {
 }
 
 /// The number that it is, whatever its kind. Refuses what is no number with ``Invalid type for the
-/// value, expected `isize` but got `N` ``, N being the name of its kind. Refuses what is outside the
-/// type with ``Value `V` is out of range for `isize` ``. The last blank of each is left out.
+/// value, expected `isize` but got `N` ``, N being the name of its kind. Refuses what is outside
+/// the type with ``Value `V` is out of range for `isize` ``. The last blank of each is left out.
 impl<'k> ArgFromValue<'k, Value> for isize {
     type Output = isize;
 

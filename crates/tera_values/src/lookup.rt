@@ -52,10 +52,10 @@ impl Value {
         }
     }
 
-    /// A copy of what it has at an item. A map has a value at the key that the item is, whatever its
-    /// kind; an array or a text has a part at an index, one below 0 being counted from the end. A
-    /// character keeps the text's flag. Undefined where there is nothing, and on every other value.
-    /// Mirrors `Value::get_item`.
+    /// A copy of what it has at an item. A map has a value at the key that the item is, whatever
+    /// its kind; an array or a text has a part at an index, one below 0 being counted from the end.
+    /// A character keeps the text's flag. Undefined where there is nothing, and on every other
+    /// value. Mirrors `Value::get_item`.
     ///
     /// Refuses an item of a map that is no key with ``Map keys must be strings, integers, or bools,
     /// got `N`.``, where N is the name of the item's kind. Refuses one of an array that is no

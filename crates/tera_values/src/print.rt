@@ -28,9 +28,9 @@ use tera_scalars::{put_integer, put_lossy};
 
 impl Value {
     /// Writes the printed text. Undefined and none print nothing, and a text prints itself. Bytes
-    /// print the text that they are, with U+FFFD for what is no character. An array prints its items
-    /// between brackets, and a map its pairs between braces in their order; texts in arrays and maps
-    /// are quoted. Mirrors `Value::format`, which is private there.
+    /// print the text that they are, with U+FFFD for what is no character. An array prints its
+    /// items between brackets, and a map its pairs between braces in their order; texts in arrays
+    /// and maps are quoted. Mirrors `Value::format`, which is private there.
     ///
     /// Answers an error only where, during the call, a write of the writer answered an error or
     /// took no byte; then a beginning may be written. Takes no memory.
