@@ -8,6 +8,7 @@ mod Keys
 mod Lines
 mod Literals
 mod LookUps
+mod ShortTexts
 mod Maps
 mod Names
 mod Openings

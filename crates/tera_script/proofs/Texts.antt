@@ -223,7 +223,7 @@ module _ (decoded rest bytes : List ℕ) (read : behind decoded (text_from rest 
       ∙ ap (behind decoded) (sym (letter_next e ends unclosed ∙ ap then_text (sym found))) ∙ read
 
 -- a run and the quote that closes it
-plain_spelling : (run : List ℕ) → AllByRecursion IsPlain run → SpellsText run run
+pub plain_spelling : (run : List ℕ) → AllByRecursion IsPlain run → SpellsText run run
 plain_spelling [] h = ([], tt, refl, refl)
 plain_spelling (b ∷ run) h =
     let more = plain_spelling run h.1 in

@@ -5,6 +5,7 @@ pub mod Number
 pub mod Literal
 pub mod Verb
 pub mod Line
+pub mod LookUp
 pub mod Readers
 pub mod Nested
 pub mod Said

@@ -10,6 +10,7 @@ mod laws;
 mod line;
 mod literal;
 mod look_up;
+mod look_up_laws;
 mod name;
 mod number;
 mod operand;
@@ -28,6 +29,7 @@ pub use laws::{
 };
 pub use line::{Reading, read_line};
 pub use look_up::look_up_of;
+pub use look_up_laws::{plain_look_ups_are_said, worked_look_ups, worked_other_look_ups};
 pub use text::{TakenText, take_text};
 pub use text_laws::{one_closing_quote, one_text, text_is_utf8, worked_texts};
 pub use worked::{

@@ -1,7 +1,8 @@
 //! The texts of a script.
 
-ghost use Rattle.std.specs.Prelude.{◌≡◌, ℕ, List, ◌++◌, IfOk, IfSome, MatchOption, ◌<◌, ◌≤◌, ◌⊎◌};
-ghost use Rattle.std.specs.Prelude.{IsUtf8, string_bytes, length, slice_index};
+ghost use Rattle.std.specs.Prelude.{◌≡◌, ◌≢◌, ℕ, List, ◌∷◌, ◌++◌, IfOk, IfSome, MatchOption, ◌<◌};
+ghost use Rattle.std.specs.Prelude.{◌≤◌, ◌⊎◌, IsUtf8, string_bytes, length, drop, slice_index};
+ghost use Rattle.tera_script.specs.LookUp.{IsShort};
 ghost use Rattle.tera_script.specs.Text.{BeginsWithText};
 ghost use Rattle.tera_script.specs.TextParts.{IsPlain, BeginsWithRun};
 
@@ -52,10 +53,14 @@ pub(crate) fn long_text(alloc: Global, bytes: &[u8]) -> Result<Option<TakenText>
 // How many bytes a short text has at most, its closing quote among them.
 const SHORT: usize = 32;
 
-/// The text at the front where it is short and has no escape, and how many bytes it takes. It
-/// stands in the bytes as it is; `None` says no more than that this is not so.
+/// The text at the front where it has no escape and at most 31 bytes, and how many bytes it takes
+/// with its closing quote. It stands in the bytes as it is.
 pub(crate) fn short_text(bytes: &[u8]) -> Option<(&str, usize)>
-    ensures { IfSome result (λ found. BeginsWithText bytes.now found.0.now found.1) }
+    ensures text { IfSome result (λ found. BeginsWithText bytes.now found.0.now found.1) }
+    ensures short { MatchOption result
+        ((t rest : List ℕ) → IsUtf8 t → IsShort t → bytes.now ≢ t ++ 34 ∷ rest)
+        (λ found. IsShort found.0.now
+        × (bytes.now ≡ found.0.now ++ 34 ∷ drop found.1 bytes.now)) }
 {
     let length = short_run(bytes)?;
     let (run, rest) = bytes.split_at(length);
@@ -80,6 +85,9 @@ fn short_run(bytes: &[u8]) -> Option<usize>
         (λ found. (k : ℕ) → k < found → IsPlain (slice_index bytes.now k)) }
     ensures ends { IfSome result (λ found. (slice_index bytes.now found ≡ 34)
         ⊎ (slice_index bytes.now found ≡ 92)) }
+    ensures near { MatchOption result
+        ((k : ℕ) → k ≤ 31 → k < length bytes.now → IsPlain (slice_index bytes.now k))
+        (λ found. found ≤ 31) }
 {
     let (near, _) = bytes.split_at(bytes.len().min(SHORT));
     near.find_byteset(b"\"\\")

@@ -86,12 +86,6 @@ IsSourceOf value None =
     (pairs : List (KeyForm × Form)) (state : State) → value ≡ object (members pairs)
     → ¬ AreNamed pairs state
 
--- operands of a shape, and behind them no more than blanks
-pub record IsWhole (shape : Shape) (bytes : List ℕ) (given : Given shape) : Type 0 where
-  pub rest : List ℕ
-  pub found : IsGivenAt shape bytes (Some (given, rest))
-  pub blanks : AreBlanks rest
-
 -- a part of which this holds stands before blanks
 pub record Before (P : List ℕ → Type 0) (bytes : List ℕ) : Type 0 where
   pub part : List ℕ
@@ -100,14 +94,14 @@ pub record Before (P : List ℕ → Type 0) (bytes : List ℕ) : Type 0 where
   pub blanks : AreBlanks after
   pub spelled : bytes ≡ part ++ after
 
--- what spells the command stands before blanks
-abbrev pub EndsIn : (List ℕ → Command → Type 0) → List ℕ → Command → Type 0
-EndsIn Spells bytes command = Before (λ part. Spells part command) bytes
+-- what spells e stands before blanks
+abbrev pub EndsIn : {E : Type 0} → (List ℕ → E → Type 0) → List ℕ → E → Type 0
+EndsIn Spells bytes e = Before (λ part. Spells part e) bytes
 
--- what a reader answers of commands that stand there: one of them, or nothing where none does
-abbrev pub IsOneOf : (List ℕ → Command → Type 0) → List ℕ → Option Command → Type 0
-IsOneOf Spells bytes (Some command) = EndsIn Spells bytes command
-IsOneOf Spells bytes None = IsUtf8 bytes → (command : Command) → ¬ EndsIn Spells bytes command
+-- what a reader answers of what may stand before blanks: one that does, or nothing where none does
+abbrev pub IsOneOf : {E : Type 0} → (List ℕ → E → Type 0) → List ℕ → Option E → Type 0
+IsOneOf Spells bytes (Some e) = EndsIn Spells bytes e
+IsOneOf {E} Spells bytes None = IsUtf8 bytes → (e : E) → ¬ EndsIn Spells bytes e
 
 -- the operands of a call
 abbrev pub AreOperandsOf : Row → List ℕ → Option Command → Type 0
