@@ -138,7 +138,7 @@ impl<'k> ArgFromValue<'k, Value> for &'k Value {
 }
 
 /// The number that it is, whatever its kind. Refuses one that no `i128` holds with ``Number `V` is
-/// out of range for i128``, and what is no number with ``Invalid type for the value, expected
+/// out of range for i128``. Refuses what is no number with ``Invalid type for the value, expected
 /// `Number` but got `N` ``, N being the name of its kind, without the last blank.
 impl<'k> ArgFromValue<'k, Value> for Number {
     type Output = Number;

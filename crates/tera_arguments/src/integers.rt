@@ -28,8 +28,8 @@ fn integer<T: TryFrom<Value, Error = ConversionRefused>>(
 }
 
 /// The number that it is, whatever its kind. Refuses what is no number with ``Invalid type for the
-/// value, expected `u8` but got `N` ``, and what is outside the type with ``Value `V` is out of
-/// range for `u8` ``, without the last blank, N being the name of its kind.
+/// value, expected `u8` but got `N` ``, N being the name of its kind. Refuses what is outside the
+/// type with ``Value `V` is out of range for `u8` ``. The last blank of each is left out.
 impl<'k> ArgFromValue<'k, Value> for u8 {
     type Output = u8;
 
@@ -43,8 +43,8 @@ impl<'k> ArgFromValue<'k, Value> for u8 {
 }
 
 /// The number that it is, whatever its kind. Refuses what is no number with ``Invalid type for the
-/// value, expected `u16` but got `N` ``, and what is outside the type with ``Value `V` is out of
-/// range for `u16` ``, without the last blank, N being the name of its kind.
+/// value, expected `u16` but got `N` ``, N being the name of its kind. Refuses what is outside the
+/// type with ``Value `V` is out of range for `u16` ``. The last blank of each is left out.
 impl<'k> ArgFromValue<'k, Value> for u16 {
     type Output = u16;
 
@@ -58,8 +58,8 @@ impl<'k> ArgFromValue<'k, Value> for u16 {
 }
 
 /// The number that it is, whatever its kind. Refuses what is no number with ``Invalid type for the
-/// value, expected `u32` but got `N` ``, and what is outside the type with ``Value `V` is out of
-/// range for `u32` ``, without the last blank, N being the name of its kind.
+/// value, expected `u32` but got `N` ``, N being the name of its kind. Refuses what is outside the
+/// type with ``Value `V` is out of range for `u32` ``. The last blank of each is left out.
 impl<'k> ArgFromValue<'k, Value> for u32 {
     type Output = u32;
 
@@ -73,8 +73,8 @@ impl<'k> ArgFromValue<'k, Value> for u32 {
 }
 
 /// The number that it is, whatever its kind. Refuses what is no number with ``Invalid type for the
-/// value, expected `u64` but got `N` ``, and what is outside the type with ``Value `V` is out of
-/// range for `u64` ``, without the last blank, N being the name of its kind.
+/// value, expected `u64` but got `N` ``, N being the name of its kind. Refuses what is outside the
+/// type with ``Value `V` is out of range for `u64` ``. The last blank of each is left out.
 impl<'k> ArgFromValue<'k, Value> for u64 {
     type Output = u64;
 
@@ -88,8 +88,8 @@ impl<'k> ArgFromValue<'k, Value> for u64 {
 }
 
 /// The number that it is, whatever its kind. Refuses what is no number with ``Invalid type for the
-/// value, expected `u128` but got `N` ``, and what is outside the type with ``Value `V` is out of
-/// range for `u128` ``, without the last blank, N being the name of its kind.
+/// value, expected `u128` but got `N` ``, N being the name of its kind. Refuses what is outside the
+/// type with ``Value `V` is out of range for `u128` ``. The last blank of each is left out.
 impl<'k> ArgFromValue<'k, Value> for u128 {
     type Output = u128;
 
@@ -103,8 +103,8 @@ impl<'k> ArgFromValue<'k, Value> for u128 {
 }
 
 /// The number that it is, whatever its kind. Refuses what is no number with ``Invalid type for the
-/// value, expected `usize` but got `N` ``, and what is outside the type with ``Value `V` is out of
-/// range for `usize` ``, without the last blank, N being the name of its kind.
+/// value, expected `usize` but got `N` ``, N being the name of its kind. Refuses what is outside
+/// the type with ``Value `V` is out of range for `usize` ``. The last blank of each is left out.
 impl<'k> ArgFromValue<'k, Value> for usize {
     type Output = usize;
 
@@ -118,8 +118,8 @@ impl<'k> ArgFromValue<'k, Value> for usize {
 }
 
 /// The number that it is, whatever its kind. Refuses what is no number with ``Invalid type for the
-/// value, expected `i8` but got `N` ``, and what is outside the type with ``Value `V` is out of
-/// range for `i8` ``, without the last blank, N being the name of its kind.
+/// value, expected `i8` but got `N` ``, N being the name of its kind. Refuses what is outside the
+/// type with ``Value `V` is out of range for `i8` ``. The last blank of each is left out.
 impl<'k> ArgFromValue<'k, Value> for i8 {
     type Output = i8;
 
@@ -133,8 +133,8 @@ impl<'k> ArgFromValue<'k, Value> for i8 {
 }
 
 /// The number that it is, whatever its kind. Refuses what is no number with ``Invalid type for the
-/// value, expected `i16` but got `N` ``, and what is outside the type with ``Value `V` is out of
-/// range for `i16` ``, without the last blank, N being the name of its kind.
+/// value, expected `i16` but got `N` ``, N being the name of its kind. Refuses what is outside the
+/// type with ``Value `V` is out of range for `i16` ``. The last blank of each is left out.
 impl<'k> ArgFromValue<'k, Value> for i16 {
     type Output = i16;
 
@@ -148,8 +148,8 @@ impl<'k> ArgFromValue<'k, Value> for i16 {
 }
 
 /// The number that it is, whatever its kind. Refuses what is no number with ``Invalid type for the
-/// value, expected `i32` but got `N` ``, and what is outside the type with ``Value `V` is out of
-/// range for `i32` ``, without the last blank, N being the name of its kind.
+/// value, expected `i32` but got `N` ``, N being the name of its kind. Refuses what is outside the
+/// type with ``Value `V` is out of range for `i32` ``. The last blank of each is left out.
 impl<'k> ArgFromValue<'k, Value> for i32 {
     type Output = i32;
 
@@ -163,8 +163,8 @@ impl<'k> ArgFromValue<'k, Value> for i32 {
 }
 
 /// The number that it is, whatever its kind. Refuses what is no number with ``Invalid type for the
-/// value, expected `i64` but got `N` ``, and what is outside the type with ``Value `V` is out of
-/// range for `i64` ``, without the last blank, N being the name of its kind.
+/// value, expected `i64` but got `N` ``, N being the name of its kind. Refuses what is outside the
+/// type with ``Value `V` is out of range for `i64` ``. The last blank of each is left out.
 impl<'k> ArgFromValue<'k, Value> for i64 {
     type Output = i64;
 
@@ -178,8 +178,8 @@ impl<'k> ArgFromValue<'k, Value> for i64 {
 }
 
 /// The number that it is, whatever its kind. Refuses what is no number with ``Invalid type for the
-/// value, expected `i128` but got `N` ``, and what is outside the type with ``Value `V` is out of
-/// range for `i128` ``, without the last blank, N being the name of its kind.
+/// value, expected `i128` but got `N` ``, N being the name of its kind. Refuses what is outside the
+/// type with ``Value `V` is out of range for `i128` ``. The last blank of each is left out.
 impl<'k> ArgFromValue<'k, Value> for i128 {
     type Output = i128;
 
@@ -193,8 +193,8 @@ impl<'k> ArgFromValue<'k, Value> for i128 {
 }
 
 /// The number that it is, whatever its kind. Refuses what is no number with ``Invalid type for the
-/// value, expected `isize` but got `N` ``, and what is outside the type with ``Value `V` is out of
-/// range for `isize` ``, without the last blank, N being the name of its kind.
+/// value, expected `isize` but got `N` ``, N being the name of its kind. Refuses what is outside
+/// the type with ``Value `V` is out of range for `isize` ``. The last blank of each is left out.
 impl<'k> ArgFromValue<'k, Value> for isize {
     type Output = isize;
 

@@ -149,13 +149,22 @@ pub enum Call {
 /// What a call answers.
 #[derive(Debug, Drop)]
 pub enum Answer {
+    /// It is done, and there is nothing to tell.
     Done,
+    /// Whether it is so.
     Truth(bool),
+    /// The order of two values, or nothing where it is undecided.
     Order(Option<Ordering>),
+    /// The value that is found, or nothing.
     Found(Option<Value>),
+    /// How many parts there are, or nothing where a value has no length.
     Size(Option<usize>),
+    /// The kind of a value.
     Kind(ValueKind),
+    /// A printed text.
     Text(String),
+    /// What the keys of a map print, each once and in the order of their bytes.
     Texts(Vec<String>),
+    /// What the keys of a map print, one for each pair and in the order of the pairs.
     Walked(Vec<String>),
 }

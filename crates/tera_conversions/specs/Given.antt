@@ -15,7 +15,8 @@ module _ {X Y : Type 0} (gives : X → Y → Type 0) (refuses : X → Error → 
   FirstRefuses [] e = ⊥
   FirstRefuses (x ∷ xs) e = refuses x e ⊎ ((y : Y) × gives x y × FirstRefuses xs e)
 
-  -- the same, or there was no memory for what is made of some
+  -- the first of the parts that gives nothing is refused so, or there was no memory for what some
+  -- parts make
   abbrev pub PartsRefuse : List X → Error → Type 0
   PartsRefuse xs e = ((0 < length xs) × IsOutOfMemory e) ⊎ FirstRefuses xs e
 

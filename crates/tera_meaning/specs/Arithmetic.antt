@@ -48,7 +48,7 @@ operand value =
 abbrev pub exact : Operator → ℤ → ℤ → ℤ → Result ℤ Refusal
 exact operator a b z = ok_or (small z) (not_exact a operator b)
 
--- the same of a division, by what it answers where the quotient is one that an i128 holds
+-- the result of a division, by what it answers where the quotient is one that an i128 holds
 abbrev pub divided : Operator → ℤ → ℤ → ℤ → Result ℤ Refusal
 divided operator a (pos zero) answer = Err divided_by_zero
 divided operator a b answer = each_ok (λ quotient. answer) (exact operator a b (int_div_euclid a b))

@@ -88,7 +88,7 @@ where_in type z = if has_number type z then Some z else None
 abbrev pub number_of : IntegerType → Form → Option ℤ
 number_of type value = option_and_then (where_in type) (number_in value)
 
--- the same, or the refusal of a number that a type has not
+-- a number, where a type has it, or the refusal of one that the type has not
 abbrev pub in_type : IntegerType → ℤ → Result ℤ Refusal
 in_type type z = ok_or (where_in type z) (number_out_of_range z (type_name type))
 

@@ -16,7 +16,7 @@ HeldAnswers request answer =
     (state : State) (name : List ℕ) (value : Form) → held_at state name ≡ Some value
     → ComesOnlyTo state (request name) (Ok (answer value))
 
--- the same where the value's layout is exact
+-- of a name that holds a value whose layout is exact the request has this answer, and no other
 abbrev pub ExactAnswers : (List ℕ → Request) → (Form → AnswerOf Form) → Type 0
 ExactAnswers request answer =
     (state : State) (name : List ℕ) (value : Form) → held_at state name ≡ Some value
@@ -29,7 +29,7 @@ AbsentAnswers request answer =
     (state : State) (name : List ℕ) → held_at state name ≡ None
     → ComesOnlyTo state (request name) (Ok answer)
 
--- the same of two names that are not held
+-- of two names that are not held the request has this answer, and no other
 abbrev pub BothAbsentAnswer : (List ℕ → List ℕ → Request) → AnswerOf Form → Type 0
 BothAbsentAnswer request answer =
     (state : State) (left right : List ℕ) → held_at state left ≡ None → held_at state right ≡ None
@@ -44,6 +44,6 @@ HasOneStep request answer after =
     → IsStep old (record { request = request name; into = into }) outcome new
     → (outcome ≡ Ok (answer old name)) × (new ≡ after old name)
 
--- the same of a request that leaves the state as it was
+-- each step of the request has this answer, and leaves the state as it was
 abbrev pub HasOneAnswer : (List ℕ → Request) → (State → List ℕ → AnswerOf Form) → Type 0
 HasOneAnswer request answer = HasOneStep request answer (λ old name. old)

@@ -57,10 +57,10 @@ pub fn states_answer_alike_where_they_mean_the_same()
     ensures { (f g : State) → MeanTheSame f g ↔ AnswerAlike f g }
 {}
 
-/// States of unequal meaning are told apart by some list of commands; and those that mean different
-/// things at a name by whether they hold it, or by setting one value under another name and
-/// comparing the two. So are the runs of these commands, which bring what is well made where the
-/// states are.
+/// States of unequal meaning are told apart by some list of commands. Those that mean different
+/// things at a name are told apart by whether they hold it, or by setting one value under another
+/// name and comparing the two. So are the runs of these commands, which bring what is well made
+/// where the states are.
 pub fn unequal_meanings_are_told_apart()
     ensures name { (f g : State) (name : List ℕ) → meaning_held f name ≢ meaning_held g name
         → AreToldApartBy (probe name (form_at f name)) f g }

@@ -30,8 +30,8 @@ pub fn equality_is_identity()
     ensures equivalence { IsEquivalence same }
 {}
 
-/// Arrays and maps compare as the lists of their items and pairs do: the first place where they
-/// differ decides, and a proper beginning is less; a pair is compared by its key and then by its
+/// Arrays and maps compare as the lists of their items and pairs do. The first place where they
+/// differ decides, and a proper beginning is less. A pair is compared by its key and then by its
 /// value.
 pub fn first_difference_decides()
     ensures arrays { (xs ys : List Meaning) → compare (array (items xs)) (array (items ys))

@@ -84,8 +84,8 @@ pub fn sizes_of_maps_count_their_pairs()
         → truthy_in (meaning (object (members pairs))) ≡ is_nonempty pairs }
 {}
 
-/// An array is laid out as the list of its laid out items and means the list of what these mean;
-/// and a map is laid out as the list of its laid out pairs, in the order in which they stand.
+/// An array is laid out as the list of its laid out items, and means the list of what these mean. A
+/// map is laid out as the list of its laid out pairs, in the order in which they stand.
 pub fn lists_are_laid_out_item_by_item()
     ensures array { (xs : List Form) → layout (array (items xs)) ≡ array (items (map layout xs)) }
     ensures means { (xs : List Form) → meaning (array (items xs)) ≡ array (items (map meaning xs)) }
@@ -123,11 +123,12 @@ pub fn values_are_put_at_keys()
         (rising key_order (map pair_meaning ps)) (key_meaning k) (meaning v))) }
 {}
 
-/// Two lists with strictly rising keys, compared by the first place where they differ and there by
-/// key and then by value, are ordered as they stand at the least key at which they differ: by their
-/// values there where both have it. The one that alone has it is less where the other has a greater
-/// key, and greater where the other has ended. They tie exactly where no key differs, and else
-/// there is such a least key. This holds of any keys and values with total orders.
+/// Two lists with strictly rising keys are ordered as they stand at the least key at which they
+/// differ. To order them is to compare the first place where they differ, by key and then by value.
+/// Where both have the least key, their values there decide. The one that alone has it is less
+/// where the other has a greater key, and greater where the other has ended. They tie exactly where
+/// no key differs, and else there is such a least key. This holds of any keys and values with total
+/// orders.
 pub fn least_difference_decides<K: Ord, V: Ord>()
     ensures order { (ps qs : List (K × V)) (k : K) → Rises K.cmp ps → Rises K.cmp qs
         → IsLeastDifference K.cmp V.cmp ps qs k
@@ -148,7 +149,7 @@ pub fn least_difference_decides<K: Ord, V: Ord>()
 {}
 
 /// Two maps compare by the least key at which their entries differ, in whatever order these stand.
-/// They tie, and mean the same, exactly where they differ at no key; and two that mean different
+/// Two maps tie, and mean the same, exactly where they differ at no key. Two that mean different
 /// things have such a least key.
 pub fn maps_compare_by_the_least_difference()
     ensures order { (ps qs : List (KeyMeaning × Meaning)) (k : KeyMeaning) → Rises key_order ps

@@ -28,9 +28,9 @@ pub fn each_outcome_is_that_of_its_command()
         × IsRun next later ps new }
 {}
 
-/// A run with the steps that want memory left out, an `extend` among them replaced by one of just
-/// the names that it took over, is a run in which no step does, to the same state; the other
-/// outcomes are unchanged.
+/// The steps that want memory can be left out of a run, and an `extend` among them replaced by one
+/// of just the names that it took over. What is left is a run to the same state in which no step
+/// wants memory, and the other outcomes are unchanged.
 pub fn wants_of_memory_can_be_left_out()
     ensures { (old : State) (commands : List Command) (outcomes : List Outcome) (new : State)
         → IsRun old commands outcomes new

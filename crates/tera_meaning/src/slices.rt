@@ -147,8 +147,8 @@ pub fn slices_are_refused()
         (Err (not_sliceable (codes "undefined"))) }
 {}
 
-/// Items keep their forms in a reversed array; a reversed text has its characters in the opposite
-/// order, an accent that combines being one, and is not safe; reversed bytes are bytes; and nothing
+/// Items keep their forms in a reversed array. A reversed text has its characters in the opposite
+/// order, an accent that combines being one, and is not safe. Reversed bytes are bytes, and nothing
 /// else is reversed.
 pub fn reversed_values_keep_their_parts()
     ensures array { reversed (array (items (held u64 1 ∷ marked (codes "ab") ∷ [])))

@@ -137,7 +137,7 @@ pub fn what_is_found_is_kept()
 {}
 
 /// Marking is always done. Without a name for it the form is marked in its place, and a name that
-/// is not held stays absent; with one the marked form is kept there, undefined for a name that is
+/// is not held stays absent. With one the marked form is kept there, undefined for a name that is
 /// not held, and the name that it was made from holds what it held.
 pub fn what_is_marked_is_kept()
     ensures done { (state : State) (name : List ℕ) (into : Option (List ℕ)) (outcome : Outcome)

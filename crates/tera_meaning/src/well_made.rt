@@ -23,9 +23,10 @@ pub fn what_is_held_stays_well_made()
 {}
 
 /// How a well-made form is laid out, and what it means, is well made: its numbers are those that
-/// some kind holds, its texts UTF-8, its bytes below 256, and the keys of each map distinct, and in
-/// what it means rising. Each such layout is that of some well-made form, and each such meaning. So
-/// is what any name means in a state that is well made, and a name that is held there is UTF-8.
+/// some kind holds, its texts UTF-8 and its bytes below 256. The keys of each map are distinct, and
+/// rise in what it means. Each such layout is that of some well-made form, and so is each such
+/// meaning. What any name means in a well-made state is well made, and a name that is held there is
+/// UTF-8.
 pub fn well_made_forms_mean_what_is_well_made()
     ensures form { (value : Form) → IsWellMade value → IsWellMadeMeaning (meaning value) }
     ensures meant { (x : Meaning) → IsWellMadeMeaning x

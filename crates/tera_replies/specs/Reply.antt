@@ -57,12 +57,12 @@ IsReply (Ok (Answer.walked texts)) line = IsListed (codes "walk ") texts line
 IsReply (Err refusal) line =
     (words : List ℕ) × Tells refusal words × (line ≡ codes "error: " ++ words)
 
--- the same with its line feed
+-- the reply to a call, with its line feed
 abbrev pub IsReplyLine : Outcome → List ℕ → Type 0
 IsReplyLine outcome written =
     (line : List ℕ) × IsReply outcome line × (written ≡ ended line)
 
--- the same of what a context lends in the place of an answer
+-- the reply, with its line feed, to a call for which a context lends what stands for an outcome
 abbrev pub IsLentLine : LentForm → List ℕ → Type 0
 IsLentLine lent written =
     (outcome : Outcome) × StandsFor lent outcome × IsReplyLine outcome written

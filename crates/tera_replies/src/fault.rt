@@ -25,6 +25,7 @@ pub enum Fault {
 #[derive(Drop)]
 pub(crate) struct WriteError;
 
+/// Want of memory.
 impl From<AllocError> for Fault {
     ghost from_gives = { λ _ fault. fault ≡ OutOfMemory };
 
@@ -33,6 +34,7 @@ impl From<AllocError> for Fault {
     }
 }
 
+/// Want of memory.
 impl<T: Drop> From<AllocFailed<T>> for Fault {
     ghost from_gives = { λ _ fault. fault ≡ OutOfMemory };
 
@@ -41,6 +43,7 @@ impl<T: Drop> From<AllocFailed<T>> for Fault {
     }
 }
 
+/// A failed read.
 impl From<crate::source::ReadError> for Fault {
     ghost from_gives = { λ _ fault. fault ≡ ReadFailed };
 

@@ -165,7 +165,7 @@ impl Feed {
 /// the line was run.
 ///
 /// Takes memory for what the line names and brings, for what its step takes, and for its report. A
-/// look-up that the context lends by `look_up` takes none.
+/// look-up that the line says plainly takes none where `look_up` lends what it finds.
 pub fn answer_line<W: Sink>(
     alloc: Global,
     number: u128,

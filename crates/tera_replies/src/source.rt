@@ -38,6 +38,7 @@ pub trait Source {
         ensures told { gave self.old piece.new result self.new };
 }
 
+/// Each read is handed on, and its error dropped. Whether a reader fails is not told.
 impl<R: Read> Source for R {
     ghost left = { λ reader. R.remaining reader };
 
@@ -66,7 +67,7 @@ pub struct InputPieces<'a> {
 }
 
 impl<'a> InputPieces<'a> {
-    /// These pieces, and then an end, or a failure where it `fails`.
+    /// These pieces, and then an end, or a failure where it `fails`. Takes no memory.
     pub fn new(pieces: &'a [&'a [u8]], fails: bool) -> InputPieces<'a>
         ensures bytes { bytes_left result ≡ joined pieces.now }
         ensures end { fails_at_end result ≡ fails }
@@ -80,6 +81,7 @@ impl<'a> InputPieces<'a> {
     }
 }
 
+/// A read gives what is left of one piece, as far as there is room. Takes no memory.
 impl Source for InputPieces<'_> {
     ghost left = { λ pieces. Some (bytes_left pieces) };
 

@@ -25,6 +25,7 @@ impl<'a, W: Sink> Terse<'a, W> {
     }
 }
 
+/// Each put and each flush is one of the sink.
 impl<W: Sink> Sink for Terse<'_, W> {
     type Fault = WriteError;
 

@@ -76,7 +76,7 @@ impl fmt::Display for Span {
     }
 }
 
-// ` @ 1:0-1:5 (3..8)`.
+/// ` @ 1:0-1:5 (3..8)`.
 impl fmt::Debug for Span {
     ghost debug_output = { λ span. Some (span_debug_text span) };
 

@@ -92,7 +92,7 @@ pub fn spanned_equal_by_parts<T: Debug + PartialEq>()
         ↔ (IsTrue (T.eq (node_of a) (node_of b)) × (span_of a ≡ span_of b)) }
 {}
 
-// The debug form of the node, and then that of the place.
+/// The debug form of the node, and then that of the place.
 impl<T: Debug> Debug for Spanned<T> {
     ghost debug_output = { λ spanned.
         T.debug_output (node_of spanned) ++? Some (span_debug_text (span_of spanned)) };

@@ -67,6 +67,7 @@ impl<'a, W: Writer> Watched<'a, W> {
     }
 }
 
+/// What is written goes to the writer that is watched. Takes no memory of its own.
 impl<W: Writer> Write for Watched<'_, W> {
     ghost contents = { held W.contents };
 

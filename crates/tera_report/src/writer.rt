@@ -34,6 +34,7 @@ pub trait Writer {
         ensures told { flushed self.old result self.new };
 }
 
+/// Each write and each flush is handed on, and told as `Write` tells it.
 impl<W: Write> Writer for W {
     ghost contents = { W.contents };
 

@@ -24,8 +24,8 @@ IsNoRun (byte ∷ bytes) = (byte ≡ 34) ⊎ (byte ≡ 92)
 abbrev pub BeginsWithRun : List ℕ → List ℕ → List ℕ → Type 0
 BeginsWithRun bytes run rest = AllByRecursion IsPlain run × (bytes ≡ run ++ rest) × IsNoRun rest
 
--- where a reader stands: before a token, behind a backslash, behind the u of an escape, and behind
--- its brace and some digits: the number of these, and how many they are
+-- where a reader stands: before a token, behind a backslash, behind the u of an escape, or behind
+-- the brace of one and some digits: the number of these, and how many they are
 pub data Place : Type 0 where
   at_token : Place
   at_letter : Place

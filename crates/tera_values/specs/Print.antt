@@ -30,7 +30,7 @@ pairs_layout ps = relabeled_members (λ n. n.value) (λ t. t.spelled) key_meanin
 abbrev pub PrintsKey : KeyMeaning → List ℕ → Type 0
 PrintsKey k written = IsTrue (is_exact_key k) → written ≡ printed_key k
 
--- the same of a key and its value
+-- what is printed of a key and its value, which stand in a map, where texts are quoted
 abbrev pub PrintsPair : KeyForm → Form → List ℕ → Type 0
 PrintsPair k v written =
     IsTrue (is_exact_key (key_meaning k) && is_exact_inside (layout v))
@@ -46,7 +46,8 @@ PrintsPairs ps written = IsTrue (are_exact_members (pairs_layout ps)) → writte
 abbrev pub WritesPrinted : Layout → Option (List ℕ) → Option (List ℕ) → Type 0
 WritesPrinted x old new = (written : List ℕ) × Prints x written × Appends old new written
 
--- the same of a layout that stands in an array or map, where texts are quoted
+-- a writer that held old holds old and what is printed of the layout in an array or a map, where
+-- texts are quoted
 abbrev pub WritesInside : Layout → Option (List ℕ) → Option (List ℕ) → Type 0
 WritesInside x old new = (written : List ℕ) × PrintsInside x written × Appends old new written
 

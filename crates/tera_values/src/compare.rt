@@ -53,8 +53,8 @@ impl PartialOrd for Value {
 }
 
 /// By rank (truth values, numbers, texts, arrays, maps, bytes, none, undefined), and inside a rank
-/// by value: arrays by the first items that differ, a proper beginning being less, and maps as the
-/// lists of their pairs sorted by key, where a pair goes by its key and then by its value. Mirrors
+/// by value. Arrays go by the first items that differ, a proper beginning being less. Maps go as
+/// the lists of their pairs sorted by key, and a pair by its key and then by its value. Mirrors
 /// `Ord` of `tera::Value`. Takes no memory.
 impl Ord for Value {
     ghost cmp = { on meaning compare };

@@ -57,9 +57,9 @@ impl Value {
     /// The number that it is, held in the kind to which an integer type of Rust converts.
     ///
     /// Refuses what is no number with ``Invalid type for the value, expected `T` but got `N` ``,
-    /// and what is outside the type with ``Value `V` is out of range for `T` ``, without the last
-    /// blank, N being the name of its kind. Takes memory for a refusal's texts alone; want of it,
-    /// `Out of memory`, is answered in its place.
+    /// N being the name of its kind. Refuses what is outside the type with ``Value `V` is out of
+    /// range for `T` ``. The last blank of each is left out. Takes memory for a refusal's texts
+    /// alone; want of it, `Out of memory`, is answered in its place.
     pub fn read_as(&self, alloc: Global, to: IntType) -> TeraResult<Value>
         ensures ok { IfOk result (λ v. read_as (integer_type to) self.now ≡ Ok v) }
         ensures err { IfErr result (Refuses (read_as (integer_type to) self.now)) }

@@ -299,9 +299,9 @@ fn text_order(left: &str, other: &Key<'_>) -> Ordering
     }
 }
 
-/// What a hasher is fed goes by the meaning alone: a text feeds what `str` feeds, a truth value
-/// what `bool` feeds, and a number a `u8`, 1 if it is negative and else 0, and then an `i128` if it
-/// is negative, else a `u128`. Mirrors `Hash` of `tera::value::Key`. Takes no memory.
+/// What a hasher is fed goes by the meaning alone. A text feeds what `str` feeds, and a truth value
+/// what `bool` feeds. A negative number feeds the `u8` 1 and then an `i128`, every other number the
+/// `u8` 0 and then a `u128`. Mirrors `Hash` of `tera::value::Key`. Takes no memory.
 impl Hash for Key<'_> {
     ghost hash_input = { λ k. fed (meaning_of_key k) };
 

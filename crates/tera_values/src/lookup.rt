@@ -52,16 +52,16 @@ impl Value {
         }
     }
 
-    /// A copy of what it has at an item: a map at the key that the item is, whatever its kind; an
-    /// array or a text at an index, one below 0 being counted from the end. A character keeps the
-    /// text's flag. Undefined where there is nothing, and on every other value. Mirrors
-    /// `Value::get_item`.
+    /// A copy of what it has at an item. A map has a value at the key that the item is, whatever
+    /// its kind; an array or a text has a part at an index, one below 0 being counted from the end.
+    /// A character keeps the text's flag. Undefined where there is nothing, and on every other
+    /// value. Mirrors `Value::get_item`.
     ///
     /// Refuses an item of a map that is no key with ``Map keys must be strings, integers, or bools,
-    /// got `N`.``, and one of an array or a text that is no integer with ``Array index must be an
-    /// integer, got `N`.`` or ``String index must be an integer, got `N`.``, where N is the name of
-    /// the item's kind. Takes memory for the copy and for a refusal's text; want of it, `Out of
-    /// memory`, is answered in the place of either.
+    /// got `N`.``, where N is the name of the item's kind. Refuses one of an array that is no
+    /// integer with ``Array index must be an integer, got `N`.``, and one of a text with ``String
+    /// index must be an integer, got `N`.``. Takes memory for the copy and for a refusal's text;
+    /// want of it, `Out of memory`, is answered in the place of either.
     pub fn get_item(&self, alloc: Global, at: &Value) -> TeraResult<Value>
         ensures ok { IfOk result (λ part. item self.now at.now ≡ Ok part) }
         ensures err { IfErr result (Refuses (item self.now at.now)) }

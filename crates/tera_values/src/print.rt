@@ -27,10 +27,10 @@ use tera_report::watch::{Watched, Writer};
 use tera_scalars::{put_integer, put_lossy};
 
 impl Value {
-    /// Writes the printed text. Undefined and none print nothing, a text itself, bytes the text
-    /// that they are, with U+FFFD for what is no character, an array its items between brackets,
-    /// and a map its pairs between braces in their order; texts in arrays and maps are quoted.
-    /// Mirrors `Value::format`, which is private there.
+    /// Writes the printed text. Undefined and none print nothing, and a text prints itself. Bytes
+    /// print the text that they are, with U+FFFD for what is no character. An array prints its
+    /// items between brackets, and a map its pairs between braces in their order; texts in arrays
+    /// and maps are quoted. Mirrors `Value::format`, which is private there.
     ///
     /// Answers an error only where, during the call, a write of the writer answered an error or
     /// took no byte; then a beginning may be written. Takes no memory.

@@ -19,11 +19,11 @@ use tera_scalars::{Stride, reversed_text, sliced_text};
 
 impl Value {
     /// The items of an array or the characters of a text from a start up to an end, by a step that
-    /// may go backwards. A bound below 0 counts from the end, and one past an end is clamped to it;
-    /// an absent step is 1, and an absent bound is where the items begin or end in the direction of
-    /// the step. Items keep their forms, and a text keeps its flag. Mirrors `Value::slice`.
+    /// may go backwards. A bound below 0 counts from the end, and one past an end is clamped to it.
+    /// An absent step is 1. An absent bound is where the items begin or end in the direction of the
+    /// step. Items keep their forms, and a text keeps its flag. Mirrors `Value::slice`.
     ///
-    /// Refuses a step of 0 with `Slicing step cannot be 0`, and then every other value with
+    /// Refuses a step of 0 with `Slicing step cannot be 0`. Then it refuses every other value with
     /// ``Slicing can only be used on arrays or strings, not on `N`.``, where N is the name of its
     /// kind. Takes memory for what it gives, unless the array is empty, and for a refusal's text;
     /// want of it, `Out of memory`, is answered in the place of either.

@@ -62,6 +62,7 @@ impl<'a, S: Sink> Stage<'a, S> {
     }
 }
 
+/// A text that fits is kept back. One that does not is taken once what was kept back is put.
 impl<S: Sink> Sink for Stage<'_, S> {
     type Fault = S::Fault;
 

@@ -7,9 +7,9 @@ ghost use Rattle.tera_values.specs.Key.{key_form};
 use crate::value::ValueInner;
 use crate::{Key, Map, Value};
 
-/// Each value that a program holds is well made: each number is one of its kind, each text spells
-/// characters in UTF-8, each byte is below 256, and no two keys of a map are equal, at every depth.
-/// It only walks through the value, for the sake of the clause. Takes no memory.
+/// Each value that a program holds is well made, at every depth: each number is one of its kind,
+/// each text spells characters in UTF-8, each byte is below 256, and no two keys of a map are
+/// equal. The function only walks through the value, for the sake of the clause. Takes no memory.
 #[cycle(well_made)]
 pub fn is_well_made(value: &Value)
     ensures { IsWellMade value.now }

@@ -15,10 +15,10 @@ use crate::span::Span;
 use crate::words::put_all;
 use itoa::Buffer;
 
-/// As many as a number has digits, and more.
+/// As many spaces as a number has digits, and more.
 const SPACES: &str = "                                        ";
 
-/// So many are put at once.
+/// As many carets as are put at once.
 const CARETS: &str = "^^^^^^^^^^^^^^^^^^^^^^^^^^^^^^^^^^^^^^^^^^^^^^^^^^^^^^^^^^^^^^^^";
 
 impl ReportError {

@@ -18,7 +18,7 @@ abbrev pub IsKnown : Known → Type 0
 IsKnown known = (shape_of (row_of known.verb).making ≡ known.shape)
     × ((row_of known.verb).keeps ≡ known.keeps)
 
--- the same, of a verb whose operands are of this shape
+-- what is known of a verb is what its row says, and its operands are of this shape
 pub record IsOfShape (known : Known) (shape : Shape) : Type 0 where
   pub is : IsKnown known
   pub shaped : known.shape ≡ shape
