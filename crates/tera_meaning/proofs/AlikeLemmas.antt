@@ -1,5 +1,5 @@
 -- Answers depend on meanings alone.
-use Rattle.tera_meaning.proofs.ReadLemmas.{is_there}
+use Rattle.tera_meaning.proofs.ReadLemmas.{is_there, fields_by_meaning}
 use Rattle.std.specs.Prelude.{◌≡◌, ℕ, suc, length, Bool, true, false, cond, List, [], ◌∷◌, Option, Some, None, Result, Ok, Err, is_some, refl}
 use Rattle.std.proofs.Common.{sym, ◌∙◌, ap, subst}
 use Rattle.std.specs.Option.{option_map, unwrap_or}
@@ -19,7 +19,6 @@ use Rattle.tera_meaning.specs.Answer
 use Rattle.tera_meaning.specs.Search.{Found, found_at}
 use Rattle.tera_meaning.specs.Lookup.{holds, seen_by}
 use Rattle.tera_meaning.proofs.ContainsLemmas.{holds_by_meaning}
-use Rattle.tera_meaning.proofs.ReadLemmas.{fields_by_meaning}
 use Rattle.tera_meaning.proofs.Owed.{found_shape, read_alike, meaning_alike}
 use Rattle.tera_meaning.proofs.found.{owed}
 use Rattle.tera_meaning.specs.Outcome.{Outcome, shape}
@@ -223,3 +222,5 @@ as_many f g (c ∷ cs) (d ∷ ds) (o ∷ os) (p ∷ ps) h =
     let rest : (length cs ≡ length os) × (length os ≡ length ps) × (length ds ≡ length ps) = as_many (state_after f c) (state_after g d) cs ds os ps h.1 in
     (ap suc rest.0, ap suc rest.1, ap suc rest.2)
 as_many f g cs ds os ps h = absurd h
+
+pub ruleset laws = (outcome_alike, state_alike, all_outcomes_alike, states_alike)

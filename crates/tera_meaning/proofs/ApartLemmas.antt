@@ -213,3 +213,5 @@ module _ (f g : State) where
       let d = differ n in
       let brings = probe_brings f g d.0 h k d.1 in
       (d.0, brings.0, brings.1, runs_apart_at f g d.0 d.1)
+
+pub ruleset laws = (apart_at, told_apart, runs_apart_at, runs_told_apart)

@@ -1,5 +1,5 @@
 -- Whether a value holds another is told by meanings, and is no want of memory.
-use Rattle.tera_meaning.proofs.ReadLemmas.{is_there}
+use Rattle.tera_meaning.proofs.ReadLemmas.{is_there, meant_members, key_meant, key_as_meant, text_meant, text_as_meant}
 use Rattle.std.proofs.Common.{refl, sym, ap, ◌∙◌}
 use Rattle.std.specs.List.{list_any}
 use Rattle.std.specs.Option.{option_map}
@@ -12,12 +12,10 @@ use Rattle.tera_meaning.specs.Meaning.{meaning, Meaning}
 use Rattle.tera_meaning.specs.Order.{same}
 use Rattle.tera_meaning.specs.Outcome.{out_of_memory}
 use Rattle.tera_meaning.specs.Pairs.{value_at}
-use Rattle.tera_meaning.specs.Tree.{Items, text, array, object, no_items, items_list, members_list, Members}
-use Rattle.tera_meaning.specs.Tree.{item as an_item}
+use Rattle.tera_meaning.specs.Tree.{Items, text, array, object, no_items, items_list, members_list, Members, item as an_item}
 use Rattle.tera_meaning.specs.Weighing.{truth_told}
 use Rattle.tera_report.specs.Refusal.{Refusal, not_a_container}
 use Rattle.tera_meaning.proofs.MeaningLaws.{meant_items, found_pair}
-use Rattle.tera_meaning.proofs.ReadLemmas.{meant_members, key_meant, key_as_meant, text_meant, text_as_meant}
 
 any_as_meant : (test : Meaning → Bool) (xs : Items Integer MarkedText KeyForm) → list_any (λ y. test (meaning y)) (items_list xs)
     ≡ list_any test (items_list (meant_items xs))

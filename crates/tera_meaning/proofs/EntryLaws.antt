@@ -2,23 +2,26 @@
 use Rattle.std.specs.Prelude.{◌≡◌, ◌≢◌, ◌↔◌, ◌⊎◌, true, List, [], ◌∷◌, map, Option, Some, None, refl}
 use Rattle.std.proofs.Common.{sym, ◌∙◌, ap, inl, inr}
 use Rattle.std.specs.BTreeMap.{insert_entry}
-use Rattle.std.specs.Cmp.{IsTotalOrder, on_total}
+use Rattle.std.specs.Cmp.{IsTotalOrder}
 use Rattle.std.specs.Cmp.Lexicographic.{slice_cmp}
 use Rattle.std.specs.Option.{option_eq}
 use Rattle.std.specs.Ordering.{ordering_then, on, eq_by_cmp, is_eq, match_ordering}
 use Rattle.std.specs.declared.cmp.Ordering.{Ordering}
 use Rattle.std.specs.declared.cmp.Ordering.TheVariants.{Less, Equal, Greater}
 use Rattle.tera_meaning.specs.Form.{Form}
-use Rattle.tera_meaning.proofs.KeyLaws.{key_total}
+use Rattle.tera_meaning.proofs.KeyLaws.{key_total, form_total}
+use Rattle.tera_meaning.proofs.UniqueLaws.{same_rising, rising_permutes, only_rising}
+use Rattle.std.specs.List.Sorted.{IsPermutation}
 use Rattle.tera_meaning.specs.KeyMeaning.{KeyForm, KeyMeaning, key_meaning, key_order}
 use Rattle.tera_meaning.specs.Meaning.{Meaning, meaning, pair_meaning, map_meaning}
 use Rattle.tera_meaning.specs.Order.{compare, pair_order}
 use Rattle.tera_meaning.proofs.OrderLaws.{members_exact, members_by_first_difference, compare_same, compare_tie}
-use Rattle.tera_meaning.specs.Pairs.{Rises, rising, value_at, entry_order, AgreeEverywhere, IsLeastDifference, order_at, key_form_order, pairs_of}
+use Rattle.tera_meaning.specs.Pairs.{HasDistinctKeys, Rises, rising, value_at, entry_order, AgreeEverywhere, IsLeastDifference, order_at, key_form_order}
+use Rattle.tera_meaning.specs.Pairs.{pairs_of}
 use Rattle.tera_meaning.specs.Tree.{object, members, members_list}
 use Rattle.tera_meaning.proofs.TreeLaws.{list_of_members}
-use Rattle.tera_meaning.proofs.MeaningLaws.{map_means}
-use Rattle.tera_meaning.proofs.PairLaws.{rising_rises, rising_itself}
+use Rattle.tera_meaning.proofs.MeaningLaws.{map_means, found_meant, length_meant, only_meant}
+use Rattle.tera_meaning.proofs.PairLaws.{rising_rises, rising_itself, found_rising, more_rising}
 use Rattle.tera_meaning.proofs.DifferenceLaws.{difference_decides, agreeing_tie, agree_rising, entries_decide, entries_tie, least_or_none}
 
 -- ---- keys and values read through functions
@@ -71,14 +74,14 @@ compare_forms es fs =
 pub forms_decide : (es fs : List (KeyForm × Form)) (k : KeyForm) → IsLeastDifference key_form_order (on meaning compare) es fs k
     → compare (map_meaning es) (map_meaning fs) ≡ order_at key_form_order (on meaning compare) es fs k
 forms_decide es fs k least =
-    compare_forms es fs ∙ entries_decide key_form_order (on_total key_meaning key_total) (on meaning compare) es fs k least
+    compare_forms es fs ∙ entries_decide key_form_order form_total (on meaning compare) es fs k least
 
 pub forms_tie : (es fs : List (KeyForm × Form))
     → AgreeEverywhere key_form_order (on meaning compare) es fs ↔ (compare (map_meaning es) (map_meaning fs) ≡ Equal)
 forms_tie es fs =
     let tie : AgreeEverywhere key_form_order (on meaning compare) es fs
     ↔ (slice_cmp (entry_order key_form_order (on meaning compare)) (pairs_of es) (pairs_of fs) ≡ Equal) =
-    entries_tie key_form_order (on_total key_meaning key_total) (on meaning compare) es fs in
+    entries_tie key_form_order form_total (on meaning compare) es fs in
     (λ agree. compare_forms es fs ∙ tie.0 agree, λ e. tie.1 (sym (compare_forms es fs) ∙ e))
 
 pub forms_equal : (es fs : List (KeyForm × Form)) → AgreeEverywhere key_form_order (on meaning compare) es fs ↔ (map_meaning es ≡ map_meaning fs)
@@ -102,7 +105,7 @@ maps_differ ps qs h g n =
 pub forms_differ : (es fs : List (KeyForm × Form)) → map_meaning es ≢ map_meaning fs → (k : KeyForm)
     × IsLeastDifference key_form_order (on meaning compare) es fs k
 forms_differ es fs n =
-    let total : IsTotalOrder key_form_order = on_total key_meaning key_total in
+    let total : IsTotalOrder key_form_order = form_total in
     let found : (k : KeyForm) × IsLeastDifference key_form_order (on meaning compare) (pairs_of es) (pairs_of fs) k =
     the_other (λ agree. n ((compare_tie (map_meaning es) (map_meaning fs)).0
     (compare_forms es fs ∙ (agreeing_tie key_form_order total (on meaning compare) (pairs_of es) (pairs_of fs)
@@ -127,8 +130,8 @@ in_places es =
     (rising_itself key_order key_total (rising key_order (map pair_meaning es)) (rising_rises key_order key_total (map pair_meaning es)))
     ∙ sym (map_means es)
 
-pub reordered : (es fs : List (KeyForm × Form)) → pairs_of es ≡ pairs_of fs → map_meaning es ≡ map_meaning fs
-reordered es fs same = sym (in_places es) ∙ ap map_meaning same ∙ in_places fs
+pub reordered : (es fs : List (KeyForm × Form)) → HasDistinctKeys key_form_order es → IsPermutation es fs → map_meaning es ≡ map_meaning fs
+reordered es fs h same = sym (in_places es) ∙ ap map_meaning (same_rising key_form_order form_total es fs h same) ∙ in_places fs
 
 -- ---- pair lists that find the same
 
@@ -144,3 +147,9 @@ one_pair_list ps qs h g same =
     let tie : compare (object (members ps)) (object (members qs)) ≡ Equal = members_by_first_difference ps qs
     ∙ (agreeing_tie key_order key_total compare ps qs h g).0 agree in
     sym (list_of_members ps) ∙ ap members_list (members_exact (members ps) (members qs) tie) ∙ list_of_members qs
+
+pub ruleset entries = (map_means, found_meant, length_meant, only_meant, in_places, reordered, one_pair_list)
+
+pub ruleset differences = (maps_decide, forms_decide, forms_tie, forms_equal, maps_differ, forms_differ)
+
+pub ruleset pair_lists = (form_total, rising_rises, found_rising, more_rising, rising_permutes, only_rising, same_rising)

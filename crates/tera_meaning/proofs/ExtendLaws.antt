@@ -1,16 +1,13 @@
 -- What a state holds after it takes over what a source holds.
 use Rattle.std.proofs.Math.Facts.{and_yes, yes_and}
-use Rattle.std.specs.Prelude.{◌≡◌, ◌≢◌, ◌<◌, ℕ, Bool, true, false, cond, T, IsSome, List, [], ◌∷◌, ◌++◌, length, take, drop, Option, Some}
-use Rattle.std.specs.Prelude.{None, refl}
+use Rattle.std.specs.Prelude.{◌≡◌, ◌<◌, ℕ, Bool, true, false, cond, T, IsSome, List, [], ◌∷◌, ◌++◌, length, take, drop, Option, Some, None, refl}
 use Rattle.std.proofs.Common.{sym, ◌∙◌, ap, subst, arith, take-append-drop, length-drop, length-take-le}
 use Rattle.std.specs.Option.{option_map, option_or}
-use Rattle.std.specs.Ordering.{nat_cmp, eq_by_cmp, is_eq, is_lt, ordering_reverse}
+use Rattle.std.specs.Ordering.{nat_cmp, eq_by_cmp, is_lt}
 use Rattle.std.specs.Cmp.Lexicographic.{slice_cmp, nat_list_cmp_total}
 use Rattle.std.specs.FinMap.{get, find, insert, entries, from_entries, from_sorted, is_sorted, get-entries, get-insert, get-from_entries, get-from_sorted}
 use Rattle.std.specs.FinMap.{entries-from_sorted, len, len-entries, entries_sorted}
 use Rattle.std.specs.FinMap.Entries.{below_all}
-use Rattle.std.specs.declared.cmp.Ordering.{Ordering}
-use Rattle.std.specs.declared.cmp.Ordering.TheVariants.{Less, Equal, Greater}
 use Rattle.tera_meaning.specs.Alike.{MeanTheSame}
 use Rattle.tera_meaning.specs.Form.{Form}
 use Rattle.tera_meaning.specs.Meaning.{meaning}
@@ -128,40 +125,6 @@ rising_first (p ∷ pairs) later h =
     let above = below_all (slice_cmp nat_cmp) p.0 (pairs ++ later) in
     yes_and _ _ (above_first p.0 pairs later ((and_yes above _ h).0)) (rising_first pairs later ((and_yes above _ h).1))
 
-reversed_less : (r : Ordering) → T (is_lt r) → is_eq (ordering_reverse r) ≡ false
-reversed_less Less h = refl
-reversed_less Equal h = absurd h
-reversed_less Greater h = absurd h
-
-less_is_apart : (name other : List ℕ) → T (is_lt (slice_cmp nat_cmp other name)) → eq_by_cmp (slice_cmp nat_cmp) name other ≡ false
-less_is_apart name other h =
-    ap is_eq (nat_list_cmp_total.antisymm name other) ∙ reversed_less (slice_cmp nat_cmp other name) h
-
-above_later : (name other : List ℕ) (value : Form) (pairs later : List (List ℕ × Form))
-    → T (below_all (slice_cmp nat_cmp) other (pairs ++ (name, value) ∷ later)) → T (is_lt (slice_cmp nat_cmp other name))
-above_later name other value [] later h = (and_yes (is_lt (slice_cmp nat_cmp other name)) _ h).0
-above_later name other value (p ∷ pairs) later h =
-    above_later name other value pairs later ((and_yes (is_lt (slice_cmp nat_cmp other p.0)) _ h).1)
-
--- where pairs rise, a name stands in none before its own
-pub is_new : (pairs : List (List ℕ × Form)) (name : List ℕ) (value : Form) (later : List (List ℕ × Form))
-    → T (is_rising (pairs ++ (name, value) ∷ later)) → find (slice_cmp nat_cmp) name pairs ≡ None
-is_new [] name value later h = refl
-is_new (p ∷ pairs) name value later h =
-    let above = below_all (slice_cmp nat_cmp) p.0 (pairs ++ (name, value) ∷ later) in
-    let apart = less_is_apart name p.0 (above_later name p.0 value pairs later ((and_yes above _ h).0)) in
-    ap (λ b. cond b (Some p.1) (find (slice_cmp nat_cmp) name pairs)) apart
-    ∙ is_new pairs name value later ((and_yes above _ h).1)
-
--- a beginning of the pairs that a state is made of
-pub begins : (pairs later : List (List ℕ × Form)) → T (is_rising (pairs ++ later)) → later ≢ []
-    → IsProperBeginning (from_entries pairs) (from_entries (pairs ++ later))
-begins pairs later h more = (
-  later,
-  more,
-  entries_of_rising (pairs ++ later) h ∙ ap (λ es. es ++ later) (sym (entries_of_rising pairs (rising_first pairs later h))),
-)
-
 -- of a state there is a beginning of each length below its own
 module _ (whole : State) (n : ℕ) (fewer : n < len whole) where
   some_later : n < length (entries whole)
@@ -185,3 +148,5 @@ module _ (whole : State) (n : ℕ) (fewer : n < len whole) where
     len-entries (from_entries (take n (entries whole))) ∙ ap length rising
         ∙ length-take-le n (entries whole) (let less = some_later in omega (arith, less)),
   )
+
+pub ruleset laws = (source_taken, others_kept, beginning_of, beginning_held)

@@ -4,11 +4,12 @@ use Rattle.std.proofs.Common.{sym, ◌∙◌, ap, arith}
 use Rattle.std.specs.Ordering.{ordering_reverse, bool_cmp, is_eq, eq_by_cmp, as_partial_cmp}
 use Rattle.std.specs.declared.cmp.Ordering.TheVariants.{Less, Equal}
 use Rattle.std.specs.Cmp.{IsTotalOrder, IsEquivalence, IsPartialOrder, eq_by_cmp_equiv, partial_order_from_total, Equal-is, int_cmp_total, bool_cmp_total}
-use Rattle.std.specs.Cmp.{tied_itself}
+use Rattle.std.specs.Cmp.{on_total, tied_itself}
 use Rattle.std.specs.Cmp.Lexicographic.{nat_list_cmp_total}
 use Rattle.std.specs.FinMap.{nat_cmp-IsAntisymmetric, int_cmp-IsAntisymmetric, slice_cmp-IsAntisymmetric}
-use Rattle.tera_meaning.specs.KeyMeaning.{KeyMeaning, truth_key, number_key, text_key, key_rank, key_order}
+use Rattle.tera_meaning.specs.KeyMeaning.{KeyMeaning, truth_key, number_key, text_key, key_rank, key_order, key_meaning}
 use Rattle.tera_meaning.proofs.ChainedLaws.{nat_less, less_nat}
+use Rattle.tera_meaning.specs.Pairs.{key_form_order}
 
 pub truth_exact : (a b : Bool) → bool_cmp a b ≡ Equal → a ≡ b
 truth_exact true true e = refl
@@ -57,6 +58,9 @@ key_total = record {
   congr = λ k l m e. ap (λ j. key_order j m) (key_exact k l e);
 }
 
+pub form_total : IsTotalOrder key_form_order
+form_total = on_total key_meaning key_total
+
 pub key_same : (k : KeyMeaning) → key_order k k ≡ Equal
 key_same k = tied_itself key_total k
 
@@ -72,3 +76,5 @@ key_is k l = (λ e. key_exact k l ((Equal-is (key_order k l)).0 e), λ e. ap (λ
 
 pub key_tie : (k l : KeyMeaning) → (key_order k l ≡ Equal) ↔ (k ≡ l)
 key_tie k l = (key_exact k l, λ e. ap (λ w. key_order k w) (sym e) ∙ key_same k)
+
+pub ruleset laws = (key_tie, key_is, key_equivalence)

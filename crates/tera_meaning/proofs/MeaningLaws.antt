@@ -16,9 +16,9 @@ use Rattle.tera_meaning.specs.Pairs.{Rises, HasDistinctKeys, put, rising, value_
 use Rattle.tera_meaning.specs.Read.{is_nonempty, size_in, truthy_in}
 use Rattle.tera_meaning.specs.Tree.{Items, Members, array, object, no_items, item, no_members, member, items, items_list, members, members_list}
 use Rattle.tera_meaning.specs.Tree.{relabeled_items, relabeled_members}
-use Rattle.tera_meaning.proofs.KeyLaws.{key_total}
+use Rattle.tera_meaning.proofs.KeyLaws.{key_total, form_total}
 use Rattle.tera_meaning.proofs.PairLaws.{found_rising}
-use Rattle.tera_meaning.proofs.PutLaws.{rising_put, put_read, distinct_read}
+use Rattle.tera_meaning.proofs.PutLaws.{rising_put, put_read, distinct_read, put_last, put_in_place, length_put, distinct_put, distinct_put_all, found_put}
 use Rattle.tera_meaning.proofs.TreeLaws.{items_relabeled, members_relabeled, list_of_members}
 use Rattle.tera_meaning.proofs.UniqueLaws.{only_rising, rising_length}
 
@@ -128,3 +128,7 @@ put_means ps k v =
     map_means (put key_form_order ps k v)
     ∙ ap (λ qs. object (members (rising key_order qs))) (put_read key_meaning meaning key_order ps k v)
     ∙ ap (λ qs. object (members qs)) (rising_put key_order key_total (map pair_meaning ps) (key_meaning k) (meaning v))
+
+pub ruleset laws = (size_meant, truthy_meant, array_laid_out, array_means, map_laid_out)
+
+pub ruleset puts = (put_last, put_in_place, length_put, form_total, distinct_put, distinct_put_all, found_put, rising_put, put_means)

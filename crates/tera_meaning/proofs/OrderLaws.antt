@@ -181,3 +181,5 @@ members_by_first_difference (p ∷ ps) [] = refl
 members_by_first_difference (p ∷ ps) (q ∷ qs) =
     ap (λ o. ordering_then (key_order p.0 q.0) (ordering_then (compare p.1 q.1) o)) (members_by_first_difference ps qs)
     ∙ then_nested (key_order p.0 q.0) (compare p.1 q.1) (slice_cmp pair_order ps qs)
+
+pub ruleset laws = (compare_total, compare_partial, same_is, same_equivalence, items_by_first_difference, members_by_first_difference)

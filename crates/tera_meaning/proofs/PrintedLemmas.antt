@@ -1,33 +1,16 @@
 -- Values that are laid out alike print alike, and what is exact is so by its parts.
-use Rattle.std.proofs.lemmas.Bool.{and_parts, and_from}
-use Rattle.std.specs.Prelude.{◌≡◌, ◌↔◌, ℕ, suc, ◌&&◌, IsTrue, List, [], ◌∷◌, refl}
-use Rattle.std.proofs.Common.{sym, ◌∙◌, ap, subst, ltb-true}
+use Rattle.std.proofs.lemmas.Bool.{and_parts, and_from, lt-ltb}
+use Rattle.std.specs.Prelude.{◌↔◌, ℕ, suc, ◌&&◌, IsTrue, List, [], ◌∷◌, refl}
+use Rattle.std.proofs.Common.{ltb-true}
 use Rattle.std.specs.Char.{is_ascii}
 use Rattle.std.specs.List.{All, AllByRecursion, list_all}
 use Rattle.std.specs.Str.{IsAscii}
-use Rattle.std.proofs.lemmas.Bool.{lt-ltb}
 use Rattle.std.proofs.lemmas.List.Elements.{All-from_recursion, recursion_from_All}
 use Rattle.std.proofs.lemmas.Str.Ascii.{IsAscii-nil, IsAscii-cons}
-use Rattle.tera_meaning.specs.Form.{Form}
 use Rattle.tera_meaning.specs.KeyMeaning.{KeyMeaning}
-use Rattle.tera_meaning.specs.Meaning.{Layout, layout}
-use Rattle.tera_meaning.specs.Printed.{IsExact, IsExactInside, IsExactKey, Prints, PrintsInside, are_exact_items, are_exact_members, is_exact_inside}
-use Rattle.tera_meaning.specs.Printed.{is_exact_key, printed, printed_with}
-use Rattle.tera_report.specs.Quoted.{quoted}
+use Rattle.tera_meaning.specs.Meaning.{Layout}
+use Rattle.tera_meaning.specs.Printed.{IsExactInside, IsExactKey, are_exact_items, are_exact_members, is_exact_inside, is_exact_key}
 use Rattle.tera_meaning.specs.Tree.{items, members}
-
--- what holds of one of two values that are laid out alike holds of the other
-module _ (v w : Form) (same : layout v ≡ layout w) where
-  pub holds_of_both : (P : Layout → Type 0) → P (layout v) ↔ P (layout w)
-  holds_of_both P = (subst P same, subst P (sym same))
-
-  pub prints_alike : (written other : List ℕ) → IsExact (layout v) → Prints (layout v) written → Prints (layout w) other → written ≡ other
-  prints_alike written other exact prints alike = prints exact ∙ ap printed same ∙ sym (alike ((holds_of_both IsExact).0 exact))
-
-  pub prints_alike_inside : (written other : List ℕ) → IsExactInside (layout v) → PrintsInside (layout v) written → PrintsInside (layout w) other
-      → written ≡ other
-  prints_alike_inside written other exact prints alike =
-      prints exact ∙ ap (printed_with quoted) same ∙ sym (alike ((holds_of_both IsExactInside).0 exact))
 
 -- ---- what is exact by its parts
 
@@ -79,3 +62,5 @@ exact_members ps = (
   λ h. members_tell ps
       (recursion_from_All (λ p. IsExactKey p.0 × IsExactInside p.1) ps h),
 )
+
+pub ruleset laws = (exact_items, exact_members)

@@ -2,14 +2,14 @@
 use Rattle.std.specs.Prelude.{◌≡◌, ◌⊎◌, ℕ, ℤ, List, [], ◌∷◌, map, Option, Some, None, Ok, is_some, refl}
 use Rattle.std.proofs.Common.{sym, ap, ◌∙◌, inl, inr}
 use Rattle.std.specs.BTreeMap.{insert_entry}
-use Rattle.std.specs.Option.{option_map, ok_or}
+use Rattle.std.specs.Option.{option_map}
 use Rattle.std.specs.Ordering.{match_ordering}
 use Rattle.std.specs.declared.cmp.Ordering.TheVariants.{Less, Equal, Greater}
 use Rattle.tera_meaning.specs.Fields.{AreRisingOf, fields, rising_texts, shown_keys}
 use Rattle.tera_meaning.specs.Form.{Form, MarkedText}
 use Rattle.tera_meaning.specs.Integer.{Integer}
 use Rattle.tera_meaning.specs.KeyMeaning.{KeyForm, KeyMeaning, key_meaning, truth_key, number_key, text_key, key_order}
-use Rattle.tera_meaning.specs.Lookup.{as_key, key_in, seen_by}
+use Rattle.tera_meaning.specs.Lookup.{key_in}
 use Rattle.tera_meaning.specs.Meaning.{Meaning, meaning, pair_meaning, sorted_pairs}
 use Rattle.tera_meaning.specs.Pairs.{rising}
 use Rattle.tera_meaning.specs.Printed.{shown_key}
@@ -21,7 +21,6 @@ use Rattle.tera_meaning.proofs.FieldLaws.{rising_are_rising, only_rising_texts}
 use Rattle.tera_meaning.proofs.KeyLaws.{key_exact}
 use Rattle.tera_meaning.proofs.MeaningLaws.{layout_members, meant_pairs, pairs_meant, array_means}
 use Rattle.tera_meaning.proofs.TreeLaws.{list_of_members}
-use Rattle.tera_report.specs.Refusal.{not_a_key}
 
 -- the members that a map means
 abbrev pub meant_members : Members Integer MarkedText KeyForm → Members ℤ (List ℕ) KeyMeaning
@@ -41,14 +40,6 @@ pub key_as_meant : (v : Form) → option_map key_meaning (key_in v) ≡ key_mean
 unfolding key_meant
 key_as_meant (text s) = refl
 key_as_meant v = refl
-
-seen_key : (k : Option KeyForm) → seen_by key_meaning (ok_or k not_a_key) ≡ ok_or (option_map key_meaning k) not_a_key
-seen_key None = refl
-seen_key (Some k) = refl
-
-pub key_by_meaning : (v w : Form) → meaning v ≡ meaning w → seen_by key_meaning (as_key v) ≡ seen_by key_meaning (as_key w)
-key_by_meaning v w same =
-    seen_key (key_in v) ∙ ap (λ k. ok_or k not_a_key) (key_as_meant v ∙ ap key_meant same ∙ sym (key_as_meant w)) ∙ sym (seen_key (key_in w))
 
 pub number_meant : Meaning → Option ℤ
 number_meant (number z) = Some z

@@ -28,3 +28,5 @@ module _ {X Y : Type 0} where
       → and_then r next ≡ Ok y → (x : X) × (r ≡ Ok x) × (next x ≡ Ok y)
   given_by_both (Ok x) next y is = (x, refl, is)
   given_by_both (Err refusal) next y is = cc
+
+pub ruleset laws = (refuses_on, ok_before, given_by_both)

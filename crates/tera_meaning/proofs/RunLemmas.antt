@@ -229,3 +229,5 @@ run_through old (c ∷ first) command later (p ∷ os) o ps new e (mid, step, ru
     (rest.0, rest.1, (mid, step, rest.2), rest.3, rest.4)
 run_through old [] command later (p ∷ os) o ps new e run = absurd (omega (arith, e))
 run_through old (c ∷ first) command later [] o ps new e run = absurd (omega (arith, e))
+
+pub ruleset laws = (ample_outcomes, ample_state, ample_from_outcomes, run_outcomes_alike, run_states_alike)

@@ -145,3 +145,5 @@ alone_as_meant v h = refl
 -- so layouts of one meaning are exact together
 pub exact_together : (x y : Layout) → IsWellMadeLayout x → IsWellMadeLayout y → sorted x ≡ sorted y → IsExact x → IsExact y
 exact_together x y h g same exact = sym (alone_as_meant y g) ∙ ap is_exact (sym same) ∙ alone_as_meant x h ∙ exact
+
+pub ruleset laws = (sorted_well, meaning_is_layout, sorted_itself)

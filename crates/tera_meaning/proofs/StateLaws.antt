@@ -69,3 +69,5 @@ pub remove_absent : (state : State) (name : List ℕ) → get state name ≡ Non
 remove_absent state name h =
     same_state (remove state name) state (λ other. get-remove nat_list_cmp_total state name other
     ∙ removed_absent state name other (eq_by_cmp (slice_cmp nat_cmp) other name) refl h)
+
+pub ruleset laws = (get_set, get_other, get_removed, get_kept, remove_absent, meaning_set, meaning_other, meaning_empty, held_empty)

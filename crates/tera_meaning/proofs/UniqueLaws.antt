@@ -3,7 +3,7 @@ use Rattle.std.proofs.lemmas.Option.{none-some}
 use Rattle.std.specs.Prelude.{◌≡◌, ◌↔◌, ◌⊎◌, suc, length, false, cond, List, [], ◌∷◌, Some, None, refl}
 use Rattle.std.proofs.Common.{sym, ◌∙◌, ap, inl, inr}
 use Rattle.std.specs.BTreeMap.{insert_entry}
-use Rattle.std.specs.Cmp.{IsTotalOrder, tied_itself}
+use Rattle.std.specs.Cmp.{IsTotalOrder, tied_itself, eq_by_cmp_equiv}
 use Rattle.std.specs.List.{Contains, IsDistinct, AllByRecursion}
 use Rattle.std.specs.List.Sorted.{IsStrictlySortedBy, IsPermutation}
 use Rattle.std.specs.Map.{keys_of}
@@ -11,7 +11,8 @@ use Rattle.std.specs.Ordering.{ordering_reverse, eq_by_cmp, is_eq, match_orderin
 use Rattle.std.specs.declared.cmp.Ordering.{Ordering}
 use Rattle.std.specs.declared.cmp.Ordering.TheVariants.{Less, Equal, Greater}
 use Rattle.std.proofs.lemmas.List.Sorted.{IsPermutation-refl, IsPermutation-sym, IsPermutation-trans, IsPermutation-cons, IsPermutation-insert}
-use Rattle.std.proofs.lemmas.List.Sorted.{Contains-permutation}
+use Rattle.std.proofs.lemmas.List.Sorted.{Contains-permutation, IsPermutation-map}
+use Rattle.std.proofs.lemmas.Map.Keys.{IsDistinct-IsPermutation}
 use Rattle.tera_meaning.proofs.Among.{Among, among, contained}
 use Rattle.tera_meaning.proofs.ChainedLaws.{less_equal, greater_less}
 use Rattle.tera_meaning.specs.Pairs.{Rises, HasDistinctKeys, rising, value_at}
@@ -114,3 +115,8 @@ module _ {K V : Type 0} (order : K → K → Ordering) (total : IsTotalOrder ord
         λ a. (rising_has es e h).1
             (Contains-permutation fs es e (IsPermutation-sym es fs same) a),
       ))
+
+  pub same_rising : (es fs : List (K × V)) → HasDistinctKeys order es → IsPermutation es fs → rising order es ≡ rising order fs
+  same_rising es fs h same =
+      let turned = IsPermutation-map (λ e. e.0) es fs same in
+      rising_permuted es fs h (IsDistinct-IsPermutation (eq_by_cmp order) (eq_by_cmp_equiv total).symm (keys_of es) (keys_of fs) turned h) same

@@ -1,17 +1,16 @@
 -- What is printed of a well-made layout is UTF-8.
 use Rattle.std.specs.Prelude.{ℤ, pos, negsuc, codes}
-use Rattle.std.proofs.Common.{◌≡◌, ℕ, zero, suc, ◌<◌, ◌≤◌, Bool, true, false, ◌&&◌, nat_lt, List, [], ◌∷◌, ◌++◌, length, get_or, take, IsUtf8, inl}
-use Rattle.std.proofs.Common.{inr, refl, sym, ap, ap₂, ◌∙◌, subst, arith, append-nil, ltb-true, ne_eqb, take_all}
+use Rattle.std.proofs.Common.{◌≡◌, ℕ, zero, suc, ◌<◌, ◌≤◌, Bool, true, false, ◌&&◌, nat_lt, List, [], ◌∷◌, ◌++◌, length, get_or, take, IsUtf8, inl, inr, refl}
+use Rattle.std.proofs.Common.{sym, ap, ap₂, ◌∙◌, subst, arith, append-nil, ltb-true, ne_eqb, take_all}
 use Rattle.std.specs.Fmt.{signed_decimal, decimal, debug_escape, digits}
 use Rattle.std.specs.List.{flat_map}
 use Rattle.std.specs.Str.{is_utf8}
-use Rattle.std.specs.Str.Lossy.{utf8_lossy, utf8_valid_len}
-use Rattle.std.specs.Str.Lossy.{valid_len_up_to, after_first_chunk, replacement_bytes}
+use Rattle.std.specs.Str.Lossy.{utf8_lossy, utf8_valid_len, valid_len_up_to, after_first_chunk, replacement_bytes}
 use Rattle.std.proofs.lemmas.Bool.{and_parts, cases_lt, cases_eq, le-ltb, agree_below_at}
 use Rattle.std.proofs.lemmas.Fmt.{IsAscii-decimal_wide}
 use Rattle.std.proofs.lemmas.List.Concat.{flat_map-append}
-use Rattle.std.proofs.lemmas.Str.{IsUtf8-append, IsUtf8-nil, IsUtf8-encode, IsUtf8-from_ascii, IsUtf8-from_is_utf8, encode_ascii, inside_one}
-use Rattle.std.proofs.lemmas.Str.{utf8_lossy-IsUtf8, utf8_lossy_step}
+use Rattle.std.proofs.lemmas.Str.{IsUtf8-append, IsUtf8-nil, IsUtf8-encode, IsUtf8-from_ascii, IsUtf8-from_is_utf8, encode_ascii, inside_one, utf8_lossy-IsUtf8}
+use Rattle.std.proofs.lemmas.Str.{utf8_lossy_step}
 use Rattle.std.proofs.str.Lossy.{length-after_first_chunk}
 use lib.Utf8.{scalar, scalars, encode, encodes, low_scalar}
 use Rattle.tera_meaning.specs.KeyMeaning.{KeyMeaning, truth_key, number_key, text_key, key_order}
@@ -182,3 +181,5 @@ printed_utf8 x = with_utf8 (λ t. t) (λ t u. u) x
 
 pub inside_utf8 : (x : Layout) → IsWellMadeLayout x → IsUtf8 (printed_with quoted x)
 inside_utf8 x = with_utf8 quoted quoted_utf8 x
+
+pub ruleset laws = (printed_utf8, inside_utf8)

@@ -19,7 +19,7 @@ use Rattle.tera_meaning.specs.Read.{marked_safe}
 use Rattle.tera_meaning.specs.Run.{IsRun, state_after_all}
 use Rattle.tera_meaning.specs.State.{State, form_at, meaning_at, extended, IsProperBeginning}
 use Rattle.tera_meaning.proofs.MeaningLaws.{layout_items, layout_members}
-use Rattle.tera_meaning.proofs.SortedLemmas.{sorted_well}
+use Rattle.tera_meaning.proofs.SortedLemmas.{sorted_well, exact_together}
 use Rattle.tera_meaning.proofs.StateLaws.{held_empty, name_exact}
 use Rattle.tera_meaning.specs.Search.{Found, found_at}
 use Rattle.tera_meaning.proofs.Owed.{IsHeldWell, form_at_well}
@@ -30,6 +30,8 @@ use Rattle.tera_meaning.specs.Step.{keeping, marking, marking_into, leaves, Leav
 use Rattle.tera_meaning.specs.Tree.{Items, Members, number, text, bytes, array, object, no_items, item, no_members, member, members_list}
 use Rattle.tera_meaning.specs.WellMade.{IsWellMade, IsWellMadeKey, AreWellMade, AreWellMadeMembers, IsWellMadeLayout, IsWellMadeMeaning, IsWellMadeKeyMeaning}
 use Rattle.tera_meaning.specs.WellMade.{AreMadeOf, ArePairsOf, IsWellMadeState, BringsWellMade, AllBringWellMade}
+use Rattle.tera_meaning.proofs.OrderLaws.{same_is}
+use Rattle.tera_meaning.proofs.MeantLemmas.{meant, laid_out}
 
 pub marked_well : (value : Form) → IsWellMade value → IsWellMade (marked_safe value)
 marked_well (text t) h = h
@@ -180,3 +182,7 @@ meaning_well value h = sorted_well (layout value) (layout_well value h)
 
 pub meaning_at_well : (state : State) (name : List ℕ) → IsWellMadeState state → IsWellMadeMeaning (meaning_at state name)
 meaning_at_well state name h = meaning_well (form_at state name) (form_at_well state h name)
+
+pub ruleset exact = (same_is, exact_together, layout_well)
+
+pub ruleset laws = (empty_well, all_left_well, run_well, meaning_well, meant, meaning_at_well, layout_well, laid_out)

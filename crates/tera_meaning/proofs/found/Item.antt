@@ -24,9 +24,7 @@ use Rattle.tera_meaning.proofs.MeaningLaws.{meant_items, items_meant, found_pair
 use Rattle.tera_meaning.proofs.ReadLemmas.{meant_members, key_meant, key_as_meant, number_meant, number_as_meant}
 use Rattle.tera_meaning.proofs.SoundLemmas.{Sound, sound_pair, sound_place}
 use Rattle.tera_meaning.proofs.ArithmeticLemmas.{refused_or, IsNoWant}
-use Rattle.std.proofs.lemmas.Option.{slice_get-map}
 use Rattle.std.proofs.lemmas.List.{length-map}
-use Rattle.std.specs.Prelude.{IfErr}
 
 got_at : {X Y : Type 0} (f : X → Y) (xs : List X) (o : Option ℕ) → option_map f (option_and_then (slice_get xs) o) ≡ option_and_then (slice_get (map f xs)) o
 got_at f xs None = refl

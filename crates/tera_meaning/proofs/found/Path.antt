@@ -1,6 +1,6 @@
 -- What is behind a path is found by meaning, and is well made.
 use Rattle.std.proofs.Common.{refl, sym, ap, ◌∙◌}
-use Rattle.std.proofs.lemmas.Option.{slice_get-map}
+use Rattle.std.proofs.lemmas.Option.{slice_get-map, none-some, same_Some}
 use Rattle.std.specs.Option.{option_map, option_and_then}
 use Rattle.std.specs.Prelude.{◌≡◌, ℕ, List, [], Option, Some, None, refl, ◌∷◌, slice_get, IfSome}
 use Rattle.tera_meaning.specs.Form.{Form}
@@ -13,7 +13,6 @@ use Rattle.tera_meaning.specs.WellMade.{IsWellMade}
 use Rattle.tera_meaning.proofs.MeaningLaws.{items_meant}
 use Rattle.tera_meaning.proofs.SoundLemmas.{Sound, sound_place}
 use Rattle.tera_meaning.proofs.found.Attr
-use Rattle.std.proofs.lemmas.Option.{none-some, same_Some, slice_get-map}
 
 place_meant : Meaning → ℕ → Option Meaning
 place_meant (array xs) n = slice_get (items_list xs) n

@@ -15,7 +15,6 @@ use Rattle.tera_meaning.proofs.MeaningLaws.{meant_items, items_meant}
 use Rattle.tera_meaning.proofs.ReadLemmas.{array_shape}
 use Rattle.tera_meaning.proofs.SoundLemmas.{all_reversed, listed_well, items_well, each_scalar, spelled_well}
 use Rattle.tera_meaning.proofs.ArithmeticLemmas.{IsNoWant}
-use Rattle.std.specs.Prelude.{IfErr}
 
 module _ {X Y : Type 0} (f : X → Y) where
   map_onto : (xs ys : List X) → map f (reverse_aux xs ys) ≡ reverse_aux (map f xs) (map f ys)

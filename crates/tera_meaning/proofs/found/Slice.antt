@@ -7,7 +7,7 @@ use Rattle.std.specs.Option.{option_map, unwrap_or}
 use Rattle.std.specs.Prelude.{◌≡◌, ◌<◌, ℕ, zero, suc, ℤ, pos, negsuc, true, List, [], Option, Result, Ok, Err, IfOk, IfErr, refl, ◌∷◌, map, length, unwrap_or}
 use Rattle.std.specs.Prelude.{◌≢◌, take}
 use Rattle.std.specs.Str.{chars, encode_utf8_all}
-use Rattle.tera_meaning.proofs.SliceLaws.{slice_of_is, slices_same}
+use Rattle.tera_meaning.proofs.SliceLaws.{slice_of_is, slices_same, sliced_only}
 use Rattle.tera_meaning.specs.Form.{Form}
 use Rattle.tera_meaning.specs.Meaning.{meaning, Meaning}
 use Rattle.tera_meaning.specs.SliceRule.{IsSliceFrom, HasReached, place_at, item_at, start_place, end_place, IsSliced, shape_of}
@@ -20,10 +20,7 @@ use Rattle.tera_meaning.proofs.MeaningLaws.{meant_items, items_meant}
 use Rattle.tera_meaning.proofs.ReadLemmas.{array_shape}
 use Rattle.tera_meaning.proofs.SoundLemmas.{all_reversed, listed_well, items_well, each_scalar, spelled_well}
 use Rattle.tera_meaning.proofs.ArithmeticLemmas.{IsNoWant}
-use Rattle.tera_meaning.proofs.SliceLaws.{sliced_only}
-use Rattle.tera_meaning.proofs.SliceLaws.{slice_of_is, slices_same}
 use Rattle.std.proofs.lemmas.List.{length-map}
-use Rattle.std.specs.Prelude.{IfErr}
 
 module _ {X Y : Type 0} (f : X → Y) where
   item_mapped : (xs : List X) (z : ℤ) → item_at (map f xs) z ≡ option_map f (item_at xs z)
