@@ -1,39 +1,22 @@
 -- What is calculated of values is computed of their numbers, and what an operator computes is what it stands for.
-use Rattle.std.specs.Prelude.{◌≡◌, ℤ, if◌then◌else◌, Bool, true, false, Option, Some, None, Result, Ok, Err, refl}
-use Rattle.std.proofs.Common.{sym, ◌∙◌, ap}
-use Rattle.std.specs.Option.{ok_or}
-use Rattle.tera_report.specs.Refusal.{Refusal, Operator, not_a_number, operand_outside_i128}
-use Rattle.tera_meaning.specs.Arithmetic.{and_then, each_ok, small, operand, computed, as_i128, calculated}
+use Rattle.std.specs.Prelude.{◌≡◌, ℤ, true, Some, Result, Ok}
+use Rattle.std.proofs.Common.{rules}
+use Rattle.tera_report.specs.Refusal.{Refusal, Operator}
+use Rattle.tera_meaning.specs.Arithmetic.{and_then, each_ok, operand, computed, as_i128, calculated}
 use Rattle.tera_meaning.specs.Form.{Form}
 use Rattle.tera_meaning.specs.Integer.{is_small}
-use Rattle.tera_meaning.specs.Lookup.{name_of}
 use Rattle.tera_meaning.specs.Read.{number_in}
 use Rattle.tera_meaning.proofs.RefusalLaws.{given_by_both}
 
 -- ---- a number that an i128 holds
 
-found_small : (z y : ℤ) (refusal : Refusal) → ok_or (small z) refusal ≡ Ok y → (y ≡ z) × (is_small z ≡ true)
-found_small z y refusal = by (is_small z) refl
-  where
-    by : (b : Bool) → is_small z ≡ b → ok_or (if b then Some z else None) refusal ≡ Ok y → (y ≡ z) × (is_small z ≡ true)
-    by true is e = (cc, is)
-    by false is e = cc
-
 -- ---- the number of an operand
 
-number_given : (o : Option ℤ) (refusal : Refusal) (z : ℤ) → ok_or o refusal ≡ Ok z → o ≡ Some z
-number_given None refusal z e = cc
-number_given (Some y) refusal z e = cc
-
 pub operand_number : (v : Form) (a : ℤ) → operand v ≡ Ok a → (number_in v ≡ Some a) × (is_small a ≡ true)
-operand_number v a e =
-    let (z, is, held) = given_by_both (ok_or (number_in v) (not_a_number (name_of v))) _ a e in
-    let (same, less) = found_small z a (operand_outside_i128 z) held in
-    (number_given (number_in v) (not_a_number (name_of v)) z is ∙ ap (λ (y : ℤ). Some y) (sym same), ap is_small same ∙ less)
+operand_number v a e = search rules
 
 given_each : {X Y : Type 0} (f : X → Y) (r : Result X Refusal) (y : Y) → each_ok f r ≡ Ok y → (x : X) × (r ≡ Ok x) × (y ≡ f x)
-given_each f (Ok x) y e = (x, refl, cc)
-given_each f (Err refusal) y e = cc
+given_each f x1 y e = search rules
 
 -- ---- what is calculated
 

@@ -1,6 +1,6 @@
 -- Whether a value holds another is told by meanings, and is no want of memory.
 use Rattle.tera_meaning.proofs.ReadLemmas.{is_there, meant_members, key_meant, key_as_meant, text_meant, text_as_meant}
-use Rattle.std.proofs.Common.{refl, sym, ap, ◌∙◌}
+use Rattle.std.proofs.Common.{refl, sym, ap, ◌∙◌, rules}
 use Rattle.std.specs.List.{list_any}
 use Rattle.std.specs.Option.{option_map}
 use Rattle.std.specs.Prelude.{◌≡◌, ℕ, ℤ, Bool, List, [], Option, Some, None, Result, Ok, Err, refl, ◌||◌, is_some}
@@ -51,5 +51,4 @@ pub holds_by_meaning : (v w x y : Form) → meaning v ≡ meaning w → meaning 
 holds_by_meaning v w x y same sought = holds_as_meant v x ∙ (λ d. holds_meant (same d) (sought d)) ∙ sym (holds_as_meant w y)
 
 pub no_container_wants : (v x : Form) → out_of_memory ≡ truth_told (holds v x) → ⊥
-no_container_wants (text t) x e = cc
-no_container_wants v x e = cc
+no_container_wants v x e = search rules

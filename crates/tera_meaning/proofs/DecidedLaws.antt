@@ -1,7 +1,7 @@
 -- The partial order of meanings answers as the order does, or not at all.
 use Rattle.std.proofs.lemmas.Option.{none-some, same_Some}
-use Rattle.std.specs.Prelude.{◌≡◌, ℕ, ℤ, Bool, true, false, List, [], ◌∷◌, Option, Some, None, ◌==◌, if◌then◌else◌, refl}
-use Rattle.std.proofs.Common.{◌∙◌, ap}
+use Rattle.std.specs.Prelude.{◌≡◌, ℕ, ℤ, Bool, List, [], ◌∷◌, Option, Some, None, ◌==◌, if◌then◌else◌, refl}
+use Rattle.std.proofs.Common.{◌∙◌, ap, rules}
 use Rattle.std.specs.Cmp.{some_flip}
 use Rattle.std.specs.Cmp.Lexicographic.{slice_partial_cmp}
 use Rattle.std.specs.Option.{option_map}
@@ -24,8 +24,7 @@ then_agrees (Some Equal) q r s answer f g e = ap (λ o. ordering_then o s) (f Eq
 then_agrees (Some Greater) q r s answer f g e = ap (λ o. ordering_then o s) (f Greater refl) ∙ same_Some Greater answer e
 
 by_rank : (b : Bool) (r answer : Ordering) → (if b then Some r else None) ≡ Some answer → r ≡ answer
-by_rank true r answer e = same_Some r answer e
-by_rank false r answer e = absurd (none-some answer e)
+by_rank x0 r answer e = search rules
 
 mutual
   pub decided_agrees : (x y : Meaning) (answer : Ordering) → decided x y ≡ Some answer → compare x y ≡ answer

@@ -1,6 +1,6 @@
 -- Indices from either end of a list, and the parts of a text.
 use Rattle.std.specs.Prelude.{◌≡◌, ℕ, ◌-◌, ◌⊎◌, ◌&&◌, ◌||◌, Bool, true, false, ◌++◌, [], ◌∷◌, ◌↔◌, List, refl}
-use Rattle.std.proofs.Common.{inl, inr, sym, ◌∙◌, ap}
+use Rattle.std.proofs.Common.{inl, inr, ◌∙◌, ap, rules}
 use Rattle.std.proofs.lemmas.Bool.{and_parts, eq-eqb, eqb-true}
 use Rattle.std.specs.Str.Iter.{HasSubslice}
 use Rattle.tera_meaning.specs.Lookup.{begins_with, occurs}
@@ -22,12 +22,10 @@ begins_again [] (r ∷ rest) = refl
 begins_again (p ∷ part) rest = ap (λ b. b && begins_with (part ++ rest) part) (eq-eqb p p refl) ∙ begins_again part rest
 
 either : (a b : Bool) → (a || b) ≡ true → (a ≡ true) ⊎ (b ≡ true)
-either true b h = inl refl
-either false b h = inr h
+either x0 b h = search rules
 
 or_true : (a b : Bool) → b ≡ true → (a || b) ≡ true
-or_true true b h = refl
-or_true false b h = h
+or_true x0 b h = search rules
 
 front_or : (a b : Bool) → a ≡ true → (a || b) ≡ true
 front_or a b h = ap (λ c. c || b) h
@@ -52,9 +50,7 @@ pub occurs_where_joined : (part bs : List ℕ) → (occurs part bs ≡ true) ↔
 occurs_where_joined part bs = (occurs_split part bs, λ (before, rest, is). ap (occurs part) is ∙ occurs_again part before rest)
 
 one_truth : (a b : Bool) → (a ≡ true → b ≡ true) → (b ≡ true → a ≡ true) → a ≡ b
-one_truth true b to back = sym (to refl)
-one_truth false true to back = back refl
-one_truth false false to back = refl
+one_truth x0 b to back = search rules
 
 -- what is true just where the text holds the other tells whether it does
 pub tells_occurs : (told : Bool) (part bs : List ℕ) → (told ≡ true) ↔ HasSubslice bs part → told ≡ occurs part bs

@@ -1,6 +1,6 @@
 -- The order of meanings is total, and ties equal meanings alone.
 use Rattle.std.specs.Prelude.{◌≡◌, ℕ, ◌<◌, ◌≤◌, ◌↔◌, IsTrue, List, [], ◌∷◌, ℤ, refl}
-use Rattle.std.proofs.Common.{sym, ◌∙◌, ap, arith}
+use Rattle.std.proofs.Common.{sym, ◌∙◌, ap, arith, rules}
 use Rattle.std.specs.Ordering.{ordering_then, ordering_reverse, is_eq, as_partial_cmp}
 use Rattle.std.specs.declared.cmp.Ordering.TheVariants.{Less, Equal}
 use Rattle.std.specs.Cmp.{IsPartialEquivalence, IsEquivalence, IsTotalOrder, IsPartialOrder, partial_order_from_total, int_cmp_total, bool_cmp_total}
@@ -9,7 +9,7 @@ use Rattle.std.specs.Cmp.Lexicographic.{slice_cmp, nat_list_cmp_total}
 use Rattle.std.specs.FinMap.{nat_cmp-IsAntisymmetric, int_cmp-IsAntisymmetric, slice_cmp-IsAntisymmetric}
 use Rattle.tera_meaning.specs.KeyMeaning.{KeyMeaning, key_order}
 use Rattle.tera_meaning.proofs.KeyLaws.{truth_exact, key_exact, key_total}
-use Rattle.tera_meaning.proofs.ChainedLaws.{first_equal, second_equal, reverse_then, chain_then, then_nested, equal_less, greater_less, nat_less, less_nat}
+use Rattle.tera_meaning.proofs.ChainedLaws.{first_equal, second_equal, reverse_then, chain_then, then_nested, equal_less, greater_less, nat_less}
 use Rattle.tera_meaning.specs.Meaning.{Meaning}
 use Rattle.tera_meaning.specs.Order.{pair_order, rank, compare, compare_items, compare_members, same}
 use Rattle.tera_meaning.specs.Tree.{Items, Members, undefined, none, truth, number, text, bytes, array, object, no_items, item, no_members, member, items}
@@ -74,22 +74,10 @@ mutual
 
 -- a lesser rank decides, and what is less has no greater rank
 pub lower : (x y : Meaning) → rank x < rank y → compare x y ≡ Less
-lower (truth a) (truth b) h = absurd (omega arith)
-lower (number y) (number z) h = absurd (omega arith)
-lower (text s) (text t) h = absurd (omega arith)
-lower (bytes s) (bytes t) h = absurd (omega arith)
-lower (array xs) (array ys) h = absurd (omega arith)
-lower (object ps) (object qs) h = absurd (omega arith)
-lower x y h = less_nat (rank x) (rank y) h
+lower x y h = search rules
 
 upto : (x y : Meaning) → compare x y ≡ Less → rank x ≤ rank y
-upto (truth a) (truth b) e = omega arith
-upto (number y) (number z) e = omega arith
-upto (text s) (text t) e = omega arith
-upto (bytes s) (bytes t) e = omega arith
-upto (array xs) (array ys) e = omega arith
-upto (object ps) (object qs) e = omega arith
-upto x y e = let less = nat_less (rank x) (rank y) e in omega arith
+upto x y e = search rules
 
 mutual
   compare_chain : (x y z : Meaning) → compare x y ≡ Less → compare y z ≡ Less → compare x z ≡ Less

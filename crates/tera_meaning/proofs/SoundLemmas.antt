@@ -1,9 +1,9 @@
 -- Parts of what is well made are, and what is made of such parts.
-use Rattle.std.proofs.Common.{refl, ap₂}
+use Rattle.std.proofs.Common.{refl, ap₂, rules}
 use Rattle.std.proofs.lemmas.Bool.{and_parts}
 use Rattle.std.specs.List.{AllByRecursion}
 use Rattle.std.specs.Ordering.{eq_by_cmp}
-use Rattle.std.specs.Prelude.{◌≡◌, ℕ, zero, suc, Bool, true, false, List, [], Option, Some, refl, cond, ◌∷◌, slice_get, IfSome, ◌&&◌, reverse}
+use Rattle.std.specs.Prelude.{◌≡◌, ℕ, zero, suc, Bool, true, List, [], Option, Some, refl, cond, ◌∷◌, slice_get, IfSome, ◌&&◌, reverse}
 use Rattle.std.specs.Str.{encode_utf8_all, IsUtf8}
 use Rattle.tera_meaning.specs.Form.{Form, MarkedText}
 use Rattle.tera_meaning.specs.Integer.{Integer}
@@ -18,8 +18,7 @@ abbrev pub Sound : Option Form → Type 0
 Sound found = IfSome found IsWellMade
 
 sound_pick : (b : Bool) (x : Form) (o : Option Form) → IsWellMade x → Sound o → Sound (cond b (Some x) o)
-sound_pick true x o h g = h
-sound_pick false x o h g = g
+sound_pick x0 x o h g = search rules
 
 pub sound_pair : (ps : Members Integer MarkedText KeyForm) (k : KeyForm) → AreWellMadeMembers ps → Sound (value_at key_form_order (members_list ps) k)
 sound_pair no_members k h = tt

@@ -1,6 +1,6 @@
 -- What single steps answer and leave.
-use Rattle.std.specs.Prelude.{◌≡◌, ℕ, Bool, true, false, cond, List, Option, Some, None, Ok, Err, refl}
-use Rattle.std.proofs.Common.{sym, ◌∙◌, ap, subst}
+use Rattle.std.specs.Prelude.{◌≡◌, ℕ, Bool, cond, List, Option, Some, None, Ok, Err, refl}
+use Rattle.std.proofs.Common.{sym, ◌∙◌, ap, subst, rules}
 use Rattle.std.specs.Option.{option_map, unwrap_or}
 use Rattle.std.specs.Ordering.{nat_cmp, eq_by_cmp}
 use Rattle.std.specs.Cmp.{Equal-is}
@@ -46,23 +46,15 @@ module _ (state : State) (name : List ℕ) where
 
   pub marked_absent : (into : List ℕ) → held_at state name ≡ None
       → held_at (state_after state (asking_into (mark_safe name) into)) into ≡ Some undefined
-  marked_absent into e =
-      get_set state into (marked_safe (form_at state name)) ∙ ap (λ o. Some (marked_safe (unwrap_or o undefined))) e
+  marked_absent into e = search (rules, get_set)
 
   marked_one : (value : Form) (other : List ℕ) (b : Bool) → eq_by_cmp (slice_cmp nat_cmp) other name ≡ b
       → held_at state name ≡ Some value
       → option_map meaning (cond b (Some (marked_safe value)) (held_at state other)) ≡ meaning_held state other
-  marked_one value other true d e =
-      (λ i. Some (meaning_marked value i))
-      ∙ ap (option_map meaning) (sym e)
-      ∙ sym (ap (meaning_held state) (name_exact other name ((Equal-is (slice_cmp nat_cmp other name)).0 d)))
-  marked_one value other false d e = refl
+  marked_one value other x2 d e = search (rules, meaning_marked, name_exact, Equal-is, slice_cmp)
 
   marked_held : (o : Option Form) → held_at state name ≡ o → MeanTheSame (marking state name o) state
-  marked_held None e other = refl
-  marked_held (Some value) e other =
-      ap (option_map meaning) (get-insert nat_list_cmp_total state name (marked_safe value) other)
-      ∙ marked_one value other (eq_by_cmp (slice_cmp nat_cmp) other name) refl e
+  marked_held x0 e other = search (rules, get-insert, nat_list_cmp_total, marked_one, slice_cmp)
 
   -- marked in its place, no meaning changes
   pub marked_alike : MeanTheSame (state_after state (asking (mark_safe name))) state
@@ -70,11 +62,9 @@ module _ (state : State) (name : List ℕ) where
 
 -- a refusal is passed on, and keeps nothing
 pub refused_answer : (into : Option (List ℕ)) (refusal : Refusal) → found_or_kept into (Err refusal) ≡ Err refusal
-refused_answer None refusal = refl
-refused_answer (Some into) refusal = refl
+refused_answer x0 refusal = search rules
 
 pub refused_left : (state : State) (into : Option (List ℕ)) (refusal : Refusal) → keeping state into (Err refusal) ≡ state
-refused_left state None refusal = refl
-refused_left state (Some into) refusal = refl
+refused_left state x1 refusal = search rules
 
 pub ruleset marks = (marked_alike, marked_meaning, marked_absent, get_set, get_other)
