@@ -1,6 +1,6 @@
 -- Answers depend on meanings alone.
-use Rattle.tera_meaning.proofs.ReadLemmas.{is_there, fields_by_meaning}
-use Rattle.std.specs.Prelude.{◌≡◌, ℕ, suc, length, Bool, cond, List, [], ◌∷◌, Option, Some, Result, Ok, is_some, refl}
+use Rattle.tera_meaning.proofs.ReadLemmas.{fields_by_meaning}
+use Rattle.std.specs.Prelude.{◌≡◌, ℕ, suc, length, Bool, List, [], ◌∷◌, Option, Some, Result, Ok, is_some, refl}
 use Rattle.std.proofs.Common.{sym, ◌∙◌, ap, subst, rules}
 use Rattle.std.specs.Option.{option_map, unwrap_or}
 use Rattle.std.specs.Cmp.Lexicographic.{slice_cmp, nat_list_cmp_total}
@@ -9,7 +9,7 @@ use Rattle.tera_report.specs.Escaping.{Spells}
 use Rattle.tera_report.specs.Refusal.{Refusal}
 use Rattle.tera_report.proofs.EscapeLaws.{one_spelling_each}
 use Rattle.tera_meaning.specs.Form.{Form}
-use Rattle.tera_meaning.specs.Meaning.{Layout, Meaning, layout, meaning}
+use Rattle.tera_meaning.specs.Meaning.{Layout, layout, meaning}
 use Rattle.tera_meaning.specs.Printed.{printed, IsExact, Prints}
 use Rattle.tera_meaning.specs.Read.{marked_safe, size_in, truthy_in}
 use Rattle.tera_meaning.specs.State.{State, read, form_at}
@@ -25,7 +25,7 @@ use Rattle.tera_meaning.specs.Question.{Question, IsAnswered, IsSettledAnswer}
 use Rattle.tera_meaning.proofs.ExtendLaws.{extended_alike}
 use Rattle.tera_meaning.specs.Request.{Request, set, extend, remove, mark_safe, ask, weigh, find, Command}
 use Rattle.tera_meaning.specs.Run.{AreOutcomes, state_after_all}
-use Rattle.tera_meaning.specs.Step.{found_or_kept, keeping, marking, marking_into, ComesTo, IsOutcome, leaves, state_after}
+use Rattle.tera_meaning.specs.Step.{found_or_kept, keeping, marking_into, ComesTo, IsOutcome, leaves, state_after}
 use Rattle.tera_meaning.specs.Tree.{undefined, text}
 use Rattle.tera_meaning.specs.Weighing.{Weighing, weighed, truth_told}
 
@@ -37,11 +37,7 @@ pub some_one : (v w : Form) → option_map meaning (Some v) ≡ option_map meani
 some_one v w e = ap (λ o. unwrap_or o undefined) e
 
 held_alike : (o p : Option Form) → option_map meaning o ≡ option_map meaning p → is_some o ≡ is_some p
-held_alike o p e = sym (is_there meaning o) ∙ ap is_some e ∙ is_there meaning p
-
-same_found : (o p : Option Form) → ◌≡◌ {A = Result (Option Meaning) Refusal} (Ok (option_map meaning o)) (Ok (option_map meaning p))
-    → option_map meaning o ≡ option_map meaning p
-same_found o p e = cc
+held_alike o p e = search rules
 
 kept_shape : (into : Option (List ℕ)) (found also : Found) → found_shape found ≡ found_shape also
     → shape (found_or_kept into found) ≡ shape (found_or_kept into also)
@@ -103,29 +99,21 @@ module _ (f g : State) (h : MeanTheSame f g) where
   outcomes_alike (extend source) (extend other) into o p a e d s = both e d refl
   outcomes_alike q r into o p a e d s = outcomes_same q into o p e (subst (λ k. ComesTo g k into p) (sym a) d) s
 
-chosen_alike : (b : Bool) (o p u w : Option Form) → option_map meaning u ≡ option_map meaning w
-    → option_map meaning o ≡ option_map meaning p → option_map meaning (cond b u o) ≡ option_map meaning (cond b w p)
-chosen_alike x0 o p u w e h = search rules
-
 set_alike : (f g : State) (name : List ℕ) (v w : Form) → MeanTheSame f g → meaning v ≡ meaning w
     → MeanTheSame (insert f name v) (insert g name w)
-set_alike f g name v w h values other = search (rules, get-insert, nat_list_cmp_total, chosen_alike, slice_cmp, held_at)
+set_alike f g name v w h values other = search (rules, get-insert, nat_list_cmp_total, slice_cmp, held_at)
 
 removed_alike : (f g : State) (name : List ℕ) → MeanTheSame f g → MeanTheSame (without f name) (without g name)
-removed_alike f g name h other = search (rules, get-remove, nat_list_cmp_total, chosen_alike, slice_cmp, held_at)
+removed_alike f g name h other = search (rules, get-remove, nat_list_cmp_total, slice_cmp, held_at)
 
 module _ (f g : State) (h : MeanTheSame f g) where
   kept_alike : (into : Option (List ℕ)) (found also : Found) → found_shape found ≡ found_shape also
       → MeanTheSame (keeping f into found) (keeping g into also)
-  kept_alike into found also e = search (rules, set_alike, some_one, same_found)
-
-  marked_held_alike : (name : List ℕ) (o p : Option Form) → option_map meaning o ≡ option_map meaning p
-      → MeanTheSame (marking f name o) (marking g name p)
-  marked_held_alike name o p e = search (rules, set_alike, meaning_marked, some_one)
+  kept_alike into found also e = search (rules, set_alike, some_one)
 
   marked_alike : (name : List ℕ) (into : Option (List ℕ))
       → MeanTheSame (marking_into f name into) (marking_into g name into)
-  marked_alike name x1 = search (rules, marked_held_alike, held_at, set_alike, meaning_marked, meaning_alike)
+  marked_alike name x1 = search (rules, held_at, set_alike, meaning_marked, meaning_alike)
 
   states_same : (request : Request) (into : Option (List ℕ)) → MeanTheSame (leaves f request into) (leaves g request into)
   states_same (set name value) into = set_alike f g name value value h refl
@@ -137,7 +125,7 @@ module _ (f g : State) (h : MeanTheSame f g) where
 
   states_left_alike : (q r : Request) (into : Option (List ℕ)) → RequestTheSame q r
       → MeanTheSame (leaves f q into) (leaves g r into)
-  states_left_alike q r into a = search (rules, insert, set_alike, extended_alike, states_same)
+  states_left_alike q r into a = search (rules, set_alike, extended_alike, states_same)
 
   pub outcome_alike : (c d : Command) (o p : Outcome) → AskTheSame c d → IsOutcome f c o → IsOutcome g d p
       → IsSettled f g c.request → shape o ≡ shape p
@@ -146,12 +134,8 @@ module _ (f g : State) (h : MeanTheSame f g) where
   pub state_alike : (c d : Command) → AskTheSame c d → MeanTheSame (state_after f c) (state_after g d)
   state_alike c d a = search (rules, states_left_alike)
 
--- each command asks the same as itself
-request_same : (request : Request) → RequestTheSame request request
-request_same request = search rules
-
 pub asks_the_same : (command : Command) → AskTheSame command command
-asks_the_same command = (request_same command.request, refl)
+asks_the_same command = search rules
 
 pub all_ask_the_same : (commands : List Command) → AllAskTheSame commands commands
 all_ask_the_same [] = tt

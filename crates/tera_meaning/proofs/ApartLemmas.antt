@@ -4,7 +4,6 @@ use Rattle.std.proofs.Common.{sym, ◌∙◌, ap, arith, inl, inr, rules}
 use Rattle.std.specs.List.{AllByRecursion, list_any}
 use Rattle.std.specs.Option.{option_map, unwrap_or}
 use Rattle.std.specs.Ordering.{nat_cmp, eq_by_cmp}
-use Rattle.std.specs.Cmp.{Equal-is}
 use Rattle.std.specs.Cmp.Lexicographic.{slice_cmp}
 use Rattle.std.specs.FinMap.{get as held_at, insert, keys, contains_key-keys}
 use Rattle.std.specs.Str.{IsUtf8}
@@ -12,30 +11,21 @@ use Rattle.std.proofs.lemmas.Bool.{true≢false}
 use Rattle.std.proofs.lemmas.Str.{IsUtf8-append, IsUtf8-from_ascii}
 use Rattle.std.proofs.lemmas.Str.Ascii.{IsAscii-nil, IsAscii-cons}
 use Rattle.tera_meaning.specs.Form.{Form}
-use Rattle.tera_meaning.specs.Meaning.{Meaning, meaning}
+use Rattle.tera_meaning.specs.Meaning.{meaning}
 use Rattle.tera_meaning.specs.Order.{same}
 use Rattle.tera_meaning.specs.State.{State, form_at, meaning_at}
 use Rattle.tera_meaning.specs.Answer
-use Rattle.tera_meaning.specs.Outcome.{OutcomeOf, Outcome, shape}
+use Rattle.tera_meaning.specs.Outcome.{Outcome}
 use Rattle.tera_meaning.specs.Request.{Command}
 use Rattle.tera_meaning.specs.Run.{AreOutcomes}
 use Rattle.tera_meaning.proofs.OrderLaws.{same_is, same_equivalence}
 use Rattle.tera_meaning.proofs.StateLaws.{meaning_set, meaning_other, name_exact}
 use Rattle.tera_meaning.specs.Alike.{meaning_held, MeanTheSame, AreAlike, AnswerAlike, AreToldApartBy, RunsAreToldApart, probe}
-use Rattle.tera_meaning.proofs.AlikeLemmas.{some_one, all_outcomes_alike, all_ask_the_same}
+use Rattle.tera_meaning.proofs.AlikeLemmas.{all_outcomes_alike, all_ask_the_same}
 use Rattle.tera_meaning.specs.Tree.{undefined}
 use Rattle.tera_meaning.specs.WellMade.{IsWellMadeState, AllBringWellMade}
-use Rattle.tera_meaning.proofs.RunLemmas.{ample_outcomes}
 use Rattle.tera_meaning.proofs.WellMadeLemmas.{held_name_well}
 use Rattle.tera_meaning.proofs.Owed.{form_at_well}
-
-truth_of : OutcomeOf Meaning → Bool
-truth_of (Ok (Answer.truth b)) = b
-truth_of _ = false
-
-same_truth : (a b : Bool) (o p : Outcome) → o ≡ Ok (Answer.truth a) → p ≡ Ok (Answer.truth b) → shape o ≡ shape p → a ≡ b
-unfolding truth_of
-same_truth a b o p e i s = sym (ap (λ q. truth_of (shape q)) e) ∙ ap truth_of s ∙ ap (λ q. truth_of (shape q)) i
 
 held_one : (o p : Option Form) → is_some o ≡ is_some p → meaning (unwrap_or o undefined) ≡ meaning (unwrap_or p undefined)
     → option_map meaning o ≡ option_map meaning p
@@ -68,7 +58,7 @@ module _ (f g : State) (name : List ℕ) where
       → AreOutcomes g (probe name (form_at f name)) ps → AreAlike f g (probe name (form_at f name)) (probe name (form_at f name)) os ps
       → meaning_held f name ≡ meaning_held g name
   unfolding probe_equal
-  by_answers x0 ps e i s = search (rules, by_truths, same_truth, held_at, probe_equal)
+  by_answers x0 ps e i s = search (rules, by_truths, held_at, probe_equal)
 
   probe_answers : (state : State) → List Outcome
   probe_answers state =
@@ -76,7 +66,7 @@ module _ (f g : State) (name : List ℕ) where
 
   probe_answered : (state : State) → AreOutcomes state (probe name (form_at f name)) (probe_answers state)
   unfolding probe_answers probe_equal
-  probe_answered state = (refl, (refl, (refl, tt)))
+  probe_answered state = search rules
 
   pub by_alike : AnswerAlike f g → meaning_held f name ≡ meaning_held g name
   by_alike alike =
@@ -95,7 +85,7 @@ apart_at f g name n os ps e i s = n (by_answers f g name os ps e i s)
 
 pub runs_apart_at : (f g : State) (name : List ℕ) → meaning_held f name ≢ meaning_held g name
     → RunsAreToldApart (probe name (form_at f name)) f g
-runs_apart_at f g name n os ps f' g' run other = search (rules, apart_at, ample_outcomes)
+runs_apart_at f g name n os ps f' g' run other = search (rules, apart_at)
 
 -- where the states are well made the commands that tell them apart bring what is
 one_holds : (o p : Option Form) → option_map meaning o ≢ option_map meaning p → IsSome o ⊎ IsSome p
@@ -116,7 +106,7 @@ probe_brings f g name h k n =
 
 decided : (b : Bool) (v w : Form) → same (meaning v) (meaning w) ≡ b
     → (option_map meaning (Some v) ≡ option_map meaning (Some w)) ⊎ (option_map meaning (Some v) ≢ option_map meaning (Some w))
-decided x0 v w e = search (rules, same_is, true≢false, some_one)
+decided x0 v w e = search (rules, same_is, true≢false)
 
 held_decided : (o p : Option Form)
     → (option_map meaning o ≡ option_map meaning p) ⊎ (option_map meaning o ≢ option_map meaning p)
@@ -146,7 +136,7 @@ module _ (f g : State) where
   agree_at : (name k : List ℕ) (ks : List (List ℕ)) (b : Bool) → eq_by_cmp (slice_cmp nat_cmp) name k ≡ b
       → (b || list_any (eq_by_cmp (slice_cmp nat_cmp) name) ks) ≡ true
       → (list_any (eq_by_cmp (slice_cmp nat_cmp) name) ks ≡ true → Agree name) → Agree k → Agree name
-  agree_at name k ks x3 e h rest agree = search (rules, name_exact, Equal-is, slice_cmp)
+  agree_at name k ks x3 e h rest agree = search (rules, name_exact, slice_cmp)
 
   agree_among : (name : List ℕ) (ks : List (List ℕ)) → AllByRecursion Agree ks
       → list_any (eq_by_cmp (slice_cmp nat_cmp) name) ks ≡ true → Agree name
@@ -161,7 +151,7 @@ module _ (f g : State) where
 
   agree_everywhere : AllByRecursion Agree (keys f) → AllByRecursion Agree (keys g) → MeanTheSame f g
   unfolding Agree
-  agree_everywhere all also name = search (rules, agree_held, held_at, agree_among, keys, contains_key-keys)
+  agree_everywhere all also name = search (rules, agree_held, agree_among, keys, contains_key-keys)
 
   told : (MeanTheSame f g → ⊥) → Differ ⊎ AllByRecursion Agree (keys f) → Differ ⊎ AllByRecursion Agree (keys g) → Differ
   told n (inl d) also = d
@@ -170,7 +160,7 @@ module _ (f g : State) where
 
   differ : (MeanTheSame f g → ⊥) → (name : List ℕ) × (meaning_held f name ≢ meaning_held g name)
   unfolding Differ
-  differ n = told n (agree_or_differ (keys f)) (agree_or_differ (keys g))
+  differ n = search (rules, told, agree_or_differ)
 
   -- states of unequal meaning are told apart by some commands
   pub told_apart : (MeanTheSame f g → ⊥) → (commands : List Command) × AreToldApartBy commands f g

@@ -1,10 +1,9 @@
 -- One answer and then another, in the laws of an order.
 use Rattle.std.specs.Prelude.{◌≡◌, ℕ, ◌<◌}
-use Rattle.std.proofs.Common.{subst, rules}
-use Rattle.std.specs.Ordering.{ordering_then, ordering_reverse, MatchOrdering, nat_cmp}
+use Rattle.std.proofs.Common.{rules}
+use Rattle.std.specs.Ordering.{ordering_then, ordering_reverse, nat_cmp}
 use Rattle.std.specs.declared.cmp.Ordering.{Ordering}
 use Rattle.std.specs.declared.cmp.Ordering.TheVariants.{Less, Equal, Greater}
-use Rattle.std.specs.Cmp.{ranks}
 
 pub first_equal : (r s : Ordering) → ordering_then r s ≡ Equal → r ≡ Equal
 first_equal x0 s e = search rules
@@ -27,17 +26,11 @@ chain_then x0 s t r' s' t' chain left right rest p q = search rules
 pub equal_less : Equal ≡ Less → ⊥
 equal_less e = cc
 
-pub less_equal : Less ≡ Equal → ⊥
-less_equal e = cc
-
 pub greater_less : Greater ≡ Less → ⊥
 greater_less e = cc
 
 pub nat_less : (m n : ℕ) → nat_cmp m n ≡ Less → m < n
-nat_less m n e = subst (λ r. MatchOrdering r (m < n) (m ≡ n) (n < m)) e (ranks m n)
-
-by_less : (m n : ℕ) (r : Ordering) → MatchOrdering r (m < n) (m ≡ n) (n < m) → m < n → r ≡ Less
-by_less m n x2 f h = search rules
+nat_less m n e = search rules
 
 pub less_nat : (m n : ℕ) → m < n → nat_cmp m n ≡ Less
-less_nat m n h = by_less m n (nat_cmp m n) (ranks m n) h
+less_nat m n h = search rules

@@ -46,7 +46,7 @@ module _ {K V : Type 0} (order : K → K → Ordering) (total : IsTotalOrder ord
     neither ps qs k a b = λ i. option_eq (eq_by_cmp values) (a i) (b i)
 
     agree_tied : (ps qs : List (K × V)) (k l : K) → order k l ≡ Equal → agree_at order values ps qs k ≡ agree_at order values ps qs l
-    agree_tied ps qs k l p = λ i. option_eq (eq_by_cmp values) (found_tied k l ps p i) (found_tied k l qs p i)
+    agree_tied ps qs k l p = search rules
 
     decides : (ps qs : List (K × V)) (k : K) (x y : Option V) (a b : Bool) → value_at order ps k ≡ x → value_at order qs k ≡ y
         → goes_on order ps k ≡ a → goes_on order qs k ≡ b → order_at order values ps qs k ≡ by_values order values x y a b
@@ -206,7 +206,7 @@ module _ {K V : Type 0} (order : K → K → Ordering) (total : IsTotalOrder ord
     agree_rising es fs k = λ i. option_eq (eq_by_cmp values) (found_rising order total es k i) (found_rising order total fs k i)
 
     order_rising : (es fs : List (K × V)) (k : K) → order_at order values (rising order es) (rising order fs) k ≡ order_at order values es fs k
-    order_rising es fs k = search (rules, decides, found_rising, more_rising)
+    order_rising es fs k = search (rules, found_rising, more_rising)
 
     pub entries_decide : (es fs : List (K × V)) (k : K) → IsLeastDifference order values es fs k
         → slice_cmp (entry_order order values) (rising order es) (rising order fs) ≡ order_at order values es fs k

@@ -2,7 +2,7 @@
 use Rattle.std.specs.Prelude.{◌≡◌, ◌<◌, ◌*◌, ℕ, zero, suc, ℤ, pos, negsuc, ◌+ℤ◌, ◌-ℤ◌, ◌*ℤ◌, ◌≤ℤ◌, ◌<ℤ◌, unsigned_abs}
 use Rattle.std.proofs.Common.{sym, ◌∙◌, ap, subst, arith, rules}
 use Rattle.std.proofs.lemmas.Int.{ints, unsigned_abs-mul}
-use Rattle.std.proofs.Math.IntN.{suc_ℤ, pred_ℤ, suc_ℤ-+ℤ, pred_ℤ-+ℤ, suc_ℤ-*ℤ, pred_ℤ-*ℤ, zero-*ℤ, +ℤ_idl, *ℤ_comm}
+use Rattle.std.proofs.Math.IntN.{suc_ℤ, pred_ℤ, suc_ℤ-+ℤ, pred_ℤ-+ℤ, suc_ℤ-*ℤ, pred_ℤ-*ℤ, *ℤ_comm}
 use Rattle.tera_meaning.specs.Arithmetic.{IsDivided}
 
 -- a sum times a number is the sum of the products
@@ -20,7 +20,7 @@ module _ (y z : ℤ) where
   down x h = search (rules, pred_ℤ-+ℤ, pred_ℤ-*ℤ, moved_down)
 
   none_times : (pos 0 +ℤ y) *ℤ z ≡ pos 0 *ℤ z +ℤ y *ℤ z
-  none_times = ap (λ s. s *ℤ z) (+ℤ_idl y) ∙ sym (ap (λ s. s +ℤ y *ℤ z) (zero-*ℤ z) ∙ +ℤ_idl (y *ℤ z))
+  none_times = search rules
 
   pub sum_times : (x : ℤ) → (x +ℤ y) *ℤ z ≡ x *ℤ z +ℤ y *ℤ z
   sum_times (pos zero) = none_times

@@ -77,7 +77,7 @@ forms_decide es fs k least = search (rules, compare_forms, entries_decide, form_
 
 pub forms_tie : (es fs : List (KeyForm × Form))
     → AgreeEverywhere key_form_order (on meaning compare) es fs ↔ (compare (map_meaning es) (map_meaning fs) ≡ Equal)
-forms_tie es fs = search (rules, slice_cmp, entries_tie, form_total, compare_forms)
+forms_tie es fs = search (rules, entries_tie, form_total, compare_forms)
 
 pub forms_equal : (es fs : List (KeyForm × Form)) → AgreeEverywhere key_form_order (on meaning compare) es fs ↔ (map_meaning es ≡ map_meaning fs)
 forms_equal es fs =

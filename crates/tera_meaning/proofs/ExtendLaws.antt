@@ -2,7 +2,7 @@
 use Rattle.std.proofs.Math.Facts.{and_yes, yes_and}
 use Rattle.std.specs.Prelude.{◌≡◌, ◌<◌, ℕ, Bool, cond, T, IsSome, List, [], ◌∷◌, ◌++◌, length, take, drop, Option, Some, None, refl}
 use Rattle.std.proofs.Common.{sym, ◌∙◌, ap, subst, arith, take-append-drop, length-drop, length-take-le, rules}
-use Rattle.std.specs.Option.{option_map, option_or}
+use Rattle.std.specs.Option.{option_or}
 use Rattle.std.specs.Ordering.{nat_cmp, eq_by_cmp, is_lt}
 use Rattle.std.specs.Cmp.Lexicographic.{slice_cmp, nat_list_cmp_total}
 use Rattle.std.specs.FinMap.{get, find, insert, entries, from_entries, from_sorted, is_sorted, get-entries, get-insert, get-from_entries, get-from_sorted}
@@ -10,7 +10,6 @@ use Rattle.std.specs.FinMap.{entries-from_sorted, len, len-entries, entries_sort
 use Rattle.std.specs.FinMap.Entries.{below_all}
 use Rattle.tera_meaning.specs.Alike.{MeanTheSame}
 use Rattle.tera_meaning.specs.Form.{Form}
-use Rattle.tera_meaning.specs.Meaning.{meaning}
 use Rattle.tera_meaning.specs.State.{State, extended, IsProperBeginning}
 use Rattle.tera_meaning.proofs.StateLaws.{same_state}
 
@@ -33,36 +32,27 @@ find_either name (p ∷ first) later =
 
 pub get_extended : (state source : State) (name : List ℕ)
     → get (extended state source) name ≡ option_or (get source name) (get state name)
-get_extended state source name = search (rules, get-from_entries, nat_list_cmp_total, entries, find_either, get-entries)
+get_extended state source name = search (rules, get-from_entries, nat_list_cmp_total, find_either, get-entries)
 
 -- one more name of the source is one more that the state takes over
 pub extended_insert : (state source : State) (name : List ℕ) (value : Form)
     → extended state (insert source name value) ≡ insert (extended state source) name value
 extended_insert state source name value = search (rules, same_state, get_extended, insert, get, get-insert, nat_list_cmp_total, chosen_or, slice_cmp)
 
-held_or : (o p q : Option Form) → o ≡ p → IsSome p → option_or o q ≡ p
-held_or o x1 q e h = search rules
-
-absent_or : (o p : Option Form) → o ≡ None → option_or o p ≡ p
-absent_or o p e = ap (λ r. option_or r p) e
-
 -- a name of the source has the source's value, and every other name keeps its own
 pub source_taken : (state source : State) (name : List ℕ) → IsSome (get source name)
     → get (extended state source) name ≡ get source name
-source_taken state source name held = search (rules, get_extended, held_or, get)
+source_taken state source name held = search (rules, get_extended, get)
 
 pub others_kept : (state source : State) (name : List ℕ) → get source name ≡ None
     → get (extended state source) name ≡ get state name
-others_kept state source name absent = search (rules, get_extended, absent_or, get)
+others_kept state source name absent = search (rules, get_extended, get)
 
 -- ---- meanings
 
-mapped_or : (o p : Option Form) → option_map meaning (option_or o p) ≡ option_or (option_map meaning o) (option_map meaning p)
-mapped_or x0 p = search rules
-
 pub extended_alike : (f g source other : State) → MeanTheSame f g → MeanTheSame source other
     → MeanTheSame (extended f source) (extended g other)
-extended_alike f g source other h also name = search (rules, get_extended, mapped_or, get)
+extended_alike f g source other h also name = search (rules, get_extended, get)
 
 -- ---- a beginning of a source
 
@@ -101,10 +91,10 @@ rising_first (p ∷ pairs) later h =
 -- of a state there is a beginning of each length below its own
 module _ (whole : State) (n : ℕ) (fewer : n < len whole) where
   some_later : n < length (entries whole)
-  some_later = let e = len-entries whole in omega (arith, fewer, e)
+  some_later = search (rules, len-entries)
 
   split : take n (entries whole) ++ drop n (entries whole) ≡ entries whole
-  split = take-append-drop n (entries whole)
+  split = search (rules, take-append-drop, entries)
 
   rising : entries (from_entries {R = slice_cmp nat_cmp} (take n (entries whole))) ≡ take n (entries whole)
   rising = entries_of_rising (take n (entries whole)) (rising_first (take n (entries whole)) (drop n (entries whole))

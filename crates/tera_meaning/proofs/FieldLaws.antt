@@ -10,7 +10,6 @@ use Rattle.std.specs.Ordering.{nat_cmp, ordering_reverse, match_ordering}
 use Rattle.std.specs.declared.cmp.Ordering.{Ordering}
 use Rattle.std.specs.declared.cmp.Ordering.TheVariants.{Less, Equal, Greater}
 use Rattle.tera_meaning.proofs.Among.{Among, among, contained}
-use Rattle.tera_meaning.proofs.ChainedLaws.{less_equal, greater_less}
 use Rattle.tera_meaning.proofs.StateLaws.{name_exact}
 use Rattle.tera_meaning.specs.Fields.{AreRisingOf, rising_texts}
 
@@ -88,10 +87,10 @@ below_among s (t ∷ ts) x h (inl is) = ap (order s) is ∙ h.0
 below_among s (t ∷ ts) x h (inr a) = below_among s ts x h.1 a
 
 one_head : (s t : List ℕ) (ss ts : List (List ℕ)) → Below s ss → Below t ts → (s ≡ t) ⊎ Among ts s → (t ≡ s) ⊎ Among ss t → s ≡ t
-one_head s t ss ts h g x6 b = search (rules, greater_less, below_among, nat_list_cmp_total)
+one_head s t ss ts h g x6 b = search (rules, below_among, nat_list_cmp_total)
 
 later : (s t x : List ℕ) (ts : List (List ℕ)) → order s x ≡ Less → s ≡ t → (x ≡ t) ⊎ Among ts x → Among ts x
-later s t x ts m is x6 = search (rules, less_equal, order, tied_itself, nat_list_cmp_total)
+later s t x ts m is x6 = search (rules, tied_itself, nat_list_cmp_total)
 
 one_list : (ss ts : List (List ℕ)) → IsStrictlySortedBy order ss → IsStrictlySortedBy order ts → ((x : List ℕ) → Among ss x → Among ts x)
     → ((x : List ℕ) → Among ts x → Among ss x) → ss ≡ ts

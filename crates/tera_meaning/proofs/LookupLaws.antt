@@ -49,9 +49,6 @@ occurs_again part (b ∷ before) rest = or_true (begins_with (b ∷ (before ++ (
 pub occurs_where_joined : (part bs : List ℕ) → (occurs part bs ≡ true) ↔ HasSubslice bs part
 occurs_where_joined part bs = (occurs_split part bs, λ (before, rest, is). ap (occurs part) is ∙ occurs_again part before rest)
 
-one_truth : (a b : Bool) → (a ≡ true → b ≡ true) → (b ≡ true → a ≡ true) → a ≡ b
-one_truth x0 b to back = search rules
-
 -- what is true just where the text holds the other tells whether it does
 pub tells_occurs : (told : Bool) (part bs : List ℕ) → (told ≡ true) ↔ HasSubslice bs part → told ≡ occurs part bs
-tells_occurs told part bs h = one_truth told (occurs part bs) (λ t. (occurs_where_joined part bs).1 (h.0 t)) (λ t. h.1 ((occurs_where_joined part bs).0 t))
+tells_occurs told part bs h = search (rules, occurs_where_joined)

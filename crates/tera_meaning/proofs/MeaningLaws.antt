@@ -81,7 +81,7 @@ found_meant ps k = found_rising key_order key_total (map pair_meaning ps) (key_m
 pub found_pair : (ps : Members Integer MarkedText KeyForm) (k : KeyMeaning)
     → option_map meaning (lookup (λ l. eq_by_cmp key_order k (key_meaning l)) (members_list ps))
     ≡ value_at key_order (members_list (members (meant_pairs ps))) k
-found_pair ps k = search (rules, found_there, found_rising, key_total, pairs_meant, list_of_members, meant_pairs)
+found_pair ps k = search (rules, found_there, found_rising, key_total, pairs_meant, list_of_members)
 
 pub distinct_meant : (ps : List (KeyForm × Form)) → HasDistinctKeys key_form_order ps → HasDistinctKeys key_order (map pair_meaning ps)
 distinct_meant ps h = distinct_read key_meaning meaning key_order ps h
@@ -107,7 +107,7 @@ some_meant : (ps : List (KeyForm × Form)) → is_nonempty (rising key_order (ma
 some_meant x0 = search (rules, some_inserted)
 
 pub truthy_meant : (ps : List (KeyForm × Form)) → truthy_in (meaning (object (members ps))) ≡ is_nonempty ps
-truthy_meant ps = ap truthy_in (map_means ps) ∙ ap is_nonempty (list_of_members (rising key_order (map pair_meaning ps))) ∙ some_meant ps
+truthy_meant ps = search (rules, map_means, some_meant)
 
 -- ---- what is put at a key takes its place in what the map means
 

@@ -1,10 +1,9 @@
 -- The order of meanings is total, and ties equal meanings alone.
 use Rattle.std.specs.Prelude.{◌≡◌, ℕ, ◌<◌, ◌≤◌, ◌↔◌, IsTrue, List, [], ◌∷◌, ℤ, refl}
 use Rattle.std.proofs.Common.{sym, ◌∙◌, ap, arith, rules}
-use Rattle.std.specs.Ordering.{ordering_then, ordering_reverse, is_eq, as_partial_cmp}
+use Rattle.std.specs.Ordering.{ordering_then, ordering_reverse, as_partial_cmp}
 use Rattle.std.specs.declared.cmp.Ordering.TheVariants.{Less, Equal}
-use Rattle.std.specs.Cmp.{IsPartialEquivalence, IsEquivalence, IsTotalOrder, IsPartialOrder, partial_order_from_total, int_cmp_total, bool_cmp_total}
-use Rattle.std.specs.Cmp.{tied_itself, eq_by_cmp_equiv, partial_equiv_from_equiv, Equal-is}
+use Rattle.std.specs.Cmp.{IsPartialEquivalence, IsEquivalence, IsTotalOrder, IsPartialOrder, int_cmp_total, bool_cmp_total}
 use Rattle.std.specs.Cmp.Lexicographic.{slice_cmp, nat_list_cmp_total}
 use Rattle.std.specs.FinMap.{nat_cmp-IsAntisymmetric, int_cmp-IsAntisymmetric, slice_cmp-IsAntisymmetric}
 use Rattle.tera_meaning.specs.KeyMeaning.{KeyMeaning, key_order}
@@ -138,19 +137,19 @@ compare_total = record {
 
 -- the order as `partial_cmp` answers it
 pub compare_partial : IsPartialOrder same (as_partial_cmp compare)
-compare_partial = partial_order_from_total compare_total
+compare_partial = search (rules, compare_total)
 
 pub compare_same : (x : Meaning) → compare x x ≡ Equal
-compare_same x = tied_itself compare_total x
+compare_same x = search (rules, compare_total)
 
 pub same_equivalence : IsEquivalence same
-same_equivalence = eq_by_cmp_equiv compare_total
+same_equivalence = search (rules, compare_total)
 
 pub same_partial_equivalence : IsPartialEquivalence same
-same_partial_equivalence = partial_equiv_from_equiv same_equivalence
+same_partial_equivalence = search (rules, same_equivalence)
 
 pub same_is : (x y : Meaning) → IsTrue (same x y) ↔ (x ≡ y)
-same_is x y = (λ e. compare_exact x y ((Equal-is (compare x y)).0 e), λ e. ap (λ w. is_eq (compare x w)) (sym e) ∙ ap is_eq (compare_same x))
+same_is x y = search (rules, compare_exact, compare_same)
 
 pub compare_tie : (x y : Meaning) → (compare x y ≡ Equal) ↔ (x ≡ y)
 compare_tie x y = (compare_exact x y, λ e. ap (λ w. compare x w) (sym e) ∙ compare_same x)

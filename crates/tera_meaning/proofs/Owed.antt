@@ -1,7 +1,7 @@
 -- What a call that finds something owes, and how it follows from what the call makes of the forms at its names.
 use Rattle.std.specs.Prelude.{◌≡◌, ℕ, List, Option, Result, Ok, Err, IfOk, IfErr, IfSome}
-use Rattle.std.proofs.Common.{sym, ◌∙◌, ap, rules}
-use Rattle.std.specs.Option.{option_map, unwrap_or}
+use Rattle.std.proofs.Common.{rules}
+use Rattle.std.specs.Option.{option_map}
 use Rattle.std.specs.FinMap.{get as held_at}
 use Rattle.std.specs.Str.{IsUtf8}
 use Rattle.tera_report.specs.Refusal.{Refusal, memory_refused, shape as refusal_shape}
@@ -11,7 +11,6 @@ use Rattle.tera_meaning.specs.Meaning.{Meaning, meaning}
 use Rattle.tera_meaning.specs.Search.{Found, one_found}
 use Rattle.tera_meaning.specs.SliceRule.{shape_of}
 use Rattle.tera_meaning.specs.State.{State, read, form_at, meaning_at}
-use Rattle.tera_meaning.specs.Tree.{undefined}
 use Rattle.tera_meaning.specs.WellMade.{IsWellMade, IsWellMadeState}
 use Rattle.tera_meaning.proofs.ArithmeticLemmas.{IsNoWant}
 
@@ -28,24 +27,18 @@ pub record Owes (found : State → Found) : Type 0 where
 
 -- ---- the forms at names
 
-read_meant : (o : Option Form) → meaning (read o) ≡ unwrap_or (option_map meaning o) undefined
-read_meant x0 = search rules
-
 pub read_alike : (o p : Option Form) → option_map meaning o ≡ option_map meaning p → meaning (read o) ≡ meaning (read p)
-read_alike o p e = read_meant o ∙ ap (λ q. unwrap_or q undefined) e ∙ sym (read_meant p)
+read_alike o p e = search rules
 
 pub meaning_alike : (f g : State) → MeanTheSame f g → (name : List ℕ) → meaning_at f name ≡ meaning_at g name
-meaning_alike f g h name = read_alike (held_at f name) (held_at g name) (h name)
+meaning_alike f g h name = search rules
 
 -- a form that is held under a name that is UTF-8 is well made
 abbrev pub IsHeldWell : List ℕ → Option Form → Type 0
 IsHeldWell name o = IfSome o (λ value. IsUtf8 name × IsWellMade value)
 
-form_well : (name : List ℕ) (o : Option Form) → IsHeldWell name o → IsWellMade (unwrap_or o undefined)
-form_well name x1 h = search rules
-
 pub form_at_well : (state : State) → IsWellMadeState state → (name : List ℕ) → IsWellMade (form_at state name)
-form_at_well state h name = form_well name (held_at state name) (h name)
+form_at_well state h name = search rules
 
 -- ---- a value, or its refusal
 

@@ -2,7 +2,7 @@
 use Rattle.std.specs.Prelude.{◌≡◌, ◌||◌, Bool, true, cond, List, [], ◌∷◌, Some, refl}
 use Rattle.std.proofs.Common.{sym, ◌∙◌, ap, rules}
 use Rattle.std.specs.BTreeMap.{insert_entry}
-use Rattle.std.specs.Cmp.{IsTotalOrder, alike_right, Equal-is}
+use Rattle.std.specs.Cmp.{IsTotalOrder, alike_right}
 use Rattle.std.specs.List.{AllByRecursion}
 use Rattle.std.specs.List.Sorted.{IsStrictlySortedBy}
 use Rattle.std.specs.Map.{keys_of}
@@ -33,7 +33,7 @@ module _ {K : Type 0} (order : K → K → Ordering) (total : IsTotalOrder order
 
   -- two keys that both tie with a third tie
   pub joined : (q k l : K) → eq_by_cmp order q k ≡ true → eq_by_cmp order q l ≡ true → order k l ≡ Equal
-  joined q k l a b = sym (total.congr q k l ((Equal-is (order q k)).0 a)) ∙ (Equal-is (order q l)).0 b
+  joined q k l a b = search rules
 
 -- ---- the entries in their places
 

@@ -1,9 +1,8 @@
 -- Powers as products of halves, and how large they are.
-use Rattle.std.specs.Prelude.{◌≡◌, ◌⊎◌, ◌<◌, ◌≤◌, ◌+◌, ◌*◌, ◌/◌, ◌%◌, ◌^◌, ℕ, zero, suc, ℤ, pos, negsuc, ◌+ℤ◌, ◌-ℤ◌, ◌*ℤ◌, unsigned_abs, false, refl}
+use Rattle.std.specs.Prelude.{◌≡◌, ◌<◌, ◌≤◌, ◌+◌, ◌*◌, ◌/◌, ◌%◌, ◌^◌, ℕ, zero, suc, ℤ, pos, negsuc, ◌+ℤ◌, ◌-ℤ◌, ◌*ℤ◌, unsigned_abs, false}
 use Rattle.std.proofs.Common.{sym, ◌∙◌, ap, arith, mul-le-mul, zero-add, suc-add, mod-lt, zero-lt-suc, pow-suc, pow_mono, rules}
-use Rattle.std.proofs.lemmas.Bool.{cases_lt}
 use Rattle.std.proofs.lemmas.Int.{ints, unsigned_abs-mul}
-use Rattle.std.proofs.Math.IntN.{suc_ℤ, pred_ℤ, suc_ℤ-*ℤ, pred_ℤ-*ℤ, zero-*ℤ, *ℤ-one, *ℤ_comm, one}
+use Rattle.std.proofs.Math.IntN.{suc_ℤ, pred_ℤ, suc_ℤ-*ℤ, pred_ℤ-*ℤ}
 use Rattle.tera_meaning.specs.Arithmetic.{power_of}
 use Rattle.tera_meaning.specs.Integer.{is_small}
 use Rattle.tera_meaning.proofs.DivisionLemmas.{sum_times}
@@ -26,7 +25,7 @@ module _ (y z : ℤ) where
   down x h = search (rules, pred_ℤ-*ℤ, less_times)
 
   none_times : (pos 0 *ℤ y) *ℤ z ≡ pos 0 *ℤ (y *ℤ z)
-  none_times = ap (λ s. s *ℤ z) (zero-*ℤ y) ∙ zero-*ℤ z ∙ sym (zero-*ℤ (y *ℤ z))
+  none_times = search rules
 
   times_assoc : (x : ℤ) → (x *ℤ y) *ℤ z ≡ x *ℤ (y *ℤ z)
   times_assoc (pos zero) = none_times
@@ -34,12 +33,8 @@ module _ (y z : ℤ) where
   times_assoc (negsuc zero) = down (pos 0) none_times
   times_assoc (negsuc (suc n)) = down (negsuc n) (times_assoc (negsuc n))
 
-times_one : (x : ℤ) → x *ℤ pos 1 ≡ x
-unfolding one
-times_one x = *ℤ-one x
-
 one_times : (x : ℤ) → pos 1 *ℤ x ≡ x
-one_times x = *ℤ_comm (pos 1) x ∙ times_one x
+one_times x = search rules
 
 -- ---- powers
 
@@ -59,14 +54,14 @@ power_halves base e = search (rules, half_and_half, power_add)
 
 pub power_none : (base : ℤ) → power_of base 0 ≡ pos 1
 unfolding power_of
-power_none base = refl
+power_none base = search rules
 
 pub power_more : (base : ℤ) (n : ℕ) → power_of base (suc n) ≡ base *ℤ power_of base n
 unfolding power_of
-power_more base n = refl
+power_more base n = search rules
 
 pub power_once : (base : ℤ) → power_of base 1 ≡ base
-power_once base = power_more base 0 ∙ ap (λ s. base *ℤ s) (power_none base) ∙ times_one base
+power_once base = search (rules, power_more, power_none)
 
 -- ---- sizes
 
@@ -96,7 +91,7 @@ rest_size base e h = by (e % 2) (mod-lt e (zero-lt-suc 1))
     by (suc (suc k)) less = absurd (omega arith)
 
 larger_base : (base : ℤ) (n : ℕ) → 1 < unsigned_abs (power_of base n) → 1 < unsigned_abs base
-larger_base base n h = search (rules, cases_lt, size_of_one)
+larger_base base n h = search (rules, size_of_one)
 
 size_halves : (base : ℤ) (e : ℕ) → unsigned_abs (power_of base e)
     ≡ (unsigned_abs (power_of base (e / 2)) * unsigned_abs (power_of base (e / 2))) * unsigned_abs (power_of base (e % 2))
@@ -119,7 +114,7 @@ large_half base e h =
 
 -- what an even power is, and an odd one
 pub even_power : (base : ℤ) (e : ℕ) → e % 2 ≡ 0 → power_of base e ≡ power_of base (e / 2) *ℤ power_of base (e / 2)
-even_power base e h = search (rules, power_halves, power_none, times_one)
+even_power base e h = search (rules, power_halves, power_none)
 
 pub odd_power : (base : ℤ) (e : ℕ) → e % 2 ≡ 1 → power_of base e ≡ (power_of base (e / 2) *ℤ power_of base (e / 2)) *ℤ base
 odd_power base e h = search (rules, power_halves, power_once)
@@ -129,13 +124,10 @@ large_odd_power : (base : ℤ) (e : ℕ) → e % 2 ≡ 1 → is_small (power_of 
     → is_small (power_of base e) ≡ false
 large_odd_power base e odd h = grind (arith, common_steps, large_size, unsigned_abs-mul, larger_base, odd_power, mul-le-mul, size_large)
 
-parity : (n : ℕ) → (n % 2 ≡ 0) ⊎ (n % 2 ≡ 1)
-parity n = search rules
-
 -- where the square of the half of a power is not small the power is not
 pub large_square : (base : ℤ) (e : ℕ) → is_small (power_of base (e / 2) *ℤ power_of base (e / 2)) ≡ false
     → is_small (power_of base e) ≡ false
-large_square base e h = search (rules, parity, even_power, large_odd_power)
+large_square base e h = search (rules, even_power, large_odd_power)
 
 -- ---- powers too large to compute
 

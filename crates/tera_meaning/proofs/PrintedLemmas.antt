@@ -1,7 +1,7 @@
 -- Values that are laid out alike print alike, and what is exact is so by its parts.
 use Rattle.std.proofs.lemmas.Bool.{and_parts, and_from, lt-ltb}
 use Rattle.std.specs.Prelude.{◌↔◌, ℕ, suc, ◌&&◌, IsTrue, List, [], ◌∷◌, refl}
-use Rattle.std.proofs.Common.{ltb-true, arith, rules}
+use Rattle.std.proofs.Common.{ltb-true, rules}
 use Rattle.std.specs.Char.{is_ascii}
 use Rattle.std.specs.List.{All, AllByRecursion, list_all}
 use Rattle.std.specs.Str.{IsAscii}
@@ -16,7 +16,7 @@ use Rattle.std.proofs.lemmas.Grind.{common_steps}
 -- ---- what is exact by its parts
 
 ascii_told : (t : List ℕ) → IsTrue (list_all is_ascii t) → IsAscii t
-ascii_told x0 h = grind (arith, common_steps, IsAscii-nil, and_parts, IsAscii-cons, ltb-true)
+ascii_told x0 h = search (rules, common_steps, IsAscii-nil, and_parts, IsAscii-cons, ltb-true)
 
 ascii_tells : (t : List ℕ) → IsAscii t → IsTrue (list_all is_ascii t)
 ascii_tells [] h = refl

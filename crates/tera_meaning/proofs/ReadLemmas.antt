@@ -1,6 +1,6 @@
 -- What is read off a value by its meaning: its items and pairs, its number and its text, it as a key, and its fields.
 use Rattle.std.specs.Prelude.{◌≡◌, ◌⊎◌, ℕ, ℤ, List, [], ◌∷◌, map, Option, Some, None, Ok, is_some, refl}
-use Rattle.std.proofs.Common.{sym, ap, ◌∙◌, inl, inr, rules}
+use Rattle.std.proofs.Common.{ap, ◌∙◌, inl, inr, rules}
 use Rattle.std.specs.BTreeMap.{insert_entry}
 use Rattle.std.specs.Option.{option_map}
 use Rattle.std.specs.Ordering.{match_ordering}
@@ -13,7 +13,7 @@ use Rattle.tera_meaning.specs.Lookup.{key_in}
 use Rattle.tera_meaning.specs.Meaning.{Meaning, meaning, pair_meaning}
 use Rattle.tera_meaning.specs.Pairs.{rising}
 use Rattle.tera_meaning.specs.Printed.{shown_key}
-use Rattle.tera_meaning.specs.Read.{number_in, text_in}
+use Rattle.tera_meaning.specs.Read.{text_in}
 use Rattle.tera_meaning.specs.SliceRule.{shape_of}
 use Rattle.tera_meaning.specs.Tree.{Members, truth, number, text, array, object, items, members, members_list}
 use Rattle.tera_meaning.proofs.Among.{Among, among, contained}
@@ -43,13 +43,6 @@ key_as_meant v = search rules
 pub number_meant : Meaning → Option ℤ
 number_meant (number z) = Some z
 number_meant v = None
-
-pub number_as_meant : (v : Form) → number_in v ≡ number_meant (meaning v)
-unfolding number_meant
-number_as_meant v = search rules
-
-pub number_by_meaning : (v w : Form) → meaning v ≡ meaning w → number_in v ≡ number_in w
-number_by_meaning v w same = number_as_meant v ∙ ap number_meant same ∙ sym (number_as_meant w)
 
 pub text_meant : Meaning → Option (List ℕ)
 text_meant (text s) = Some s
@@ -136,7 +129,7 @@ unfolding fields_meant
 fields_as_meant v = search (rules, shown_as_meant, shown_of, pairs_meant, same_names, layout_members, list_of_members, meant_pairs)
 
 pub fields_by_meaning : (v w : Form) → meaning v ≡ meaning w → fields v ≡ fields w
-fields_by_meaning v w same = fields_as_meant v ∙ ap fields_meant same ∙ sym (fields_as_meant w)
+fields_by_meaning v w same = search (rules, fields_as_meant)
 
 -- ---- what is there
 

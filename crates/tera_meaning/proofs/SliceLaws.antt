@@ -190,7 +190,7 @@ module _ {X : Type 0} where
       })
 
 pub whole_array : (xs : List Form) → IsSliced (array (items xs)) None None None (Ok (array (items xs)))
-whole_array xs = (items_list (items xs), whole_slice (items_list (items xs)), ap (λ (ys : List Form). Ok (array (items ys))) (sym (list_of_items xs)))
+whole_array xs = search (rules, list_of_items)
 
 pub whole_text : (t : MarkedText) → IsUtf8 t.spelled → IsSliced (text t) None None None (Ok (text t))
 whole_text t utf8 = (

@@ -1,5 +1,5 @@
 -- What single steps answer and leave.
-use Rattle.std.specs.Prelude.{◌≡◌, ℕ, Bool, cond, List, Option, Some, None, Ok, Err, refl}
+use Rattle.std.specs.Prelude.{◌≡◌, ℕ, Bool, cond, List, Option, Some, None, Ok, Err}
 use Rattle.std.proofs.Common.{sym, ◌∙◌, ap, subst, rules}
 use Rattle.std.specs.Option.{option_map, unwrap_or}
 use Rattle.std.specs.Ordering.{nat_cmp, eq_by_cmp}
@@ -13,10 +13,9 @@ use Rattle.tera_meaning.specs.Form.{Form}
 use Rattle.tera_meaning.specs.Meaning.{layout, meaning}
 use Rattle.tera_meaning.specs.Printed.{printed, IsExact}
 use Rattle.tera_meaning.specs.Read.{marked_safe}
-use Rattle.tera_meaning.specs.State.{State, form_at, layout_at, meaning_at}
+use Rattle.tera_meaning.specs.State.{State, layout_at, meaning_at}
 use Rattle.tera_meaning.proofs.StateLaws.{get_set, meaning_set, name_exact, get_other}
 use Rattle.tera_meaning.specs.Alike.{MeanTheSame, meaning_held}
-use Rattle.tera_meaning.proofs.AlikeLemmas.{meaning_marked}
 use Rattle.tera_meaning.specs.Answer
 use Rattle.tera_meaning.specs.Question
 use Rattle.tera_meaning.specs.Request.{mark_safe, ask, asking, asking_into}
@@ -36,13 +35,13 @@ escapes state name o e exact given (t, w, is, spells, d) =
 module _ (state : State) (name : List ℕ) where
   pub escapes_one : IsExact (layout_at state name)
       → ComesOnlyTo state (ask Question.escape name) (Ok (Answer.text (escaped (printed (layout_at state name)))))
-  escapes_one = escapes state name (held_at state name) refl
+  escapes_one = search (rules, escapes)
 
 -- what is marked safe
 module _ (state : State) (name : List ℕ) where
   pub marked_meaning : (into : List ℕ)
       → meaning_at (state_after state (asking_into (mark_safe name) into)) into ≡ meaning_at state name
-  marked_meaning into = meaning_set state into (marked_safe (form_at state name)) ∙ meaning_marked (form_at state name)
+  marked_meaning into = search (rules, meaning_set)
 
   pub marked_absent : (into : List ℕ) → held_at state name ≡ None
       → held_at (state_after state (asking_into (mark_safe name) into)) into ≡ Some undefined
@@ -51,14 +50,14 @@ module _ (state : State) (name : List ℕ) where
   marked_one : (value : Form) (other : List ℕ) (b : Bool) → eq_by_cmp (slice_cmp nat_cmp) other name ≡ b
       → held_at state name ≡ Some value
       → option_map meaning (cond b (Some (marked_safe value)) (held_at state other)) ≡ meaning_held state other
-  marked_one value other x2 d e = search (rules, meaning_marked, name_exact, Equal-is, slice_cmp)
+  marked_one value other x2 d e = search (rules, name_exact, Equal-is, slice_cmp)
 
   marked_held : (o : Option Form) → held_at state name ≡ o → MeanTheSame (marking state name o) state
-  marked_held x0 e other = search (rules, get-insert, nat_list_cmp_total, marked_one, slice_cmp)
+  marked_held x0 e other = search (rules, get-insert, nat_list_cmp_total, marked_one)
 
   -- marked in its place, no meaning changes
   pub marked_alike : MeanTheSame (state_after state (asking (mark_safe name))) state
-  marked_alike = marked_held (held_at state name) refl
+  marked_alike = search (rules, marked_held)
 
 -- a refusal is passed on, and keeps nothing
 pub refused_answer : (into : Option (List ℕ)) (refusal : Refusal) → found_or_kept into (Err refusal) ≡ Err refusal

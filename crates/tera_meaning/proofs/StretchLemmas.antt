@@ -1,10 +1,9 @@
 -- A slice by a step of 1 is the items from one bound to the other.
-use Rattle.std.specs.Prelude.{◌≡◌, ◌≤◌, ◌-◌, min, ℕ, zero, suc, ℤ, pos, negsuc, nat_abs, List, [], ◌∷◌, drop, length, take, Option, None, Some, Result, Ok}
-use Rattle.std.specs.Prelude.{refl}
+use Rattle.std.specs.Prelude.{◌≡◌, ◌≤◌, min, ℕ, zero, suc, ℤ, pos, nat_abs, List, [], ◌∷◌, drop, length, take, Option, None, Some, Result, Ok, refl}
 use Rattle.std.proofs.Common.{ap, ◌∙◌, arith, rules}
 use Rattle.std.proofs.lemmas.Bool.{cases_lt}
 use Rattle.std.proofs.lemmas.Int.{ints, clamps}
-use Rattle.std.proofs.lemmas.List.{drop_all, length-take, take_all}
+use Rattle.std.proofs.lemmas.List.{drop_all, take_all}
 use Rattle.std.specs.Str.{chars, encode_utf8_all}
 use Rattle.tera_report.specs.Refusal.{Refusal}
 use Rattle.tera_meaning.specs.Form.{Form, MarkedText}
@@ -19,9 +18,6 @@ use Rattle.tera_meaning.proofs.SliceLaws.{sliced_only}
 at_front : (n bound : ℕ) → nat_abs (place_of_bound (pos 1) n (pos bound)) ≡ min bound n
 at_front n bound = omega (arith, ints, clamps)
 
-from_end : (n bound : ℕ) → nat_abs (place_of_bound (pos 1) n (negsuc bound)) ≡ n - suc bound
-from_end n bound = omega (arith, ints, clamps)
-
 module _ {X : Type 0} where
   -- a walk that does not pause takes what is behind those that it passes over
   walked_on : (waits : ℕ) (xs : List X) → walked 0 waits xs ≡ drop waits xs
@@ -30,24 +26,18 @@ module _ {X : Type 0} where
   walked_on zero (x ∷ xs) = ap (λ ys. x ∷ ys) (walked_on zero xs)
   walked_on (suc waits) (x ∷ xs) = walked_on waits xs
 
-  take_at_most : (bound : ℕ) (xs : List X) → take (min bound (length xs)) xs ≡ take bound xs
-  take_at_most bound xs = search (rules, cases_lt, take_all)
-
   drop_at_most : (bound n : ℕ) (xs : List X) → length xs ≤ n → drop (min bound n) xs ≡ drop bound xs
   drop_at_most bound n xs within = search (rules, cases_lt, drop_all)
 
   taken_up_to : (end : Option ℤ) (xs : List X) → take (nat_abs (end_place (pos 1) (length xs) end)) xs ≡ up_to_bound end xs
-  taken_up_to x0 xs = search (rules, take_all, at_front, take_at_most, from_end)
+  taken_up_to x0 xs = search (rules, take_all)
 
   dropped_from : (count : ℕ) (start : Option ℤ) (xs : List X) → length xs ≤ count
       → drop (nat_abs (start_place (pos 1) count start)) xs ≡ from_bound count start xs
-  dropped_from count x1 xs within = search (rules, at_front, drop_at_most, from_end)
-
-  no_more : (end : Option ℤ) (xs : List X) → length (up_to_bound end xs) ≤ length xs
-  no_more x0 xs = search (rules, length-take)
+  dropped_from count x1 xs within = search (rules, at_front, drop_at_most)
 
   pub slice_is_stretch : (xs : List X) (start end : Option ℤ) → slice_of xs start end (pos 1) ≡ stretch xs start end
-  slice_is_stretch xs start end = search (rules, walked_on, taken_up_to, dropped_from, no_more)
+  slice_is_stretch xs start end = search (rules, walked_on, taken_up_to, dropped_from)
 
 pub array_stretch : (v : Form) (xs : List Form) (start end : Option ℤ) (outcome : Result Form Refusal)
     → items_in v ≡ Some xs → IsSliced v start end None outcome → outcome ≡ Ok (array (items (stretch xs start end)))

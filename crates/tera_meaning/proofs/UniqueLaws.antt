@@ -14,7 +14,6 @@ use Rattle.std.proofs.lemmas.List.Sorted.{IsPermutation-refl, IsPermutation-sym,
 use Rattle.std.proofs.lemmas.List.Sorted.{Contains-permutation, IsPermutation-map}
 use Rattle.std.proofs.lemmas.Map.Keys.{IsDistinct-IsPermutation}
 use Rattle.tera_meaning.proofs.Among.{Among, among, contained}
-use Rattle.tera_meaning.proofs.ChainedLaws.{greater_less}
 use Rattle.tera_meaning.specs.Pairs.{Rises, HasDistinctKeys, rising, value_at}
 use Rattle.tera_meaning.proofs.PairLaws.{Below, rising_rises, found_rising}
 
@@ -26,7 +25,7 @@ module _ {K V : Type 0} (order : K → K → Ordering) (total : IsTotalOrder ord
 
   -- two heads, each of which is among the other's list
   one_head : (p q : K × V) (ps qs : List (K × V)) → Below order p.0 ps → Below order q.0 qs → (p ≡ q) ⊎ Among qs p → (q ≡ p) ⊎ Among ps q → p ≡ q
-  one_head p q ps qs h g x6 b = search (rules, greater_less, below_among)
+  one_head p q ps qs h g x6 b = search (rules, below_among)
 
   -- what is above the one head is among the other's tail
   later : (p q e : K × V) (qs : List (K × V)) → order p.0 e.0 ≡ Less → p ≡ q → (e ≡ q) ⊎ Among qs e → Among qs e

@@ -84,11 +84,10 @@ front_utf8 bs (suc n) =
 
 valid_utf8 : (bs : List ℕ) → IsUtf8 (take (utf8_valid_len bs) bs)
 unfolding utf8_valid_len
-valid_utf8 bs = front_utf8 bs (length bs)
+valid_utf8 bs = search (rules, front_utf8)
 
 replacement_utf8 : IsUtf8 replacement_bytes
-unfolding encode
-replacement_utf8 = IsUtf8-encode 65533 refl
+replacement_utf8 = search rules
 
 lossy_within_utf8 : (k : ℕ) (bs : List ℕ) → length bs < k → IsUtf8 (utf8_lossy bs)
 lossy_within_utf8 zero bs le = absurd (omega arith)
@@ -109,10 +108,10 @@ lossy_utf8 bs = lossy_within_utf8 (suc (length bs)) bs (omega arith)
 -- ---- numbers, keys and whole meanings
 
 signed_utf8 : (z : ℤ) → IsWide z → IsUtf8 (signed_decimal z)
-signed_utf8 x0 h = search (rules, IsUtf8-from_ascii, IsAscii-decimal_wide, ascii_then, suc)
+signed_utf8 x0 h = search (rules, IsUtf8-from_ascii, IsAscii-decimal_wide, suc)
 
 truth_utf8 : (b : Bool) → IsUtf8 (printed_truth b)
-truth_utf8 x0 = search (rules, true, ascii_utf8, false)
+truth_utf8 x0 = search (rules, true, ascii_utf8)
 
 key_utf8 : (k : KeyMeaning) → IsWellMadeKeyMeaning k → IsUtf8 (printed_key k)
 key_utf8 (truth_key b) h = truth_utf8 b
@@ -121,7 +120,7 @@ key_utf8 (text_key t) h = quoted_utf8 t h
 
 pair_utf8 : (k : KeyMeaning) (value more : List ℕ) → IsWellMadeKeyMeaning k → IsUtf8 value → IsUtf8 more
     → IsUtf8 (printed_key k ++ codes ": " ++ value ++ more)
-pair_utf8 k value more key u w = search (rules, IsUtf8-append, key_utf8, ascii_utf8)
+pair_utf8 k value more key u w = search (rules, IsUtf8-append, key_utf8)
 
 mutual
   with_utf8 : (show : List ℕ → List ℕ) → ((t : List ℕ) → IsUtf8 t → IsUtf8 (show t)) → (x : Layout)

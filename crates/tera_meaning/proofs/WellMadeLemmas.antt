@@ -1,7 +1,6 @@
 -- What is held stays well made.
 use Rattle.std.specs.Prelude.{◌≡◌, ℕ, ℤ, pos, negsuc, Bool, true, false, cond, IfSome, IsSome, List, [], ◌∷◌, Option, IfOk}
 use Rattle.std.proofs.Common.{sym, subst, arith, rules}
-use Rattle.std.specs.Option.{option_or}
 use Rattle.std.specs.Ordering.{nat_cmp, eq_by_cmp}
 use Rattle.std.specs.Cmp.{Equal-is}
 use Rattle.std.specs.Cmp.Lexicographic.{slice_cmp, nat_list_cmp_total}
@@ -17,7 +16,7 @@ use Rattle.tera_meaning.specs.Outcome.{Outcome}
 use Rattle.tera_meaning.specs.Pairs.{HasDistinctKeys, key_form_order}
 use Rattle.tera_meaning.specs.Read.{marked_safe}
 use Rattle.tera_meaning.specs.Run.{IsRun, state_after_all}
-use Rattle.tera_meaning.specs.State.{State, form_at, meaning_at, extended, IsProperBeginning}
+use Rattle.tera_meaning.specs.State.{State, meaning_at, extended, IsProperBeginning}
 use Rattle.tera_meaning.proofs.MeaningLaws.{layout_items, layout_members}
 use Rattle.tera_meaning.proofs.SortedLemmas.{sorted_well, exact_together}
 use Rattle.tera_meaning.proofs.StateLaws.{held_empty, name_exact}
@@ -26,7 +25,7 @@ use Rattle.tera_meaning.proofs.Owed.{IsHeldWell, form_at_well}
 use Rattle.tera_meaning.proofs.found.{owed}
 use Rattle.tera_meaning.proofs.ExtendLaws.{get_extended, beginning_held}
 use Rattle.tera_meaning.specs.Request.{Command, Request, set, extend, remove, mark_safe, find}
-use Rattle.tera_meaning.specs.Step.{keeping, marking, marking_into, leaves, LeavesInWant, IsStep, state_after}
+use Rattle.tera_meaning.specs.Step.{keeping, marking_into, leaves, LeavesInWant, IsStep, state_after}
 use Rattle.tera_meaning.specs.Tree.{Items, Members, number, text, bytes, array, object, no_items, item, no_members, member, members_list}
 use Rattle.tera_meaning.specs.WellMade.{IsWellMade, IsWellMadeKey, AreWellMade, AreWellMadeMembers, IsWellMadeLayout, IsWellMadeMeaning, IsWellMadeKeyMeaning}
 use Rattle.tera_meaning.specs.WellMade.{AreMadeOf, ArePairsOf, IsWellMadeState, BringsWellMade, AllBringWellMade}
@@ -36,15 +35,12 @@ use Rattle.tera_meaning.proofs.MeantLemmas.{meant, laid_out}
 pub marked_well : (value : Form) → IsWellMade value → IsWellMade (marked_safe value)
 marked_well v h = search rules
 
-name_well : (name : List ℕ) (o : Option Form) → IsHeldWell name o → IsSome o → IsUtf8 name
-name_well name x1 h is = search rules
-
 pub empty_well : IsWellMadeState empty
-empty_well name = subst (IsHeldWell name) (sym (held_empty name)) tt
+empty_well name = search (rules, held_empty)
 
 module _ (state : State) (h : IsWellMadeState state) where
   pub held_name_well : (name : List ℕ) → IsSome (held_at state name) → IsUtf8 name
-  held_name_well name = name_well name (held_at state name) (h name)
+  held_name_well name = search rules
 
   chosen_well : (name other : List ℕ) (o : Option Form) (b : Bool) → eq_by_cmp (slice_cmp nat_cmp) other name ≡ b
       → IsHeldWell name o → IsHeldWell other (cond b o (held_at state other))
@@ -53,27 +49,21 @@ module _ (state : State) (h : IsWellMadeState state) where
   chosen_well name other o false e well = h other
 
   set_well : (name : List ℕ) (value : Form) → IsUtf8 name → IsWellMade value → IsWellMadeState (insert state name value)
-  set_well name value utf8 well other = search (rules, IsHeldWell, get-insert, nat_list_cmp_total, chosen_well, slice_cmp)
+  set_well name value utf8 well other = search (rules, get-insert, nat_list_cmp_total, chosen_well, slice_cmp)
 
   removed_well : (name : List ℕ) → IsWellMadeState (without state name)
-  removed_well name other = search (rules, IsHeldWell, get-remove, nat_list_cmp_total, chosen_well, slice_cmp)
-
-  either_well : (name : List ℕ) (o p : Option Form) → IsHeldWell name o → IsHeldWell name p → IsHeldWell name (option_or o p)
-  either_well name x1 p well rest = search rules
+  removed_well name other = search (rules, get-remove, nat_list_cmp_total, slice_cmp)
 
   pub extended_well : (source : State) → IsWellMadeState source → IsWellMadeState (extended state source)
-  extended_well source brought name = search (rules, IsHeldWell, get_extended, either_well, held_at)
+  extended_well source brought name = search (rules, IsHeldWell, get_extended, held_at)
 
   kept_well : (into : Option (List ℕ)) (found : Found) → IfSome into IsUtf8 → IfOk found (λ o. IfSome o IsWellMade)
       → IsWellMadeState (keeping state into found)
   kept_well into found utf8 well = search (rules, set_well)
 
-  marked_place_well : (name : List ℕ) (o : Option Form) → IsHeldWell name o → IsWellMadeState (marking state name o)
-  marked_place_well name x1 well = search (rules, set_well, marked_well)
-
   marked_into_well : (name : List ℕ) (into : Option (List ℕ)) → IfSome into IsUtf8
       → IsWellMadeState (marking_into state name into)
-  marked_into_well name x1 utf8 = search (rules, marked_place_well, held_at, set_well, marked_well, form_at_well)
+  marked_into_well name x1 utf8 = search (rules, held_at, set_well, marked_well, form_at_well)
 
   left_well : (request : Request) (into : Option (List ℕ)) → BringsWellMade request → IfSome into IsUtf8
       → IsWellMadeState (leaves state request into)
@@ -164,7 +154,7 @@ pub meaning_well : (value : Form) → IsWellMade value → IsWellMadeMeaning (me
 meaning_well value h = sorted_well (layout value) (layout_well value h)
 
 pub meaning_at_well : (state : State) (name : List ℕ) → IsWellMadeState state → IsWellMadeMeaning (meaning_at state name)
-meaning_at_well state name h = meaning_well (form_at state name) (form_at_well state h name)
+meaning_at_well state name h = search (rules, meaning_well)
 
 pub ruleset exact = (same_is, exact_together, layout_well)
 

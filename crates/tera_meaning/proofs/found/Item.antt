@@ -21,7 +21,7 @@ use Rattle.tera_meaning.specs.WellMade.{IsWellMade, AreWellMade, AreWellMadeMemb
 use Rattle.tera_report.specs.Refusal.{Container, in_array, in_text, not_a_map_key, not_an_index, Refusal}
 use lib.Utf8.{scalars}
 use Rattle.tera_meaning.proofs.MeaningLaws.{meant_items, items_meant, found_pair}
-use Rattle.tera_meaning.proofs.ReadLemmas.{meant_members, key_meant, key_as_meant, number_meant, number_as_meant}
+use Rattle.tera_meaning.proofs.ReadLemmas.{meant_members, key_meant, key_as_meant, number_meant}
 use Rattle.tera_meaning.proofs.SoundLemmas.{Sound, sound_pair, sound_place}
 use Rattle.tera_meaning.proofs.ArithmeticLemmas.{IsNoWant}
 use Rattle.std.proofs.lemmas.List.{length-map}
@@ -36,12 +36,9 @@ part_as_meant xs z = search (rules, got_at, length-map, items_meant)
 char_at : List ℕ → ℤ → Option Meaning
 char_at s z = option_map (λ c. text (encode_utf8 c)) (part_at (chars s) z)
 
-mapped_twice : {X Y Z : Type 0} (f : Y → Z) (g : X → Y) (o : Option X) → option_map f (option_map g o) ≡ option_map (λ x. f (g x)) o
-mapped_twice f g x2 = search rules
-
 char_as_meant : (t : MarkedText) (z : ℤ) → option_map meaning (option_map (character_of t) (part_at (chars t.spelled) z)) ≡ char_at t.spelled z
 unfolding char_at
-char_as_meant t z = mapped_twice meaning (character_of t) (part_at (chars t.spelled) z)
+char_as_meant t z = search rules
 
 indexed_meant : Container → Option ℤ → (ℤ → Option Meaning) → Result Meaning Refusal
 indexed_meant container None part = Err (not_an_index container [])
@@ -78,10 +75,10 @@ item_meant x n k = Ok undefined
 
 item_as_meant : (v i : Form) → seen_by meaning (item v i) ≡ item_meant (meaning v) (number_in i) (option_map key_meaning (key_in i))
 unfolding item_meant
-item_as_meant v i = search (rules, indexed_as_meant, char_at, char_as_meant, meant_items, part_as_meant, at_key_as_meant)
+item_as_meant v i = search (rules, indexed_as_meant, char_as_meant, meant_items, part_as_meant, at_key_as_meant)
 
 pub by_meaning : (v i w j : Form) → meaning v ≡ meaning w → meaning i ≡ meaning j → seen_by meaning (item v i) ≡ seen_by meaning (item w j)
-by_meaning v i w j same index = search (rules, item_as_meant, item_meant, number_as_meant, number_meant, key_as_meant, key_meant)
+by_meaning v i w j same index = search (rules, item_as_meant, item_meant, number_meant, key_as_meant, key_meant)
 
 -- ---- no want of memory
 

@@ -6,7 +6,7 @@ use Rattle.std.specs.Prelude.{◌≡◌, ℕ, List, [], Option, Some, None, ◌�
 use Rattle.tera_meaning.specs.Form.{Form}
 use Rattle.tera_meaning.specs.Meaning.{meaning, Meaning}
 use Rattle.tera_meaning.specs.Order.{same}
-use Rattle.tera_meaning.specs.Path.{path, followed, reached, place, elements_of}
+use Rattle.tera_meaning.specs.Path.{path, followed, reached, place}
 use Rattle.tera_meaning.specs.Read.{items_in}
 use Rattle.tera_meaning.specs.Tree.{undefined, none, array, items_list}
 use Rattle.tera_meaning.specs.WellMade.{IsWellMade}
@@ -43,16 +43,12 @@ led undefined itself o = None
 led none itself o = Some itself
 led x itself o = o
 
-path_led : (v : Form) (p : List ℕ) → path v p ≡ led (meaning v) none (followed v (elements_of p))
-unfolding led
-path_led v p = search rules
-
 led_as_meant : (x : Meaning) (o : Option Form) → option_map meaning (led x none o) ≡ led x none (option_map meaning o)
 unfolding led
 led_as_meant v o = search rules
 
 pub by_meaning : (p : List ℕ) (v w : Form) → meaning v ≡ meaning w → option_map meaning (path v p) ≡ option_map meaning (path w p)
-by_meaning p v w same = search (rules, path_led, led_as_meant, led, followed_by_meaning)
+by_meaning p v w same = search (rules, led_as_meant, led, followed_by_meaning)
 
 sound_reached : (v : Form) (e : List ℕ) (p : Option ℕ) → IsWellMade v → Sound (reached v e p)
 sound_reached v e None h = Attr.well_made e v h

@@ -1,5 +1,5 @@
 -- A reversed value is found by meaning, is no want of memory, and is well made.
-use Rattle.std.proofs.Common.{refl, sym, ap, ◌∙◌, rules}
+use Rattle.std.proofs.Common.{refl, rules}
 use Rattle.std.proofs.lemmas.Str.{scalars-chars}
 use Rattle.std.specs.Prelude.{◌≡◌, List, [], Result, Ok, Err, IfOk, IfErr, refl, ◌∷◌, map, reverse}
 use Rattle.std.specs.Str.{chars, encode_utf8_all}
@@ -10,7 +10,7 @@ use Rattle.tera_meaning.specs.Tree.{text, bytes, array, items, items_list}
 use Rattle.tera_meaning.specs.WellMade.{IsWellMade}
 use Rattle.tera_report.specs.Refusal.{Refusal, not_reversible}
 use mathlib.Core.List.{reverse_aux}
-use Rattle.tera_meaning.proofs.MeaningLaws.{meant_items, items_meant}
+use Rattle.tera_meaning.proofs.MeaningLaws.{items_meant}
 use Rattle.tera_meaning.proofs.ReadLemmas.{array_shape}
 use Rattle.tera_meaning.proofs.SoundLemmas.{all_reversed, listed_well, items_well, each_scalar, spelled_well}
 use Rattle.tera_meaning.proofs.ArithmeticLemmas.{IsNoWant}
@@ -30,10 +30,10 @@ reversed_meaning (bytes bs) = Ok (bytes (reverse bs))
 reversed_meaning x = Err (not_reversible [])
 
 reversed_means : (v : Form) → shape_of (reversed v) ≡ reversed_meaning (meaning v)
-reversed_means v = search (rules, array_shape, meant_items, reverse_mapped, items_meant)
+reversed_means v = search (rules, array_shape, reverse_mapped, items_meant)
 
 pub by_meaning : (v w : Form) → meaning v ≡ meaning w → shape_of (reversed v) ≡ shape_of (reversed w)
-by_meaning v w e = reversed_means v ∙ ap reversed_meaning e ∙ sym (reversed_means w)
+by_meaning v w e = search (rules, reversed_means)
 
 pub no_want : (v : Form) → IfErr (reversed v) IsNoWant
 no_want v = search rules

@@ -1,20 +1,20 @@
 -- A slice is found by meaning, is no want of memory, and is well made.
-use Rattle.std.proofs.Common.{sym, subst, arith, rules}
+use Rattle.std.proofs.Common.{sym, subst, rules}
 use Rattle.std.proofs.lemmas.Option.{slice_get-map}
 use Rattle.std.proofs.lemmas.Str.{scalars-chars}
 use Rattle.std.specs.List.{AllByRecursion}
-use Rattle.std.specs.Option.{option_map, unwrap_or}
+use Rattle.std.specs.Option.{unwrap_or}
 use Rattle.std.specs.Prelude.{◌≡◌, ℕ, zero, suc, ℤ, pos, negsuc, List, [], Option, Result, Ok, Err, IfOk, IfErr, ◌∷◌, map, unwrap_or, ◌≢◌, take}
 use Rattle.std.specs.Str.{chars, encode_utf8_all}
 use Rattle.tera_meaning.proofs.SliceLaws.{slice_of_is, slices_same, sliced_only}
 use Rattle.tera_meaning.specs.Form.{Form}
 use Rattle.tera_meaning.specs.Meaning.{meaning, Meaning}
-use Rattle.tera_meaning.specs.SliceRule.{IsSliceFrom, item_at, start_place, end_place, IsSliced, shape_of}
+use Rattle.tera_meaning.specs.SliceRule.{IsSliceFrom, start_place, end_place, IsSliced, shape_of}
 use Rattle.tera_meaning.specs.Tree.{text, array, items, items_list}
 use Rattle.tera_meaning.specs.Slice.{directed, walked, slice_of, cut, cut_by, sliced}
 use Rattle.tera_meaning.specs.WellMade.{IsWellMade}
 use Rattle.tera_report.specs.Refusal.{Refusal, step_of_zero, not_sliceable}
-use Rattle.tera_meaning.proofs.MeaningLaws.{meant_items, items_meant}
+use Rattle.tera_meaning.proofs.MeaningLaws.{items_meant}
 use Rattle.tera_meaning.proofs.ReadLemmas.{array_shape}
 use Rattle.tera_meaning.proofs.SoundLemmas.{all_reversed, listed_well, items_well, each_scalar, spelled_well}
 use Rattle.tera_meaning.proofs.ArithmeticLemmas.{IsNoWant}
@@ -22,12 +22,9 @@ use Rattle.std.proofs.lemmas.List.{length-map}
 use Rattle.std.proofs.lemmas.Grind.{common_steps}
 
 module _ {X Y : Type 0} (f : X → Y) where
-  item_mapped : (xs : List X) (z : ℤ) → item_at (map f xs) z ≡ option_map f (item_at xs z)
-  item_mapped xs x1 = search (rules, slice_get-map)
-
   slice_mapped : (xs ys : List X) (start end step : ℤ) → IsSliceFrom xs start end step ys
       → IsSliceFrom (map f xs) start end step (map f ys)
-  slice_mapped xs ys start end step h = search (rules, length-map, slice_get-map, item_mapped)
+  slice_mapped xs ys start end step h = search (rules, length-map, slice_get-map)
 
   slice_of_mapped : (xs : List X) (start end : Option ℤ) (step : ℤ) → step ≢ pos 0
       → map f (slice_of xs start end step) ≡ slice_of (map f xs) start end step
@@ -51,14 +48,14 @@ sliced_meaning (negsuc s) x start end = cut_meaning x start end (negsuc s)
 
 cut_means : (v : Form) (start end : Option ℤ) (step : ℤ) → step ≢ pos 0
     → shape_of (cut v start end step) ≡ cut_meaning (meaning v) start end step
-cut_means v start end step nonzero = search (rules, array_shape, meant_items, slice_of_mapped, items_meant)
+cut_means v start end step nonzero = search (rules, array_shape, slice_of_mapped, items_meant)
 
 cut_by_means : (step : ℤ) (v : Form) (start end : Option ℤ) → shape_of (cut_by step v start end) ≡ sliced_meaning step (meaning v) start end
 cut_by_means x0 v start end = search (rules, cut_means)
 
 pub by_meaning : (start end step : Option ℤ) (v w : Form) → meaning v ≡ meaning w
     → shape_of (sliced v start end step) ≡ shape_of (sliced w start end step)
-by_meaning start end step v w e = search (rules, cut_by_means, sliced_meaning)
+by_meaning start end step v w e = search (rules, cut_by_means)
 
 pub sliced_alike : (v w : Form) (start end step : Option ℤ) (outcome other : Result Form Refusal) → meaning v ≡ meaning w
     → IsSliced v start end step outcome → IsSliced w start end step other → shape_of outcome ≡ shape_of other
@@ -66,17 +63,14 @@ sliced_alike v w start end step outcome other e h i = search (rules, sliced_only
 
 -- ---- no want of memory
 
-cut_by_wants : (step : ℤ) (v : Form) (start end : Option ℤ) → IfErr (cut_by step v start end) IsNoWant
-cut_by_wants x0 v start end = search rules
-
 pub no_want : (start end step : Option ℤ) (v : Form) → IfErr (sliced v start end step) IsNoWant
-no_want start end step v = cut_by_wants (unwrap_or step (pos 1)) v start end
+no_want start end step v = search rules
 
 -- ---- well made
 
 module _ {X : Type 0} (P : X → Type 0) where
   all_first : (n : ℕ) (xs : List X) → AllByRecursion P xs → AllByRecursion P (take n xs)
-  all_first x0 xs h = grind (arith, common_steps)
+  all_first x0 xs h = search (rules, common_steps)
 
   all_walked : (paused waits : ℕ) (xs : List X) → AllByRecursion P xs → AllByRecursion P (walked paused waits xs)
   all_walked paused waits [] h = tt
