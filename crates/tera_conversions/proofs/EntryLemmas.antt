@@ -13,10 +13,9 @@ use Rattle.tera_conversions.specs.Given.{GivesPair}
 use Rattle.tera_meaning.proofs.PutLaws.{put_last}
 use Rattle.tera_meaning.proofs.UniqueLaws.{rising_permutes, rising_permuted}
 use Rattle.tera_meaning.specs.Form.{Form}
-use Rattle.tera_meaning.proofs.KeyLaws.{key_is}
+use Rattle.tera_meaning.proofs.KeyLaws.{form_total, key_is}
 use Rattle.tera_meaning.specs.KeyMeaning.{KeyForm, key_meaning}
 use Rattle.tera_meaning.specs.Pairs.{HasDistinctKeys, key_form_order, pairs_of, put_all, value_at}
-use Rattle.tera_values.proofs.PartsLaws.{form_total}
 
 -- ---- pairs that are put
 

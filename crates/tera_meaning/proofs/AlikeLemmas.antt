@@ -1,25 +1,23 @@
 -- Answers depend on meanings alone.
-use Rattle.tera_meaning.proofs.ReadLemmas.{is_there}
-use Rattle.std.specs.Prelude.{◌≡◌, ℕ, suc, length, Bool, true, false, cond, List, [], ◌∷◌, Option, Some, None, Result, Ok, Err, is_some, refl}
-use Rattle.std.proofs.Common.{sym, ◌∙◌, ap, subst}
+use Rattle.tera_meaning.proofs.ReadLemmas.{fields_by_meaning}
+use Rattle.std.specs.Prelude.{◌≡◌, ℕ, suc, length, Bool, List, [], ◌∷◌, Option, Some, Result, Ok, is_some, refl}
+use Rattle.std.proofs.Common.{sym, ◌∙◌, ap, subst, rules}
 use Rattle.std.specs.Option.{option_map, unwrap_or}
-use Rattle.std.specs.Ordering.{nat_cmp, eq_by_cmp}
 use Rattle.std.specs.Cmp.Lexicographic.{slice_cmp, nat_list_cmp_total}
 use Rattle.std.specs.FinMap.{get as held_at, insert, remove as without, get-insert, get-remove}
 use Rattle.tera_report.specs.Escaping.{Spells}
-use Rattle.tera_report.specs.Refusal.{Refusal, shape as refusal_shape}
+use Rattle.tera_report.specs.Refusal.{Refusal}
 use Rattle.tera_report.proofs.EscapeLaws.{one_spelling_each}
 use Rattle.tera_meaning.specs.Form.{Form}
-use Rattle.tera_meaning.specs.Meaning.{Layout, Meaning, layout, meaning}
+use Rattle.tera_meaning.specs.Meaning.{Layout, layout, meaning}
 use Rattle.tera_meaning.specs.Printed.{printed, IsExact, Prints}
 use Rattle.tera_meaning.specs.Read.{marked_safe, size_in, truthy_in}
 use Rattle.tera_meaning.specs.State.{State, read, form_at}
 use Rattle.tera_meaning.specs.Alike.{MeanTheSame, RequestTheSame, AskTheSame, AllAskTheSame, IsSettled, AreAlike}
 use Rattle.tera_meaning.specs.Answer
 use Rattle.tera_meaning.specs.Search.{Found, found_at}
-use Rattle.tera_meaning.specs.Lookup.{holds, seen_by}
+use Rattle.tera_meaning.specs.Lookup.{seen_by}
 use Rattle.tera_meaning.proofs.ContainsLemmas.{holds_by_meaning}
-use Rattle.tera_meaning.proofs.ReadLemmas.{fields_by_meaning}
 use Rattle.tera_meaning.proofs.Owed.{found_shape, read_alike, meaning_alike}
 use Rattle.tera_meaning.proofs.found.{owed}
 use Rattle.tera_meaning.specs.Outcome.{Outcome, shape}
@@ -27,33 +25,23 @@ use Rattle.tera_meaning.specs.Question.{Question, IsAnswered, IsSettledAnswer}
 use Rattle.tera_meaning.proofs.ExtendLaws.{extended_alike}
 use Rattle.tera_meaning.specs.Request.{Request, set, extend, remove, mark_safe, ask, weigh, find, Command}
 use Rattle.tera_meaning.specs.Run.{AreOutcomes, state_after_all}
-use Rattle.tera_meaning.specs.Step.{found_or_kept, keeping, marking, marking_into, ComesTo, IsOutcome, leaves, state_after}
+use Rattle.tera_meaning.specs.Step.{found_or_kept, keeping, marking_into, ComesTo, IsOutcome, leaves, state_after}
 use Rattle.tera_meaning.specs.Tree.{undefined, text}
 use Rattle.tera_meaning.specs.Weighing.{Weighing, weighed, truth_told}
 
 -- marking changes no meaning
 pub meaning_marked : (value : Form) → meaning (marked_safe value) ≡ meaning value
-meaning_marked (text t) = refl
-meaning_marked v = refl
+meaning_marked v = search rules
 
 pub some_one : (v w : Form) → option_map meaning (Some v) ≡ option_map meaning (Some w) → meaning v ≡ meaning w
 some_one v w e = ap (λ o. unwrap_or o undefined) e
 
 held_alike : (o p : Option Form) → option_map meaning o ≡ option_map meaning p → is_some o ≡ is_some p
-held_alike o p e = sym (is_there meaning o) ∙ ap is_some e ∙ is_there meaning p
-
-same_found : (o p : Option Form) → ◌≡◌ {A = Result (Option Meaning) Refusal} (Ok (option_map meaning o)) (Ok (option_map meaning p))
-    → option_map meaning o ≡ option_map meaning p
-same_found o p e = cc
+held_alike o p e = search rules
 
 kept_shape : (into : Option (List ℕ)) (found also : Found) → found_shape found ≡ found_shape also
     → shape (found_or_kept into found) ≡ shape (found_or_kept into also)
-kept_shape None (Ok o) (Ok p) e = λ i. Ok (Answer.found (same_found o p e i))
-kept_shape (Some into) (Ok None) (Ok None) e = refl
-kept_shape (Some into) (Ok (Some v)) (Ok (Some w)) e = refl
-kept_shape None (Err r) (Err q) e = let same : refusal_shape r ≡ refusal_shape q = cc in λ i. Err (same i)
-kept_shape (Some into) (Err r) (Err q) e = let same : refusal_shape r ≡ refusal_shape q = cc in λ i. Err (same i)
-kept_shape into found also e = cc
+kept_shape into found also e = search rules
 
 text_alike : (x y : Layout) (s t : List ℕ) → (x ≡ y) × IsExact x → Prints x s → Prints y t → s ≡ t
 text_alike x y s t (e, exact) p q = p exact ∙ ap printed e ∙ sym (q (subst IsExact e exact))
@@ -85,17 +73,12 @@ asked_alike Question.kind held also o p h e d s = absurd s
 
 -- what is told of two values
 truth_alike : (a c : Result Bool Refusal) → seen_by (λ b. b) a ≡ seen_by (λ b. b) c → shape (truth_told a) ≡ shape (truth_told c)
-truth_alike (Ok a) (Ok b) e = let same : a ≡ b = cc in λ i. Ok (Answer.truth (same i))
-truth_alike (Err r) (Err q) e = let same : refusal_shape r ≡ refusal_shape q = cc in λ i. Err (same i)
-truth_alike (Ok a) (Err q) e = cc
-truth_alike (Err r) (Ok b) e = cc
+truth_alike x0 x1 e = search rules
 
 -- how values of one meaning are weighed
 weighed_alike : (weighing : Weighing) (v w x y : Form) → meaning v ≡ meaning x → meaning w ≡ meaning y
     → shape (weighed weighing v w) ≡ shape (weighed weighing x y)
-weighed_alike Weighing.equal v w x y e d = rw (e, d) refl
-weighed_alike Weighing.contains v w x y e d = truth_alike (holds v w) (holds x y) (holds_by_meaning v x w y e d)
-weighed_alike weighing v w x y e d = rw (e, d) refl
+weighed_alike weighing v w x y e d = search (rules, truth_alike, holds_by_meaning)
 
 module _ (f g : State) (h : MeanTheSame f g) where
   outcomes_same : (request : Request) (into : Option (List ℕ)) (o p : Outcome) → ComesTo f request into o
@@ -116,47 +99,21 @@ module _ (f g : State) (h : MeanTheSame f g) where
   outcomes_alike (extend source) (extend other) into o p a e d s = both e d refl
   outcomes_alike q r into o p a e d s = outcomes_same q into o p e (subst (λ k. ComesTo g k into p) (sym a) d) s
 
-chosen_alike : (b : Bool) (o p u w : Option Form) → option_map meaning u ≡ option_map meaning w
-    → option_map meaning o ≡ option_map meaning p → option_map meaning (cond b u o) ≡ option_map meaning (cond b w p)
-chosen_alike true o p u w e h = e
-chosen_alike false o p u w e h = h
-
 set_alike : (f g : State) (name : List ℕ) (v w : Form) → MeanTheSame f g → meaning v ≡ meaning w
     → MeanTheSame (insert f name v) (insert g name w)
-set_alike f g name v w h values other =
-    ap (option_map meaning) (get-insert nat_list_cmp_total f name v other)
-    ∙ chosen_alike (eq_by_cmp (slice_cmp nat_cmp) other name) (held_at f other) (held_at g other) (Some v) (Some w) (λ i. Some (values i)) (h other)
-    ∙ sym (ap (option_map meaning) (get-insert nat_list_cmp_total g name w other))
+set_alike f g name v w h values other = search (rules, get-insert, nat_list_cmp_total, slice_cmp, held_at)
 
 removed_alike : (f g : State) (name : List ℕ) → MeanTheSame f g → MeanTheSame (without f name) (without g name)
-removed_alike f g name h other =
-    ap (option_map meaning) (get-remove nat_list_cmp_total f name other)
-    ∙ chosen_alike (eq_by_cmp (slice_cmp nat_cmp) other name) (held_at f other) (held_at g other) None None refl (h other)
-    ∙ sym (ap (option_map meaning) (get-remove nat_list_cmp_total g name other))
+removed_alike f g name h other = search (rules, get-remove, nat_list_cmp_total, slice_cmp, held_at)
 
 module _ (f g : State) (h : MeanTheSame f g) where
   kept_alike : (into : Option (List ℕ)) (found also : Found) → found_shape found ≡ found_shape also
       → MeanTheSame (keeping f into found) (keeping g into also)
-  kept_alike None (Ok o) (Ok p) e = h
-  kept_alike (Some into) (Ok None) (Ok None) e = h
-  kept_alike (Some into) (Ok (Some v)) (Ok (Some w)) e = set_alike f g into v w h (some_one v w (same_found (Some v) (Some w) e))
-  kept_alike None (Err r) (Err q) e = h
-  kept_alike (Some into) (Err r) (Err q) e = h
-  kept_alike into found also e = cc
-
-  marked_held_alike : (name : List ℕ) (o p : Option Form) → option_map meaning o ≡ option_map meaning p
-      → MeanTheSame (marking f name o) (marking g name p)
-  marked_held_alike name None None e = h
-  marked_held_alike name (Some v) (Some w) e =
-      set_alike f g name (marked_safe v) (marked_safe w) h (meaning_marked v ∙ some_one v w e ∙ sym (meaning_marked w))
-  marked_held_alike name o p e = cc
+  kept_alike into found also e = search (rules, set_alike, some_one)
 
   marked_alike : (name : List ℕ) (into : Option (List ℕ))
       → MeanTheSame (marking_into f name into) (marking_into g name into)
-  marked_alike name None = marked_held_alike name (held_at f name) (held_at g name) (h name)
-  marked_alike name (Some into) =
-      set_alike f g into (marked_safe (form_at f name)) (marked_safe (form_at g name)) h
-      (meaning_marked (form_at f name) ∙ meaning_alike f g h name ∙ sym (meaning_marked (form_at g name)))
+  marked_alike name x1 = search (rules, held_at, set_alike, meaning_marked, meaning_alike)
 
   states_same : (request : Request) (into : Option (List ℕ)) → MeanTheSame (leaves f request into) (leaves g request into)
   states_same (set name value) into = set_alike f g name value value h refl
@@ -168,29 +125,17 @@ module _ (f g : State) (h : MeanTheSame f g) where
 
   states_left_alike : (q r : Request) (into : Option (List ℕ)) → RequestTheSame q r
       → MeanTheSame (leaves f q into) (leaves g r into)
-  states_left_alike (set m v) (set n w) into a =
-      subst (λ k. MeanTheSame (insert f m v) (insert g k w)) a.0 (set_alike f g m v w h a.1)
-  states_left_alike (extend source) (extend other) into a = extended_alike f g source other h a
-  states_left_alike q r into a = subst (λ k. MeanTheSame (leaves f q into) (leaves g k into)) a (states_same q into)
+  states_left_alike q r into a = search (rules, set_alike, extended_alike, states_same)
 
   pub outcome_alike : (c d : Command) (o p : Outcome) → AskTheSame c d → IsOutcome f c o → IsOutcome g d p
       → IsSettled f g c.request → shape o ≡ shape p
-  outcome_alike c d o p a e i s =
-      outcomes_alike f g h c.request d.request c.into o p a.0 e (subst (λ into. ComesTo g d.request into p) (sym a.1) i) s
+  outcome_alike c d o p a e i s = search (rules, outcomes_alike)
 
   pub state_alike : (c d : Command) → AskTheSame c d → MeanTheSame (state_after f c) (state_after g d)
-  state_alike c d a =
-      subst (λ into. MeanTheSame (leaves f c.request c.into) (leaves g d.request into)) a.1 (states_left_alike c.request d.request c.into a.0)
-
--- each command asks the same as itself
-request_same : (request : Request) → RequestTheSame request request
-request_same (set name value) = (refl, refl)
-request_same (extend source) = λ name. refl
-request_same (remove name) = refl
-request_same request = refl
+  state_alike c d a = search (rules, states_left_alike)
 
 pub asks_the_same : (command : Command) → AskTheSame command command
-asks_the_same command = (request_same command.request, refl)
+asks_the_same command = search rules
 
 pub all_ask_the_same : (commands : List Command) → AllAskTheSame commands commands
 all_ask_the_same [] = tt
@@ -223,3 +168,5 @@ as_many f g (c ∷ cs) (d ∷ ds) (o ∷ os) (p ∷ ps) h =
     let rest : (length cs ≡ length os) × (length os ≡ length ps) × (length ds ≡ length ps) = as_many (state_after f c) (state_after g d) cs ds os ps h.1 in
     (ap suc rest.0, ap suc rest.1, ap suc rest.2)
 as_many f g cs ds os ps h = absurd h
+
+pub ruleset laws = (outcome_alike, state_alike, all_outcomes_alike, states_alike)

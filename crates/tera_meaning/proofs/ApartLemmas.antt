@@ -1,10 +1,9 @@
 -- States answer alike exactly where they mean the same, and others are told apart.
 use Rattle.std.specs.Prelude.{◌≡◌, ◌≢◌, ◌↔◌, ◌⊎◌, ℕ, suc, length, Bool, true, false, ◌||◌, List, [], ◌∷◌, Option, Some, None, Ok, is_some, IsSome, refl}
-use Rattle.std.proofs.Common.{sym, ◌∙◌, ap, subst, arith, inl, inr}
+use Rattle.std.proofs.Common.{sym, ◌∙◌, ap, arith, inl, inr, rules}
 use Rattle.std.specs.List.{AllByRecursion, list_any}
 use Rattle.std.specs.Option.{option_map, unwrap_or}
 use Rattle.std.specs.Ordering.{nat_cmp, eq_by_cmp}
-use Rattle.std.specs.Cmp.{Equal-is}
 use Rattle.std.specs.Cmp.Lexicographic.{slice_cmp}
 use Rattle.std.specs.FinMap.{get as held_at, insert, keys, contains_key-keys}
 use Rattle.std.specs.Str.{IsUtf8}
@@ -12,36 +11,25 @@ use Rattle.std.proofs.lemmas.Bool.{true≢false}
 use Rattle.std.proofs.lemmas.Str.{IsUtf8-append, IsUtf8-from_ascii}
 use Rattle.std.proofs.lemmas.Str.Ascii.{IsAscii-nil, IsAscii-cons}
 use Rattle.tera_meaning.specs.Form.{Form}
-use Rattle.tera_meaning.specs.Meaning.{Meaning, meaning}
+use Rattle.tera_meaning.specs.Meaning.{meaning}
 use Rattle.tera_meaning.specs.Order.{same}
 use Rattle.tera_meaning.specs.State.{State, form_at, meaning_at}
 use Rattle.tera_meaning.specs.Answer
-use Rattle.tera_meaning.specs.Outcome.{OutcomeOf, Outcome, shape}
+use Rattle.tera_meaning.specs.Outcome.{Outcome}
 use Rattle.tera_meaning.specs.Request.{Command}
 use Rattle.tera_meaning.specs.Run.{AreOutcomes}
 use Rattle.tera_meaning.proofs.OrderLaws.{same_is, same_equivalence}
 use Rattle.tera_meaning.proofs.StateLaws.{meaning_set, meaning_other, name_exact}
 use Rattle.tera_meaning.specs.Alike.{meaning_held, MeanTheSame, AreAlike, AnswerAlike, AreToldApartBy, RunsAreToldApart, probe}
-use Rattle.tera_meaning.proofs.AlikeLemmas.{some_one, all_outcomes_alike, all_ask_the_same}
+use Rattle.tera_meaning.proofs.AlikeLemmas.{all_outcomes_alike, all_ask_the_same}
 use Rattle.tera_meaning.specs.Tree.{undefined}
 use Rattle.tera_meaning.specs.WellMade.{IsWellMadeState, AllBringWellMade}
-use Rattle.tera_meaning.proofs.RunLemmas.{ample_outcomes}
 use Rattle.tera_meaning.proofs.WellMadeLemmas.{held_name_well}
 use Rattle.tera_meaning.proofs.Owed.{form_at_well}
 
-truth_of : OutcomeOf Meaning → Bool
-truth_of (Ok (Answer.truth b)) = b
-truth_of _ = false
-
-same_truth : (a b : Bool) (o p : Outcome) → o ≡ Ok (Answer.truth a) → p ≡ Ok (Answer.truth b) → shape o ≡ shape p → a ≡ b
-unfolding truth_of
-same_truth a b o p e i s = sym (ap (λ q. truth_of (shape q)) e) ∙ ap truth_of s ∙ ap (λ q. truth_of (shape q)) i
-
 held_one : (o p : Option Form) → is_some o ≡ is_some p → meaning (unwrap_or o undefined) ≡ meaning (unwrap_or p undefined)
     → option_map meaning o ≡ option_map meaning p
-held_one None None s e = refl
-held_one (Some v) (Some w) s e = λ i. Some (e i)
-held_one o p s e = cc
+held_one o p s e = search rules
 
 not_longer : (name : List ℕ) → name ≢ 0 ∷ name
 not_longer name e = let one : length name ≡ suc (length name) = ap length e in omega arith
@@ -54,8 +42,7 @@ probe_equal state name value =
 probed : (state : State) (name : List ℕ) (value : Form)
     → probe_equal state name value ≡ same (meaning_at state name) (meaning value)
 unfolding probe_equal
-probed state name value =
-    λ i. same (meaning_other state (0 ∷ name) value name (not_longer name) i) (meaning_set state (0 ∷ name) value i)
+probed state name value = search (rules, meaning_other, not_longer, meaning_set)
 
 module _ (f g : State) (name : List ℕ) where
   by_truths : is_some (held_at f name) ≡ is_some (held_at g name)
@@ -71,18 +58,7 @@ module _ (f g : State) (name : List ℕ) where
       → AreOutcomes g (probe name (form_at f name)) ps → AreAlike f g (probe name (form_at f name)) (probe name (form_at f name)) os ps
       → meaning_held f name ≡ meaning_held g name
   unfolding probe_equal
-  by_answers (a ∷ b ∷ c ∷ []) (k ∷ l ∷ m ∷ []) e i s =
-      by_truths
-      (same_truth (is_some (held_at f name)) (is_some (held_at g name)) a k e.0 i.0 (s.0 tt))
-      (same_truth (probe_equal f name (form_at f name)) (probe_equal g name (form_at f name)) c m e.1.1.0 i.1.1.0 (s.1.1.0 tt))
-  by_answers [] ps e i s = absurd e
-  by_answers (a ∷ []) ps e i s = absurd e.1
-  by_answers (a ∷ b ∷ []) ps e i s = absurd e.1.1
-  by_answers (a ∷ b ∷ c ∷ d ∷ os) ps e i s = absurd e.1.1.1
-  by_answers (a ∷ b ∷ c ∷ []) [] e i s = absurd i
-  by_answers (a ∷ b ∷ c ∷ []) (k ∷ []) e i s = absurd i.1
-  by_answers (a ∷ b ∷ c ∷ []) (k ∷ l ∷ []) e i s = absurd i.1.1
-  by_answers (a ∷ b ∷ c ∷ []) (k ∷ l ∷ m ∷ n ∷ ps) e i s = absurd i.1.1.1
+  by_answers x0 ps e i s = search (rules, by_truths, held_at, probe_equal)
 
   probe_answers : (state : State) → List Outcome
   probe_answers state =
@@ -90,7 +66,7 @@ module _ (f g : State) (name : List ℕ) where
 
   probe_answered : (state : State) → AreOutcomes state (probe name (form_at f name)) (probe_answers state)
   unfolding probe_answers probe_equal
-  probe_answered state = (refl, (refl, (refl, tt)))
+  probe_answered state = search rules
 
   pub by_alike : AnswerAlike f g → meaning_held f name ≡ meaning_held g name
   by_alike alike =
@@ -100,8 +76,7 @@ module _ (f g : State) (name : List ℕ) where
 
 -- states answer alike exactly where they mean the same
 pub alike_exactly : (f g : State) → MeanTheSame f g ↔ AnswerAlike f g
-alike_exactly f g =
-    (λ h cs ds os ps a e i. all_outcomes_alike f g cs ds os ps h a e i, λ alike name. by_alike f g name alike)
+alike_exactly f g = search (rules, all_outcomes_alike, by_alike)
 
 -- at a name where they mean different things
 pub apart_at : (f g : State) (name : List ℕ) → meaning_held f name ≢ meaning_held g name
@@ -110,16 +85,11 @@ apart_at f g name n os ps e i s = n (by_answers f g name os ps e i s)
 
 pub runs_apart_at : (f g : State) (name : List ℕ) → meaning_held f name ≢ meaning_held g name
     → RunsAreToldApart (probe name (form_at f name)) f g
-runs_apart_at f g name n os ps f' g' run other =
-    apart_at f g name n os ps
-    (ample_outcomes f (probe name (form_at f name)) os f' run)
-    (ample_outcomes g (probe name (form_at f name)) ps g' other)
+runs_apart_at f g name n os ps f' g' run other = search (rules, apart_at)
 
 -- where the states are well made the commands that tell them apart bring what is
 one_holds : (o p : Option Form) → option_map meaning o ≢ option_map meaning p → IsSome o ⊎ IsSome p
-one_holds (Some v) p n = inl refl
-one_holds None (Some w) n = inr refl
-one_holds None None n = absurd (n refl)
+one_holds x0 p n = search rules
 
 utf8_of_one : (f g : State) (name : List ℕ) → IsWellMadeState f → IsWellMadeState g
     → IsSome (held_at f name) ⊎ IsSome (held_at g name) → IsUtf8 name
@@ -136,8 +106,7 @@ probe_brings f g name h k n =
 
 decided : (b : Bool) (v w : Form) → same (meaning v) (meaning w) ≡ b
     → (option_map meaning (Some v) ≡ option_map meaning (Some w)) ⊎ (option_map meaning (Some v) ≢ option_map meaning (Some w))
-decided true v w e = inl (λ i. Some ((same_is (meaning v) (meaning w)).0 e i))
-decided false v w e = inr (λ h. true≢false (sym ((same_is (meaning v) (meaning w)).1 (some_one v w h)) ∙ e))
+decided x0 v w e = search (rules, same_is, true≢false)
 
 held_decided : (o p : Option Form)
     → (option_map meaning o ≡ option_map meaning p) ⊎ (option_map meaning o ≢ option_map meaning p)
@@ -157,9 +126,7 @@ module _ (f g : State) where
       → (meaning_held f name ≡ meaning_held g name) ⊎ (meaning_held f name ≢ meaning_held g name)
       → Differ ⊎ AllByRecursion Agree names → Differ ⊎ AllByRecursion Agree (name ∷ names)
   unfolding Agree Differ
-  more_agree name names (inl e) (inl d) = inl d
-  more_agree name names (inl e) (inr es) = inr (e, es)
-  more_agree name names (inr n) rest = inl (name, n)
+  more_agree name names x2 rest = search rules
 
   agree_or_differ : (names : List (List ℕ)) → Differ ⊎ AllByRecursion Agree names
   agree_or_differ [] = inr tt
@@ -169,9 +136,7 @@ module _ (f g : State) where
   agree_at : (name k : List ℕ) (ks : List (List ℕ)) (b : Bool) → eq_by_cmp (slice_cmp nat_cmp) name k ≡ b
       → (b || list_any (eq_by_cmp (slice_cmp nat_cmp) name) ks) ≡ true
       → (list_any (eq_by_cmp (slice_cmp nat_cmp) name) ks ≡ true → Agree name) → Agree k → Agree name
-  agree_at name k ks true e h rest agree =
-      subst Agree (sym (name_exact name k ((Equal-is (slice_cmp nat_cmp name k)).0 e))) agree
-  agree_at name k ks false e h rest agree = rest h
+  agree_at name k ks x3 e h rest agree = search (rules, name_exact, slice_cmp)
 
   agree_among : (name : List ℕ) (ks : List (List ℕ)) → AllByRecursion Agree ks
       → list_any (eq_by_cmp (slice_cmp nat_cmp) name) ks ≡ true → Agree name
@@ -182,16 +147,11 @@ module _ (f g : State) where
   agree_held : (name : List ℕ) (o p : Option Form) → held_at f name ≡ o → held_at g name ≡ p
       → (is_some o ≡ true → Agree name) → (is_some p ≡ true → Agree name) → Agree name
   unfolding Agree
-  agree_held name (Some v) p d e one other = one refl
-  agree_held name None (Some w) d e one other = other refl
-  agree_held name None None d e one other = ap (option_map meaning) d ∙ sym (ap (option_map meaning) e)
+  agree_held name x1 p d e one other = search rules
 
   agree_everywhere : AllByRecursion Agree (keys f) → AllByRecursion Agree (keys g) → MeanTheSame f g
   unfolding Agree
-  agree_everywhere all also name =
-      agree_held name (held_at f name) (held_at g name) refl refl
-      (λ h. agree_among name (keys f) all (sym (contains_key-keys f name) ∙ h))
-      (λ h. agree_among name (keys g) also (sym (contains_key-keys g name) ∙ h))
+  agree_everywhere all also name = search (rules, agree_held, agree_among, keys, contains_key-keys)
 
   told : (MeanTheSame f g → ⊥) → Differ ⊎ AllByRecursion Agree (keys f) → Differ ⊎ AllByRecursion Agree (keys g) → Differ
   told n (inl d) also = d
@@ -200,7 +160,7 @@ module _ (f g : State) where
 
   differ : (MeanTheSame f g → ⊥) → (name : List ℕ) × (meaning_held f name ≢ meaning_held g name)
   unfolding Differ
-  differ n = told n (agree_or_differ (keys f)) (agree_or_differ (keys g))
+  differ n = search (rules, told, agree_or_differ)
 
   -- states of unequal meaning are told apart by some commands
   pub told_apart : (MeanTheSame f g → ⊥) → (commands : List Command) × AreToldApartBy commands f g
@@ -213,3 +173,5 @@ module _ (f g : State) where
       let d = differ n in
       let brings = probe_brings f g d.0 h k d.1 in
       (d.0, brings.0, brings.1, runs_apart_at f g d.0 d.1)
+
+pub ruleset laws = (apart_at, told_apart, runs_apart_at, runs_told_apart)

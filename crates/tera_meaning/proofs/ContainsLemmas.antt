@@ -1,6 +1,6 @@
 -- Whether a value holds another is told by meanings, and is no want of memory.
-use Rattle.tera_meaning.proofs.ReadLemmas.{is_there}
-use Rattle.std.proofs.Common.{refl, sym, ap, ◌∙◌}
+use Rattle.tera_meaning.proofs.ReadLemmas.{is_there, meant_members, key_meant, key_as_meant, text_meant, text_as_meant}
+use Rattle.std.proofs.Common.{refl, sym, ap, ◌∙◌, rules}
 use Rattle.std.specs.List.{list_any}
 use Rattle.std.specs.Option.{option_map}
 use Rattle.std.specs.Prelude.{◌≡◌, ℕ, ℤ, Bool, List, [], Option, Some, None, Result, Ok, Err, refl, ◌||◌, is_some}
@@ -10,14 +10,10 @@ use Rattle.tera_meaning.specs.KeyMeaning.{KeyForm, KeyMeaning, key_meaning, key_
 use Rattle.tera_meaning.specs.Lookup.{key_in, paired, text_holds, holds, seen_by}
 use Rattle.tera_meaning.specs.Meaning.{meaning, Meaning}
 use Rattle.tera_meaning.specs.Order.{same}
-use Rattle.tera_meaning.specs.Outcome.{out_of_memory}
 use Rattle.tera_meaning.specs.Pairs.{value_at}
-use Rattle.tera_meaning.specs.Tree.{Items, text, array, object, no_items, items_list, members_list, Members}
-use Rattle.tera_meaning.specs.Tree.{item as an_item}
-use Rattle.tera_meaning.specs.Weighing.{truth_told}
+use Rattle.tera_meaning.specs.Tree.{Items, text, array, object, no_items, items_list, members_list, Members, item as an_item}
 use Rattle.tera_report.specs.Refusal.{Refusal, not_a_container}
 use Rattle.tera_meaning.proofs.MeaningLaws.{meant_items, found_pair}
-use Rattle.tera_meaning.proofs.ReadLemmas.{meant_members, key_meant, key_as_meant, text_meant, text_as_meant}
 
 any_as_meant : (test : Meaning → Bool) (xs : Items Integer MarkedText KeyForm) → list_any (λ y. test (meaning y)) (items_list xs)
     ≡ list_any test (items_list (meant_items xs))
@@ -50,8 +46,4 @@ holds_as_meant (object ps) x =
 holds_as_meant v x = refl
 
 pub holds_by_meaning : (v w x y : Form) → meaning v ≡ meaning w → meaning x ≡ meaning y → seen_by (λ b. b) (holds v x) ≡ seen_by (λ b. b) (holds w y)
-holds_by_meaning v w x y same sought = holds_as_meant v x ∙ (λ d. holds_meant (same d) (sought d)) ∙ sym (holds_as_meant w y)
-
-pub no_container_wants : (v x : Form) → out_of_memory ≡ truth_told (holds v x) → ⊥
-no_container_wants (text t) x e = cc
-no_container_wants v x e = cc
+holds_by_meaning v w x y same sought = search (rules, holds_as_meant)

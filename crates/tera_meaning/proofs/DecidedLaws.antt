@@ -1,8 +1,8 @@
 -- The partial order of meanings answers as the order does, or not at all.
 use Rattle.std.proofs.lemmas.Option.{none-some, same_Some}
-use Rattle.std.specs.Prelude.{◌≡◌, ◌≢◌, ℕ, ℤ, Bool, true, false, List, [], ◌∷◌, Option, Some, None, ◌==◌, if◌then◌else◌, refl}
-use Rattle.std.proofs.Common.{◌∙◌, ap}
-use Rattle.std.specs.Cmp.{some_flip, unsigned_Decides}
+use Rattle.std.specs.Prelude.{◌≡◌, ℕ, ℤ, Bool, List, [], ◌∷◌, Option, Some, None, ◌==◌, if◌then◌else◌, refl}
+use Rattle.std.proofs.Common.{◌∙◌, ap, rules}
+use Rattle.std.specs.Cmp.{some_flip}
 use Rattle.std.specs.Cmp.Lexicographic.{slice_partial_cmp}
 use Rattle.std.specs.Option.{option_map}
 use Rattle.std.specs.Ordering.{ordering_then, ordering_reverse, partial_ordering_then}
@@ -24,8 +24,7 @@ then_agrees (Some Equal) q r s answer f g e = ap (λ o. ordering_then o s) (f Eq
 then_agrees (Some Greater) q r s answer f g e = ap (λ o. ordering_then o s) (f Greater refl) ∙ same_Some Greater answer e
 
 by_rank : (b : Bool) (r answer : Ordering) → (if b then Some r else None) ≡ Some answer → r ≡ answer
-by_rank true r answer e = same_Some r answer e
-by_rank false r answer e = absurd (none-some answer e)
+by_rank x0 r answer e = search rules
 
 mutual
   pub decided_agrees : (x y : Meaning) (answer : Ordering) → decided x y ≡ Some answer → compare x y ≡ answer
@@ -65,27 +64,4 @@ mutual
   items_swapped (item x xs) (item y ys) =
       (λ i. partial_ordering_then (decided_swapped x y i) (items_swapped xs ys i)) ∙ some_flip (decided y x) (decided_items ys xs)
 
-rank_test : (b : Bool) (r : Ordering) → b ≡ false → (if b then Some r else None) ≡ None
-rank_test true r e = cc
-rank_test false r e = refl
-
-same_rank : (b : Bool) (r : Ordering) → b ≡ true → (if b then Some r else None) ≡ Some r
-same_rank true r e = refl
-same_rank false r e = cc
-
-not_same : (m n : ℕ) → m ≢ n → (m == n) ≡ false
-not_same m n h = by (m == n) (λ e. h ((unsigned_Decides m n).0 e))
-  where
-    by : (b : Bool) → (b ≢ true) → b ≡ false
-    by true f = absurd (f refl)
-    by false f = refl
-
-pub ranks_undecided : (x y : Meaning) → rank x ≢ rank y → decided x y ≡ None
-ranks_undecided (array xs) (array ys) h = absurd (h refl)
-ranks_undecided (object ps) (object qs) h = refl
-ranks_undecided x y h = rank_test (rank x == rank y) (compare x y) (not_same (rank x) (rank y) h)
-
-pub others_decided : (x y : Meaning) → rank x ≡ rank y → rank x ≢ 3 → rank x ≢ 4 → decided x y ≡ Some (compare x y)
-others_decided (array xs) (array ys) h a b = absurd (a refl)
-others_decided (object ps) (object qs) h a b = absurd (b refl)
-others_decided x y h a b = same_rank (rank x == rank y) (compare x y) ((unsigned_Decides (rank x) (rank y)).1 h)
+pub ruleset laws = (decided_agrees, decided_swapped)

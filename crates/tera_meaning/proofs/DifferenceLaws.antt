@@ -1,6 +1,6 @@
 -- Two rising lists are ordered as they stand at the least key at which they differ.
 use Rattle.std.specs.Prelude.{◌≡◌, ◌≢◌, ◌↔◌, ◌⊎◌, ◌||◌, Bool, true, false, cond, List, [], ◌∷◌, Option, Some, None, refl}
-use Rattle.std.proofs.Common.{sym, ◌∙◌, ap, inl, inr, subst}
+use Rattle.std.proofs.Common.{sym, ◌∙◌, ap, inl, inr, subst, rules}
 use Rattle.std.proofs.lemmas.Bool.{true≢false}
 use Rattle.std.specs.Cmp.{IsTotalOrder, tied_itself, alike_right, Equal-is}
 use Rattle.std.specs.Cmp.Lexicographic.{slice_cmp}
@@ -36,19 +36,17 @@ module _ {K V : Type 0} (order : K → K → Ordering) (total : IsTotalOrder ord
 
   -- look-ups by keys that tie
   found_tied : (k l : K) (es : List (K × V)) → order k l ≡ Equal → value_at order es k ≡ value_at order es l
-  found_tied k l [] p = refl
-  found_tied k l (e ∷ es) p = λ i. cond (is_eq (total.congr k l e.0 p i)) (Some e.1) (found_tied k l es p i)
+  found_tied k l x2 p = search rules
 
   more_tied : (k l : K) (es : List (K × V)) → order k l ≡ Equal → goes_on order es k ≡ goes_on order es l
-  more_tied k l [] p = refl
-  more_tied k l (e ∷ es) p = λ i. is_lt (total.congr k l e.0 p i) || more_tied k l es p i
+  more_tied k l x2 p = search rules
 
   module _ (values : V → V → Ordering) where
     neither : (ps qs : List (K × V)) (k : K) → value_at order ps k ≡ None → value_at order qs k ≡ None → agree_at order values ps qs k ≡ true
     neither ps qs k a b = λ i. option_eq (eq_by_cmp values) (a i) (b i)
 
     agree_tied : (ps qs : List (K × V)) (k l : K) → order k l ≡ Equal → agree_at order values ps qs k ≡ agree_at order values ps qs l
-    agree_tied ps qs k l p = λ i. option_eq (eq_by_cmp values) (found_tied k l ps p i) (found_tied k l qs p i)
+    agree_tied ps qs k l p = search rules
 
     decides : (ps qs : List (K × V)) (k : K) (x y : Option V) (a b : Bool) → value_at order ps k ≡ x → value_at order qs k ≡ y
         → goes_on order ps k ≡ a → goes_on order qs k ≡ b → order_at order values ps qs k ≡ by_values order values x y a b
@@ -56,26 +54,14 @@ module _ {K V : Type 0} (order : K → K → Ordering) (total : IsTotalOrder ord
 
     -- two keys at which two lists differ, and at no lesser one, tie
     one_least : (ps qs : List (K × V)) (k l : K) → IsLeastDifference order values ps qs k → IsLeastDifference order values ps qs l → order k l ≡ Equal
-    one_least ps qs k l h g =
-        elim (order k l) as (λ r. order k l ≡ r → r ≡ Equal) [
-          | Less ↦ λ p. absurd (true≢false (sym (g.1 k p) ∙ h.0))
-          | Equal ↦ λ p. refl
-          | Greater ↦ λ p. absurd (true≢false (sym (h.1 l (turned order total k l p)) ∙ g.0))
-        ] refl
+    one_least ps qs k l h g = search rules
 
     at_values : (r s : Ordering) → is_eq r ≡ false → ordering_then r s ≡ r
-    at_values Less s e = refl
-    at_values Equal s e = absurd (true≢false e)
-    at_values Greater s e = refl
+    at_values x0 s e = search rules
 
     -- where two options differ, what decides between them is not Equal
     differing : (x y : Option V) (a b : Bool) → option_eq (eq_by_cmp values) x y ≡ false → by_values order values x y a b ≢ Equal
-    differing None None a b e is = true≢false e
-    differing (Some x) (Some y) a b e is = true≢false (sym (ap is_eq is) ∙ e)
-    differing (Some x) None a true e is = cc
-    differing (Some x) None a false e is = cc
-    differing None (Some y) true b e is = cc
-    differing None (Some y) false b e is = cc
+    differing x0 x1 a b e is = search rules
 
     -- ---- two rising lists agree everywhere and tie, or are ordered as they stand at the least key at which they differ
 
@@ -220,9 +206,7 @@ module _ {K V : Type 0} (order : K → K → Ordering) (total : IsTotalOrder ord
     agree_rising es fs k = λ i. option_eq (eq_by_cmp values) (found_rising order total es k i) (found_rising order total fs k i)
 
     order_rising : (es fs : List (K × V)) (k : K) → order_at order values (rising order es) (rising order fs) k ≡ order_at order values es fs k
-    order_rising es fs k = decides (rising order es) (rising order fs) k (value_at order es k) (value_at order fs k) (goes_on order es k)
-        (goes_on order fs k)
-        (found_rising order total es k) (found_rising order total fs k) (more_rising order total es k) (more_rising order total fs k)
+    order_rising es fs k = search (rules, found_rising, more_rising)
 
     pub entries_decide : (es fs : List (K × V)) (k : K) → IsLeastDifference order values es fs k
         → slice_cmp (entry_order order values) (rising order es) (rising order fs) ≡ order_at order values es fs k

@@ -1,8 +1,8 @@
 -- A number has one quotient and one remainder by each other number than 0.
-use Rattle.std.specs.Prelude.{◌≡◌, ◌<◌, ◌*◌, ℕ, zero, suc, ℤ, pos, negsuc, ◌+ℤ◌, ◌-ℤ◌, ◌*ℤ◌, ◌≤ℤ◌, ◌<ℤ◌, unsigned_abs, refl}
-use Rattle.std.proofs.Common.{sym, ◌∙◌, ap, subst, arith}
+use Rattle.std.specs.Prelude.{◌≡◌, ◌<◌, ◌*◌, ℕ, zero, suc, ℤ, pos, negsuc, ◌+ℤ◌, ◌-ℤ◌, ◌*ℤ◌, ◌≤ℤ◌, ◌<ℤ◌, unsigned_abs}
+use Rattle.std.proofs.Common.{sym, ◌∙◌, ap, subst, arith, rules}
 use Rattle.std.proofs.lemmas.Int.{ints, unsigned_abs-mul}
-use Rattle.std.proofs.Math.IntN.{suc_ℤ, pred_ℤ, suc_ℤ-+ℤ, pred_ℤ-+ℤ, suc_ℤ-*ℤ, pred_ℤ-*ℤ, zero-*ℤ, +ℤ_idl, *ℤ_comm}
+use Rattle.std.proofs.Math.IntN.{suc_ℤ, pred_ℤ, suc_ℤ-+ℤ, pred_ℤ-+ℤ, suc_ℤ-*ℤ, pred_ℤ-*ℤ, *ℤ_comm}
 use Rattle.tera_meaning.specs.Arithmetic.{IsDivided}
 
 -- a sum times a number is the sum of the products
@@ -14,17 +14,13 @@ moved_down x y z = omega (arith, ints)
 
 module _ (y z : ℤ) where
   up : (x : ℤ) → (x +ℤ y) *ℤ z ≡ x *ℤ z +ℤ y *ℤ z → (suc_ℤ x +ℤ y) *ℤ z ≡ suc_ℤ x *ℤ z +ℤ y *ℤ z
-  up x h =
-      ap (λ s. s *ℤ z) (suc_ℤ-+ℤ x y) ∙ suc_ℤ-*ℤ (x +ℤ y) z ∙ ap (λ s. s +ℤ z) h ∙ moved_up (x *ℤ z) (y *ℤ z) z
-      ∙ sym (ap (λ s. s +ℤ y *ℤ z) (suc_ℤ-*ℤ x z))
+  up x h = search (rules, suc_ℤ-+ℤ, suc_ℤ-*ℤ, moved_up)
 
   down : (x : ℤ) → (x +ℤ y) *ℤ z ≡ x *ℤ z +ℤ y *ℤ z → (pred_ℤ x +ℤ y) *ℤ z ≡ pred_ℤ x *ℤ z +ℤ y *ℤ z
-  down x h =
-      ap (λ s. s *ℤ z) (pred_ℤ-+ℤ x y) ∙ pred_ℤ-*ℤ (x +ℤ y) z ∙ ap (λ s. s -ℤ z) h ∙ moved_down (x *ℤ z) (y *ℤ z) z
-      ∙ sym (ap (λ s. s +ℤ y *ℤ z) (pred_ℤ-*ℤ x z))
+  down x h = search (rules, pred_ℤ-+ℤ, pred_ℤ-*ℤ, moved_down)
 
   none_times : (pos 0 +ℤ y) *ℤ z ≡ pos 0 *ℤ z +ℤ y *ℤ z
-  none_times = ap (λ s. s *ℤ z) (+ℤ_idl y) ∙ sym (ap (λ s. s +ℤ y *ℤ z) (zero-*ℤ z) ∙ +ℤ_idl (y *ℤ z))
+  none_times = search rules
 
   pub sum_times : (x : ℤ) → (x +ℤ y) *ℤ z ≡ x *ℤ z +ℤ y *ℤ z
   sum_times (pos zero) = none_times
@@ -37,12 +33,10 @@ apart : (r s : ℤ) (n : ℕ) → pos 0 ≤ℤ r → r <ℤ pos n → pos 0 ≤�
 apart r s n h g k l = omega (arith, ints)
 
 none_left : (n d : ℕ) → n * d < n → d ≡ 0
-none_left n zero h = refl
-none_left n (suc d) h = absurd (omega (arith, h))
+none_left n x1 h = search rules
 
 no_distance : (d : ℤ) → unsigned_abs d ≡ 0 → d ≡ pos 0
-no_distance (pos n) h = ap pos h
-no_distance (negsuc n) h = cc
+no_distance x0 h = search rules
 
 module _ (a b q r p s : ℤ) (one : IsDivided a b q r) (other : IsDivided a b p s) where
   distance : b *ℤ (q -ℤ p) ≡ s -ℤ r
@@ -66,8 +60,4 @@ module _ (a b q r p s : ℤ) (one : IsDivided a b q r) (other : IsDivided a b p 
       omega (arith, ints)
 
   pub same_remainder : r ≡ s
-  same_remainder =
-      let e : b *ℤ q ≡ b *ℤ p = ap (λ x. b *ℤ x) same_quotient in
-      let g : a ≡ b *ℤ q +ℤ r = one.whole in
-      let h : a ≡ b *ℤ p +ℤ s = other.whole in
-      omega (arith, ints)
+  same_remainder = search (rules, same_quotient)

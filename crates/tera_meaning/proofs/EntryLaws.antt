@@ -1,24 +1,27 @@
 -- What maps mean, and how they compare, by their entries.
-use Rattle.std.specs.Prelude.{◌≡◌, ◌≢◌, ◌↔◌, ◌⊎◌, true, List, [], ◌∷◌, map, Option, Some, None, refl}
-use Rattle.std.proofs.Common.{sym, ◌∙◌, ap, inl, inr}
+use Rattle.std.specs.Prelude.{◌≡◌, ◌≢◌, ◌↔◌, ◌⊎◌, true, List, [], ◌∷◌, map, Option, refl}
+use Rattle.std.proofs.Common.{sym, ◌∙◌, ap, rules}
 use Rattle.std.specs.BTreeMap.{insert_entry}
-use Rattle.std.specs.Cmp.{IsTotalOrder, on_total}
+use Rattle.std.specs.Cmp.{IsTotalOrder}
 use Rattle.std.specs.Cmp.Lexicographic.{slice_cmp}
 use Rattle.std.specs.Option.{option_eq}
-use Rattle.std.specs.Ordering.{ordering_then, on, eq_by_cmp, is_eq, match_ordering}
+use Rattle.std.specs.Ordering.{ordering_then, on, eq_by_cmp, match_ordering}
 use Rattle.std.specs.declared.cmp.Ordering.{Ordering}
 use Rattle.std.specs.declared.cmp.Ordering.TheVariants.{Less, Equal, Greater}
 use Rattle.tera_meaning.specs.Form.{Form}
-use Rattle.tera_meaning.proofs.KeyLaws.{key_total}
+use Rattle.tera_meaning.proofs.KeyLaws.{key_total, form_total}
+use Rattle.tera_meaning.proofs.UniqueLaws.{same_rising, rising_permutes, only_rising}
+use Rattle.std.specs.List.Sorted.{IsPermutation}
 use Rattle.tera_meaning.specs.KeyMeaning.{KeyForm, KeyMeaning, key_meaning, key_order}
 use Rattle.tera_meaning.specs.Meaning.{Meaning, meaning, pair_meaning, map_meaning}
 use Rattle.tera_meaning.specs.Order.{compare, pair_order}
 use Rattle.tera_meaning.proofs.OrderLaws.{members_exact, members_by_first_difference, compare_same, compare_tie}
-use Rattle.tera_meaning.specs.Pairs.{Rises, rising, value_at, entry_order, AgreeEverywhere, IsLeastDifference, order_at, key_form_order, pairs_of}
+use Rattle.tera_meaning.specs.Pairs.{HasDistinctKeys, Rises, rising, value_at, entry_order, AgreeEverywhere, IsLeastDifference, order_at, key_form_order}
+use Rattle.tera_meaning.specs.Pairs.{pairs_of}
 use Rattle.tera_meaning.specs.Tree.{object, members, members_list}
 use Rattle.tera_meaning.proofs.TreeLaws.{list_of_members}
-use Rattle.tera_meaning.proofs.MeaningLaws.{map_means}
-use Rattle.tera_meaning.proofs.PairLaws.{rising_rises, rising_itself}
+use Rattle.tera_meaning.proofs.MeaningLaws.{map_means, found_meant, length_meant, only_meant}
+use Rattle.tera_meaning.proofs.PairLaws.{rising_rises, rising_itself, found_rising, more_rising}
 use Rattle.tera_meaning.proofs.DifferenceLaws.{difference_decides, agreeing_tie, agree_rising, entries_decide, entries_tie, least_or_none}
 
 -- ---- keys and values read through functions
@@ -70,16 +73,11 @@ compare_forms es fs =
 
 pub forms_decide : (es fs : List (KeyForm × Form)) (k : KeyForm) → IsLeastDifference key_form_order (on meaning compare) es fs k
     → compare (map_meaning es) (map_meaning fs) ≡ order_at key_form_order (on meaning compare) es fs k
-forms_decide es fs k least =
-    compare_forms es fs ∙ entries_decide key_form_order (on_total key_meaning key_total) (on meaning compare) es fs k least
+forms_decide es fs k least = search (rules, compare_forms, entries_decide, form_total)
 
 pub forms_tie : (es fs : List (KeyForm × Form))
     → AgreeEverywhere key_form_order (on meaning compare) es fs ↔ (compare (map_meaning es) (map_meaning fs) ≡ Equal)
-forms_tie es fs =
-    let tie : AgreeEverywhere key_form_order (on meaning compare) es fs
-    ↔ (slice_cmp (entry_order key_form_order (on meaning compare)) (pairs_of es) (pairs_of fs) ≡ Equal) =
-    entries_tie key_form_order (on_total key_meaning key_total) (on meaning compare) es fs in
-    (λ agree. compare_forms es fs ∙ tie.0 agree, λ e. tie.1 (sym (compare_forms es fs) ∙ e))
+forms_tie es fs = search (rules, entries_tie, form_total, compare_forms)
 
 pub forms_equal : (es fs : List (KeyForm × Form)) → AgreeEverywhere key_form_order (on meaning compare) es fs ↔ (map_meaning es ≡ map_meaning fs)
 forms_equal es fs =
@@ -89,8 +87,7 @@ forms_equal es fs =
 -- ---- maps that mean different things have a least key at which they differ
 
 the_other : {A B : Type 0} → (A → ⊥) → A ⊎ B → B
-the_other n (inl a) = absurd (n a)
-the_other n (inr b) = b
+the_other n x1 = search rules
 
 pub maps_differ : (ps qs : List (KeyMeaning × Meaning)) → Rises key_order ps → Rises key_order qs → object (members ps) ≢ object (members qs)
     → (k : KeyMeaning) × IsLeastDifference key_order compare ps qs k
@@ -102,7 +99,7 @@ maps_differ ps qs h g n =
 pub forms_differ : (es fs : List (KeyForm × Form)) → map_meaning es ≢ map_meaning fs → (k : KeyForm)
     × IsLeastDifference key_form_order (on meaning compare) es fs k
 forms_differ es fs n =
-    let total : IsTotalOrder key_form_order = on_total key_meaning key_total in
+    let total : IsTotalOrder key_form_order = form_total in
     let found : (k : KeyForm) × IsLeastDifference key_form_order (on meaning compare) (pairs_of es) (pairs_of fs) k =
     the_other (λ agree. n ((compare_tie (map_meaning es) (map_meaning fs)).0
     (compare_forms es fs ∙ (agreeing_tie key_form_order total (on meaning compare) (pairs_of es) (pairs_of fs)
@@ -120,21 +117,15 @@ forms_differ es fs n =
 -- ---- the order in which the entries stand does not count
 
 pub in_places : (es : List (KeyForm × Form)) → map_meaning (pairs_of es) ≡ map_meaning es
-in_places es =
-    map_means (pairs_of es)
-    ∙ ap (λ qs. object (members (rising key_order qs))) (rising_means es)
-    ∙ ap (λ qs. object (members qs))
-    (rising_itself key_order key_total (rising key_order (map pair_meaning es)) (rising_rises key_order key_total (map pair_meaning es)))
-    ∙ sym (map_means es)
+in_places es = search (rules, map_means, rising_means, rising_itself, key_total, rising_rises)
 
-pub reordered : (es fs : List (KeyForm × Form)) → pairs_of es ≡ pairs_of fs → map_meaning es ≡ map_meaning fs
-reordered es fs same = sym (in_places es) ∙ ap map_meaning same ∙ in_places fs
+pub reordered : (es fs : List (KeyForm × Form)) → HasDistinctKeys key_form_order es → IsPermutation es fs → map_meaning es ≡ map_meaning fs
+reordered es fs h same = sym (in_places es) ∙ ap map_meaning (same_rising key_form_order form_total es fs h same) ∙ in_places fs
 
 -- ---- pair lists that find the same
 
 alike : (o : Option Meaning) → option_eq (eq_by_cmp compare) o o ≡ true
-alike None = refl
-alike (Some x) = ap is_eq (compare_same x)
+alike x0 = search (rules, compare_same)
 
 pub one_pair_list : (ps qs : List (KeyMeaning × Meaning)) → Rises key_order ps → Rises key_order qs
     → ((k : KeyMeaning) → value_at key_order ps k ≡ value_at key_order qs k) → ps ≡ qs
@@ -144,3 +135,9 @@ one_pair_list ps qs h g same =
     let tie : compare (object (members ps)) (object (members qs)) ≡ Equal = members_by_first_difference ps qs
     ∙ (agreeing_tie key_order key_total compare ps qs h g).0 agree in
     sym (list_of_members ps) ∙ ap members_list (members_exact (members ps) (members qs) tie) ∙ list_of_members qs
+
+pub ruleset entries = (map_means, found_meant, length_meant, only_meant, in_places, reordered, one_pair_list)
+
+pub ruleset differences = (maps_decide, forms_decide, forms_tie, forms_equal, maps_differ, forms_differ)
+
+pub ruleset pair_lists = (form_total, rising_rises, found_rising, more_rising, rising_permutes, only_rising, same_rising)

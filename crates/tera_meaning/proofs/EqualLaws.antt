@@ -1,7 +1,7 @@
 -- States are equal where they mean the same.
 use Rattle.std.proofs.lemmas.Bool.{and_parts, and_from}
 use Rattle.std.specs.Prelude.{◌≡◌, ◌↔◌, ℕ, Bool, cond, ◌&&◌, T, IsTrue, List, [], ◌∷◌, map, Some, refl}
-use Rattle.std.proofs.Common.{sym, ◌∙◌, ap, subst}
+use Rattle.std.proofs.Common.{sym, ◌∙◌, ap, rules}
 use Rattle.std.specs.Option.{option_map}
 use Rattle.std.specs.Ordering.{nat_cmp, eq_by_cmp, is_lt}
 use Rattle.std.specs.Cmp.{IsPartialEquivalence, partial_equiv_from_equiv, on_per, and_per}
@@ -34,10 +34,7 @@ abbrev meant : List Pair → List (List ℕ × Meaning)
 meant pairs = map (λ p. (p.0, meaning p.1)) pairs
 
 pair_same : (p q : Pair) → IsTrue (same_pair p q) → (p.0 ≡ q.0) × (meaning p.1 ≡ meaning q.1)
-pair_same p q h = (
-  (bytes_decides p.0 q.0).0 ((and_parts (bytes_eq p.0 q.0) _ h).0),
-  (same_is (meaning p.1) (meaning q.1)).0 ((and_parts (bytes_eq p.0 q.0) _ h).1),
-)
+pair_same p q h = search (rules, and_parts, same_is)
 
 same_meant : (ps qs : List Pair) → IsTrue (pointwise same_pair ps qs) → meant ps ≡ meant qs
 same_meant [] [] h = refl
@@ -77,17 +74,13 @@ sorted_meant (p ∷ ps) = λ i. below_meant p.0 ps i && sorted_meant ps i
 
 held_meant : (state : State) (name : List ℕ)
     → meaning_held state name ≡ find (slice_cmp nat_cmp) name (meant (entries state))
-held_meant state name =
-    ap (option_map meaning) (get-entries state name) ∙ sym (find_meant name (entries state))
+held_meant state name = search (rules, get-entries, find_meant)
 
 rises_meant : (state : State) → T (is_sorted (slice_cmp nat_cmp) (meant (entries state)))
-rises_meant state = subst T (sym (sorted_meant (entries state))) (entries_sorted state)
+rises_meant state = search (rules, sorted_meant, entries_sorted)
 
 means_the_same : (f g : State) → IsTrue (states_equal f g) → MeanTheSame f g
-means_the_same f g h name =
-    held_meant f name
-    ∙ ap (find (slice_cmp nat_cmp) name) (same_meant (entries f) (entries g) h)
-    ∙ sym (held_meant g name)
+means_the_same f g h name = search (rules, held_meant, slice_cmp, same_meant, entries)
 
 are_equal : (f g : State) → MeanTheSame f g → IsTrue (states_equal f g)
 are_equal f g same =

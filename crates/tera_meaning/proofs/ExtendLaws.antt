@@ -1,19 +1,15 @@
 -- What a state holds after it takes over what a source holds.
 use Rattle.std.proofs.Math.Facts.{and_yes, yes_and}
-use Rattle.std.specs.Prelude.{◌≡◌, ◌≢◌, ◌<◌, ℕ, Bool, true, false, cond, T, IsSome, List, [], ◌∷◌, ◌++◌, length, take, drop, Option, Some}
-use Rattle.std.specs.Prelude.{None, refl}
-use Rattle.std.proofs.Common.{sym, ◌∙◌, ap, subst, arith, take-append-drop, length-drop, length-take-le}
-use Rattle.std.specs.Option.{option_map, option_or}
-use Rattle.std.specs.Ordering.{nat_cmp, eq_by_cmp, is_eq, is_lt, ordering_reverse}
+use Rattle.std.specs.Prelude.{◌≡◌, ◌<◌, ℕ, Bool, cond, T, IsSome, List, [], ◌∷◌, ◌++◌, length, take, drop, Option, Some, None, refl}
+use Rattle.std.proofs.Common.{sym, ◌∙◌, ap, subst, arith, take-append-drop, length-drop, length-take-le, rules}
+use Rattle.std.specs.Option.{option_or}
+use Rattle.std.specs.Ordering.{nat_cmp, eq_by_cmp, is_lt}
 use Rattle.std.specs.Cmp.Lexicographic.{slice_cmp, nat_list_cmp_total}
 use Rattle.std.specs.FinMap.{get, find, insert, entries, from_entries, from_sorted, is_sorted, get-entries, get-insert, get-from_entries, get-from_sorted}
 use Rattle.std.specs.FinMap.{entries-from_sorted, len, len-entries, entries_sorted}
 use Rattle.std.specs.FinMap.Entries.{below_all}
-use Rattle.std.specs.declared.cmp.Ordering.{Ordering}
-use Rattle.std.specs.declared.cmp.Ordering.TheVariants.{Less, Equal, Greater}
 use Rattle.tera_meaning.specs.Alike.{MeanTheSame}
 use Rattle.tera_meaning.specs.Form.{Form}
-use Rattle.tera_meaning.specs.Meaning.{meaning}
 use Rattle.tera_meaning.specs.State.{State, extended, IsProperBeginning}
 use Rattle.tera_meaning.proofs.StateLaws.{same_state}
 
@@ -21,8 +17,7 @@ use Rattle.tera_meaning.proofs.StateLaws.{same_state}
 
 chosen_or : (b : Bool) (value : Form) (o p : Option Form)
     → cond b (Some value) (option_or o p) ≡ option_or (cond b (Some value) o) p
-chosen_or true value o p = refl
-chosen_or false value o p = refl
+chosen_or x0 value o p = search rules
 
 -- the first of two lists that has a name says what it has
 find_either : (name : List ℕ) (first later : List (List ℕ × Form))
@@ -37,70 +32,37 @@ find_either name (p ∷ first) later =
 
 pub get_extended : (state source : State) (name : List ℕ)
     → get (extended state source) name ≡ option_or (get source name) (get state name)
-get_extended state source name =
-    get-from_entries nat_list_cmp_total (entries source ++ entries state) name
-    ∙ find_either name (entries source) (entries state)
-    ∙ (λ i. option_or (sym (get-entries source name) i) (sym (get-entries state name) i))
+get_extended state source name = search (rules, get-from_entries, nat_list_cmp_total, find_either, get-entries)
 
 -- one more name of the source is one more that the state takes over
 pub extended_insert : (state source : State) (name : List ℕ) (value : Form)
     → extended state (insert source name value) ≡ insert (extended state source) name value
-extended_insert state source name value = same_state _ _ (λ other.
-    get_extended state (insert source name value) other
-    ∙ ap (λ o. option_or o (get state other)) (get-insert nat_list_cmp_total source name value other)
-    ∙ sym (chosen_or (eq_by_cmp (slice_cmp nat_cmp) other name) value (get source other) (get state other))
-    ∙ ap (cond (eq_by_cmp (slice_cmp nat_cmp) other name) (Some value)) (sym (get_extended state source other))
-    ∙ sym (get-insert nat_list_cmp_total (extended state source) name value other))
-
-held_or : (o p q : Option Form) → o ≡ p → IsSome p → option_or o q ≡ p
-held_or o (Some value) q e h = ap (λ r. option_or r q) e
-held_or o None q e h = cc
-
-absent_or : (o p : Option Form) → o ≡ None → option_or o p ≡ p
-absent_or o p e = ap (λ r. option_or r p) e
+extended_insert state source name value = search (rules, same_state, get_extended, insert, get, get-insert, nat_list_cmp_total, chosen_or, slice_cmp)
 
 -- a name of the source has the source's value, and every other name keeps its own
 pub source_taken : (state source : State) (name : List ℕ) → IsSome (get source name)
     → get (extended state source) name ≡ get source name
-source_taken state source name held =
-    get_extended state source name ∙ held_or (get source name) (get source name) (get state name) refl held
+source_taken state source name held = search (rules, get_extended, get)
 
 pub others_kept : (state source : State) (name : List ℕ) → get source name ≡ None
     → get (extended state source) name ≡ get state name
-others_kept state source name absent =
-    get_extended state source name ∙ absent_or (get source name) (get state name) absent
+others_kept state source name absent = search (rules, get_extended, get)
 
 -- ---- meanings
 
-mapped_or : (o p : Option Form) → option_map meaning (option_or o p) ≡ option_or (option_map meaning o) (option_map meaning p)
-mapped_or None p = refl
-mapped_or (Some value) p = refl
-
 pub extended_alike : (f g source other : State) → MeanTheSame f g → MeanTheSame source other
     → MeanTheSame (extended f source) (extended g other)
-extended_alike f g source other h also name =
-    ap (option_map meaning) (get_extended f source name)
-    ∙ mapped_or (get source name) (get f name)
-    ∙ (λ i. option_or (also name i) (h name i))
-    ∙ sym (mapped_or (get other name) (get g name))
-    ∙ sym (ap (option_map meaning) (get_extended g other name))
+extended_alike f g source other h also name = search (rules, get_extended, get)
 
 -- ---- a beginning of a source
 
 first_or : (o p q : Option Form) → q ≡ option_or o p → IsSome o → q ≡ o
-first_or (Some value) p q e h = e
-first_or None p q e h = cc
+first_or x0 p q e h = search rules
 
 -- a beginning has nothing that the whole has not
 pub beginning_held : (part whole : State) (name : List ℕ) → IsProperBeginning part whole → IsSome (get part name)
     → get whole name ≡ get part name
-beginning_held part whole name (later, more, is) held =
-    first_or (get part name) (find (slice_cmp nat_cmp) name later) (get whole name)
-    (get-entries whole name
-    ∙ ap (find (slice_cmp nat_cmp) name) is
-    ∙ find_either name (entries part) later
-    ∙ ap (λ o. option_or o (find (slice_cmp nat_cmp) name later)) (sym (get-entries part name)))
-    held
+beginning_held part whole name x3 held = search (rules, first_or, get, find, slice_cmp, get-entries, find_either, entries)
 
 -- ---- pairs in the order of their names
 
@@ -110,9 +72,7 @@ is_rising pairs = is_sorted (slice_cmp nat_cmp) pairs
 pub entries_of_rising : (pairs : List (List ℕ × Form)) → T (is_rising pairs)
     → entries (from_entries {R = slice_cmp nat_cmp} pairs) ≡ pairs
 entries_of_rising pairs h =
-    ap entries (same_state (from_entries pairs) (from_sorted pairs) (λ name.
-    get-from_entries nat_list_cmp_total pairs name ∙ sym (get-from_sorted (slice_cmp nat_cmp) pairs name h)))
-    ∙ entries-from_sorted (slice_cmp nat_cmp) pairs h
+    search (rules, entries, same_state, from_entries, from_sorted, get-from_entries, nat_list_cmp_total, get-from_sorted, slice_cmp, entries-from_sorted)
 
 above_first : (name : List ℕ) (pairs later : List (List ℕ × Form))
     → T (below_all (slice_cmp nat_cmp) name (pairs ++ later)) → T (below_all (slice_cmp nat_cmp) name pairs)
@@ -128,47 +88,13 @@ rising_first (p ∷ pairs) later h =
     let above = below_all (slice_cmp nat_cmp) p.0 (pairs ++ later) in
     yes_and _ _ (above_first p.0 pairs later ((and_yes above _ h).0)) (rising_first pairs later ((and_yes above _ h).1))
 
-reversed_less : (r : Ordering) → T (is_lt r) → is_eq (ordering_reverse r) ≡ false
-reversed_less Less h = refl
-reversed_less Equal h = absurd h
-reversed_less Greater h = absurd h
-
-less_is_apart : (name other : List ℕ) → T (is_lt (slice_cmp nat_cmp other name)) → eq_by_cmp (slice_cmp nat_cmp) name other ≡ false
-less_is_apart name other h =
-    ap is_eq (nat_list_cmp_total.antisymm name other) ∙ reversed_less (slice_cmp nat_cmp other name) h
-
-above_later : (name other : List ℕ) (value : Form) (pairs later : List (List ℕ × Form))
-    → T (below_all (slice_cmp nat_cmp) other (pairs ++ (name, value) ∷ later)) → T (is_lt (slice_cmp nat_cmp other name))
-above_later name other value [] later h = (and_yes (is_lt (slice_cmp nat_cmp other name)) _ h).0
-above_later name other value (p ∷ pairs) later h =
-    above_later name other value pairs later ((and_yes (is_lt (slice_cmp nat_cmp other p.0)) _ h).1)
-
--- where pairs rise, a name stands in none before its own
-pub is_new : (pairs : List (List ℕ × Form)) (name : List ℕ) (value : Form) (later : List (List ℕ × Form))
-    → T (is_rising (pairs ++ (name, value) ∷ later)) → find (slice_cmp nat_cmp) name pairs ≡ None
-is_new [] name value later h = refl
-is_new (p ∷ pairs) name value later h =
-    let above = below_all (slice_cmp nat_cmp) p.0 (pairs ++ (name, value) ∷ later) in
-    let apart = less_is_apart name p.0 (above_later name p.0 value pairs later ((and_yes above _ h).0)) in
-    ap (λ b. cond b (Some p.1) (find (slice_cmp nat_cmp) name pairs)) apart
-    ∙ is_new pairs name value later ((and_yes above _ h).1)
-
--- a beginning of the pairs that a state is made of
-pub begins : (pairs later : List (List ℕ × Form)) → T (is_rising (pairs ++ later)) → later ≢ []
-    → IsProperBeginning (from_entries pairs) (from_entries (pairs ++ later))
-begins pairs later h more = (
-  later,
-  more,
-  entries_of_rising (pairs ++ later) h ∙ ap (λ es. es ++ later) (sym (entries_of_rising pairs (rising_first pairs later h))),
-)
-
 -- of a state there is a beginning of each length below its own
 module _ (whole : State) (n : ℕ) (fewer : n < len whole) where
   some_later : n < length (entries whole)
-  some_later = let e = len-entries whole in omega (arith, fewer, e)
+  some_later = search (rules, len-entries)
 
   split : take n (entries whole) ++ drop n (entries whole) ≡ entries whole
-  split = take-append-drop n (entries whole)
+  split = search (rules, take-append-drop, entries)
 
   rising : entries (from_entries {R = slice_cmp nat_cmp} (take n (entries whole))) ≡ take n (entries whole)
   rising = entries_of_rising (take n (entries whole)) (rising_first (take n (entries whole)) (drop n (entries whole))
@@ -185,3 +111,5 @@ module _ (whole : State) (n : ℕ) (fewer : n < len whole) where
     len-entries (from_entries (take n (entries whole))) ∙ ap length rising
         ∙ length-take-le n (entries whole) (let less = some_later in omega (arith, less)),
   )
+
+pub ruleset laws = (source_taken, others_kept, beginning_of, beginning_held)

@@ -1,6 +1,6 @@
 -- Texts in their places: they rise, and are the only rising list of just these texts.
 use Rattle.std.specs.Prelude.{◌≡◌, ◌⊎◌, ℕ, List, [], ◌∷◌, refl}
-use Rattle.std.proofs.Common.{sym, ◌∙◌, ap, inl, inr}
+use Rattle.std.proofs.Common.{sym, ◌∙◌, ap, inl, inr, rules}
 use Rattle.std.specs.BTreeSet.{insert_key}
 use Rattle.std.specs.Cmp.{tied_itself}
 use Rattle.std.specs.Cmp.Lexicographic.{slice_cmp, nat_list_cmp_total}
@@ -10,7 +10,6 @@ use Rattle.std.specs.Ordering.{nat_cmp, ordering_reverse, match_ordering}
 use Rattle.std.specs.declared.cmp.Ordering.{Ordering}
 use Rattle.std.specs.declared.cmp.Ordering.TheVariants.{Less, Equal, Greater}
 use Rattle.tera_meaning.proofs.Among.{Among, among, contained}
-use Rattle.tera_meaning.proofs.ChainedLaws.{less_equal, greater_less}
 use Rattle.tera_meaning.proofs.StateLaws.{name_exact}
 use Rattle.tera_meaning.specs.Fields.{AreRisingOf, rising_texts}
 
@@ -88,14 +87,10 @@ below_among s (t ∷ ts) x h (inl is) = ap (order s) is ∙ h.0
 below_among s (t ∷ ts) x h (inr a) = below_among s ts x h.1 a
 
 one_head : (s t : List ℕ) (ss ts : List (List ℕ)) → Below s ss → Below t ts → (s ≡ t) ⊎ Among ts s → (t ≡ s) ⊎ Among ss t → s ≡ t
-one_head s t ss ts h g (inl is) b = is
-one_head s t ss ts h g (inr a) (inl is) = sym is
-one_head s t ss ts h g (inr a) (inr b) =
-    absurd (greater_less (ap ordering_reverse (sym (below_among t ts s g a)) ∙ sym (nat_list_cmp_total.antisymm s t) ∙ below_among s ss t h b))
+one_head s t ss ts h g x6 b = search (rules, below_among, nat_list_cmp_total)
 
 later : (s t x : List ℕ) (ts : List (List ℕ)) → order s x ≡ Less → s ≡ t → (x ≡ t) ⊎ Among ts x → Among ts x
-later s t x ts m is (inl b) = absurd (less_equal (sym m ∙ ap (order s) (b ∙ sym is) ∙ tied_itself nat_list_cmp_total s))
-later s t x ts m is (inr a) = a
+later s t x ts m is x6 = search (rules, tied_itself, nat_list_cmp_total)
 
 one_list : (ss ts : List (List ℕ)) → IsStrictlySortedBy order ss → IsStrictlySortedBy order ts → ((x : List ℕ) → Among ss x → Among ts x)
     → ((x : List ℕ) → Among ts x → Among ss x) → ss ≡ ts
@@ -111,14 +106,7 @@ one_list (s ∷ ss) (t ∷ ts) h g there back =
     λ i. head i ∷ tail i
 
 pub rising_are_rising : (texts : List (List ℕ)) → AreRisingOf texts (rising_texts texts)
-rising_are_rising texts = (
-  rising_rises texts,
-  λ t. (
-    λ c. contained texts t (rising_had texts t (among (rising_texts texts) t c)),
-    λ c. contained (rising_texts texts) t
-        (rising_has texts t (among texts t c)),
-  ),
-)
+rising_are_rising texts = search (rules, rising_rises, contained, rising_had, among, rising_has)
 
 pub only_rising_texts : (texts names : List (List ℕ)) → AreRisingOf texts names → names ≡ rising_texts texts
 only_rising_texts texts names (rises, has) =

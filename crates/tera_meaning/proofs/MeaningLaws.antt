@@ -1,6 +1,6 @@
 -- What arrays and maps mean, by their items and pairs.
-use Rattle.std.specs.Prelude.{◌≡◌, ◌↔◌, ℕ, ℤ, Bool, true, false, cond, List, [], ◌∷◌, map, length, Option, Some, refl}
-use Rattle.std.proofs.Common.{sym, ◌∙◌, ap}
+use Rattle.std.specs.Prelude.{◌≡◌, ◌↔◌, ℕ, ℤ, Bool, true, cond, List, [], ◌∷◌, map, length, Option, Some, refl}
+use Rattle.std.proofs.Common.{sym, ◌∙◌, ap, rules}
 use Rattle.std.proofs.lemmas.List.{length-map}
 use Rattle.std.specs.BTreeMap.{insert_entry}
 use Rattle.std.specs.List.{Contains}
@@ -16,9 +16,9 @@ use Rattle.tera_meaning.specs.Pairs.{Rises, HasDistinctKeys, put, rising, value_
 use Rattle.tera_meaning.specs.Read.{is_nonempty, size_in, truthy_in}
 use Rattle.tera_meaning.specs.Tree.{Items, Members, array, object, no_items, item, no_members, member, items, items_list, members, members_list}
 use Rattle.tera_meaning.specs.Tree.{relabeled_items, relabeled_members}
-use Rattle.tera_meaning.proofs.KeyLaws.{key_total}
+use Rattle.tera_meaning.proofs.KeyLaws.{key_total, form_total}
 use Rattle.tera_meaning.proofs.PairLaws.{found_rising}
-use Rattle.tera_meaning.proofs.PutLaws.{rising_put, put_read, distinct_read}
+use Rattle.tera_meaning.proofs.PutLaws.{rising_put, put_read, distinct_read, put_last, put_in_place, length_put, distinct_put, distinct_put_all, found_put}
 use Rattle.tera_meaning.proofs.TreeLaws.{items_relabeled, members_relabeled, list_of_members}
 use Rattle.tera_meaning.proofs.UniqueLaws.{only_rising, rising_length}
 
@@ -46,12 +46,10 @@ pairs_meant (member k x ps) = ap (λ l. (key_meaning k, meaning x) ∷ l) (pairs
 -- ---- arrays and maps of lists
 
 pub array_laid_out : (xs : List Form) → layout (array (items xs)) ≡ array (items (map layout xs))
-array_laid_out xs =
-    ap (λ (ys : Items ℤ (List ℕ) KeyMeaning). array ys) (items_relabeled (λ (n : Integer). n.value) (λ (t : MarkedText). t.spelled) key_meaning xs)
+array_laid_out xs = search (rules, items_relabeled)
 
 pub map_laid_out : (ps : List (KeyForm × Form)) → layout (object (members ps)) ≡ object (members (map (λ p. (key_meaning p.0, layout p.1)) ps))
-map_laid_out ps =
-    ap (λ (qs : Members ℤ (List ℕ) KeyMeaning). object qs) (members_relabeled (λ (n : Integer). n.value) (λ (t : MarkedText). t.spelled) key_meaning ps)
+map_laid_out ps = search (rules, members_relabeled)
 
 list_means : (xs : List Form) → meant_items (items xs) ≡ items (map meaning xs)
 list_means [] = refl
@@ -62,14 +60,12 @@ array_means xs = ap (λ (ys : Items ℤ (List ℕ) KeyMeaning). array ys) (list_
 
 -- a map means the rising list of what its pairs mean
 pub map_means : (ps : List (KeyForm × Form)) → meaning (object (members ps)) ≡ object (members (rising key_order (map pair_meaning ps)))
-map_means ps =
-    ap (λ qs. object (members (rising key_order qs))) (pairs_meant (members ps) ∙ ap (map pair_meaning) (list_of_members ps))
+map_means ps = search (rules, pairs_meant, list_of_members)
 
 -- ---- what is found in that list, and how long it is
 
 pub picked : {X Y : Type 0} (f : X → Y) (b : Bool) (x : X) (o : Option X) → option_map f (cond b (Some x) o) ≡ cond b (Some (f x)) (option_map f o)
-picked f true x o = refl
-picked f false x o = refl
+picked f x1 x o = search rules
 
 found_there : (ps : List (KeyForm × Form)) (k : KeyMeaning)
     → option_map meaning (lookup (λ l. eq_by_cmp key_order k (key_meaning l)) ps) ≡ value_at key_order (map pair_meaning ps) k
@@ -85,11 +81,7 @@ found_meant ps k = found_rising key_order key_total (map pair_meaning ps) (key_m
 pub found_pair : (ps : Members Integer MarkedText KeyForm) (k : KeyMeaning)
     → option_map meaning (lookup (λ l. eq_by_cmp key_order k (key_meaning l)) (members_list ps))
     ≡ value_at key_order (members_list (members (meant_pairs ps))) k
-found_pair ps k =
-    found_there (members_list ps) k
-    ∙ sym (found_rising key_order key_total (map pair_meaning (members_list ps)) k)
-    ∙ ap (λ qs. value_at key_order (rising key_order qs) k) (sym (pairs_meant ps))
-    ∙ ap (λ qs. value_at key_order qs k) (sym (list_of_members (meant_pairs ps)))
+found_pair ps k = search (rules, found_there, found_rising, key_total, pairs_meant, list_of_members)
 
 pub distinct_meant : (ps : List (KeyForm × Form)) → HasDistinctKeys key_form_order ps → HasDistinctKeys key_order (map pair_meaning ps)
 distinct_meant ps h = distinct_read key_meaning meaning key_order ps h
@@ -103,8 +95,7 @@ pub only_meant : (ps : List (KeyForm × Form)) (qs : List (KeyMeaning × Meaning
 only_meant ps qs h = only_rising key_order key_total (map pair_meaning ps) qs (distinct_meant ps h)
 
 pub size_meant : (ps : List (KeyForm × Form)) → HasDistinctKeys key_form_order ps → size_in (meaning (object (members ps))) ≡ Some (length ps)
-size_meant ps h =
-    ap size_in (map_means ps) ∙ ap (λ qs. Some (length qs)) (list_of_members (rising key_order (map pair_meaning ps))) ∙ ap Some (length_meant ps h)
+size_meant ps h = search (rules, map_means, list_of_members, length_meant)
 
 some_inserted : (qs : List (KeyMeaning × Meaning)) (k : KeyMeaning) (x : Meaning) → is_nonempty (insert_entry key_order qs k x) ≡ true
 some_inserted [] k x = refl
@@ -113,11 +104,10 @@ some_inserted (q ∷ qs) k x =
     [ Less ↦ refl | Equal ↦ refl | Greater ↦ refl ]
 
 some_meant : (ps : List (KeyForm × Form)) → is_nonempty (rising key_order (map pair_meaning ps)) ≡ is_nonempty ps
-some_meant [] = refl
-some_meant (p ∷ ps) = some_inserted (rising key_order (map pair_meaning ps)) (key_meaning p.0) (meaning p.1)
+some_meant x0 = search (rules, some_inserted)
 
 pub truthy_meant : (ps : List (KeyForm × Form)) → truthy_in (meaning (object (members ps))) ≡ is_nonempty ps
-truthy_meant ps = ap truthy_in (map_means ps) ∙ ap is_nonempty (list_of_members (rising key_order (map pair_meaning ps))) ∙ some_meant ps
+truthy_meant ps = search (rules, map_means, some_meant)
 
 -- ---- what is put at a key takes its place in what the map means
 
@@ -128,3 +118,7 @@ put_means ps k v =
     map_means (put key_form_order ps k v)
     ∙ ap (λ qs. object (members (rising key_order qs))) (put_read key_meaning meaning key_order ps k v)
     ∙ ap (λ qs. object (members qs)) (rising_put key_order key_total (map pair_meaning ps) (key_meaning k) (meaning v))
+
+pub ruleset laws = (size_meant, truthy_meant, array_laid_out, array_means, map_laid_out)
+
+pub ruleset puts = (put_last, put_in_place, length_put, form_total, distinct_put, distinct_put_all, found_put, rising_put, put_means)

@@ -1,13 +1,13 @@
 -- Each well-made layout is that of a well-made form, and so is each well-made meaning.
 use Rattle.std.specs.Prelude.{◌≡◌, ℕ, ℤ, pos, negsuc, false, List, refl}
-use Rattle.std.proofs.Common.{◌∙◌, ap}
+use Rattle.std.proofs.Common.{◌∙◌, ap, rules}
 use Rattle.std.specs.List.{AllByRecursion, IsDistinct}
 use Rattle.std.specs.Map.{keys_of}
 use Rattle.std.specs.Ordering.{eq_by_cmp}
 use Rattle.tera_meaning.specs.Form.{Form, MarkedText}
 use Rattle.tera_meaning.specs.Integer.{Integer, u128, i128, IsOfKind, IsWide}
 use Rattle.tera_meaning.specs.KeyMeaning.{KeyForm, KeyMeaning, truth_key, number_key, text_key, owned, key_meaning, key_order}
-use Rattle.tera_meaning.specs.Meaning.{Layout, Meaning, layout, sorted, meaning}
+use Rattle.tera_meaning.specs.Meaning.{Layout, Meaning, layout, meaning}
 use Rattle.tera_meaning.specs.Pairs.{HasDistinctKeys, key_form_order}
 use Rattle.tera_meaning.specs.Tree.{Items, Members, number, text, bytes, array, object, no_items, item, no_members, member, members_list, relabeled}
 use Rattle.tera_meaning.specs.Tree.{relabeled_items, relabeled_members}
@@ -32,13 +32,10 @@ key_of (text_key t) = text_key (owned t)
 
 -- it is laid out just so
 value_of : (z : ℤ) → (integer_of z).value ≡ z
-value_of (pos n) = refl
-value_of (negsuc n) = refl
+value_of x0 = search rules
 
 key_means : (k : KeyMeaning) → key_meaning (key_of k) ≡ k
-key_means (truth_key b) = refl
-key_means (number_key z) = ap number_key (value_of z)
-key_means (text_key t) = refl
+key_means x0 = search rules
 
 mutual
   lays_out : (x : Layout) → layout (relabeled integer_of text_of key_of x) ≡ x
@@ -57,13 +54,10 @@ mutual
 
 -- and is well made where the layout is
 integer_made : (z : ℤ) → IsWide z → IsOfKind (integer_of z).kind (integer_of z).value
-integer_made (pos n) h = h
-integer_made (negsuc n) h = h
+integer_made x0 h = search rules
 
 key_made : (k : KeyMeaning) → IsWellMadeKeyMeaning k → IsWellMadeKey (key_of k)
-key_made (truth_key b) h = tt
-key_made (number_key z) h = integer_made z h
-key_made (text_key t) h = h
+key_made x0 h = search rules
 
 made_above : (k : KeyMeaning) (ps : Members ℤ (List ℕ) KeyMeaning)
     → AllByRecursion (λ l. eq_by_cmp key_order k l ≡ false) (keys_of (members_list ps))
@@ -100,6 +94,4 @@ pub laid_out : (x : Layout) → IsWellMadeLayout x → (value : Form) × IsWellM
 laid_out x h = (relabeled integer_of text_of key_of x, made x h, lays_out x)
 
 pub meant : (x : Meaning) → IsWellMadeMeaning x → (value : Form) × IsWellMade value × (meaning value ≡ x)
-meant x h =
-    let found : (value : Form) × IsWellMade value × (layout value ≡ x) = laid_out x (meaning_is_layout x h) in
-    (found.0, found.1, ap sorted found.2 ∙ sorted_itself x h)
+meant x h = search (rules, laid_out, meaning_is_layout, sorted_itself)

@@ -1,15 +1,14 @@
 -- The order of meanings is total, and ties equal meanings alone.
 use Rattle.std.specs.Prelude.{◌≡◌, ℕ, ◌<◌, ◌≤◌, ◌↔◌, IsTrue, List, [], ◌∷◌, ℤ, refl}
-use Rattle.std.proofs.Common.{sym, ◌∙◌, ap, arith}
-use Rattle.std.specs.Ordering.{ordering_then, ordering_reverse, is_eq, as_partial_cmp}
+use Rattle.std.proofs.Common.{sym, ◌∙◌, ap, arith, rules}
+use Rattle.std.specs.Ordering.{ordering_then, ordering_reverse, as_partial_cmp}
 use Rattle.std.specs.declared.cmp.Ordering.TheVariants.{Less, Equal}
-use Rattle.std.specs.Cmp.{IsPartialEquivalence, IsEquivalence, IsTotalOrder, IsPartialOrder, partial_order_from_total, int_cmp_total, bool_cmp_total}
-use Rattle.std.specs.Cmp.{tied_itself, eq_by_cmp_equiv, partial_equiv_from_equiv, Equal-is}
+use Rattle.std.specs.Cmp.{IsPartialEquivalence, IsEquivalence, IsTotalOrder, IsPartialOrder, int_cmp_total, bool_cmp_total}
 use Rattle.std.specs.Cmp.Lexicographic.{slice_cmp, nat_list_cmp_total}
 use Rattle.std.specs.FinMap.{nat_cmp-IsAntisymmetric, int_cmp-IsAntisymmetric, slice_cmp-IsAntisymmetric}
 use Rattle.tera_meaning.specs.KeyMeaning.{KeyMeaning, key_order}
 use Rattle.tera_meaning.proofs.KeyLaws.{truth_exact, key_exact, key_total}
-use Rattle.tera_meaning.proofs.ChainedLaws.{first_equal, second_equal, reverse_then, chain_then, then_nested, equal_less, greater_less, nat_less, less_nat}
+use Rattle.tera_meaning.proofs.ChainedLaws.{first_equal, second_equal, reverse_then, chain_then, then_nested, equal_less, greater_less, nat_less}
 use Rattle.tera_meaning.specs.Meaning.{Meaning}
 use Rattle.tera_meaning.specs.Order.{pair_order, rank, compare, compare_items, compare_members, same}
 use Rattle.tera_meaning.specs.Tree.{Items, Members, undefined, none, truth, number, text, bytes, array, object, no_items, item, no_members, member, items}
@@ -74,22 +73,10 @@ mutual
 
 -- a lesser rank decides, and what is less has no greater rank
 pub lower : (x y : Meaning) → rank x < rank y → compare x y ≡ Less
-lower (truth a) (truth b) h = absurd (omega arith)
-lower (number y) (number z) h = absurd (omega arith)
-lower (text s) (text t) h = absurd (omega arith)
-lower (bytes s) (bytes t) h = absurd (omega arith)
-lower (array xs) (array ys) h = absurd (omega arith)
-lower (object ps) (object qs) h = absurd (omega arith)
-lower x y h = less_nat (rank x) (rank y) h
+lower x y h = search rules
 
 upto : (x y : Meaning) → compare x y ≡ Less → rank x ≤ rank y
-upto (truth a) (truth b) e = omega arith
-upto (number y) (number z) e = omega arith
-upto (text s) (text t) e = omega arith
-upto (bytes s) (bytes t) e = omega arith
-upto (array xs) (array ys) e = omega arith
-upto (object ps) (object qs) e = omega arith
-upto x y e = let less = nat_less (rank x) (rank y) e in omega arith
+upto x y e = search rules
 
 mutual
   compare_chain : (x y z : Meaning) → compare x y ≡ Less → compare y z ≡ Less → compare x z ≡ Less
@@ -150,19 +137,19 @@ compare_total = record {
 
 -- the order as `partial_cmp` answers it
 pub compare_partial : IsPartialOrder same (as_partial_cmp compare)
-compare_partial = partial_order_from_total compare_total
+compare_partial = search (rules, compare_total)
 
 pub compare_same : (x : Meaning) → compare x x ≡ Equal
-compare_same x = tied_itself compare_total x
+compare_same x = search (rules, compare_total)
 
 pub same_equivalence : IsEquivalence same
-same_equivalence = eq_by_cmp_equiv compare_total
+same_equivalence = search (rules, compare_total)
 
 pub same_partial_equivalence : IsPartialEquivalence same
-same_partial_equivalence = partial_equiv_from_equiv same_equivalence
+same_partial_equivalence = search (rules, same_equivalence)
 
 pub same_is : (x y : Meaning) → IsTrue (same x y) ↔ (x ≡ y)
-same_is x y = (λ e. compare_exact x y ((Equal-is (compare x y)).0 e), λ e. ap (λ w. is_eq (compare x w)) (sym e) ∙ ap is_eq (compare_same x))
+same_is x y = search (rules, compare_exact, compare_same)
 
 pub compare_tie : (x y : Meaning) → (compare x y ≡ Equal) ↔ (x ≡ y)
 compare_tie x y = (compare_exact x y, λ e. ap (λ w. compare x w) (sym e) ∙ compare_same x)
@@ -181,3 +168,5 @@ members_by_first_difference (p ∷ ps) [] = refl
 members_by_first_difference (p ∷ ps) (q ∷ qs) =
     ap (λ o. ordering_then (key_order p.0 q.0) (ordering_then (compare p.1 q.1) o)) (members_by_first_difference ps qs)
     ∙ then_nested (key_order p.0 q.0) (compare p.1 q.1) (slice_cmp pair_order ps qs)
+
+pub ruleset laws = (compare_total, compare_partial, same_is, same_equivalence, items_by_first_difference, members_by_first_difference)

@@ -1,7 +1,7 @@
 -- What a call that finds something owes, and how it follows from what the call makes of the forms at its names.
-use Rattle.std.specs.Prelude.{◌≡◌, ℕ, List, Option, Some, None, Result, Ok, Err, IfOk, IfErr, IfSome, refl}
-use Rattle.std.proofs.Common.{sym, ◌∙◌, ap}
-use Rattle.std.specs.Option.{option_map, unwrap_or}
+use Rattle.std.specs.Prelude.{◌≡◌, ℕ, List, Option, Result, Ok, Err, IfOk, IfErr, IfSome}
+use Rattle.std.proofs.Common.{rules}
+use Rattle.std.specs.Option.{option_map}
 use Rattle.std.specs.FinMap.{get as held_at}
 use Rattle.std.specs.Str.{IsUtf8}
 use Rattle.tera_report.specs.Refusal.{Refusal, memory_refused, shape as refusal_shape}
@@ -11,7 +11,6 @@ use Rattle.tera_meaning.specs.Meaning.{Meaning, meaning}
 use Rattle.tera_meaning.specs.Search.{Found, one_found}
 use Rattle.tera_meaning.specs.SliceRule.{shape_of}
 use Rattle.tera_meaning.specs.State.{State, read, form_at, meaning_at}
-use Rattle.tera_meaning.specs.Tree.{undefined}
 use Rattle.tera_meaning.specs.WellMade.{IsWellMade, IsWellMadeState}
 use Rattle.tera_meaning.proofs.ArithmeticLemmas.{IsNoWant}
 
@@ -28,66 +27,41 @@ pub record Owes (found : State → Found) : Type 0 where
 
 -- ---- the forms at names
 
-read_meant : (o : Option Form) → meaning (read o) ≡ unwrap_or (option_map meaning o) undefined
-read_meant None = refl
-read_meant (Some value) = refl
-
 pub read_alike : (o p : Option Form) → option_map meaning o ≡ option_map meaning p → meaning (read o) ≡ meaning (read p)
-read_alike o p e = read_meant o ∙ ap (λ q. unwrap_or q undefined) e ∙ sym (read_meant p)
+read_alike o p e = search rules
 
 pub meaning_alike : (f g : State) → MeanTheSame f g → (name : List ℕ) → meaning_at f name ≡ meaning_at g name
-meaning_alike f g h name = read_alike (held_at f name) (held_at g name) (h name)
+meaning_alike f g h name = search rules
 
 -- a form that is held under a name that is UTF-8 is well made
 abbrev pub IsHeldWell : List ℕ → Option Form → Type 0
 IsHeldWell name o = IfSome o (λ value. IsUtf8 name × IsWellMade value)
 
-form_well : (name : List ℕ) (o : Option Form) → IsHeldWell name o → IsWellMade (unwrap_or o undefined)
-form_well name None h = tt
-form_well name (Some value) h = h.1
-
 pub form_at_well : (state : State) → IsWellMadeState state → (name : List ℕ) → IsWellMade (form_at state name)
-form_at_well state h name = form_well name (held_at state name) (h name)
-
-value_well : (name : List ℕ) (o : Option Form) → IsHeldWell name o → IfSome o IsWellMade
-value_well name None well = tt
-value_well name (Some value) well = well.1
+form_at_well state h name = search rules
 
 -- ---- a value, or its refusal
 
 some_alike : (a b : Result Form Refusal) → shape_of a ≡ shape_of b → found_shape (one_found a) ≡ found_shape (one_found b)
-some_alike (Ok v) (Ok w) e = let same : meaning v ≡ meaning w = cc in λ i. Ok (Some (same i))
-some_alike (Err r) (Err q) e = let same : refusal_shape r ≡ refusal_shape q = cc in λ i. Err (same i)
-some_alike (Ok v) (Err q) e = cc
-some_alike (Err r) (Ok w) e = cc
+some_alike x0 x1 e = search rules
 
 some_well : (found : Result Form Refusal) → IfOk found IsWellMade → IfOk (one_found found) (λ o. IfSome o IsWellMade)
-some_well (Ok value) h = h
-some_well (Err refusal) h = tt
+some_well x0 h = search rules
 
 no_want_found : (found : Result Form Refusal) → IfErr found IsNoWant → one_found found ≡ Err memory_refused → ⊥
-no_want_found (Ok value) h e = cc
-no_want_found (Err refusal) h e = h cc
+no_want_found x0 h e = search rules
 
 -- ---- what a call owes that finds what is held at a name
 
 pub held_owes : (name : List ℕ) → Owes (λ state. Ok (held_at state name))
-held_owes name = record {
-  by_meaning = λ f g h. λ i. Ok (h name i);
-  no_want = λ state e. cc;
-  well_made = λ state h. value_well name (held_at state name) (h name);
-}
+held_owes name = search rules
 
 -- that finds a part of the form at a name, which may be absent
 pub finds : (name : List ℕ) (call : Form → Option Form)
     → ((v w : Form) → meaning v ≡ meaning w → option_map meaning (call v) ≡ option_map meaning (call w))
     → ((v : Form) → IsWellMade v → IfSome (call v) IsWellMade)
     → Owes (λ state. Ok (call (form_at state name)))
-finds name call alike well = record {
-  by_meaning = λ f g h. λ i. Ok (alike (form_at f name) (form_at g name) (meaning_alike f g h name) i);
-  no_want = λ state e. cc;
-  well_made = λ state h. well (form_at state name) (form_at_well state h name);
-}
+finds name call alike well = search rules
 
 -- that makes a value of the form at a name, or refuses it
 pub makes : (name : List ℕ) (call : Form → Result Form Refusal)
@@ -95,11 +69,7 @@ pub makes : (name : List ℕ) (call : Form → Result Form Refusal)
     → ((v : Form) → IfErr (call v) IsNoWant)
     → ((v : Form) → IsWellMade v → IfOk (call v) IsWellMade)
     → Owes (λ state. one_found (call (form_at state name)))
-makes name call alike wants well = record {
-  by_meaning = λ f g h. some_alike (call (form_at f name)) (call (form_at g name)) (alike (form_at f name) (form_at g name) (meaning_alike f g h name));
-  no_want = λ state e. no_want_found (call (form_at state name)) (wants (form_at state name)) e;
-  well_made = λ state h. some_well (call (form_at state name)) (well (form_at state name) (form_at_well state h name));
-}
+makes name call alike wants well = search (rules, some_alike, meaning_alike, no_want_found, some_well, form_at_well)
 
 -- that makes a value of the forms at two names, or refuses them
 pub makes_of_two : (left right : List ℕ) (call : Form → Form → Result Form Refusal)
@@ -107,11 +77,4 @@ pub makes_of_two : (left right : List ℕ) (call : Form → Form → Result Form
     → ((v w : Form) → IfErr (call v w) IsNoWant)
     → ((v w : Form) → IsWellMade v → IfOk (call v w) IsWellMade)
     → Owes (λ state. one_found (call (form_at state left) (form_at state right)))
-makes_of_two left right call alike wants well = record {
-  by_meaning = λ f g h.
-      some_alike (call (form_at f left) (form_at f right)) (call (form_at g left) (form_at g right))
-      (alike (form_at f left) (form_at f right) (form_at g left) (form_at g right) (meaning_alike f g h left) (meaning_alike f g h right));
-  no_want = λ state e. no_want_found (call (form_at state left) (form_at state right)) (wants (form_at state left) (form_at state right)) e;
-  well_made = λ state h.
-      some_well (call (form_at state left) (form_at state right)) (well (form_at state left) (form_at state right) (form_at_well state h left));
-}
+makes_of_two left right call alike wants well = search (rules, some_alike, meaning_alike, no_want_found, some_well, form_at_well)

@@ -1,8 +1,8 @@
 -- Pair lists rise, hold just their entries, and are ordered by the least key at which they differ.
-use Rattle.std.specs.Prelude.{◌≡◌, ◌||◌, Bool, true, false, cond, List, [], ◌∷◌, Some, refl}
-use Rattle.std.proofs.Common.{sym, ◌∙◌, ap}
+use Rattle.std.specs.Prelude.{◌≡◌, ◌||◌, Bool, true, cond, List, [], ◌∷◌, Some, refl}
+use Rattle.std.proofs.Common.{sym, ◌∙◌, ap, rules}
 use Rattle.std.specs.BTreeMap.{insert_entry}
-use Rattle.std.specs.Cmp.{IsTotalOrder, alike_right, Equal-is}
+use Rattle.std.specs.Cmp.{IsTotalOrder, alike_right}
 use Rattle.std.specs.List.{AllByRecursion}
 use Rattle.std.specs.List.Sorted.{IsStrictlySortedBy}
 use Rattle.std.specs.Map.{keys_of}
@@ -12,23 +12,17 @@ use Rattle.std.specs.declared.cmp.Ordering.TheVariants.{Less, Equal, Greater}
 use Rattle.tera_meaning.specs.Pairs.{Rises, rising, value_at, goes_on}
 
 or_twice : (a b : Bool) → (a || b) ≡ (a || (a || b))
-or_twice true b = refl
-or_twice false b = refl
+or_twice x0 b = search rules
 
 or_turned : (a b c : Bool) → (a || (b || c)) ≡ (b || (a || c))
-or_turned true true c = refl
-or_turned true false c = refl
-or_turned false b c = refl
+or_turned x0 b c = search rules
 
 pub shadowed : {X : Type 0} (b : Bool) (x y z : X) → cond b x z ≡ cond b x (cond b y z)
-shadowed true x y z = refl
-shadowed false x y z = refl
+shadowed x0 x y z = search rules
 
 pub swapped : {X : Type 0} (a b : Bool) (x y z : X) → (a ≡ true → b ≡ true → ⊥)
     → cond a x (cond b y z) ≡ cond b y (cond a x z)
-swapped true true x y z apart = absurd (apart refl refl)
-swapped true false x y z apart = refl
-swapped false b x y z apart = refl
+swapped x0 b x y z apart = search rules
 
 equal_greater : Equal ≡ Greater → ⊥
 equal_greater e = cc
@@ -39,7 +33,7 @@ module _ {K : Type 0} (order : K → K → Ordering) (total : IsTotalOrder order
 
   -- two keys that both tie with a third tie
   pub joined : (q k l : K) → eq_by_cmp order q k ≡ true → eq_by_cmp order q l ≡ true → order k l ≡ Equal
-  joined q k l a b = sym (total.congr q k l ((Equal-is (order q k)).0 a)) ∙ (Equal-is (order q l)).0 b
+  joined q k l a b = search rules
 
 -- ---- the entries in their places
 

@@ -1,19 +1,18 @@
 -- Powers as products of halves, and how large they are.
-use Rattle.std.specs.Prelude.{◌≡◌, ◌⊎◌, ◌<◌, ◌≤◌, ◌+◌, ◌*◌, ◌/◌, ◌%◌, ◌^◌, ℕ, zero, suc, ℤ, pos, negsuc, ◌+ℤ◌, ◌-ℤ◌, ◌*ℤ◌, unsigned_abs, false, refl}
-use Rattle.std.proofs.Common.{sym, ◌∙◌, ap, arith, inl, inr, ltb-false, le-ltb, mul-le-mul, zero-add, suc-add, mod-lt, zero-lt-suc, pow-suc, pow_mono}
-use Rattle.std.proofs.lemmas.Bool.{cases_lt}
+use Rattle.std.specs.Prelude.{◌≡◌, ◌<◌, ◌≤◌, ◌+◌, ◌*◌, ◌/◌, ◌%◌, ◌^◌, ℕ, zero, suc, ℤ, pos, negsuc, ◌+ℤ◌, ◌-ℤ◌, ◌*ℤ◌, unsigned_abs, false}
+use Rattle.std.proofs.Common.{sym, ◌∙◌, ap, arith, mul-le-mul, zero-add, suc-add, mod-lt, zero-lt-suc, pow-suc, pow_mono, rules}
 use Rattle.std.proofs.lemmas.Int.{ints, unsigned_abs-mul}
-use Rattle.std.proofs.Math.IntN.{suc_ℤ, pred_ℤ, suc_ℤ-*ℤ, pred_ℤ-*ℤ, zero-*ℤ, *ℤ-one, *ℤ_comm, one}
+use Rattle.std.proofs.Math.IntN.{suc_ℤ, pred_ℤ, suc_ℤ-*ℤ, pred_ℤ-*ℤ}
 use Rattle.tera_meaning.specs.Arithmetic.{power_of}
 use Rattle.tera_meaning.specs.Integer.{is_small}
 use Rattle.tera_meaning.proofs.DivisionLemmas.{sum_times}
+use Rattle.std.proofs.lemmas.Grind.{common_steps}
 
 -- ---- products of three
 
 module _ (y z : ℤ) where
   up : (x : ℤ) → (x *ℤ y) *ℤ z ≡ x *ℤ (y *ℤ z) → (suc_ℤ x *ℤ y) *ℤ z ≡ suc_ℤ x *ℤ (y *ℤ z)
-  up x h =
-      ap (λ s. s *ℤ z) (suc_ℤ-*ℤ x y) ∙ sum_times y z (x *ℤ y) ∙ ap (λ s. s +ℤ y *ℤ z) h ∙ sym (suc_ℤ-*ℤ x (y *ℤ z))
+  up x h = search (rules, suc_ℤ-*ℤ, sum_times)
 
   less_times : (x : ℤ) → (x -ℤ y) *ℤ z ≡ x *ℤ z -ℤ y *ℤ z
   less_times x =
@@ -23,11 +22,10 @@ module _ (y z : ℤ) where
       omega (arith, ints)
 
   down : (x : ℤ) → (x *ℤ y) *ℤ z ≡ x *ℤ (y *ℤ z) → (pred_ℤ x *ℤ y) *ℤ z ≡ pred_ℤ x *ℤ (y *ℤ z)
-  down x h =
-      ap (λ s. s *ℤ z) (pred_ℤ-*ℤ x y) ∙ less_times (x *ℤ y) ∙ ap (λ s. s -ℤ y *ℤ z) h ∙ sym (pred_ℤ-*ℤ x (y *ℤ z))
+  down x h = search (rules, pred_ℤ-*ℤ, less_times)
 
   none_times : (pos 0 *ℤ y) *ℤ z ≡ pos 0 *ℤ (y *ℤ z)
-  none_times = ap (λ s. s *ℤ z) (zero-*ℤ y) ∙ zero-*ℤ z ∙ sym (zero-*ℤ (y *ℤ z))
+  none_times = search rules
 
   times_assoc : (x : ℤ) → (x *ℤ y) *ℤ z ≡ x *ℤ (y *ℤ z)
   times_assoc (pos zero) = none_times
@@ -35,12 +33,8 @@ module _ (y z : ℤ) where
   times_assoc (negsuc zero) = down (pos 0) none_times
   times_assoc (negsuc (suc n)) = down (negsuc n) (times_assoc (negsuc n))
 
-times_one : (x : ℤ) → x *ℤ pos 1 ≡ x
-unfolding one
-times_one x = *ℤ-one x
-
 one_times : (x : ℤ) → pos 1 *ℤ x ≡ x
-one_times x = *ℤ_comm (pos 1) x ∙ times_one x
+one_times x = search rules
 
 -- ---- powers
 
@@ -56,31 +50,27 @@ half_and_half e = omega arith
 
 pub power_halves : (base : ℤ) (e : ℕ)
     → power_of base e ≡ (power_of base (e / 2) *ℤ power_of base (e / 2)) *ℤ power_of base (e % 2)
-power_halves base e =
-    ap (power_of base) (sym (half_and_half e)) ∙ power_add base (e / 2 + e / 2) (e % 2)
-    ∙ ap (λ s. s *ℤ power_of base (e % 2)) (power_add base (e / 2) (e / 2))
+power_halves base e = search (rules, half_and_half, power_add)
 
 pub power_none : (base : ℤ) → power_of base 0 ≡ pos 1
 unfolding power_of
-power_none base = refl
+power_none base = search rules
 
 pub power_more : (base : ℤ) (n : ℕ) → power_of base (suc n) ≡ base *ℤ power_of base n
 unfolding power_of
-power_more base n = refl
+power_more base n = search rules
 
 pub power_once : (base : ℤ) → power_of base 1 ≡ base
-power_once base = power_more base 0 ∙ ap (λ s. base *ℤ s) (power_none base) ∙ times_one base
+power_once base = search (rules, power_more, power_none)
 
 -- ---- sizes
 
 -- a number that is not small is this large at least, and a larger one is not small
 large_size : (z : ℤ) → is_small z ≡ false → 2 ^ 127 ≤ unsigned_abs z
-large_size (pos n) h = ltb-false n (2 ^ 127) h
-large_size (negsuc n) h = let least : 2 ^ 127 ≤ n = ltb-false n (2 ^ 127) h in omega (arith, least)
+large_size x0 h = search rules
 
 size_large : (z : ℤ) → 2 ^ 127 < unsigned_abs z → is_small z ≡ false
-size_large (pos n) h = le-ltb n (2 ^ 127) (omega arith)
-size_large (negsuc n) h = le-ltb n (2 ^ 127) (omega arith)
+size_large x0 h = search rules
 
 -- the size of a power of a number that is at most 1 in size
 size_of_one : (base : ℤ) (n : ℕ) → unsigned_abs base ≤ 1 → unsigned_abs (power_of base n) ≤ 1
@@ -101,17 +91,11 @@ rest_size base e h = by (e % 2) (mod-lt e (zero-lt-suc 1))
     by (suc (suc k)) less = absurd (omega arith)
 
 larger_base : (base : ℤ) (n : ℕ) → 1 < unsigned_abs (power_of base n) → 1 < unsigned_abs base
-larger_base base n h = elim (cases_lt 1 (unsigned_abs base)) as (λ _. 1 < unsigned_abs base) [
-  | inl more ↦ more
-  | inr less ↦ absurd (let most : unsigned_abs (power_of base n) ≤ 1 = size_of_one base n less in omega arith)
-]
+larger_base base n h = search (rules, size_of_one)
 
 size_halves : (base : ℤ) (e : ℕ) → unsigned_abs (power_of base e)
     ≡ (unsigned_abs (power_of base (e / 2)) * unsigned_abs (power_of base (e / 2))) * unsigned_abs (power_of base (e % 2))
-size_halves base e =
-    ap unsigned_abs (power_halves base e)
-    ∙ unsigned_abs-mul (power_of base (e / 2) *ℤ power_of base (e / 2)) (power_of base (e % 2))
-    ∙ ap (λ s. s * unsigned_abs (power_of base (e % 2))) (unsigned_abs-mul (power_of base (e / 2)) (power_of base (e / 2)))
+size_halves base e = search (rules, power_halves, unsigned_abs-mul)
 
 -- where the half of a power is not small the power is not
 pub large_half : (base : ℤ) (e : ℕ) → is_small (power_of base (e / 2)) ≡ false → is_small (power_of base e) ≡ false
@@ -130,50 +114,20 @@ large_half base e h =
 
 -- what an even power is, and an odd one
 pub even_power : (base : ℤ) (e : ℕ) → e % 2 ≡ 0 → power_of base e ≡ power_of base (e / 2) *ℤ power_of base (e / 2)
-even_power base e h =
-    power_halves base e
-    ∙ ap (λ s. (power_of base (e / 2) *ℤ power_of base (e / 2)) *ℤ s) (ap (power_of base) h ∙ power_none base)
-    ∙ times_one (power_of base (e / 2) *ℤ power_of base (e / 2))
+even_power base e h = search (rules, power_halves, power_none)
 
 pub odd_power : (base : ℤ) (e : ℕ) → e % 2 ≡ 1 → power_of base e ≡ (power_of base (e / 2) *ℤ power_of base (e / 2)) *ℤ base
-odd_power base e h =
-    power_halves base e
-    ∙ ap (λ s. (power_of base (e / 2) *ℤ power_of base (e / 2)) *ℤ s) (ap (power_of base) h ∙ power_once base)
+odd_power base e h = search (rules, power_halves, power_once)
 
 -- where the square of the half of an odd power is not small the power is not
 large_odd_power : (base : ℤ) (e : ℕ) → e % 2 ≡ 1 → is_small (power_of base (e / 2) *ℤ power_of base (e / 2)) ≡ false
     → is_small (power_of base e) ≡ false
-large_odd_power base e odd h =
-    let least : 2 ^ 127 ≤ unsigned_abs (power_of base (e / 2) *ℤ power_of base (e / 2)) = large_size (power_of base (e / 2) *ℤ power_of base (e / 2)) h in
-    let product : unsigned_abs (power_of base (e / 2) *ℤ power_of base (e / 2)) ≡ unsigned_abs (power_of base (e / 2)) * unsigned_abs (power_of base (e / 2)) =
-    unsigned_abs-mul (power_of base (e / 2)) (power_of base (e / 2)) in
-    let more : 1 < unsigned_abs (power_of base (e / 2)) = larger_than_one (unsigned_abs (power_of base (e / 2))) (omega (arith, least, product)) in
-    let size : 1 < unsigned_abs base = larger_base base (e / 2) more in
-    let whole : unsigned_abs (power_of base e) ≡ unsigned_abs (power_of base (e / 2) *ℤ power_of base (e / 2)) * unsigned_abs base =
-    ap unsigned_abs (odd_power base e odd) ∙ unsigned_abs-mul (power_of base (e / 2) *ℤ power_of base (e / 2)) base in
-    let most : 2 ^ 127 * 2 ≤ unsigned_abs (power_of base (e / 2) *ℤ power_of base (e / 2)) * unsigned_abs base = mul-le-mul least size in
-    size_large (power_of base e) (omega (arith, most, whole))
-  where
-    larger_than_one : (n : ℕ) → 2 ^ 127 ≤ n * n → 1 < n
-    larger_than_one zero g = absurd (omega (arith, g))
-    larger_than_one (suc zero) g = absurd (omega (arith, g))
-    larger_than_one (suc (suc n)) g = omega arith
-
-parity : (n : ℕ) → (n % 2 ≡ 0) ⊎ (n % 2 ≡ 1)
-parity n = by (n % 2) (mod-lt n (zero-lt-suc 1))
-  where
-    by : (k : ℕ) → k < 2 → (k ≡ 0) ⊎ (k ≡ 1)
-    by zero less = inl refl
-    by (suc zero) less = inr refl
-    by (suc (suc k)) less = absurd (omega arith)
+large_odd_power base e odd h = grind (arith, common_steps, large_size, unsigned_abs-mul, larger_base, odd_power, mul-le-mul, size_large)
 
 -- where the square of the half of a power is not small the power is not
 pub large_square : (base : ℤ) (e : ℕ) → is_small (power_of base (e / 2) *ℤ power_of base (e / 2)) ≡ false
     → is_small (power_of base e) ≡ false
-large_square base e h = elim (parity e) as (λ _. is_small (power_of base e) ≡ false) [
-  | inl even ↦ ap is_small (even_power base e even) ∙ h
-  | inr odd ↦ large_odd_power base e odd h
-]
+large_square base e h = search (rules, even_power, large_odd_power)
 
 -- ---- powers too large to compute
 

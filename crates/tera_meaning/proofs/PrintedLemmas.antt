@@ -1,41 +1,22 @@
 -- Values that are laid out alike print alike, and what is exact is so by its parts.
-use Rattle.std.proofs.lemmas.Bool.{and_parts, and_from}
-use Rattle.std.specs.Prelude.{◌≡◌, ◌↔◌, ℕ, suc, ◌&&◌, IsTrue, List, [], ◌∷◌, refl}
-use Rattle.std.proofs.Common.{sym, ◌∙◌, ap, subst, ltb-true}
+use Rattle.std.proofs.lemmas.Bool.{and_parts, and_from, lt-ltb}
+use Rattle.std.specs.Prelude.{◌↔◌, ℕ, suc, ◌&&◌, IsTrue, List, [], ◌∷◌, refl}
+use Rattle.std.proofs.Common.{ltb-true, rules}
 use Rattle.std.specs.Char.{is_ascii}
 use Rattle.std.specs.List.{All, AllByRecursion, list_all}
 use Rattle.std.specs.Str.{IsAscii}
-use Rattle.std.proofs.lemmas.Bool.{lt-ltb}
 use Rattle.std.proofs.lemmas.List.Elements.{All-from_recursion, recursion_from_All}
 use Rattle.std.proofs.lemmas.Str.Ascii.{IsAscii-nil, IsAscii-cons}
-use Rattle.tera_meaning.specs.Form.{Form}
 use Rattle.tera_meaning.specs.KeyMeaning.{KeyMeaning}
-use Rattle.tera_meaning.specs.Meaning.{Layout, layout}
-use Rattle.tera_meaning.specs.Printed.{IsExact, IsExactInside, IsExactKey, Prints, PrintsInside, are_exact_items, are_exact_members, is_exact_inside}
-use Rattle.tera_meaning.specs.Printed.{is_exact_key, printed, printed_with}
-use Rattle.tera_report.specs.Quoted.{quoted}
+use Rattle.tera_meaning.specs.Meaning.{Layout}
+use Rattle.tera_meaning.specs.Printed.{IsExactInside, IsExactKey, are_exact_items, are_exact_members, is_exact_inside, is_exact_key}
 use Rattle.tera_meaning.specs.Tree.{items, members}
-
--- what holds of one of two values that are laid out alike holds of the other
-module _ (v w : Form) (same : layout v ≡ layout w) where
-  pub holds_of_both : (P : Layout → Type 0) → P (layout v) ↔ P (layout w)
-  holds_of_both P = (subst P same, subst P (sym same))
-
-  pub prints_alike : (written other : List ℕ) → IsExact (layout v) → Prints (layout v) written → Prints (layout w) other → written ≡ other
-  prints_alike written other exact prints alike = prints exact ∙ ap printed same ∙ sym (alike ((holds_of_both IsExact).0 exact))
-
-  pub prints_alike_inside : (written other : List ℕ) → IsExactInside (layout v) → PrintsInside (layout v) written → PrintsInside (layout w) other
-      → written ≡ other
-  prints_alike_inside written other exact prints alike =
-      prints exact ∙ ap (printed_with quoted) same ∙ sym (alike ((holds_of_both IsExactInside).0 exact))
+use Rattle.std.proofs.lemmas.Grind.{common_steps}
 
 -- ---- what is exact by its parts
 
 ascii_told : (t : List ℕ) → IsTrue (list_all is_ascii t) → IsAscii t
-ascii_told [] h = IsAscii-nil
-ascii_told (b ∷ t) h =
-    let both : IsTrue (is_ascii b) × IsTrue (list_all is_ascii t) = and_parts (is_ascii b) (list_all is_ascii t) h in
-    IsAscii-cons b t (ltb-true b 128 both.0) (ascii_told t both.1)
+ascii_told x0 h = search (rules, common_steps, IsAscii-nil, and_parts, IsAscii-cons, ltb-true)
 
 ascii_tells : (t : List ℕ) → IsAscii t → IsTrue (list_all is_ascii t)
 ascii_tells [] h = refl
@@ -56,8 +37,7 @@ items_tell [] h = refl
 items_tell (x ∷ xs) h = and_from (is_exact_inside x) (are_exact_items (items xs)) h.0 (items_tell xs h.1)
 
 pub exact_items : (xs : List Layout) → IsTrue (are_exact_items (items xs)) ↔ All IsExactInside xs
-exact_items xs =
-    (λ h. All-from_recursion IsExactInside xs (items_told xs h), λ h. items_tell xs (recursion_from_All IsExactInside xs h))
+exact_items xs = search (rules, All-from_recursion, items_told, items_tell, recursion_from_All)
 
 members_told : (ps : List (KeyMeaning × Layout)) → IsTrue (are_exact_members (members ps)) → AllByRecursion (λ p. IsExactKey p.0 × IsExactInside p.1) ps
 members_told [] h = tt
@@ -74,8 +54,6 @@ members_tell (p ∷ ps) h =
     (and_from (is_exact_inside p.1) (are_exact_members (members ps)) h.0.1 (members_tell ps h.1))
 
 pub exact_members : (ps : List (KeyMeaning × Layout)) → IsTrue (are_exact_members (members ps)) ↔ All (λ p. IsExactKey p.0 × IsExactInside p.1) ps
-exact_members ps = (
-  λ h. All-from_recursion (λ p. IsExactKey p.0 × IsExactInside p.1) ps (members_told ps h),
-  λ h. members_tell ps
-      (recursion_from_All (λ p. IsExactKey p.0 × IsExactInside p.1) ps h),
-)
+exact_members ps = search (rules, All-from_recursion, members_told, members_tell, recursion_from_All)
+
+pub ruleset laws = (exact_items, exact_members)

@@ -1,6 +1,6 @@
 -- Lists of pairs in the order of insertion: what is found in them, that their keys stay distinct, and their rising lists.
 use Rattle.std.specs.Prelude.{◌≡◌, suc, Bool, true, false, cond, if◌then◌else◌, List, [], ◌∷◌, ◌++◌, map, length, Some, None, is_some, refl}
-use Rattle.std.proofs.Common.{sym, ◌∙◌, ap}
+use Rattle.std.proofs.Common.{sym, ◌∙◌, ap, rules}
 use Rattle.std.proofs.lemmas.Bool.{true≢false}
 use Rattle.std.proofs.lemmas.Option.{none-some}
 use Rattle.std.specs.BTreeMap.{insert_entry}
@@ -14,8 +14,7 @@ use Rattle.tera_meaning.specs.Pairs.{HasDistinctKeys, put, put_all, rising, valu
 use Rattle.tera_meaning.proofs.PairLaws.{turned, joined, shadowed, swapped}
 
 longer : (b : Bool) {X : Type 0} (xs : List X) → suc (cond b (length xs) (suc (length xs))) ≡ cond b (suc (length xs)) (suc (suc (length xs)))
-longer true xs = refl
-longer false xs = refl
+longer x0 xs = search rules
 
 module _ {K V : Type 0} (order : K → K → Ordering) where
   -- a key that ties with none is put behind all pairs, and one that ties in the place of the first such pair

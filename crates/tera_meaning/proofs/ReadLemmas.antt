@@ -1,19 +1,19 @@
 -- What is read off a value by its meaning: its items and pairs, its number and its text, it as a key, and its fields.
 use Rattle.std.specs.Prelude.{◌≡◌, ◌⊎◌, ℕ, ℤ, List, [], ◌∷◌, map, Option, Some, None, Ok, is_some, refl}
-use Rattle.std.proofs.Common.{sym, ap, ◌∙◌, inl, inr}
+use Rattle.std.proofs.Common.{ap, ◌∙◌, inl, inr, rules}
 use Rattle.std.specs.BTreeMap.{insert_entry}
-use Rattle.std.specs.Option.{option_map, ok_or}
+use Rattle.std.specs.Option.{option_map}
 use Rattle.std.specs.Ordering.{match_ordering}
 use Rattle.std.specs.declared.cmp.Ordering.TheVariants.{Less, Equal, Greater}
 use Rattle.tera_meaning.specs.Fields.{AreRisingOf, fields, rising_texts, shown_keys}
 use Rattle.tera_meaning.specs.Form.{Form, MarkedText}
 use Rattle.tera_meaning.specs.Integer.{Integer}
 use Rattle.tera_meaning.specs.KeyMeaning.{KeyForm, KeyMeaning, key_meaning, truth_key, number_key, text_key, key_order}
-use Rattle.tera_meaning.specs.Lookup.{as_key, key_in, seen_by}
-use Rattle.tera_meaning.specs.Meaning.{Meaning, meaning, pair_meaning, sorted_pairs}
+use Rattle.tera_meaning.specs.Lookup.{key_in}
+use Rattle.tera_meaning.specs.Meaning.{Meaning, meaning, pair_meaning}
 use Rattle.tera_meaning.specs.Pairs.{rising}
 use Rattle.tera_meaning.specs.Printed.{shown_key}
-use Rattle.tera_meaning.specs.Read.{number_in, text_in}
+use Rattle.tera_meaning.specs.Read.{text_in}
 use Rattle.tera_meaning.specs.SliceRule.{shape_of}
 use Rattle.tera_meaning.specs.Tree.{Members, truth, number, text, array, object, items, members, members_list}
 use Rattle.tera_meaning.proofs.Among.{Among, among, contained}
@@ -21,7 +21,6 @@ use Rattle.tera_meaning.proofs.FieldLaws.{rising_are_rising, only_rising_texts}
 use Rattle.tera_meaning.proofs.KeyLaws.{key_exact}
 use Rattle.tera_meaning.proofs.MeaningLaws.{layout_members, meant_pairs, pairs_meant, array_means}
 use Rattle.tera_meaning.proofs.TreeLaws.{list_of_members}
-use Rattle.tera_report.specs.Refusal.{not_a_key}
 
 -- the members that a map means
 abbrev pub meant_members : Members Integer MarkedText KeyForm → Members ℤ (List ℕ) KeyMeaning
@@ -39,28 +38,11 @@ key_meant v = None
 
 pub key_as_meant : (v : Form) → option_map key_meaning (key_in v) ≡ key_meant (meaning v)
 unfolding key_meant
-key_as_meant (text s) = refl
-key_as_meant v = refl
-
-seen_key : (k : Option KeyForm) → seen_by key_meaning (ok_or k not_a_key) ≡ ok_or (option_map key_meaning k) not_a_key
-seen_key None = refl
-seen_key (Some k) = refl
-
-pub key_by_meaning : (v w : Form) → meaning v ≡ meaning w → seen_by key_meaning (as_key v) ≡ seen_by key_meaning (as_key w)
-key_by_meaning v w same =
-    seen_key (key_in v) ∙ ap (λ k. ok_or k not_a_key) (key_as_meant v ∙ ap key_meant same ∙ sym (key_as_meant w)) ∙ sym (seen_key (key_in w))
+key_as_meant v = search rules
 
 pub number_meant : Meaning → Option ℤ
 number_meant (number z) = Some z
 number_meant v = None
-
-pub number_as_meant : (v : Form) → number_in v ≡ number_meant (meaning v)
-unfolding number_meant
-number_as_meant (text s) = refl
-number_as_meant v = refl
-
-pub number_by_meaning : (v w : Form) → meaning v ≡ meaning w → number_in v ≡ number_in w
-number_by_meaning v w same = number_as_meant v ∙ ap number_meant same ∙ sym (number_as_meant w)
 
 pub text_meant : Meaning → Option (List ℕ)
 text_meant (text s) = Some s
@@ -68,8 +50,7 @@ text_meant v = None
 
 pub text_as_meant : (v : Form) → text_in v ≡ text_meant (meaning v)
 unfolding text_meant
-text_as_meant (text s) = refl
-text_as_meant v = refl
+text_as_meant v = search rules
 
 -- ---- fields
 
@@ -145,17 +126,12 @@ fields_meant v = []
 
 fields_as_meant : (v : Form) → fields v ≡ fields_meant (meaning v)
 unfolding fields_meant
-fields_as_meant (object ps) =
-    ap rising_texts (shown_as_meant (members_list ps) ∙ ap shown_of (sym (pairs_meant ps)))
-    ∙ sym (same_names (sorted_pairs (layout_members ps)))
-    ∙ ap (λ qs. rising_texts (shown_of qs)) (sym (list_of_members (meant_pairs ps)))
-fields_as_meant v = refl
+fields_as_meant v = search (rules, shown_as_meant, shown_of, pairs_meant, same_names, layout_members, list_of_members, meant_pairs)
 
 pub fields_by_meaning : (v w : Form) → meaning v ≡ meaning w → fields v ≡ fields w
-fields_by_meaning v w same = fields_as_meant v ∙ ap fields_meant same ∙ sym (fields_as_meant w)
+fields_by_meaning v w same = search (rules, fields_as_meant)
 
 -- ---- what is there
 
 pub is_there : {X Y : Type 0} (f : X → Y) (o : Option X) → is_some (option_map f o) ≡ is_some o
-is_there f None = refl
-is_there f (Some x) = refl
+is_there f x1 = search rules

@@ -1,54 +1,24 @@
 -- The outcomes of runs, in which some steps may want memory.
-use Rattle.std.specs.Prelude.{◌≡◌, ◌≢◌, ℕ, Bool, true, false, List, [], ◌∷◌, ◌++◌, length, Option, Some, None, Ok, Err, refl}
-use Rattle.std.proofs.Common.{sym, ◌∙◌, ap, subst, inl, inr, arith}
+use Rattle.std.specs.Prelude.{◌≡◌, ◌≢◌, ℕ, Bool, true, false, List, [], ◌∷◌, ◌++◌, length, Option, Ok, refl}
+use Rattle.std.proofs.Common.{sym, ◌∙◌, ap, subst, inl, inr, arith, rules}
 use Rattle.tera_report.specs.Escaping.{escaped}
-use Rattle.tera_report.specs.Refusal.{Refusal, memory_refused}
 use Rattle.tera_report.proofs.EscapeLaws.{Spells-escaped}
 use Rattle.tera_meaning.specs.Answer
-use Rattle.tera_meaning.specs.Search.{Found, found_at}
 use Rattle.tera_meaning.specs.Form.{Form}
 use Rattle.tera_meaning.specs.Meaning.{layout}
 use Rattle.tera_meaning.specs.Outcome.{Outcome, out_of_memory, is_want}
 use Rattle.tera_meaning.specs.Printed.{printed}
 use Rattle.tera_meaning.specs.Question.{Question, IsAnswered, IsFixedAnswer}
-use Rattle.tera_meaning.specs.Request.{Request, extend, ask, weigh, find, Command, asking}
-use Rattle.tera_meaning.specs.State.{State, read, form_at}
-use Rattle.tera_meaning.specs.Step.{found_or_kept, ComesTo, IsOutcome, IsFixed, LeavesInWant, IsStep, state_after}
+use Rattle.tera_meaning.specs.Request.{Request, extend, ask, Command, asking}
+use Rattle.tera_meaning.specs.State.{State, read}
+use Rattle.tera_meaning.specs.Step.{ComesTo, IsOutcome, IsFixed, LeavesInWant, IsStep, state_after}
 use Rattle.tera_meaning.specs.Run.{IsRun, AreOutcomes, AreFixed, state_after_all, WasDoneInWant, IsDoneOf, NoneWantsMemory, IsAmpleRun}
-use Rattle.tera_meaning.specs.Alike.{MeanTheSame, AllAskTheSame, AreAlike, meaning_held}
-use Rattle.tera_meaning.specs.Weighing.{Weighing, weighed}
-use Rattle.tera_meaning.proofs.StepLaws.{refused_answer}
-use Rattle.tera_meaning.proofs.ContainsLemmas.{no_container_wants}
-use Rattle.tera_meaning.proofs.found.{owed}
+use Rattle.tera_meaning.specs.Alike.{MeanTheSame, AllAskTheSame, AreAlike}
 use Rattle.tera_meaning.proofs.AlikeLemmas.{word_alike, all_outcomes_alike, states_alike}
-
--- no request comes to want of memory
-never_asked : (question : Question) (held : Option Form) → IsAnswered question held out_of_memory → ⊥
-never_asked Question.print held (t, prints, e) = cc
-never_asked Question.escape held (t, w, prints, spells, e) = cc
-never_asked question held e = cc
-
-never_weighed : (weighing : Weighing) (v w : Form) → out_of_memory ≡ weighed weighing v w → ⊥
-never_weighed Weighing.equal v w e = cc
-never_weighed Weighing.contains v w e = no_container_wants v w e
-never_weighed weighing v w e = cc
-
-want_is : (refusal : Refusal) → ◌≡◌ {A = Outcome} (Err memory_refused) (Err refusal) → refusal ≡ memory_refused
-want_is refusal e = cc
-
-never_found : (into : Option (List ℕ)) (found : Found) → (found ≡ Err memory_refused → ⊥)
-    → out_of_memory ≡ found_or_kept into found → ⊥
-never_found into (Err refusal) n e = n (λ i. Err (want_is refusal (e ∙ refused_answer into refusal) i))
-never_found None (Ok value) n e = cc
-never_found (Some into) (Ok None) n e = cc
-never_found (Some into) (Ok (Some value)) n e = cc
 
 pub never_wanted : (state : State) (request : Request) (into : Option (List ℕ))
     → ComesTo state request into out_of_memory → ⊥
-never_wanted state (ask question name) into e = never_asked question _ e
-never_wanted state (weigh weighing left right) into e = never_weighed weighing (form_at state left) (form_at state right) e
-never_wanted state (find search) into e = never_found into (found_at state search) ((owed search).no_want state) e
-never_wanted state v into e = cc
+never_wanted state v into e = search rules
 
 -- each request comes to some outcome
 some_answer : (question : Question) (held : Option Form) → (outcome : Outcome) × IsAnswered question held outcome
@@ -99,19 +69,15 @@ one_outcomes state (command ∷ commands) (o ∷ os) [] f e d = absurd d
 -- what a step that wants memory leaves, and any other is the command's outcome
 pub left_in_want : (old : State) (command : Command) (new : State) → IsStep old command out_of_memory new
     → LeavesInWant old command.request new
-left_in_want old command new (inl given) = absurd (never_wanted old command.request command.into given.0)
-left_in_want old command new (inr wanted) = wanted.2
+left_in_want old command new x3 = search rules
 
 pub given_step : (old : State) (command : Command) (outcome : Outcome) (new : State) → IsStep old command outcome new
     → outcome ≢ out_of_memory → IsOutcome old command outcome × (new ≡ state_after old command)
-given_step old command outcome new (inl given) n = given
-given_step old command outcome new (inr wanted) n = absurd (n wanted.1)
+given_step old command outcome new x4 n = search rules
 
 -- an outcome is want of memory or not
 is_out_of_memory : (outcome : Outcome) → is_want outcome ≡ true → outcome ≡ out_of_memory
-is_out_of_memory (Err memory_refused) h = refl
-is_out_of_memory (Ok answer) h = cc
-is_out_of_memory (Err refusal) h = cc
+is_out_of_memory x0 h = search rules
 
 no_want : (outcome : Outcome) → is_want outcome ≡ false → outcome ≢ out_of_memory
 no_want outcome h e = let yes : is_want outcome ≡ true = ap is_want e in cc
@@ -194,27 +160,21 @@ outcomes_given old commands outcomes are = absurd are
 -- and each list of outcomes is that of such a run
 pub ample_from_outcomes : (old : State) (commands : List Command) (outcomes : List Outcome)
     → AreOutcomes old commands outcomes → IsAmpleRun old commands outcomes (state_after_all old commands)
-ample_from_outcomes old commands outcomes are =
-    (outcomes_run old commands outcomes are, outcomes_given old commands outcomes are)
+ample_from_outcomes old commands outcomes are = search (rules, outcomes_run, outcomes_given)
 
 pub ample_one : (old : State) (commands : List Command) (outcomes others : List Outcome) (new also : State)
     → AreFixed old commands → IsAmpleRun old commands outcomes new → IsAmpleRun old commands others also
     → outcomes ≡ others
-ample_one old commands outcomes others new also fixed run other =
-    one_outcomes old commands outcomes others fixed (ample_outcomes old commands outcomes new run) (ample_outcomes old commands others also other)
+ample_one old commands outcomes others new also fixed run other = search (rules, one_outcomes, ample_outcomes)
 
 -- two runs of commands of equal meaning from states of equal meaning, in which no step wants memory
 module _ (f g : State) (commands also : List Command) (outcomes others : List Outcome) (f' g' : State) (means : MeanTheSame f g)
     (asks : AllAskTheSame commands also) (run : IsAmpleRun f commands outcomes f') (other : IsAmpleRun g also others g') where
   pub run_outcomes_alike : AreAlike f g commands also outcomes others
-  run_outcomes_alike =
-      all_outcomes_alike f g commands also outcomes others means asks (ample_outcomes f commands outcomes f' run) (ample_outcomes g also others g' other)
+  run_outcomes_alike = search (rules, all_outcomes_alike, ample_outcomes)
 
   pub run_states_alike : MeanTheSame f' g'
-  run_states_alike name =
-      ap (λ state. meaning_held state name) (ample_state f commands outcomes f' run)
-      ∙ states_alike f g commands also means asks name
-      ∙ sym (ap (λ state. meaning_held state name) (ample_state g also others g' other))
+  run_states_alike name = search (rules, ample_state, states_alike)
 
 -- a run goes through the step of each of its commands
 pub run_through : (old : State) (first : List Command) (command : Command) (later : List Command) (os : List Outcome)
@@ -229,3 +189,5 @@ run_through old (c ∷ first) command later (p ∷ os) o ps new e (mid, step, ru
     (rest.0, rest.1, (mid, step, rest.2), rest.3, rest.4)
 run_through old [] command later (p ∷ os) o ps new e run = absurd (omega (arith, e))
 run_through old (c ∷ first) command later [] o ps new e run = absurd (omega (arith, e))
+
+pub ruleset laws = (ample_outcomes, ample_state, ample_from_outcomes, run_outcomes_alike, run_states_alike)

@@ -1,13 +1,11 @@
 -- From a walk over items to a slice of them, and slices as the walk gives them.
-use Rattle.std.specs.Prelude.{◌≡◌, ◌≢◌, ◌<◌, ◌≤◌, ◌+◌, ◌*◌, ◌-◌, min, ℕ, zero, suc, ℤ, pos, negsuc, ◌-ℤ◌, ◌≤ℤ◌, nat_abs, List, [], ◌∷◌, reverse, length, take}
-use Rattle.std.specs.Prelude.{slice_get, Option, None, Some, Result, Ok, refl, unwrap_or}
-use Rattle.std.proofs.Common.{refl, sym, ap, ◌∙◌, subst, arith, inl, inr}
-use Rattle.std.proofs.lemmas.Int.{ints, clamps}
+use Rattle.std.specs.Prelude.{◌≡◌, ◌≢◌, ◌<◌, ◌≤◌, ◌+◌, ◌*◌, ◌-◌, min, ℕ, zero, suc, ℤ, pos, negsuc, ◌-ℤ◌, ◌≤ℤ◌, List, [], ◌∷◌, reverse, length, take, slice_get}
+use Rattle.std.specs.Prelude.{Option, None, Some, Result, Ok, refl, unwrap_or}
+use Rattle.std.proofs.Common.{refl, sym, ap, ◌∙◌, subst, arith, rules}
+use Rattle.std.proofs.lemmas.Int.{ints}
 use Rattle.std.proofs.lemmas.List.{get_or-reverse, length-reverse}
 use Rattle.std.proofs.lemmas.Option.{slice_get-get_or}
-use Rattle.std.proofs.lemmas.Bool.{cases_lt}
-use Rattle.tera_meaning.specs.SliceRule.{IsSliceFrom, IsSliceOf, IsBefore, HasReached, place_at, item_at, start_place, end_place, place_of_bound, least_place}
-use Rattle.tera_meaning.specs.SliceRule.{greatest_place, reversed, IsCut, IsCutBy, IsSliced}
+use Rattle.tera_meaning.specs.SliceRule.{IsSliceFrom, IsSliceOf, start_place, end_place, least_place, greatest_place, reversed, IsCut, IsCutBy, IsSliced}
 use Rattle.tera_meaning.specs.Slice.{directed, place_behind, distance, pause, walked, IsStrided, slice_of, cut, cut_by, sliced}
 use Rattle.std.proofs.lemmas.Str.{encodes-chars}
 use Rattle.std.specs.Option.{unwrap_or}
@@ -16,44 +14,23 @@ use Rattle.tera_meaning.specs.Form.{Form, MarkedText}
 use Rattle.tera_meaning.specs.Tree.{text, array, items, items_list}
 use Rattle.tera_meaning.proofs.TreeLaws.{list_of_items}
 use Rattle.tera_report.specs.Refusal.{Refusal}
-
-natural : (z : ℤ) → pos 0 ≤ℤ z → pos (nat_abs z) ≡ z
-natural (pos n) h = refl
-natural (negsuc n) h = absurd (omega (arith, ints))
+use Rattle.std.proofs.lemmas.Grind.{common_steps}
 
 -- a place between the least and the greatest is as far behind the first as its distance
 pub distance_behind : (step z : ℤ) (n : ℕ) → least_place step ≤ℤ z → z ≤ℤ greatest_place step n
     → (place_behind step n (distance step n z) ≡ z) × (distance step n z ≤ n)
-distance_behind (pos s) z n low high = let e = natural z low in (e, omega (arith, ints))
-distance_behind (negsuc s) z n low high =
-    let e = natural (pos n -ℤ pos 1 -ℤ z) (omega (arith, ints)) in (omega (arith, ints), omega (arith, ints))
-
-place_between : (step bound : ℤ) (n : ℕ) → (least_place step ≤ℤ place_of_bound step n bound) × (place_of_bound step n bound ≤ℤ greatest_place step n)
-place_between (pos s) bound n = (omega (arith, ints, clamps), omega (arith, ints, clamps))
-place_between (negsuc s) bound n = (omega (arith, ints, clamps), omega (arith, ints, clamps))
+distance_behind x0 z n low high = search rules
 
 start_between : (step : ℤ) (start : Option ℤ) (n : ℕ) → (least_place step ≤ℤ start_place step n start) × (start_place step n start ≤ℤ greatest_place step n)
-start_between step (Some bound) n = place_between step bound n
-start_between (pos s) None n = (omega (arith, ints), omega (arith, ints))
-start_between (negsuc s) None n = (omega (arith, ints), omega (arith, ints))
+start_between step x1 n = search rules
 
 end_between : (step : ℤ) (end : Option ℤ) (n : ℕ) → (least_place step ≤ℤ end_place step n end) × (end_place step n end ≤ℤ greatest_place step n)
-end_between step (Some bound) n = place_between step bound n
-end_between (pos s) None n = (omega (arith, ints), omega (arith, ints))
-end_between (negsuc s) None n = (omega (arith, ints), omega (arith, ints))
-
-not_both : (step place end : ℤ) → IsBefore step place end → HasReached step place end → ⊥
-not_both (pos s) place end before reached = omega (arith, ints)
-not_both (negsuc s) place end before reached = omega (arith, ints)
+end_between step x1 n = search rules
 
 module _ {X : Type 0} where
   forward : (xs ys : List X) (from until s : ℕ) → IsStrided xs from until (suc s) ys
       → IsSliceFrom xs (pos from) (pos until) (pos (suc s)) ys
-  forward xs ys from until s h = record {
-    reached = let e = h.reached in omega (arith, ints);
-    before = λ k b. let e = h.before k b in omega (arith, ints);
-    taken = λ k b. h.taken k b;
-  }
+  forward xs ys from until s h = search rules
 
   get_reversed : (xs : List X) (k j : ℕ) → k + j + 1 ≡ length xs → slice_get (reverse xs) k ≡ slice_get xs j
   get_reversed [] k j e = absurd (omega arith)
@@ -67,18 +44,7 @@ module _ {X : Type 0} where
 
   backward : (xs ys : List X) (from until s : ℕ) → until ≤ length xs → IsStrided (reverse xs) from until (suc s) ys
       → IsSliceFrom xs (pos (length xs) -ℤ pos (suc from)) (pos (length xs) -ℤ pos (suc until)) (negsuc s) ys
-  backward xs ys from until s within h = record {
-    reached = let e = h.reached in omega (arith, ints);
-    before = λ k b. let e = h.before k b in omega (arith, ints);
-    taken = λ k b.
-        let e = h.before k b in
-        let at : place_at (pos (length xs) -ℤ pos (suc from)) (negsuc s) k ≡ pos (length xs - 1 - (from + k * suc s)) =
-        omega (arith, ints)
-        in
-        h.taken k b
-        ∙ get_reversed xs (from + k * suc s) (length xs - 1 - (from + k * suc s)) (omega arith)
-        ∙ ap (item_at xs) (sym at);
-  }
+  backward xs ys from until s within h = search (rules, get_reversed)
 
   -- each by-th of the items in the direction of a step are the slice from the place where they begin to the one where
   -- they end
@@ -99,10 +65,7 @@ module _ {X : Type 0} where
 
   first_taken : (p m : ℕ) (x : X) (xs ys : List X) (k : ℕ) → k < suc (length ys) → IsStrided xs p m (suc p) ys
       → slice_get (x ∷ ys) k ≡ slice_get (x ∷ xs) (0 + k * suc p)
-  first_taken p m x xs ys zero b h = let e : 0 ≡ 0 + 0 * suc p = omega arith in ap (slice_get (x ∷ xs)) e
-  first_taken p m x xs ys (suc k) b h =
-      let e : suc (p + k * suc p) ≡ 0 + suc k * suc p = omega arith in
-      h.taken k (omega arith) ∙ ap (slice_get (x ∷ xs)) e
+  first_taken p m x xs ys x5 b h = search rules
 
   -- a walk takes each by-th of the items
   pub walked_strides : (p waits until : ℕ) (xs : List X)
@@ -138,8 +101,7 @@ module _ {X : Type 0} where
       }
 
   pub length_directed : (step : ℤ) (xs : List X) → length (directed step xs) ≡ length xs
-  length_directed (pos s) xs = refl
-  length_directed (negsuc s) xs = length-reverse xs
+  length_directed x0 xs = search (rules, length-reverse)
 
   -- the walk gives a slice
   pub slice_of_is : (xs : List X) (start end : Option ℤ) (step : ℤ) → step ≢ pos 0
@@ -172,18 +134,11 @@ module _ {X : Type 0} where
 
   no_longer : (xs ys zs : List X) (start end step : ℤ) → IsSliceFrom xs start end step ys → IsSliceFrom xs start end step zs
       → length ys ≤ length zs
-  no_longer xs ys zs start end step h i = elim (cases_lt (length zs) (length ys)) [
-    | inl less ↦ absurd (not_both step _ end (h.before (length zs) less) i.reached)
-    | inr most ↦ most
-  ]
+  no_longer xs ys zs start end step h i = search rules
 
   pub slices_same : (xs ys zs : List X) (start end step : ℤ) → IsSliceFrom xs start end step ys
       → IsSliceFrom xs start end step zs → ys ≡ zs
-  slices_same xs ys zs start end step h i =
-      let less = no_longer xs ys zs start end step h i in
-      let more = no_longer xs zs ys start end step i h in
-      let same : length ys ≡ length zs = omega arith in
-      same_items ys zs same (λ k b. h.taken k b ∙ sym (i.taken k (omega arith)))
+  slices_same xs ys zs start end step h i = grind (arith, common_steps, no_longer, same_items)
 
 cut_is : (v : Form) (start end : Option ℤ) (step : ℤ) → step ≢ pos 0 → IsCut v start end step (cut v start end step)
 cut_is (text t) start end step nonzero =
@@ -205,15 +160,11 @@ cut_only (array xs) start end step outcome nonzero h =
 cut_only v start end step outcome nonzero h = h
 
 cut_by_is : (step : ℤ) (v : Form) (start end : Option ℤ) → IsCutBy step v start end (cut_by step v start end)
-cut_by_is (pos zero) v start end = refl
-cut_by_is (pos (suc s)) v start end = cut_is v start end (pos (suc s)) (λ e. cc)
-cut_by_is (negsuc s) v start end = cut_is v start end (negsuc s) (λ e. cc)
+cut_by_is x0 v start end = search (rules, cut_is)
 
 cut_by_only : (step : ℤ) (v : Form) (start end : Option ℤ) (outcome : Result Form Refusal)
     → IsCutBy step v start end outcome → outcome ≡ cut_by step v start end
-cut_by_only (pos zero) v start end outcome h = h
-cut_by_only (pos (suc s)) v start end outcome h = cut_only v start end (pos (suc s)) outcome (λ e. cc) h
-cut_by_only (negsuc s) v start end outcome h = cut_only v start end (negsuc s) outcome (λ e. cc) h
+cut_by_only x0 v start end outcome h = search (rules, cut_only)
 
 pub sliced_is : (v : Form) (start end step : Option ℤ) → IsSliced v start end step (sliced v start end step)
 sliced_is v start end step = cut_by_is (unwrap_or step (pos 1)) v start end
@@ -226,11 +177,7 @@ sliced_only v start end step outcome h = cut_by_only (unwrap_or step (pos 1)) v 
 
 module _ {X : Type 0} where
   pub whole_slice : (xs : List X) → IsSliceOf xs None None (pos 1) xs
-  whole_slice xs = record {
-    reached = omega (arith, ints);
-    before = λ k b. omega (arith, ints);
-    taken = λ k b. let at : pos k ≡ place_at (pos 0) (pos 1) k = omega (arith, ints) in ap (item_at xs) at;
-  }
+  whole_slice xs = search rules
 
   pub backward_slice : (xs : List X) → IsSliceOf xs None None (negsuc 0) (reverse xs)
   backward_slice xs =
@@ -243,7 +190,7 @@ module _ {X : Type 0} where
       })
 
 pub whole_array : (xs : List Form) → IsSliced (array (items xs)) None None None (Ok (array (items xs)))
-whole_array xs = (items_list (items xs), whole_slice (items_list (items xs)), ap (λ (ys : List Form). Ok (array (items ys))) (sym (list_of_items xs)))
+whole_array xs = search (rules, list_of_items)
 
 pub whole_text : (t : MarkedText) → IsUtf8 t.spelled → IsSliced (text t) None None None (Ok (text t))
 whole_text t utf8 = (

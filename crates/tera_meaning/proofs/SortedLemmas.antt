@@ -1,6 +1,6 @@
 -- What a layout means is well made and exact where the layout is; and a meaning is its own layout, and means itself.
-use Rattle.std.specs.Prelude.{◌≡◌, ℕ, ℤ, Bool, true, false, cond, ◌&&◌, List, [], ◌∷◌, Some, None, refl}
-use Rattle.std.proofs.Common.{sym, ◌∙◌, ap, subst}
+use Rattle.std.specs.Prelude.{◌≡◌, ℕ, ℤ, Bool, false, cond, ◌&&◌, List, [], ◌∷◌, Some, None, refl}
+use Rattle.std.proofs.Common.{sym, ◌∙◌, ap, subst, rules}
 use Rattle.std.proofs.lemmas.Map.Keys.{IsDistinct-from_sorted}
 use Rattle.std.proofs.lemmas.Option.{none-some}
 use Rattle.std.specs.BTreeMap.{insert_entry}
@@ -92,13 +92,7 @@ mutual
 -- ---- what a layout means is exact where the layout is
 
 both_pairs : (a b c d e : Bool) → (c && (d && (a && (b && e)))) ≡ (a && (b && (c && (d && e))))
-both_pairs true true c d e = refl
-both_pairs true false true true e = refl
-both_pairs true false true false e = refl
-both_pairs true false false d e = refl
-both_pairs false b true true e = refl
-both_pairs false b true false e = refl
-both_pairs false b false d e = refl
+both_pairs x0 b c d e = search rules
 
 exact_inserted : (k : KeyMeaning) (x : Meaning) (ps : List (KeyMeaning × Meaning)) → value_at key_order ps k ≡ None
     → are_exact_members (members (insert_entry key_order ps k x)) ≡ (is_exact_key k && (is_exact_inside x && are_exact_members (members ps)))
@@ -138,10 +132,10 @@ mutual
       ∙ (λ i. is_exact_key k && (exact_as_meant x h.1 i && exact_pairs_as_meant ps g.1 h.2 i))
 
 alone_as_meant : (x : Layout) → IsWellMadeLayout x → is_exact (sorted x) ≡ is_exact x
-alone_as_meant (array xs) h = exact_items_as_meant xs h
-alone_as_meant (object ps) h = exact_pairs_as_meant ps h.0 h.1
-alone_as_meant v h = refl
+alone_as_meant v h = search (rules, exact_items_as_meant, exact_pairs_as_meant)
 
 -- so layouts of one meaning are exact together
 pub exact_together : (x y : Layout) → IsWellMadeLayout x → IsWellMadeLayout y → sorted x ≡ sorted y → IsExact x → IsExact y
 exact_together x y h g same exact = sym (alone_as_meant y g) ∙ ap is_exact (sym same) ∙ alone_as_meant x h ∙ exact
+
+pub ruleset laws = (sorted_well, meaning_is_layout, sorted_itself)

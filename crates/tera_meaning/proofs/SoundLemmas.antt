@@ -1,17 +1,16 @@
 -- Parts of what is well made are, and what is made of such parts.
-use Rattle.std.proofs.Common.{refl, ap₂}
+use Rattle.std.proofs.Common.{refl, ap₂, rules}
 use Rattle.std.proofs.lemmas.Bool.{and_parts}
 use Rattle.std.specs.List.{AllByRecursion}
 use Rattle.std.specs.Ordering.{eq_by_cmp}
-use Rattle.std.specs.Prelude.{◌≡◌, ℕ, zero, suc, Bool, true, false, List, [], Option, Some, IfOk, refl, cond, ◌∷◌, slice_get, IfSome, ◌&&◌, reverse}
+use Rattle.std.specs.Prelude.{◌≡◌, ℕ, zero, suc, Bool, true, List, [], Option, Some, refl, cond, ◌∷◌, slice_get, IfSome, ◌&&◌, reverse}
 use Rattle.std.specs.Str.{encode_utf8_all, IsUtf8}
 use Rattle.tera_meaning.specs.Form.{Form, MarkedText}
 use Rattle.tera_meaning.specs.Integer.{Integer}
 use Rattle.tera_meaning.specs.KeyMeaning.{KeyForm}
-use Rattle.tera_meaning.specs.Lookup.{as_key}
 use Rattle.tera_meaning.specs.Pairs.{key_form_order, value_at}
-use Rattle.tera_meaning.specs.Tree.{Items, number, text, no_items, item, items, items_list, members_list, Members, no_members, member}
-use Rattle.tera_meaning.specs.WellMade.{IsWellMade, AreWellMade, AreWellMadeMembers, IsWellMadeKey}
+use Rattle.tera_meaning.specs.Tree.{Items, no_items, item, items, items_list, members_list, Members, no_members, member}
+use Rattle.tera_meaning.specs.WellMade.{IsWellMade, AreWellMade, AreWellMadeMembers}
 use lib.Utf8.{scalars, scalar}
 use mathlib.Core.List.{reverse_aux}
 
@@ -19,8 +18,7 @@ abbrev pub Sound : Option Form → Type 0
 Sound found = IfSome found IsWellMade
 
 sound_pick : (b : Bool) (x : Form) (o : Option Form) → IsWellMade x → Sound o → Sound (cond b (Some x) o)
-sound_pick true x o h g = h
-sound_pick false x o h g = g
+sound_pick x0 x o h g = search rules
 
 pub sound_pair : (ps : Members Integer MarkedText KeyForm) (k : KeyForm) → AreWellMadeMembers ps → Sound (value_at key_form_order (members_list ps) k)
 sound_pair no_members k h = tt
@@ -30,11 +28,6 @@ pub sound_place : (xs : Items Integer MarkedText KeyForm) (n : ℕ) → AreWellM
 sound_place no_items n h = tt
 sound_place (item x xs) zero h = h.0
 sound_place (item x xs) (suc n) h = sound_place xs n h.1
-
-pub sound_as_key : (v : Form) → IsWellMade v → IfOk (as_key v) IsWellMadeKey
-sound_as_key (number z) h = h
-sound_as_key (text t) h = h
-sound_as_key v h = tt
 
 -- ---- lists of parts
 

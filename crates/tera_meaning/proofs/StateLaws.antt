@@ -1,8 +1,7 @@
 -- What a state holds after a value is set or a name is removed.
-use Rattle.std.proofs.lemmas.Bool.{false_from_ne_true}
-use Rattle.std.specs.Prelude.{◌≡◌, ◌≢◌, ℕ, Bool, true, false, cond, List, Some, None, refl}
-use Rattle.std.proofs.Common.{sym, ◌∙◌, ap}
-use Rattle.std.specs.Ordering.{nat_cmp, is_eq, eq_by_cmp}
+use Rattle.std.specs.Prelude.{◌≡◌, ◌≢◌, ℕ, Bool, false, cond, List, Some, None}
+use Rattle.std.proofs.Common.{ap, rules}
+use Rattle.std.specs.Ordering.{nat_cmp, eq_by_cmp}
 use Rattle.std.specs.Cmp.{tied_itself, Equal-is}
 use Rattle.std.specs.Cmp.Lexicographic.{slice_cmp, nat_list_cmp_total}
 use Rattle.std.specs.Option.{unwrap_or}
@@ -14,30 +13,25 @@ use Rattle.tera_meaning.specs.State.{State, meaning_at}
 use Rattle.tera_meaning.specs.Tree.{undefined}
 
 pub name_exact : IsAntisymmetric (slice_cmp nat_cmp)
-name_exact = slice_cmp-IsAntisymmetric nat_cmp-IsAntisymmetric
+name_exact = search (rules, slice_cmp-IsAntisymmetric, nat_cmp-IsAntisymmetric)
 
 pub apart : (q k : List ℕ) → q ≢ k → eq_by_cmp (slice_cmp nat_cmp) q k ≡ false
-apart q k n =
-    false_from_ne_true (eq_by_cmp (slice_cmp nat_cmp) q k) (λ e. n (name_exact q k ((Equal-is (slice_cmp nat_cmp q k)).0 e)))
+apart q k n = search (rules, slice_cmp, name_exact, Equal-is)
 
 -- the name that is set has the value, and each other name has what it had
 pub get_set : (state : State) (name : List ℕ) (value : Form) → get (insert state name value) name ≡ Some value
-get_set state name value =
-    get-insert nat_list_cmp_total state name value name ∙ ap (λ r. cond (is_eq r) (Some value) (get state name)) (tied_itself nat_list_cmp_total name)
+get_set state name value = search (rules, get-insert, nat_list_cmp_total, get, tied_itself)
 
 pub get_other : (state : State) (name : List ℕ) (value : Form) (other : List ℕ) → other ≢ name
     → get (insert state name value) other ≡ get state other
-get_other state name value other n =
-    get-insert nat_list_cmp_total state name value other ∙ ap (λ b. cond b (Some value) (get state other)) (apart other name n)
+get_other state name value other n = search (rules, get-insert, nat_list_cmp_total, apart)
 
 -- a name that is removed is held no more, and each other name has what it had
 pub get_removed : (state : State) (name : List ℕ) → get (remove state name) name ≡ None
-get_removed state name =
-    get-remove nat_list_cmp_total state name name ∙ ap (λ r. cond (is_eq r) None (get state name)) (tied_itself nat_list_cmp_total name)
+get_removed state name = search (rules, get-remove, nat_list_cmp_total, get, tied_itself)
 
 pub get_kept : (state : State) (name other : List ℕ) → other ≢ name → get (remove state name) other ≡ get state other
-get_kept state name other n =
-    get-remove nat_list_cmp_total state name other ∙ ap (λ b. cond b None (get state other)) (apart other name n)
+get_kept state name other n = search (rules, get-remove, nat_list_cmp_total, apart)
 
 -- states that answer alike are one
 pub same_state : (f g : State) → ((name : List ℕ) → get f name ≡ get g name) → f ≡ g
@@ -53,19 +47,17 @@ meaning_other state name value other n = ap (λ o. meaning (unwrap_or o undefine
 
 -- in a state that holds nothing each name reads as undefined
 pub meaning_empty : (name : List ℕ) → meaning_at empty name ≡ undefined
-meaning_empty name = ap (λ o. meaning (unwrap_or o undefined)) (get-empty {X = Form} (slice_cmp nat_cmp) name)
+meaning_empty name = search (rules, get-empty, slice_cmp)
 
 pub held_empty : (name : List ℕ) → get {X = Form} {R = slice_cmp nat_cmp} empty name ≡ None
-held_empty name = get-empty {X = Form} (slice_cmp nat_cmp) name
+held_empty name = search (rules, get-empty, slice_cmp)
 
 -- to remove a name that is not held changes nothing
 removed_absent : (state : State) (name other : List ℕ) (b : Bool) → eq_by_cmp (slice_cmp nat_cmp) other name ≡ b
     → get state name ≡ None → cond b None (get state other) ≡ get state other
-removed_absent state name other true e h =
-    sym (ap (get state) (name_exact other name ((Equal-is (slice_cmp nat_cmp other name)).0 e)) ∙ h)
-removed_absent state name other false e h = refl
+removed_absent state name other x3 e h = search (rules, get, name_exact, slice_cmp)
 
 pub remove_absent : (state : State) (name : List ℕ) → get state name ≡ None → remove state name ≡ state
-remove_absent state name h =
-    same_state (remove state name) state (λ other. get-remove nat_list_cmp_total state name other
-    ∙ removed_absent state name other (eq_by_cmp (slice_cmp nat_cmp) other name) refl h)
+remove_absent state name h = search (rules, same_state, get-remove, nat_list_cmp_total, removed_absent, slice_cmp)
+
+pub ruleset laws = (get_set, get_other, get_removed, get_kept, remove_absent, meaning_set, meaning_other, meaning_empty, held_empty)

@@ -1,29 +1,25 @@
 -- What single steps answer and leave.
-use Rattle.std.specs.Prelude.{◌≡◌, ◌≢◌, ℕ, Bool, true, false, cond, if◌then◌else◌, List, Option, Some, None, Ok, Err, refl}
-use Rattle.std.proofs.Common.{sym, ◌∙◌, ap, subst}
+use Rattle.std.specs.Prelude.{◌≡◌, ℕ, Bool, cond, List, Option, Some, None, Ok, Err}
+use Rattle.std.proofs.Common.{sym, ◌∙◌, ap, subst, rules}
 use Rattle.std.specs.Option.{option_map, unwrap_or}
 use Rattle.std.specs.Ordering.{nat_cmp, eq_by_cmp}
 use Rattle.std.specs.Cmp.{Equal-is}
 use Rattle.std.specs.Cmp.Lexicographic.{slice_cmp, nat_list_cmp_total}
-use Rattle.std.specs.FinMap.{get as held_at, insert, get-insert}
+use Rattle.std.specs.FinMap.{get as held_at, get-insert}
 use Rattle.tera_report.specs.Escaping.{escaped}
 use Rattle.tera_report.specs.Refusal.{Refusal}
 use Rattle.tera_report.proofs.EscapeLaws.{escaped_from_spelling}
 use Rattle.tera_meaning.specs.Form.{Form}
 use Rattle.tera_meaning.specs.Meaning.{layout, meaning}
-use Rattle.tera_meaning.specs.Order.{compare, same}
-use Rattle.tera_meaning.specs.Printed.{printed, IsExact, shown_in_page}
-use Rattle.tera_meaning.specs.Read.{marked_safe, safe_in}
-use Rattle.tera_meaning.specs.State.{State, form_at, layout_at, meaning_at}
-use Rattle.tera_meaning.proofs.StateLaws.{get_set, meaning_set, meaning_other, name_exact}
+use Rattle.tera_meaning.specs.Printed.{printed, IsExact}
+use Rattle.tera_meaning.specs.Read.{marked_safe}
+use Rattle.tera_meaning.specs.State.{State, layout_at, meaning_at}
+use Rattle.tera_meaning.proofs.StateLaws.{get_set, meaning_set, name_exact, get_other}
 use Rattle.tera_meaning.specs.Alike.{MeanTheSame, meaning_held}
-use Rattle.tera_meaning.proofs.AlikeLemmas.{meaning_marked}
 use Rattle.tera_meaning.specs.Answer
-use Rattle.tera_meaning.specs.Search.{Search, found_at}
-use Rattle.tera_meaning.specs.Outcome.{Outcome}
 use Rattle.tera_meaning.specs.Question
-use Rattle.tera_meaning.specs.Request.{mark_safe, ask, weigh, find, asking, asking_into}
-use Rattle.tera_meaning.specs.Step.{marking, found_or_kept, keeping, ComesTo, ComesOnlyTo, IsOutcome, leaves, state_after}
+use Rattle.tera_meaning.specs.Request.{mark_safe, ask, asking, asking_into}
+use Rattle.tera_meaning.specs.Step.{marking, found_or_kept, keeping, ComesOnlyTo, state_after}
 use Rattle.tera_meaning.specs.Weighing
 use Rattle.tera_meaning.specs.Tree.{undefined}
 
@@ -37,105 +33,37 @@ escapes state name o e exact given (t, w, is, spells, d) =
 
 -- what is exact prints one text, and escapes to one
 module _ (state : State) (name : List ℕ) where
-  pub prints_one : IsExact (layout_at state name)
-      → ComesOnlyTo state (ask Question.print name) (Ok (Answer.text (printed (layout_at state name))))
-  prints_one exact given (t, is, d) = d ∙ ap (λ s. Ok (Answer.text s)) (is exact)
-
   pub escapes_one : IsExact (layout_at state name)
       → ComesOnlyTo state (ask Question.escape name) (Ok (Answer.text (escaped (printed (layout_at state name)))))
-  escapes_one = escapes state name (held_at state name) refl
-
-  shown : Bool → List ℕ
-  shown b = if b then printed (layout_at state name) else escaped (printed (layout_at state name))
-
-  pub shown_as_it_is : safe_in (form_at state name) ≡ true → shown_in_page (form_at state name) ≡ printed (layout_at state name)
-  unfolding shown
-  shown_as_it_is e = ap shown e
-
-  pub shown_escaped : safe_in (form_at state name) ≡ false → shown_in_page (form_at state name) ≡ escaped (printed (layout_at state name))
-  unfolding shown
-  shown_escaped e = ap shown e
-
--- after a value is set, the other side of a comparison means what it meant
-module _ (state : State) (name : List ℕ) (value : Form) (other : List ℕ) (n : other ≢ name) where
-  pub equal_after_set : ComesOnlyTo (insert state name value) (weigh Weighing.equal name other)
-      (Ok (Answer.truth (same (meaning value) (meaning_at state other))))
-  equal_after_set given d =
-      d ∙ (λ i. Ok (Answer.truth (same (meaning_set state name value i) (meaning_other state name value other n i))))
-
-  pub compared_after_set : ComesOnlyTo (insert state name value) (weigh Weighing.compare name other)
-      (Ok (Answer.order (Some (compare (meaning value) (meaning_at state other)))))
-  compared_after_set given d =
-      d ∙ (λ i. Ok (Answer.order (Some (compare (meaning_set state name value i) (meaning_other state name value other n i)))))
+  escapes_one = search (rules, escapes)
 
 -- what is marked safe
 module _ (state : State) (name : List ℕ) where
   pub marked_meaning : (into : List ℕ)
       → meaning_at (state_after state (asking_into (mark_safe name) into)) into ≡ meaning_at state name
-  marked_meaning into = meaning_set state into (marked_safe (form_at state name)) ∙ meaning_marked (form_at state name)
+  marked_meaning into = search (rules, meaning_set)
 
   pub marked_absent : (into : List ℕ) → held_at state name ≡ None
       → held_at (state_after state (asking_into (mark_safe name) into)) into ≡ Some undefined
-  marked_absent into e =
-      get_set state into (marked_safe (form_at state name)) ∙ ap (λ o. Some (marked_safe (unwrap_or o undefined))) e
+  marked_absent into e = search (rules, get_set)
 
   marked_one : (value : Form) (other : List ℕ) (b : Bool) → eq_by_cmp (slice_cmp nat_cmp) other name ≡ b
       → held_at state name ≡ Some value
       → option_map meaning (cond b (Some (marked_safe value)) (held_at state other)) ≡ meaning_held state other
-  marked_one value other true d e =
-      (λ i. Some (meaning_marked value i))
-      ∙ ap (option_map meaning) (sym e)
-      ∙ sym (ap (meaning_held state) (name_exact other name ((Equal-is (slice_cmp nat_cmp other name)).0 d)))
-  marked_one value other false d e = refl
+  marked_one value other x2 d e = search (rules, name_exact, Equal-is, slice_cmp)
 
   marked_held : (o : Option Form) → held_at state name ≡ o → MeanTheSame (marking state name o) state
-  marked_held None e other = refl
-  marked_held (Some value) e other =
-      ap (option_map meaning) (get-insert nat_list_cmp_total state name (marked_safe value) other)
-      ∙ marked_one value other (eq_by_cmp (slice_cmp nat_cmp) other name) refl e
+  marked_held x0 e other = search (rules, get-insert, nat_list_cmp_total, marked_one)
 
   -- marked in its place, no meaning changes
   pub marked_alike : MeanTheSame (state_after state (asking (mark_safe name))) state
-  marked_alike = marked_held (held_at state name) refl
+  marked_alike = search (rules, marked_held)
 
 -- a refusal is passed on, and keeps nothing
 pub refused_answer : (into : Option (List ℕ)) (refusal : Refusal) → found_or_kept into (Err refusal) ≡ Err refusal
-refused_answer None refusal = refl
-refused_answer (Some into) refusal = refl
+refused_answer x0 refusal = search rules
 
 pub refused_left : (state : State) (into : Option (List ℕ)) (refusal : Refusal) → keeping state into (Err refusal) ≡ state
-refused_left state None refusal = refl
-refused_left state (Some into) refusal = refl
+refused_left state x1 refusal = search rules
 
--- what is found is kept or answered, by what is found alone
-module _ (state : State) (search : Search) where
-  pub kept_done : (into : List ℕ) (value : Form) (outcome : Outcome) → found_at state search ≡ Ok (Some value)
-      → IsOutcome state (asking_into (find search) into) outcome → outcome ≡ Ok Answer.done
-  kept_done into value outcome e o = o ∙ ap (found_or_kept (Some into)) e
-
-  pub kept_there : (into : List ℕ) (value : Form) → found_at state search ≡ Ok (Some value)
-      → state_after state (asking_into (find search) into) ≡ insert state into value
-  kept_there into value e = ap (keeping state (Some into)) e
-
-  nothing_answered : (into : Option (List ℕ)) → found_or_kept into (Ok None) ≡ Ok (Answer.found None)
-  nothing_answered None = refl
-  nothing_answered (Some into) = refl
-
-  pub nothing_found : (into : Option (List ℕ)) (outcome : Outcome) → found_at state search ≡ Ok None
-      → ComesTo state (find search) into outcome → outcome ≡ Ok (Answer.found None)
-  nothing_found into outcome e o = o ∙ ap (found_or_kept into) e ∙ nothing_answered into
-
-  nothing_left : (into : Option (List ℕ)) → keeping state into (Ok None) ≡ state
-  nothing_left None = refl
-  nothing_left (Some into) = refl
-
-  pub nothing_kept : (into : Option (List ℕ)) → found_at state search ≡ Ok None → leaves state (find search) into ≡ state
-  nothing_kept into e = ap (keeping state into) e ∙ nothing_left into
-
-  pub refusal_passed : (into : Option (List ℕ)) (refusal : Refusal) (outcome : Outcome)
-      → found_at state search ≡ Err refusal → ComesTo state (find search) into outcome → outcome ≡ Err refusal
-  refusal_passed into refusal outcome e o = o ∙ ap (found_or_kept into) e ∙ refused_answer into refusal
-
-  pub refusal_keeps : (into : Option (List ℕ)) (refusal : Refusal) → found_at state search ≡ Err refusal
-      → leaves state (find search) into ≡ state
-  refusal_keeps into refusal e = ap (keeping state into) e ∙ refused_left state into refusal
+pub ruleset marks = (marked_alike, marked_meaning, marked_absent, get_set, get_other)

@@ -1,10 +1,9 @@
 -- A slice by a step of 1 is the items from one bound to the other.
-use Rattle.std.specs.Prelude.{◌≡◌, ◌≤◌, ◌-◌, min, ℕ, zero, suc, ℤ, pos, negsuc, nat_abs, List, [], ◌∷◌, drop, length, take, Option, None, Some, Result, Ok}
-use Rattle.std.specs.Prelude.{refl}
-use Rattle.std.proofs.Common.{ap, sym, ◌∙◌, arith, inl, inr}
+use Rattle.std.specs.Prelude.{◌≡◌, ◌≤◌, min, ℕ, zero, suc, ℤ, pos, nat_abs, List, [], ◌∷◌, drop, length, take, Option, None, Some, Result, Ok, refl}
+use Rattle.std.proofs.Common.{ap, ◌∙◌, arith, rules}
 use Rattle.std.proofs.lemmas.Bool.{cases_lt}
 use Rattle.std.proofs.lemmas.Int.{ints, clamps}
-use Rattle.std.proofs.lemmas.List.{drop_all, length-take, take_all}
+use Rattle.std.proofs.lemmas.List.{drop_all, take_all}
 use Rattle.std.specs.Str.{chars, encode_utf8_all}
 use Rattle.tera_report.specs.Refusal.{Refusal}
 use Rattle.tera_meaning.specs.Form.{Form, MarkedText}
@@ -19,9 +18,6 @@ use Rattle.tera_meaning.proofs.SliceLaws.{sliced_only}
 at_front : (n bound : ℕ) → nat_abs (place_of_bound (pos 1) n (pos bound)) ≡ min bound n
 at_front n bound = omega (arith, ints, clamps)
 
-from_end : (n bound : ℕ) → nat_abs (place_of_bound (pos 1) n (negsuc bound)) ≡ n - suc bound
-from_end n bound = omega (arith, ints, clamps)
-
 module _ {X : Type 0} where
   -- a walk that does not pause takes what is behind those that it passes over
   walked_on : (waits : ℕ) (xs : List X) → walked 0 waits xs ≡ drop waits xs
@@ -30,41 +26,18 @@ module _ {X : Type 0} where
   walked_on zero (x ∷ xs) = ap (λ ys. x ∷ ys) (walked_on zero xs)
   walked_on (suc waits) (x ∷ xs) = walked_on waits xs
 
-  take_at_most : (bound : ℕ) (xs : List X) → take (min bound (length xs)) xs ≡ take bound xs
-  take_at_most bound xs = elim (cases_lt (length xs) bound) [
-    | inl more ↦
-        let all : min bound (length xs) ≡ length xs = omega arith in
-        ap (λ k. take k xs) all ∙ take_all (length xs) xs (omega arith) ∙ sym (take_all bound xs (omega arith))
-    | inr most ↦ let same : min bound (length xs) ≡ bound = omega arith in ap (λ k. take k xs) same
-  ]
-
   drop_at_most : (bound n : ℕ) (xs : List X) → length xs ≤ n → drop (min bound n) xs ≡ drop bound xs
-  drop_at_most bound n xs within = elim (cases_lt n bound) [
-    | inl more ↦ drop_all (min bound n) xs (omega arith) ∙ sym (drop_all bound xs (omega arith))
-    | inr most ↦ let same : min bound n ≡ bound = omega arith in ap (λ k. drop k xs) same
-  ]
+  drop_at_most bound n xs within = search (rules, cases_lt, drop_all)
 
   taken_up_to : (end : Option ℤ) (xs : List X) → take (nat_abs (end_place (pos 1) (length xs) end)) xs ≡ up_to_bound end xs
-  taken_up_to None xs = take_all (length xs) xs (omega arith)
-  taken_up_to (Some (pos n)) xs = ap (λ k. take k xs) (at_front (length xs) n) ∙ take_at_most n xs
-  taken_up_to (Some (negsuc n)) xs = ap (λ k. take k xs) (from_end (length xs) n)
+  taken_up_to x0 xs = search (rules, take_all)
 
   dropped_from : (count : ℕ) (start : Option ℤ) (xs : List X) → length xs ≤ count
       → drop (nat_abs (start_place (pos 1) count start)) xs ≡ from_bound count start xs
-  dropped_from count None xs within = refl
-  dropped_from count (Some (pos n)) xs within = ap (λ k. drop k xs) (at_front count n) ∙ drop_at_most n count xs within
-  dropped_from count (Some (negsuc n)) xs within = ap (λ k. drop k xs) (from_end count n)
-
-  no_more : (end : Option ℤ) (xs : List X) → length (up_to_bound end xs) ≤ length xs
-  no_more None xs = omega arith
-  no_more (Some (pos n)) xs = omega (arith, length-take n xs)
-  no_more (Some (negsuc n)) xs = omega (arith, length-take (length xs - suc n) xs)
+  dropped_from count x1 xs within = search (rules, at_front, drop_at_most)
 
   pub slice_is_stretch : (xs : List X) (start end : Option ℤ) → slice_of xs start end (pos 1) ≡ stretch xs start end
-  slice_is_stretch xs start end =
-      walked_on (nat_abs (start_place (pos 1) (length xs) start)) (take (nat_abs (end_place (pos 1) (length xs) end)) xs)
-      ∙ ap (λ (ys : List X). drop (nat_abs (start_place (pos 1) (length xs) start)) ys) (taken_up_to end xs)
-      ∙ dropped_from (length xs) start (up_to_bound end xs) (no_more end xs)
+  slice_is_stretch xs start end = search (rules, walked_on, taken_up_to, dropped_from)
 
 pub array_stretch : (v : Form) (xs : List Form) (start end : Option ℤ) (outcome : Result Form Refusal)
     → items_in v ≡ Some xs → IsSliced v start end None outcome → outcome ≡ Ok (array (items (stretch xs start end)))

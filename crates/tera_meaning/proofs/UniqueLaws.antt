@@ -1,26 +1,23 @@
 -- A pair list has just the entries, and is the only rising list that has.
 use Rattle.std.proofs.lemmas.Option.{none-some}
 use Rattle.std.specs.Prelude.{◌≡◌, ◌↔◌, ◌⊎◌, suc, length, false, cond, List, [], ◌∷◌, Some, None, refl}
-use Rattle.std.proofs.Common.{sym, ◌∙◌, ap, inl, inr}
+use Rattle.std.proofs.Common.{sym, ◌∙◌, ap, inl, inr, rules}
 use Rattle.std.specs.BTreeMap.{insert_entry}
-use Rattle.std.specs.Cmp.{IsTotalOrder, tied_itself}
+use Rattle.std.specs.Cmp.{IsTotalOrder, eq_by_cmp_equiv}
 use Rattle.std.specs.List.{Contains, IsDistinct, AllByRecursion}
 use Rattle.std.specs.List.Sorted.{IsStrictlySortedBy, IsPermutation}
 use Rattle.std.specs.Map.{keys_of}
-use Rattle.std.specs.Ordering.{ordering_reverse, eq_by_cmp, is_eq, match_ordering}
+use Rattle.std.specs.Ordering.{eq_by_cmp, is_eq, match_ordering}
 use Rattle.std.specs.declared.cmp.Ordering.{Ordering}
 use Rattle.std.specs.declared.cmp.Ordering.TheVariants.{Less, Equal, Greater}
 use Rattle.std.proofs.lemmas.List.Sorted.{IsPermutation-refl, IsPermutation-sym, IsPermutation-trans, IsPermutation-cons, IsPermutation-insert}
-use Rattle.std.proofs.lemmas.List.Sorted.{Contains-permutation}
+use Rattle.std.proofs.lemmas.List.Sorted.{Contains-permutation, IsPermutation-map}
+use Rattle.std.proofs.lemmas.Map.Keys.{IsDistinct-IsPermutation}
 use Rattle.tera_meaning.proofs.Among.{Among, among, contained}
-use Rattle.tera_meaning.proofs.ChainedLaws.{less_equal, greater_less}
 use Rattle.tera_meaning.specs.Pairs.{Rises, HasDistinctKeys, rising, value_at}
 use Rattle.tera_meaning.proofs.PairLaws.{Below, rising_rises, found_rising}
 
 module _ {K V : Type 0} (order : K → K → Ordering) (total : IsTotalOrder order) where
-  not_less : (e d : K × V) → e ≡ d → order d.0 e.0 ≡ Less → ⊥
-  not_less e d is p = less_equal (sym p ∙ ap (λ x. order d.0 x.0) is ∙ tied_itself total d.0)
-
   below_among : (k : K) (es : List (K × V)) (e : K × V) → Below order k es → Among es e → order k e.0 ≡ Less
   below_among k [] e h a = absurd a
   below_among k (x ∷ xs) e h (inl is) = ap (λ y. order k y.0) is ∙ h.0
@@ -28,15 +25,11 @@ module _ {K V : Type 0} (order : K → K → Ordering) (total : IsTotalOrder ord
 
   -- two heads, each of which is among the other's list
   one_head : (p q : K × V) (ps qs : List (K × V)) → Below order p.0 ps → Below order q.0 qs → (p ≡ q) ⊎ Among qs p → (q ≡ p) ⊎ Among ps q → p ≡ q
-  one_head p q ps qs h g (inl is) b = is
-  one_head p q ps qs h g (inr a) (inl is) = sym is
-  one_head p q ps qs h g (inr a) (inr b) =
-      absurd (greater_less (ap ordering_reverse (sym (below_among q.0 qs p g a)) ∙ sym (total.antisymm p.0 q.0) ∙ below_among p.0 ps q h b))
+  one_head p q ps qs h g x6 b = search (rules, below_among)
 
   -- what is above the one head is among the other's tail
   later : (p q e : K × V) (qs : List (K × V)) → order p.0 e.0 ≡ Less → p ≡ q → (e ≡ q) ⊎ Among qs e → Among qs e
-  later p q e qs m is (inl b) = absurd (not_less e p (b ∙ sym is) m)
-  later p q e qs m is (inr a) = a
+  later p q e qs m is x6 = search rules
 
   one_list : (ps qs : List (K × V)) → Rises order ps → Rises order qs → ((e : K × V) → Among ps e → Among qs e) → ((e : K × V) → Among qs e → Among ps e) → ps
       ≡ qs
@@ -95,11 +88,7 @@ module _ {K V : Type 0} (order : K → K → Ordering) (total : IsTotalOrder ord
       (insert_permutes e.0 e.1 (rising order es) (found_rising order total es e.0 ∙ none_tied e.0 es h.0))
 
   pub rising_has : (es : List (K × V)) (e : K × V) → HasDistinctKeys order es → Contains (rising order es) e ↔ Contains es e
-  rising_has es e h = (
-    Contains-permutation (rising order es) es e (IsPermutation-sym es (rising order es) (rising_permutes es h)),
-    Contains-permutation es (rising order es) e
-        (rising_permutes es h),
-  )
+  rising_has es e h = search (rules, Contains-permutation, IsPermutation-sym, rising_permutes)
 
   pub only_rising : (es ps : List (K × V)) → HasDistinctKeys order es → Rises order ps → ((e : K × V) → Contains ps e ↔ Contains es e) → ps ≡ rising order es
   only_rising es ps h rises has =
@@ -114,3 +103,8 @@ module _ {K V : Type 0} (order : K → K → Ordering) (total : IsTotalOrder ord
         λ a. (rising_has es e h).1
             (Contains-permutation fs es e (IsPermutation-sym es fs same) a),
       ))
+
+  pub same_rising : (es fs : List (K × V)) → HasDistinctKeys order es → IsPermutation es fs → rising order es ≡ rising order fs
+  same_rising es fs h same =
+      let turned = IsPermutation-map (λ e. e.0) es fs same in
+      rising_permuted es fs h (IsDistinct-IsPermutation (eq_by_cmp order) (eq_by_cmp_equiv total).symm (keys_of es) (keys_of fs) turned h) same

@@ -1,17 +1,16 @@
 -- What is printed of a well-made layout is UTF-8.
-use Rattle.std.specs.Prelude.{ℤ, pos, negsuc, codes}
-use Rattle.std.proofs.Common.{◌≡◌, ℕ, zero, suc, ◌<◌, ◌≤◌, Bool, true, false, ◌&&◌, nat_lt, List, [], ◌∷◌, ◌++◌, length, get_or, take, IsUtf8, inl}
-use Rattle.std.proofs.Common.{inr, refl, sym, ap, ap₂, ◌∙◌, subst, arith, append-nil, ltb-true, ne_eqb, take_all}
-use Rattle.std.specs.Fmt.{signed_decimal, decimal, debug_escape, digits}
+use Rattle.std.specs.Prelude.{ℤ, codes}
+use Rattle.std.proofs.Common.{◌≡◌, ℕ, zero, suc, ◌<◌, ◌≤◌, Bool, true, false, ◌&&◌, nat_lt, List, [], ◌∷◌, ◌++◌, length, get_or, take, IsUtf8, inl, inr, refl}
+use Rattle.std.proofs.Common.{sym, ap, ap₂, ◌∙◌, subst, arith, append-nil, ltb-true, take_all, rules}
+use Rattle.std.specs.Fmt.{signed_decimal, debug_escape, digits}
 use Rattle.std.specs.List.{flat_map}
 use Rattle.std.specs.Str.{is_utf8}
-use Rattle.std.specs.Str.Lossy.{utf8_lossy, utf8_valid_len}
-use Rattle.std.specs.Str.Lossy.{valid_len_up_to, after_first_chunk, replacement_bytes}
-use Rattle.std.proofs.lemmas.Bool.{and_parts, cases_lt, cases_eq, le-ltb, agree_below_at}
+use Rattle.std.specs.Str.Lossy.{utf8_lossy, utf8_valid_len, valid_len_up_to, after_first_chunk, replacement_bytes}
+use Rattle.std.proofs.lemmas.Bool.{and_parts, cases_lt, cases_eq, agree_below_at}
 use Rattle.std.proofs.lemmas.Fmt.{IsAscii-decimal_wide}
 use Rattle.std.proofs.lemmas.List.Concat.{flat_map-append}
-use Rattle.std.proofs.lemmas.Str.{IsUtf8-append, IsUtf8-nil, IsUtf8-encode, IsUtf8-from_ascii, IsUtf8-from_is_utf8, encode_ascii, inside_one}
-use Rattle.std.proofs.lemmas.Str.{utf8_lossy-IsUtf8, utf8_lossy_step}
+use Rattle.std.proofs.lemmas.Str.{IsUtf8-append, IsUtf8-nil, IsUtf8-encode, IsUtf8-from_ascii, IsUtf8-from_is_utf8, encode_ascii, inside_one, utf8_lossy-IsUtf8}
+use Rattle.std.proofs.lemmas.Str.{utf8_lossy_step}
 use Rattle.std.proofs.str.Lossy.{length-after_first_chunk}
 use lib.Utf8.{scalar, scalars, encode, encodes, low_scalar}
 use Rattle.tera_meaning.specs.KeyMeaning.{KeyMeaning, truth_key, number_key, text_key, key_order}
@@ -43,17 +42,7 @@ escape_ascii x h = agree_below_at (λ c. are_ascii (debug_escape 34 c)) (λ _. t
 
 escape_itself : (x : ℕ) → 128 ≤ x → debug_escape 34 x ≡ x ∷ []
 unfolding debug_escape
-escape_itself x l =
-    rw (
-      ne_eqb x 34 (λ e. omega arith),
-      ne_eqb x 0 (λ e. omega arith),
-      ne_eqb x 9 (λ e. omega arith),
-      ne_eqb x 10 (λ e. omega arith),
-      ne_eqb x 13 (λ e. omega arith),
-      ne_eqb x 92 (λ e. omega arith),
-      le-ltb x 32 (omega arith),
-      ne_eqb x 127 (λ e. omega arith),
-    )
+escape_itself x l = search rules
 
 escape_high : (xs : List ℕ) → ((k : ℕ) → k < length xs → 128 ≤ get_or xs k 0) → flat_map (debug_escape 34) xs ≡ xs
 escape_high [] h = refl
@@ -95,11 +84,10 @@ front_utf8 bs (suc n) =
 
 valid_utf8 : (bs : List ℕ) → IsUtf8 (take (utf8_valid_len bs) bs)
 unfolding utf8_valid_len
-valid_utf8 bs = front_utf8 bs (length bs)
+valid_utf8 bs = search (rules, front_utf8)
 
 replacement_utf8 : IsUtf8 replacement_bytes
-unfolding encode
-replacement_utf8 = IsUtf8-encode 65533 refl
+replacement_utf8 = search rules
 
 lossy_within_utf8 : (k : ℕ) (bs : List ℕ) → length bs < k → IsUtf8 (utf8_lossy bs)
 lossy_within_utf8 zero bs le = absurd (omega arith)
@@ -120,13 +108,10 @@ lossy_utf8 bs = lossy_within_utf8 (suc (length bs)) bs (omega arith)
 -- ---- numbers, keys and whole meanings
 
 signed_utf8 : (z : ℤ) → IsWide z → IsUtf8 (signed_decimal z)
-signed_utf8 (pos n) h = IsUtf8-from_ascii (decimal n) (IsAscii-decimal_wide n (omega (arith, h)))
-signed_utf8 (negsuc n) h =
-    ascii_then 45 (decimal (suc n)) (omega arith) (IsUtf8-from_ascii (decimal (suc n)) (IsAscii-decimal_wide (suc n) (omega (arith, h))))
+signed_utf8 x0 h = search (rules, IsUtf8-from_ascii, IsAscii-decimal_wide, suc)
 
 truth_utf8 : (b : Bool) → IsUtf8 (printed_truth b)
-truth_utf8 true = ascii_utf8 (codes "true") refl
-truth_utf8 false = ascii_utf8 (codes "false") refl
+truth_utf8 x0 = search (rules, true, ascii_utf8)
 
 key_utf8 : (k : KeyMeaning) → IsWellMadeKeyMeaning k → IsUtf8 (printed_key k)
 key_utf8 (truth_key b) h = truth_utf8 b
@@ -135,10 +120,7 @@ key_utf8 (text_key t) h = quoted_utf8 t h
 
 pair_utf8 : (k : KeyMeaning) (value more : List ℕ) → IsWellMadeKeyMeaning k → IsUtf8 value → IsUtf8 more
     → IsUtf8 (printed_key k ++ codes ": " ++ value ++ more)
-pair_utf8 k value more key u w =
-    IsUtf8-append (printed_key k ++ codes ": " ++ value) more
-    (IsUtf8-append (printed_key k ++ codes ": ") value (IsUtf8-append (printed_key k) (codes ": ") (key_utf8 k key) (ascii_utf8 (codes ": ") refl)) u)
-    w
+pair_utf8 k value more key u w = search (rules, IsUtf8-append, key_utf8)
 
 mutual
   with_utf8 : (show : List ℕ → List ℕ) → ((t : List ℕ) → IsUtf8 t → IsUtf8 (show t)) → (x : Layout)
@@ -182,3 +164,5 @@ printed_utf8 x = with_utf8 (λ t. t) (λ t u. u) x
 
 pub inside_utf8 : (x : Layout) → IsWellMadeLayout x → IsUtf8 (printed_with quoted x)
 inside_utf8 x = with_utf8 quoted quoted_utf8 x
+
+pub ruleset laws = (printed_utf8, inside_utf8)

@@ -1,7 +1,6 @@
 -- What is held stays well made.
-use Rattle.std.specs.Prelude.{◌≡◌, ℕ, ℤ, pos, negsuc, Bool, true, false, cond, IfSome, IsSome, List, [], ◌∷◌, Option, Some, None, Ok, IfOk, refl}
-use Rattle.std.proofs.Common.{sym, subst, inl, inr, arith}
-use Rattle.std.specs.Option.{option_or}
+use Rattle.std.specs.Prelude.{◌≡◌, ℕ, ℤ, pos, negsuc, Bool, true, false, cond, IfSome, IsSome, List, [], ◌∷◌, Option, IfOk}
+use Rattle.std.proofs.Common.{sym, subst, arith, rules}
 use Rattle.std.specs.Ordering.{nat_cmp, eq_by_cmp}
 use Rattle.std.specs.Cmp.{Equal-is}
 use Rattle.std.specs.Cmp.Lexicographic.{slice_cmp, nat_list_cmp_total}
@@ -11,40 +10,37 @@ use Rattle.std.specs.Map.{keys_of}
 use Rattle.std.specs.Str.{IsUtf8}
 use Rattle.tera_meaning.specs.Form.{Form, MarkedText}
 use Rattle.tera_meaning.specs.Integer.{Integer, IntegerKind, u64, i64, u128, i128, IsOfKind, IsWide}
-use Rattle.tera_meaning.specs.KeyMeaning.{KeyForm, truth_key, number_key, text_key, key_meaning, key_order}
+use Rattle.tera_meaning.specs.KeyMeaning.{KeyForm, key_meaning, key_order}
 use Rattle.tera_meaning.specs.Meaning.{layout, meaning}
 use Rattle.tera_meaning.specs.Outcome.{Outcome}
 use Rattle.tera_meaning.specs.Pairs.{HasDistinctKeys, key_form_order}
 use Rattle.tera_meaning.specs.Read.{marked_safe}
 use Rattle.tera_meaning.specs.Run.{IsRun, state_after_all}
-use Rattle.tera_meaning.specs.State.{State, form_at, meaning_at, extended, IsProperBeginning}
+use Rattle.tera_meaning.specs.State.{State, meaning_at, extended, IsProperBeginning}
 use Rattle.tera_meaning.proofs.MeaningLaws.{layout_items, layout_members}
-use Rattle.tera_meaning.proofs.SortedLemmas.{sorted_well}
+use Rattle.tera_meaning.proofs.SortedLemmas.{sorted_well, exact_together}
 use Rattle.tera_meaning.proofs.StateLaws.{held_empty, name_exact}
 use Rattle.tera_meaning.specs.Search.{Found, found_at}
 use Rattle.tera_meaning.proofs.Owed.{IsHeldWell, form_at_well}
 use Rattle.tera_meaning.proofs.found.{owed}
 use Rattle.tera_meaning.proofs.ExtendLaws.{get_extended, beginning_held}
 use Rattle.tera_meaning.specs.Request.{Command, Request, set, extend, remove, mark_safe, find}
-use Rattle.tera_meaning.specs.Step.{keeping, marking, marking_into, leaves, LeavesInWant, IsStep, state_after}
+use Rattle.tera_meaning.specs.Step.{keeping, marking_into, leaves, LeavesInWant, IsStep, state_after}
 use Rattle.tera_meaning.specs.Tree.{Items, Members, number, text, bytes, array, object, no_items, item, no_members, member, members_list}
 use Rattle.tera_meaning.specs.WellMade.{IsWellMade, IsWellMadeKey, AreWellMade, AreWellMadeMembers, IsWellMadeLayout, IsWellMadeMeaning, IsWellMadeKeyMeaning}
 use Rattle.tera_meaning.specs.WellMade.{AreMadeOf, ArePairsOf, IsWellMadeState, BringsWellMade, AllBringWellMade}
+use Rattle.tera_meaning.proofs.OrderLaws.{same_is}
+use Rattle.tera_meaning.proofs.MeantLemmas.{meant, laid_out}
 
 pub marked_well : (value : Form) → IsWellMade value → IsWellMade (marked_safe value)
-marked_well (text t) h = h
-marked_well v h = h
-
-name_well : (name : List ℕ) (o : Option Form) → IsHeldWell name o → IsSome o → IsUtf8 name
-name_well name None h is = cc
-name_well name (Some value) h is = h.0
+marked_well v h = search rules
 
 pub empty_well : IsWellMadeState empty
-empty_well name = subst (IsHeldWell name) (sym (held_empty name)) tt
+empty_well name = search (rules, held_empty)
 
 module _ (state : State) (h : IsWellMadeState state) where
   pub held_name_well : (name : List ℕ) → IsSome (held_at state name) → IsUtf8 name
-  held_name_well name = name_well name (held_at state name) (h name)
+  held_name_well name = search rules
 
   chosen_well : (name other : List ℕ) (o : Option Form) (b : Bool) → eq_by_cmp (slice_cmp nat_cmp) other name ≡ b
       → IsHeldWell name o → IsHeldWell other (cond b o (held_at state other))
@@ -53,37 +49,21 @@ module _ (state : State) (h : IsWellMadeState state) where
   chosen_well name other o false e well = h other
 
   set_well : (name : List ℕ) (value : Form) → IsUtf8 name → IsWellMade value → IsWellMadeState (insert state name value)
-  set_well name value utf8 well other =
-      subst (IsHeldWell other) (sym (get-insert nat_list_cmp_total state name value other))
-      (chosen_well name other (Some value) (eq_by_cmp (slice_cmp nat_cmp) other name) refl (utf8, well))
+  set_well name value utf8 well other = search (rules, get-insert, nat_list_cmp_total, chosen_well, slice_cmp)
 
   removed_well : (name : List ℕ) → IsWellMadeState (without state name)
-  removed_well name other =
-      subst (IsHeldWell other) (sym (get-remove nat_list_cmp_total state name other))
-      (chosen_well name other None (eq_by_cmp (slice_cmp nat_cmp) other name) refl tt)
-
-  either_well : (name : List ℕ) (o p : Option Form) → IsHeldWell name o → IsHeldWell name p → IsHeldWell name (option_or o p)
-  either_well name (Some value) p well rest = well
-  either_well name None p well rest = rest
+  removed_well name other = search (rules, get-remove, nat_list_cmp_total, slice_cmp)
 
   pub extended_well : (source : State) → IsWellMadeState source → IsWellMadeState (extended state source)
-  extended_well source brought name =
-      subst (IsHeldWell name) (sym (get_extended state source name)) (either_well name (held_at source name) (held_at state name) (brought name) (h name))
+  extended_well source brought name = search (rules, IsHeldWell, get_extended, held_at)
 
   kept_well : (into : Option (List ℕ)) (found : Found) → IfSome into IsUtf8 → IfOk found (λ o. IfSome o IsWellMade)
       → IsWellMadeState (keeping state into found)
-  kept_well (Some into) (Ok (Some value)) utf8 well = set_well into value utf8 well
-  kept_well into found utf8 well = h
-
-  marked_place_well : (name : List ℕ) (o : Option Form) → IsHeldWell name o → IsWellMadeState (marking state name o)
-  marked_place_well name None well = h
-  marked_place_well name (Some value) well = set_well name (marked_safe value) well.0 (marked_well value well.1)
+  kept_well into found utf8 well = search (rules, set_well)
 
   marked_into_well : (name : List ℕ) (into : Option (List ℕ)) → IfSome into IsUtf8
       → IsWellMadeState (marking_into state name into)
-  marked_into_well name None utf8 = marked_place_well name (held_at state name) (h name)
-  marked_into_well name (Some into) utf8 =
-      set_well into (marked_safe (form_at state name)) utf8 (marked_well (form_at state name) (form_at_well state h name))
+  marked_into_well name x1 utf8 = search (rules, held_at, set_well, marked_well, form_at_well)
 
   left_well : (request : Request) (into : Option (List ℕ)) → BringsWellMade request → IfSome into IsUtf8
       → IsWellMadeState (leaves state request into)
@@ -102,8 +82,7 @@ all_left_well state (command ∷ commands) h brought =
 
 -- what begins a source that is well made is too
 part_held_well : (name : List ℕ) (o p : Option Form) → (IsSome o → p ≡ o) → IsHeldWell name p → IsHeldWell name o
-part_held_well name None p same well = tt
-part_held_well name (Some value) p same well = subst (IsHeldWell name) (same refl) well
+part_held_well name x1 p same well = search rules
 
 beginning_well : (part whole : State) → IsProperBeginning part whole → IsWellMadeState whole → IsWellMadeState part
 beginning_well part whole is h name =
@@ -118,9 +97,7 @@ want_well old new v h brings left = subst IsWellMadeState (sym left) h
 
 step_well : (old : State) (command : Command) (outcome : Outcome) (new : State) → IsWellMadeState old
     → BringsWellMade command.request → IfSome command.into IsUtf8 → IsStep old command outcome new → IsWellMadeState new
-step_well old command outcome new h brings utf8 (inl given) =
-    subst IsWellMadeState (sym given.1) (left_well old h command.request command.into brings utf8)
-step_well old command outcome new h brings utf8 (inr wanted) = want_well old new command.request h brings wanted.2
+step_well old command outcome new h brings utf8 x7 = search (rules, left_well, want_well)
 
 pub run_well : (old : State) (commands : List Command) (outcomes : List Outcome) (new : State) → IsWellMadeState old
     → AllBringWellMade commands → IsRun old commands outcomes new → IsWellMadeState new
@@ -154,9 +131,7 @@ laid_out_apart no_members h = tt
 laid_out_apart (member k x ps) h = (apart_laid_out k ps h.0, laid_out_apart ps h.1)
 
 key_well : (k : KeyForm) → IsWellMadeKey k → IsWellMadeKeyMeaning (key_meaning k)
-key_well (truth_key b) h = tt
-key_well (number_key n) h = wide n.kind n.value h
-key_well (text_key t) h = h
+key_well x0 h = search rules
 
 mutual
   pub layout_well : (value : Form) → IsWellMade value → IsWellMadeLayout (layout value)
@@ -179,4 +154,8 @@ pub meaning_well : (value : Form) → IsWellMade value → IsWellMadeMeaning (me
 meaning_well value h = sorted_well (layout value) (layout_well value h)
 
 pub meaning_at_well : (state : State) (name : List ℕ) → IsWellMadeState state → IsWellMadeMeaning (meaning_at state name)
-meaning_at_well state name h = meaning_well (form_at state name) (form_at_well state h name)
+meaning_at_well state name h = search (rules, meaning_well)
+
+pub ruleset exact = (same_is, exact_together, layout_well)
+
+pub ruleset laws = (empty_well, all_left_well, run_well, meaning_well, meant, meaning_at_well, layout_well, laid_out)

@@ -8,6 +8,8 @@ use Rattle.tera_meaning.specs.Search.{Search, found_at}
 use Rattle.tera_meaning.specs.SliceRule.{reversed}
 use Rattle.tera_meaning.specs.Slice.{sliced}
 use Rattle.tera_meaning.proofs.Owed.{Owes, held_owes, finds, makes, makes_of_two}
+use Rattle.tera_meaning.proofs.ContainsLemmas.{holds_by_meaning}
+use Rattle.tera_meaning.proofs.ReadLemmas.{fields_by_meaning}
 pub mod Attr
 pub mod Calculate
 pub mod Item
@@ -29,3 +31,7 @@ owed (Search.calculate operator left right) =
     makes_of_two left right (calculated operator) (Calculate.by_meaning operator) (Calculate.no_want operator) (λ v w h. Calculate.well_made operator v w)
 owed (Search.negate name) = makes name negated Negate.by_meaning Negate.no_want (λ v h. Negate.well_made v)
 owed (Search.read type name) = makes name (read_as type) (Read.by_meaning type) (Read.no_want type) (λ v h. Read.well_made type v)
+
+pub ruleset by_meaning = (Attr.by_meaning, Path.by_meaning, Item.by_meaning, Slice.sliced_alike, Reverse.by_meaning, holds_by_meaning, fields_by_meaning)
+
+pub ruleset well_made = (Attr.well_made, Path.well_made, Item.well_made, Slice.sliced_well, Reverse.well_made)

@@ -14,6 +14,7 @@ ghost use Rattle.tera_meaning.specs.Step.{IsOutcome, state_after};
 ghost use Rattle.tera_meaning.specs.WellMade.{IsWellMadeState, AllBringWellMade};
 
 /// Each command asks the same as itself, and so do lists of them.
+#[tactic(auto, using(crate::proofs::AlikeLemmas::all_ask_the_same))]
 pub fn commands_ask_the_same_as_themselves()
     ensures one { (command : Command) → AskTheSame command command }
     ensures all { (commands : List Command) → AllAskTheSame commands commands }
@@ -22,6 +23,7 @@ pub fn commands_ask_the_same_as_themselves()
 /// From states of equal meaning, commands of equal meaning come to outcomes of equal shapes, where
 /// these are settled, and leave states of equal meaning. What is printed or escaped is settled
 /// where the printed values are laid out alike and this is exact.
+#[tactic(auto, using(crate::proofs::AlikeLemmas::laws))]
 pub fn answers_depend_on_meaning()
     ensures answer { (f g : State) (command also : Command) (outcome other : Outcome)
         → MeanTheSame f g → AskTheSame command also → IsOutcome f command outcome
@@ -32,6 +34,7 @@ pub fn answers_depend_on_meaning()
 
 /// From states of equal meaning, lists of commands of equal meaning, however long, come to outcomes
 /// that are alike, and leave states of equal meaning.
+#[tactic(auto, using(crate::proofs::AlikeLemmas::laws))]
 pub fn all_answers_depend_on_meaning()
     ensures answers { (f g : State) (commands also : List Command) (outcomes others : List Outcome)
         → MeanTheSame f g → AllAskTheSame commands also → AreOutcomes f commands outcomes
@@ -42,6 +45,7 @@ pub fn all_answers_depend_on_meaning()
 {}
 
 /// Lists of outcomes that are alike are as long as the lists of commands.
+#[tactic(auto, using(crate::proofs::AlikeLemmas::as_many))]
 pub fn outcomes_that_are_alike_are_as_many()
     ensures commands { (f g : State) (commands also : List Command) (outcomes others : List Outcome)
         → AreAlike f g commands also outcomes others → length commands ≡ length outcomes }
@@ -61,6 +65,7 @@ pub fn states_answer_alike_where_they_mean_the_same()
 /// things at a name are told apart by whether they hold it, or by setting one value under another
 /// name and comparing the two. So are the runs of these commands, which bring what is well made
 /// where the states are.
+#[tactic(auto, using(crate::proofs::ApartLemmas::laws))]
 pub fn unequal_meanings_are_told_apart()
     ensures name { (f g : State) (name : List ℕ) → meaning_held f name ≢ meaning_held g name
         → AreToldApartBy (probe name (form_at f name)) f g }

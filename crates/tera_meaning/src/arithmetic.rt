@@ -43,6 +43,7 @@ pub fn quotients_and_remainders_make_the_left_operand()
 {}
 
 /// What is calculated of two values is computed of their numbers, and held in the kind i128.
+#[tactic(auto, using(crate::proofs::CalculatedLemmas::by_numbers))]
 pub fn calculations_are_of_numbers()
     ensures given { (operator : Operator) (v w x : Form) → calculated operator v w ≡ Ok x
         → (a b z : ℤ) × (number_in v ≡ Some a) × (number_in w ≡ Some b)
@@ -57,6 +58,7 @@ pub fn calculations_are_of_numbers()
 /// Each operator computes what it stands for: a sum, a difference, a product, a quotient, a
 /// remainder, a product of so many factors. It answers where an i128 holds that; a remainder where
 /// an i128 holds the quotient.
+#[tactic(auto, unfolding(crate::specs::Arithmetic::power_of))]
 pub fn operators_compute_what_they_stand_for()
     ensures sum { (a b z : ℤ) → (computed plus a b ≡ Ok z)
         ↔ ((z ≡ a +ℤ b) × IsTrue (is_small z)) }
@@ -148,6 +150,7 @@ pub fn divisions_are_euclidean()
 
 /// A power of 0 factors is 1; an exponent is refused where it is no number below 2^32, whatever the
 /// base.
+#[tactic(auto, unfolding(crate::specs::Arithmetic::power_of))]
 pub fn powers_are_products()
     ensures none { calculated power (integer u64 (pos 0)) (integer u64 (pos 0))
         ≡ Ok (as_i128 (pos 1)) }

@@ -19,6 +19,7 @@ use std::cmp::Ordering;
 /// Nothing is decided of two maps, even of two empty ones, nor of meanings of two ranks. Two arrays
 /// are decided as the first pair of their items that does not tie is, which may be not at all;
 /// without such a pair the lengths decide. All else is decided as it compares.
+#[tactic(auto, using(crate::proofs::DecidedLaws::decided_arrays))]
 pub fn maps_and_ranks_are_not_decided()
     ensures maps { (ps qs : List (KeyMeaning × Meaning))
         → decided (object (members ps)) (object (members qs)) ≡ None }
@@ -30,6 +31,7 @@ pub fn maps_and_ranks_are_not_decided()
 {}
 
 /// What is decided is decided as it compares, and the other way round when the sides are swapped.
+#[tactic(auto, using(crate::proofs::DecidedLaws::laws))]
 pub fn what_is_decided_compares_so()
     ensures agrees { (x y : Meaning) (answer : Ordering) → decided x y ≡ Some answer
         → compare x y ≡ answer }

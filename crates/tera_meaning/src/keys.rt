@@ -10,12 +10,14 @@ use std::cmp::Ordering;
 
 /// The order of keys is total: it reads the other way round when its sides are swapped, chains, and
 /// treats keys that it ties alike.
+#[tactic(auto, using(crate::proofs::KeyLaws::key_total))]
 pub fn keys_are_ordered()
     ensures { IsTotalOrder key_order }
 {}
 
 /// The order of keys answers `Equal` exactly at one and the same key, whatever kind of integer or
 /// of text holds it.
+#[tactic(auto, using(crate::proofs::KeyLaws::laws))]
 pub fn keys_tie_themselves()
     ensures order { (k l : KeyMeaning) → (key_order k l ≡ Ordering.Equal) ↔ (k ≡ l) }
     ensures equality { (k l : KeyMeaning) → IsTrue (eq_by_cmp key_order k l) ↔ (k ≡ l) }

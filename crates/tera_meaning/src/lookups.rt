@@ -16,6 +16,7 @@ ghost use Rattle.tera_meaning.specs.WellMade.{IsWellMade, IsWellMadeKey};
 
 /// The attribute of a map is what a look-up of that text in its pairs finds, however many these
 /// are and whether the key owns its text or lends it.
+#[tactic(auto, using(crate::proofs::TreeLaws::list_of_members))]
 pub fn attributes_are_looked_up_by_text()
     ensures found { (ps : List (KeyForm × Form)) (name : List ℕ)
         → attr (object (members ps)) name ≡ value_at key_form_order ps (text_key (owned name)) }
@@ -23,6 +24,7 @@ pub fn attributes_are_looked_up_by_text()
 
 /// What look-ups find, and the shape of what they refuse, depends on meanings alone: kinds of
 /// integers, flags of texts and how keys are held do not count.
+#[tactic(auto, using(crate::proofs::found::by_meaning))]
 pub fn look_ups_depend_on_meaning()
     ensures attr { (v w : Form) (name : List ℕ) → meaning v ≡ meaning w
         → option_map meaning (attr v name) ≡ option_map meaning (attr w name) }
@@ -39,6 +41,7 @@ pub fn look_ups_depend_on_meaning()
 
 /// The elements of a path are the only texts without a dot, one or more, that joined with dots are
 /// the path.
+#[tactic(auto, using(crate::proofs::PathLemmas::laws))]
 pub fn paths_have_one_list_of_elements()
     ensures are { (p : List ℕ) → AreElements p (elements_of p) }
     ensures only { (p : List ℕ) (elements : List (List ℕ)) → AreElements p elements
@@ -52,6 +55,7 @@ pub fn places_are_digits_behind_one_plus()
 {}
 
 /// A text holds another where it is some text, the other and some text joined.
+#[tactic(auto, using(crate::proofs::LookupLaws::occurs_where_joined))]
 pub fn texts_hold_what_they_are_joined_of()
     ensures { (part whole : List ℕ) → IsTrue (occurs part whole) ↔ HasSubslice whole part }
 {}
@@ -66,6 +70,7 @@ pub fn indices_count_from_either_end()
 
 /// The names of fields are the only texts, each less than every later one, that are just what the
 /// keys print.
+#[tactic(auto, using(crate::proofs::FieldLaws::only_rising_texts))]
 pub fn fields_have_one_list_of_names()
     ensures are { (v : Form) → AreRisingOf (shown_in v) (fields v) }
     ensures only { (v : Form) (names : List (List ℕ)) → AreRisingOf (shown_in v) names
@@ -73,6 +78,7 @@ pub fn fields_have_one_list_of_names()
 {}
 
 /// What look-ups find in a well-made value is well made, and so is the key that one is.
+#[tactic(auto, using(crate::proofs::found::well_made))]
 pub fn look_ups_find_what_is_well_made()
     ensures attr { (v : Form) (name : List ℕ) → IsWellMade v → IfSome (attr v name) IsWellMade }
     ensures path { (v : Form) (p : List ℕ) → IsWellMade v → IfSome (path v p) IsWellMade }

@@ -22,6 +22,7 @@ pub fn marks_change_no_meaning()
 
 /// Marked in its place no name changes its meaning; and what is kept under another name means what
 /// it was made from.
+#[tactic(auto, using(crate::proofs::StepLaws::marks))]
 pub fn marked_names_mean_the_same()
     ensures place { (state : State) (name : List ℕ)
         → MeanTheSame (state_after state (asking (mark_safe name))) state }

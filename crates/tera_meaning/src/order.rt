@@ -14,17 +14,20 @@ use std::cmp::Ordering;
 
 /// The order of meanings is total: it reads the other way round when its sides are swapped, chains,
 /// and treats meanings that it ties alike.
+#[tactic(auto, using(crate::proofs::OrderLaws::laws))]
 pub fn meanings_are_ordered()
     ensures total { IsTotalOrder compare }
     ensures partial { IsPartialOrder same (as_partial_cmp compare) }
 {}
 
 /// The order of meanings answers `Equal` exactly at one and the same meaning.
+#[tactic(auto, using(crate::proofs::OrderLaws::compare_tie))]
 pub fn meanings_tie_themselves()
     ensures { (x y : Meaning) → (compare x y ≡ Ordering.Equal) ↔ (x ≡ y) }
 {}
 
 /// Two meanings are equal exactly where they are one and the same, so equality is an equivalence.
+#[tactic(auto, using(crate::proofs::OrderLaws::laws))]
 pub fn equality_is_identity()
     ensures identity { (x y : Meaning) → IsTrue (same x y) ↔ (x ≡ y) }
     ensures equivalence { IsEquivalence same }
@@ -33,6 +36,7 @@ pub fn equality_is_identity()
 /// Arrays and maps compare as the lists of their items and pairs do. The first place where they
 /// differ decides, and a proper beginning is less. A pair is compared by its key and then by its
 /// value.
+#[tactic(auto, using(crate::proofs::OrderLaws::laws))]
 pub fn first_difference_decides()
     ensures arrays { (xs ys : List Meaning) → compare (array (items xs)) (array (items ys))
         ≡ slice_cmp compare xs ys }

@@ -27,6 +27,7 @@ use std::cmp::Ordering;
 /// The rising list of a map's entries has strictly rising keys, and a look-up in it is a look-up in
 /// the entries, in whatever order they stand. Where no two entries have one key it has just the
 /// entries.
+#[tactic(auto, using(crate::proofs::EntryLaws::pair_lists))]
 pub fn pair_lists_hold_the_entries()
     ensures rises { (entries : List (KeyForm × Form)) → Rises key_form_order (pairs_of entries) }
     ensures found { (entries : List (KeyForm × Form)) (k : KeyForm)
@@ -39,6 +40,7 @@ pub fn pair_lists_hold_the_entries()
 
 /// The rising list of a map's entries is the only list with strictly rising keys that has just the
 /// map's entries, so it is the same in whatever order these stand.
+#[tactic(auto, using(crate::proofs::EntryLaws::pair_lists))]
 pub fn only_one_pair_list_holds_the_entries()
     ensures only { (entries pairs : List (KeyForm × Form)) → HasDistinctKeys key_form_order entries
         → Rises key_form_order pairs
@@ -52,6 +54,7 @@ pub fn only_one_pair_list_holds_the_entries()
 /// What a map means is the rising list of what its pairs mean, in whatever order these stand. A
 /// look-up in it is a look-up in the pairs, it is as long as they are many, and it is the only such
 /// list of just these pairs. Two rising lists of meanings in which each key finds the same are one.
+#[tactic(auto, using(crate::proofs::EntryLaws::entries))]
 pub fn pair_lists_mean_what_their_entries_mean()
     ensures meaning { (entries : List (KeyForm × Form)) → meaning (object (members entries))
         ≡ object (members (rising key_order (map pair_meaning entries))) }
@@ -77,6 +80,7 @@ pub fn pair_lists_mean_what_their_entries_mean()
 {}
 
 /// How many pairs a map has, and whether it has any, is read off what it means.
+#[tactic(auto, using(crate::proofs::MeaningLaws::laws))]
 pub fn sizes_of_maps_count_their_pairs()
     ensures size { (pairs : List (KeyForm × Form)) → HasDistinctKeys key_form_order pairs
         → size_in (meaning (object (members pairs))) ≡ Some (length pairs) }
@@ -86,6 +90,7 @@ pub fn sizes_of_maps_count_their_pairs()
 
 /// An array is laid out as the list of its laid out items, and means the list of what these mean. A
 /// map is laid out as the list of its laid out pairs, in the order in which they stand.
+#[tactic(auto, using(crate::proofs::MeaningLaws::laws))]
 pub fn lists_are_laid_out_item_by_item()
     ensures array { (xs : List Form) → layout (array (items xs)) ≡ array (items (map layout xs)) }
     ensures means { (xs : List Form) → meaning (array (items xs)) ≡ array (items (map meaning xs)) }
@@ -97,6 +102,7 @@ pub fn lists_are_laid_out_item_by_item()
 /// place of the pair whose key does, which keeps its key. Keys stay distinct, the value is what the
 /// key finds, and every other key finds what it found; and what the map means has the value's
 /// meaning at the key.
+#[tactic(auto, using(crate::proofs::MeaningLaws::puts))]
 pub fn values_are_put_at_keys()
     ensures last { (ps : List (KeyForm × Form)) (k : KeyForm) (v : Form)
         → value_at key_form_order ps k ≡ None
@@ -151,6 +157,7 @@ pub fn least_difference_decides<K: Ord, V: Ord>()
 /// Two maps compare by the least key at which their entries differ, in whatever order these stand.
 /// Two maps tie, and mean the same, exactly where they differ at no key. Two that mean different
 /// things have such a least key.
+#[tactic(auto, using(crate::proofs::EntryLaws::differences))]
 pub fn maps_compare_by_the_least_difference()
     ensures order { (ps qs : List (KeyMeaning × Meaning)) (k : KeyMeaning) → Rises key_order ps
         → Rises key_order qs → IsLeastDifference key_order compare ps qs k

@@ -34,6 +34,7 @@ pub fn equal_layouts_print_alike()
 
 /// Of equal values that are well made all or none are exact: the order in which pairs stand leaves
 /// open no text.
+#[tactic(auto, using(crate::proofs::WellMadeLemmas::exact))]
 pub fn equal_values_are_exact_together()
     ensures { (v w : Form) → IsWellMade v → IsWellMade w → IsTrue (same (meaning v) (meaning w))
         → (IsExact (layout v) ↔ IsExact (layout w)) }
@@ -41,6 +42,7 @@ pub fn equal_values_are_exact_together()
 
 /// By itself each value but an array or a map has one printed text. An array has where its items
 /// have one inside it, and a map where its keys and values have.
+#[tactic(auto, using(crate::proofs::PrintedLemmas::laws))]
 pub fn exactness_comes_from_the_parts()
     ensures undefined { IsExact undefined }
     ensures none { IsExact none }
@@ -55,6 +57,7 @@ pub fn exactness_comes_from_the_parts()
 
 /// Inside arrays and maps, and as a key, a text has one printed form where it is ASCII. All else
 /// has one inside where it has one by itself.
+#[tactic(auto, using(crate::proofs::PrintedLemmas::ascii_is))]
 pub fn texts_inside_are_exact_where_they_are_ascii()
     ensures undefined { IsExactInside undefined }
     ensures none { IsExactInside none }
@@ -72,6 +75,7 @@ pub fn texts_inside_are_exact_where_they_are_ascii()
 {}
 
 /// What is printed of a well-made layout is UTF-8, by itself and inside arrays and maps.
+#[tactic(auto, using(crate::proofs::Utf8Lemmas::laws))]
 pub fn what_is_printed_is_utf8()
     ensures alone { (x : Layout) → IsWellMadeLayout x → IsUtf8 (printed x) }
     ensures inside { (x : Layout) → IsWellMadeLayout x → IsUtf8 (printed_with quoted x) }

@@ -9,6 +9,7 @@ ghost use Rattle.tera_report.specs.declared.errors.Error.{Error};
 
 /// What the first of two steps refuses, both of them refuse. Where both give a value, so does the
 /// first, and the second gives it of that one.
+#[tactic(auto, using(crate::proofs::RefusalLaws::laws))]
 pub fn refusals_are_passed_on()
     ensures refused { (first : Result Form Refusal) (next : Form → Result Form Refusal) (e : Error)
         → Refuses first e → Refuses (and_then first next) e }

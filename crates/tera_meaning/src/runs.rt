@@ -10,6 +10,7 @@ ghost use Rattle.tera_meaning.specs.Step.{IsOutcome, IsFixed, IsStep};
 
 /// Each command comes to some outcome, whatever the context holds, and where what it prints is
 /// exact to one alone.
+#[tactic(auto, using(crate::proofs::RunLemmas::one_outcome))]
 pub fn commands_have_outcomes()
     ensures some { (state : State) (command : Command)
         → (outcome : Outcome) × IsOutcome state command outcome }
@@ -31,6 +32,7 @@ pub fn each_outcome_is_that_of_its_command()
 /// The steps that want memory can be left out of a run, and an `extend` among them replaced by one
 /// of just the names that it took over. What is left is a run to the same state in which no step
 /// wants memory, and the other outcomes are unchanged.
+#[tactic(auto, using(crate::proofs::RunLemmas::done_of_run))]
 pub fn wants_of_memory_can_be_left_out()
     ensures { (old : State) (commands : List Command) (outcomes : List Outcome) (new : State)
         → IsRun old commands outcomes new
@@ -40,6 +42,7 @@ pub fn wants_of_memory_can_be_left_out()
 
 /// A run in which no step wants memory gives outcomes of its commands, one after another, and
 /// leaves the state after them; and whatever they come to is given by such a run.
+#[tactic(auto, using(crate::proofs::RunLemmas::laws))]
 pub fn runs_give_their_outcomes()
     ensures outcomes { (old : State) (commands : List Command) (outcomes : List Outcome)
         (new : State) → IsAmpleRun old commands outcomes new → AreOutcomes old commands outcomes }
@@ -52,6 +55,7 @@ pub fn runs_give_their_outcomes()
 
 /// Each list of commands comes to some outcomes, and to one list alone where all that they print is
 /// exact: nothing else is left open.
+#[tactic(auto, using(crate::proofs::RunLemmas::some_outcomes, crate::proofs::RunLemmas::ample_one))]
 pub fn runs_have_outcomes()
     ensures some { (state : State) (commands : List Command)
         → (outcomes : List Outcome) × AreOutcomes state commands outcomes }
@@ -63,6 +67,7 @@ pub fn runs_have_outcomes()
 /// Two runs of commands of equal meaning, from states of equal meaning, in which no step wants
 /// memory, come to outcomes of equal shapes wherever these are settled, and end in states of equal
 /// meaning.
+#[tactic(auto, using(crate::proofs::RunLemmas::laws))]
 pub fn runs_depend_on_meaning()
     ensures outcomes { (f g : State) (commands also : List Command) (outcomes others : List Outcome)
         (f' g' : State) → MeanTheSame f g → AllAskTheSame commands also

@@ -19,6 +19,7 @@ ghost use Rattle.tera_meaning.specs.Slice.{sliced, slice_of};
 ghost use Rattle.tera_meaning.specs.WellMade.{IsWellMade};
 
 /// A slice of a value comes to one answer, and a walk over its items or characters gives it.
+#[tactic(auto, using(crate::proofs::SliceLaws::sliced_is, crate::proofs::SliceLaws::sliced_only))]
 pub fn slices_have_one_answer()
     ensures answered { (v : Form) (start end step : Option ℤ)
         → IsSliced v start end step (sliced v start end step) }
@@ -27,6 +28,7 @@ pub fn slices_have_one_answer()
 {}
 
 /// A slice of an array or a text without bounds and by a step of 1 is that value.
+#[tactic(auto, using(crate::proofs::SliceLaws::whole_array, crate::proofs::SliceLaws::whole_text))]
 pub fn whole_slices_are_the_value()
     ensures array { (xs : List Form)
         → IsSliced (array (items xs)) None None None (Ok (array (items xs))) }
@@ -56,6 +58,7 @@ pub fn slices_backwards_are_the_reversed_value()
 
 /// What a slice comes to depends on the meaning of the value alone, but for the name of its kind in
 /// a refusal; and so does what is reversed.
+#[tactic(auto, using(crate::proofs::found::by_meaning))]
 pub fn slices_depend_on_meaning()
     ensures sliced { (v w : Form) (start end step : Option ℤ) (outcome other : Result Form Refusal)
         → meaning v ≡ meaning w → IsSliced v start end step outcome
@@ -65,6 +68,7 @@ pub fn slices_depend_on_meaning()
 {}
 
 /// A slice of a well-made value is well made, and so is what is reversed.
+#[tactic(auto, using(crate::proofs::found::well_made))]
 pub fn slices_stay_well_made()
     ensures sliced { (v : Form) (start end step : Option ℤ) (outcome : Result Form Refusal)
         → IsWellMade v → IsSliced v start end step outcome → IfOk outcome IsWellMade }

@@ -11,6 +11,7 @@ ghost use Rattle.tera_meaning.specs.State.{meaning_at};
 ghost use Rattle.tera_meaning.specs.Tree.{undefined};
 
 /// After a value is set the name holds it, and each other name what it held.
+#[tactic(auto, using(crate::proofs::StateLaws::laws))]
 pub fn setting_keeps_other_names()
     ensures set { (state : State) (name : List ℕ) (value : Form)
         → get (insert state name value) name ≡ Some value }
@@ -20,6 +21,7 @@ pub fn setting_keeps_other_names()
 
 /// After a name is removed it is held no more, and each other name holds what it held. To remove
 /// one that is not held changes nothing.
+#[tactic(auto, using(crate::proofs::StateLaws::laws))]
 pub fn removing_keeps_other_names()
     ensures removed { (state : State) (name : List ℕ) → get (remove state name) name ≡ None }
     ensures others { (state : State) (name : List ℕ) (other : List ℕ) → other ≢ name
@@ -30,6 +32,7 @@ pub fn removing_keeps_other_names()
 
 /// After a value is set the name means what the value means, and each other name what it meant.
 /// Where nothing is held each name reads as undefined.
+#[tactic(auto, using(crate::proofs::StateLaws::laws))]
 pub fn setting_gives_the_meaning()
     ensures set { (state : State) (name : List ℕ) (value : Form)
         → meaning_at (insert state name value) name ≡ meaning value }
@@ -41,6 +44,7 @@ pub fn setting_gives_the_meaning()
 
 /// After a state takes over what a source holds, each name of the source has the source's value,
 /// and each other name what it had.
+#[tactic(auto, using(crate::proofs::ExtendLaws::laws))]
 pub fn extending_gives_the_values_of_the_source()
     ensures source { (state source : State) (name : List ℕ) → IsSome (get source name)
         → get (extended state source) name ≡ get source name }
@@ -50,6 +54,7 @@ pub fn extending_gives_the_values_of_the_source()
 
 /// A state has a beginning of each number of names below its own, and this holds nothing that the
 /// state does not hold.
+#[tactic(auto, using(crate::proofs::ExtendLaws::laws))]
 pub fn states_have_beginnings()
     ensures some { (whole : State) (n : ℕ) → n < len whole
         → (part : State) × IsProperBeginning part whole × (len part ≡ n) }
@@ -58,11 +63,13 @@ pub fn states_have_beginnings()
 {}
 
 /// States are equal exactly where they hold the same names and each means the same.
+#[tactic(auto, using(crate::proofs::EqualLaws::equal_is))]
 pub fn equal_states_mean_the_same()
     ensures { (f g : State) → IsTrue (states_equal f g) ↔ MeanTheSame f g }
 {}
 
 /// Two states that hold the same at each name are one state.
+#[tactic(auto, using(crate::proofs::StateLaws::same_state))]
 pub fn states_that_hold_the_same_are_equal()
     ensures { (left right : State) → ((name : List ℕ) → get left name ≡ get right name)
         → left ≡ right }

@@ -66,6 +66,7 @@ pub fn what_is_exact_prints_one_text()
 
 /// What is set is what is compared from then on; the other side of a comparison means what it
 /// meant.
+#[tactic(auto, using(crate::proofs::StateLaws::laws))]
 pub fn what_is_set_is_compared()
     ensures equal { (state : State) (name : List ℕ) (value : Form) (other : List ℕ) → other ≢ name
         → ComesOnlyTo (state_after state (asking (set name value)))
@@ -79,6 +80,7 @@ pub fn what_is_set_is_compared()
 
 /// A name that is not held reads as undefined: nothing is found or printed there, and it stays
 /// absent.
+#[tactic(auto, using(crate::proofs::StateLaws::remove_absent))]
 pub fn absent_names_read_as_undefined()
     ensures get { AbsentAnswers (λ name. find (Search.get name)) (Answer.found None) }
     ensures remove { AbsentAnswers remove (Answer.found None) }
@@ -139,6 +141,7 @@ pub fn what_is_found_is_kept()
 /// Marking is always done. Without a name for it the form is marked in its place, and a name that
 /// is not held stays absent. With one the marked form is kept there, undefined for a name that is
 /// not held, and the name that it was made from holds what it held.
+#[tactic(auto, using(crate::proofs::StepLaws::marks))]
 pub fn what_is_marked_is_kept()
     ensures done { (state : State) (name : List ℕ) (into : Option (List ℕ)) (outcome : Outcome)
         → ComesTo state (mark_safe name) into outcome → outcome ≡ Ok Answer.done }

@@ -13,6 +13,7 @@ ghost use Rattle.tera_meaning.specs.WellMade.{IsWellMadeState, AllBringWellMade}
 
 /// Commands that bring well-made values under names that are UTF-8 leave such values and names, and
 /// nothing held is well made. This holds of each run, whatever wants memory.
+#[tactic(auto, using(crate::proofs::WellMadeLemmas::laws))]
 pub fn what_is_held_stays_well_made()
     ensures empty { IsWellMadeState empty }
     ensures run { (state : State) (commands : List Command) → IsWellMadeState state
@@ -27,6 +28,7 @@ pub fn what_is_held_stays_well_made()
 /// rise in what it means. Each such layout is that of some well-made form, and so is each such
 /// meaning. What any name means in a well-made state is well made, and a name that is held there is
 /// UTF-8.
+#[tactic(auto, using(crate::proofs::WellMadeLemmas::laws))]
 pub fn well_made_forms_mean_what_is_well_made()
     ensures form { (value : Form) → IsWellMade value → IsWellMadeMeaning (meaning value) }
     ensures meant { (x : Meaning) → IsWellMadeMeaning x
@@ -44,6 +46,7 @@ pub fn well_made_forms_mean_what_is_well_made()
 
 /// What a well-made layout means is well made. A well-made meaning is a well-made layout, and as
 /// one it means itself.
+#[tactic(auto, using(crate::proofs::SortedLemmas::laws))]
 pub fn meanings_are_layouts_that_mean_themselves()
     ensures sorted { (x : Layout) → IsWellMadeLayout x → IsWellMadeMeaning (sorted x) }
     ensures layout { (x : Meaning) → IsWellMadeMeaning x → IsWellMadeLayout x }

@@ -12,7 +12,7 @@ use Rattle.tera_meaning.specs.Form.{Form}
 use Rattle.tera_meaning.specs.KeyMeaning.{KeyForm}
 use Rattle.tera_meaning.specs.Pairs.{HasDistinctKeys, put, put_all, value_at, key_form_order}
 use Rattle.tera_meaning.proofs.PutLaws.{distinct_put_all, found_put}
-use Rattle.tera_values.proofs.PartsLaws.{form_total}
+use Rattle.tera_meaning.proofs.KeyLaws.{form_total}
 use Rattle.tera_script.specs.Literal.{in_places, key_at}
 
 abbrev ties : KeyForm → KeyForm → Bool

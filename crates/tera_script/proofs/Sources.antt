@@ -18,7 +18,8 @@ use Rattle.tera_meaning.proofs.StateLaws.{same_state}
 use Rattle.tera_meaning.proofs.TreeLaws.{list_of_members}
 use Rattle.tera_script.specs.Line.{AreNamed}
 use Rattle.tera_script.specs.inner.Command.{IsSourceOf}
-use Rattle.tera_values.proofs.PartsLaws.{form_total, map_of_members}
+use Rattle.tera_meaning.proofs.KeyLaws.{form_total}
+use Rattle.tera_values.proofs.PartsLaws.{map_of_members}
 use Rattle.tera_values.specs.Key.{text_in_key}
 
 -- ---- one state

@@ -8,7 +8,7 @@ use Rattle.tera_meaning.specs.Pairs.{key_form_order}
 use Rattle.tera_values.specs.Key.{key_form}
 use Rattle.tera_values.specs.Map.{keys_tie, pairs_held}
 use Rattle.tera_values.specs.declared.key.Key.{Key}
-use Rattle.tera_values.proofs.PartsLaws.{form_total}
+use Rattle.tera_meaning.proofs.KeyLaws.{form_total}
 
 any_form : (k : Key) (ks : List Key) → list_any (keys_tie k) ks ≡ list_any (eq_by_cmp key_form_order (key_form k)) (map key_form ks)
 any_form k [] = refl

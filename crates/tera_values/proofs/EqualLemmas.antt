@@ -12,7 +12,7 @@ use Rattle.tera_meaning.proofs.EntryLaws.{forms_tie}
 use Rattle.tera_meaning.specs.Form.{Form}
 use Rattle.tera_meaning.specs.KeyMeaning.{KeyForm}
 use Rattle.tera_meaning.specs.Pairs.{key_form_order, value_at, HasDistinctKeys, AgreeEverywhere}
-use Rattle.tera_values.proofs.PartsLaws.{form_total}
+use Rattle.tera_meaning.proofs.KeyLaws.{form_total}
 use Rattle.tera_values.proofs.UnlikeLemmas.{from_left, left_walk, both_walks, walks_meet_least, one_walk, all_tie, length_keys}
 use Rattle.tera_values.specs.Unlike.{form_values, is_before, difference_at, met, least_met, maps_order, IsLeastUnlike}
 use Rattle.tera_values.specs.declared.unlike.Unlike.{Unlike}

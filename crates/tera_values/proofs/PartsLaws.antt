@@ -2,26 +2,22 @@
 use Rattle.std.specs.Prelude.{◌≡◌, true, not, nat_eq, ◌<◌, ◌≤◌, ℕ, Some, zero, suc, min, max, List, [], ◌∷◌, length, refl}
 use Rattle.std.proofs.Common.{sym, ◌∙◌, ap, subst, arith, get_or, take, drop}
 use Rattle.std.proofs.lemmas.Grind.{common_steps}
-use Rattle.std.specs.Cmp.{IsTotalOrder, nat_cmp_is, on_total, ranks}
+use Rattle.std.specs.Cmp.{nat_cmp_is, ranks}
 use Rattle.std.specs.Ordering.{MatchOrdering, nat_cmp}
 use Rattle.std.specs.declared.cmp.Ordering.{Ordering}
 use Rattle.std.specs.declared.cmp.Ordering.TheVariants.{Less, Equal, Greater}
 use Rattle.tera_meaning.proofs.ChainedLaws.{less_nat}
 use Rattle.tera_meaning.specs.Form.{Form}
-use Rattle.tera_meaning.specs.KeyMeaning.{KeyForm, key_meaning}
+use Rattle.tera_meaning.specs.KeyMeaning.{KeyForm}
 use Rattle.tera_meaning.specs.Meaning.{meaning}
 use Rattle.tera_meaning.specs.Order.{compare}
 use Rattle.tera_meaning.specs.Read.{items_in, members_in, is_nonempty}
-use Rattle.tera_meaning.proofs.KeyLaws.{key_total}
 use Rattle.tera_meaning.proofs.MeaningLaws.{meant_items}
 use Rattle.tera_meaning.specs.Pairs.{HasDistinctKeys, key_form_order}
 use Rattle.tera_meaning.proofs.TreeLaws.{items_of_list, list_of_members, members_of_list}
 use Rattle.tera_meaning.specs.Tree.{undefined, none, truth, number, text, bytes, object, array, items, items_list}
 use Rattle.tera_meaning.specs.Tree.{members, members_list, depth, items_depth, members_depth}
 use Rattle.tera_meaning.specs.WellMade.{IsWellMade, IsWellMadeKey, AreWellMade, AreWellMadeMembers}
-
-pub form_total : IsTotalOrder key_form_order
-form_total = on_total key_meaning key_total
 
 pub meant_length : (xs : List Form) → length (items_list (meant_items (items xs))) ≡ length xs
 meant_length [] = refl

@@ -1,5 +1,5 @@
 -- An attribute is found by meaning, and is well made.
-use Rattle.std.proofs.Common.{refl, sym, ap, ◌∙◌}
+use Rattle.std.proofs.Common.{refl, rules}
 use Rattle.std.specs.Option.{option_map}
 use Rattle.std.specs.Prelude.{◌≡◌, ℕ, List, Option, None, refl, IfSome}
 use Rattle.tera_meaning.specs.Form.{Form}
@@ -22,7 +22,7 @@ attr_as_meant (object ps) t = found_pair ps (text_key t)
 attr_as_meant v t = refl
 
 pub by_meaning : (t : List ℕ) (v w : Form) → meaning v ≡ meaning w → option_map meaning (attr v t) ≡ option_map meaning (attr w t)
-by_meaning t v w e = attr_as_meant v t ∙ ap (λ x. attr_meant x t) e ∙ sym (attr_as_meant w t)
+by_meaning t v w e = search (rules, attr_as_meant)
 
 pub well_made : (t : List ℕ) (v : Form) → IsWellMade v → IfSome (attr v t) IsWellMade
 well_made t (object ps) h = sound_pair ps (text_key (borrowed t)) h.1

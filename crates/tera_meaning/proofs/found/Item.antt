@@ -1,5 +1,5 @@
 -- An item is found by meaning, is no want of memory, and is well made.
-use Rattle.std.proofs.Common.{refl, sym, ap, ◌∙◌}
+use Rattle.std.proofs.Common.{refl, ap, ◌∙◌, rules}
 use Rattle.std.proofs.lemmas.Bool.{and_parts}
 use Rattle.std.proofs.lemmas.Option.{slice_get-map}
 use Rattle.std.proofs.lemmas.Str.{scalars-chars, IsUtf8-encode}
@@ -21,53 +21,37 @@ use Rattle.tera_meaning.specs.WellMade.{IsWellMade, AreWellMade, AreWellMadeMemb
 use Rattle.tera_report.specs.Refusal.{Container, in_array, in_text, not_a_map_key, not_an_index, Refusal}
 use lib.Utf8.{scalars}
 use Rattle.tera_meaning.proofs.MeaningLaws.{meant_items, items_meant, found_pair}
-use Rattle.tera_meaning.proofs.ReadLemmas.{meant_members, key_meant, key_as_meant, number_meant, number_as_meant}
+use Rattle.tera_meaning.proofs.ReadLemmas.{meant_members, key_meant, key_as_meant, number_meant}
 use Rattle.tera_meaning.proofs.SoundLemmas.{Sound, sound_pair, sound_place}
-use Rattle.tera_meaning.proofs.ArithmeticLemmas.{refused_or, IsNoWant}
-use Rattle.std.proofs.lemmas.Option.{slice_get-map}
+use Rattle.tera_meaning.proofs.ArithmeticLemmas.{IsNoWant}
 use Rattle.std.proofs.lemmas.List.{length-map}
-use Rattle.std.specs.Prelude.{IfErr}
 
 got_at : {X Y : Type 0} (f : X → Y) (xs : List X) (o : Option ℕ) → option_map f (option_and_then (slice_get xs) o) ≡ option_and_then (slice_get (map f xs)) o
-got_at f xs None = refl
-got_at f xs (Some n) = sym (slice_get-map f xs n)
+got_at f xs x2 = search (rules, slice_get-map)
 
 part_as_meant : (xs : Items Integer MarkedText KeyForm) (z : ℤ) → option_map meaning (part_at (items_list xs) z) ≡ part_at (items_list (meant_items xs)) z
-part_as_meant xs z =
-    got_at meaning (items_list xs) (place_of (length (items_list xs)) z)
-    ∙ ap (λ n. option_and_then (slice_get (map meaning (items_list xs))) (place_of n z)) (sym (length-map (items_list xs) meaning))
-    ∙ ap (λ l. part_at l z) (sym (items_meant xs))
+part_as_meant xs z = search (rules, got_at, length-map, items_meant)
 
 -- the character of a text at an index
 char_at : List ℕ → ℤ → Option Meaning
 char_at s z = option_map (λ c. text (encode_utf8 c)) (part_at (chars s) z)
 
-mapped_twice : {X Y Z : Type 0} (f : Y → Z) (g : X → Y) (o : Option X) → option_map f (option_map g o) ≡ option_map (λ x. f (g x)) o
-mapped_twice f g None = refl
-mapped_twice f g (Some x) = refl
-
 char_as_meant : (t : MarkedText) (z : ℤ) → option_map meaning (option_map (character_of t) (part_at (chars t.spelled) z)) ≡ char_at t.spelled z
 unfolding char_at
-char_as_meant t z = mapped_twice meaning (character_of t) (part_at (chars t.spelled) z)
+char_as_meant t z = search rules
 
 indexed_meant : Container → Option ℤ → (ℤ → Option Meaning) → Result Meaning Refusal
 indexed_meant container None part = Err (not_an_index container [])
 indexed_meant container (Some z) part = Ok (unwrap_or (part z) undefined)
 
 unwrapped : (o : Option Form) → meaning (unwrap_or o undefined) ≡ unwrap_or (option_map meaning o) undefined
-unwrapped None = refl
-unwrapped (Some x) = refl
+unwrapped x0 = search rules
 
 indexed_as_meant : (container : Container) (index : Form) (part : ℤ → Option Form) (meant : ℤ → Option Meaning)
     → ((z : ℤ) → option_map meaning (part z) ≡ meant z)
     → seen_by meaning (indexed container index part) ≡ indexed_meant container (number_in index) meant
 unfolding indexed_meant
-indexed_as_meant container index part meant h = by (number_in index)
-  where
-    by : (n : Option ℤ) → seen_by meaning (ok_or (option_map (λ z. unwrap_or (part z) undefined) n) (not_an_index container (name_of index)))
-        ≡ indexed_meant container n meant
-    by None = refl
-    by (Some z) = ap Ok (unwrapped (part z) ∙ ap (λ o. unwrap_or o undefined) (h z))
+indexed_as_meant container index part meant h = search rules
 
 at_key_meant : Members ℤ (List ℕ) KeyMeaning → Option KeyMeaning → Result Meaning Refusal
 at_key_meant ps None = Err (not_a_map_key [])
@@ -91,31 +75,20 @@ item_meant x n k = Ok undefined
 
 item_as_meant : (v i : Form) → seen_by meaning (item v i) ≡ item_meant (meaning v) (number_in i) (option_map key_meaning (key_in i))
 unfolding item_meant
-item_as_meant (text t) i = indexed_as_meant in_text i _ (char_at t.spelled) (char_as_meant t)
-item_as_meant (array xs) i = indexed_as_meant in_array i _ (part_at (items_list (meant_items xs))) (part_as_meant xs)
-item_as_meant (object ps) i = at_key_as_meant ps i
-item_as_meant v i = refl
+item_as_meant v i = search (rules, indexed_as_meant, char_as_meant, meant_items, part_as_meant, at_key_as_meant)
 
 pub by_meaning : (v i w j : Form) → meaning v ≡ meaning w → meaning i ≡ meaning j → seen_by meaning (item v i) ≡ seen_by meaning (item w j)
-by_meaning v i w j same index =
-    item_as_meant v i
-    ∙ (λ d. item_meant (same d) ((number_as_meant i ∙ ap number_meant index ∙ sym (number_as_meant j)) d)
-    ((key_as_meant i ∙ ap key_meant index ∙ sym (key_as_meant j)) d))
-    ∙ sym (item_as_meant w j)
+by_meaning v i w j same index = search (rules, item_as_meant, item_meant, number_meant, key_as_meant, key_meant)
 
 -- ---- no want of memory
 
 pub no_want : (v i : Form) → IfErr (item v i) IsNoWant
-no_want (text t) i = refused_or IsNoWant (option_map _ (number_in i)) (not_an_index in_text (name_of i)) (λ e. cc)
-no_want (array xs) i = refused_or IsNoWant (option_map _ (number_in i)) (not_an_index in_array (name_of i)) (λ e. cc)
-no_want (object ps) i = refused_or IsNoWant (option_map _ (key_in i)) (not_a_map_key (name_of i)) (λ e. cc)
-no_want v i = tt
+no_want v i = search rules
 
 -- ---- well made
 
 sound_part : (xs : Items Integer MarkedText KeyForm) (o : Option ℕ) → AreWellMade xs → Sound (option_and_then (slice_get (items_list xs)) o)
-sound_part xs None h = tt
-sound_part xs (Some n) h = sound_place xs n h
+sound_part xs x1 h = search (rules, sound_place)
 
 sound_char : (cs : List ℕ) (n : ℕ) → scalars cs ≡ true → IfSome (slice_get cs n) (λ c. IsUtf8 (encode_utf8 c))
 sound_char [] n h = tt
@@ -123,23 +96,16 @@ sound_char (c ∷ cs) zero h = IsUtf8-encode c (and_parts _ _ h).0
 sound_char (c ∷ cs) (suc n) h = sound_char cs n (and_parts _ _ h).1
 
 sound_char_at : (cs : List ℕ) (o : Option ℕ) → scalars cs ≡ true → IfSome (option_and_then (slice_get cs) o) (λ c. IsUtf8 (encode_utf8 c))
-sound_char_at cs None h = tt
-sound_char_at cs (Some n) h = sound_char cs n h
+sound_char_at cs x1 h = search (rules, sound_char)
 
 sound_text : (t : MarkedText) (o : Option ℕ) → IfSome o (λ c. IsUtf8 (encode_utf8 c)) → Sound (option_map (character_of t) o)
-sound_text t None h = tt
-sound_text t (Some c) h = h
+sound_text t x1 h = search rules
 
 sound_or : (o : Option Form) → Sound o → IsWellMade (unwrap_or o undefined)
-sound_or None h = tt
-sound_or (Some x) h = h
+sound_or x0 h = search rules
 
 sound_index : (container : Container) (index : Form) (part : ℤ → Option Form) → ((z : ℤ) → Sound (part z)) → IfOk (indexed container index part) IsWellMade
-sound_index container index part h = by (number_in index)
-  where
-    by : (n : Option ℤ) → IfOk (ok_or (option_map (λ z. unwrap_or (part z) undefined) n) (not_an_index container (name_of index))) IsWellMade
-    by None = tt
-    by (Some z) = sound_or (part z) (h z)
+sound_index container index part h = search rules
 
 sound_key : (ps : Members Integer MarkedText KeyForm) (i : Form) → AreWellMadeMembers ps → IfOk (item (object ps) i) IsWellMade
 sound_key ps i h = by (key_in i)

@@ -1,19 +1,18 @@
 -- What is behind a path is found by meaning, and is well made.
-use Rattle.std.proofs.Common.{refl, sym, ap, ◌∙◌}
+use Rattle.std.proofs.Common.{sym, ap, ◌∙◌, rules}
 use Rattle.std.proofs.lemmas.Option.{slice_get-map}
 use Rattle.std.specs.Option.{option_map, option_and_then}
-use Rattle.std.specs.Prelude.{◌≡◌, ℕ, List, [], Option, Some, None, refl, ◌∷◌, slice_get, IfSome}
+use Rattle.std.specs.Prelude.{◌≡◌, ℕ, List, [], Option, Some, None, ◌∷◌, slice_get, IfSome}
 use Rattle.tera_meaning.specs.Form.{Form}
 use Rattle.tera_meaning.specs.Meaning.{meaning, Meaning}
 use Rattle.tera_meaning.specs.Order.{same}
-use Rattle.tera_meaning.specs.Path.{path, followed, reached, place, elements_of}
+use Rattle.tera_meaning.specs.Path.{path, followed, reached, place}
 use Rattle.tera_meaning.specs.Read.{items_in}
-use Rattle.tera_meaning.specs.Tree.{undefined, none, text, array, items_list}
+use Rattle.tera_meaning.specs.Tree.{undefined, none, array, items_list}
 use Rattle.tera_meaning.specs.WellMade.{IsWellMade}
 use Rattle.tera_meaning.proofs.MeaningLaws.{items_meant}
 use Rattle.tera_meaning.proofs.SoundLemmas.{Sound, sound_place}
 use Rattle.tera_meaning.proofs.found.Attr
-use Rattle.std.proofs.lemmas.Option.{none-some, same_Some, slice_get-map}
 
 place_meant : Meaning → ℕ → Option Meaning
 place_meant (array xs) n = slice_get (items_list xs) n
@@ -21,8 +20,7 @@ place_meant v n = None
 
 placed_as_meant : (v : Form) (n : ℕ) → option_map meaning (option_and_then (λ xs. slice_get xs n) (items_in v)) ≡ place_meant (meaning v) n
 unfolding place_meant
-placed_as_meant (array xs) n = sym (slice_get-map meaning (items_list xs) n) ∙ ap (λ l. slice_get l n) (sym (items_meant xs))
-placed_as_meant v n = refl
+placed_as_meant v n = search (rules, slice_get-map, items_meant)
 
 reached_by_meaning : (v w : Form) (e : List ℕ) (p : Option ℕ) → meaning v ≡ meaning w → option_map meaning (reached v e p) ≡ option_map meaning (reached w e p)
 reached_by_meaning v w e None same = Attr.by_meaning e v w same
@@ -31,10 +29,7 @@ reached_by_meaning v w e (Some n) same = placed_as_meant v n ∙ ap (λ x. place
 and_then : (o p : Option Form) (k : Form → Option Form) → option_map meaning o ≡ option_map meaning p
     → ((x y : Form) → meaning x ≡ meaning y → option_map meaning (k x) ≡ option_map meaning (k y))
     → option_map meaning (option_and_then k o) ≡ option_map meaning (option_and_then k p)
-and_then None None k e h = refl
-and_then None (Some y) k e h = absurd (none-some (meaning y) e)
-and_then (Some x) None k e h = absurd (none-some (meaning x) (sym e))
-and_then (Some x) (Some y) k e h = h x y (same_Some (meaning x) (meaning y) e)
+and_then x0 x1 k e h = search rules
 
 followed_by_meaning : (es : List (List ℕ)) (v w : Form) → meaning v ≡ meaning w → option_map meaning (followed v es) ≡ option_map meaning (followed w es)
 followed_by_meaning [] v w same = ap Some same
@@ -48,21 +43,12 @@ led undefined itself o = None
 led none itself o = Some itself
 led x itself o = o
 
-path_led : (v : Form) (p : List ℕ) → path v p ≡ led (meaning v) none (followed v (elements_of p))
-unfolding led
-path_led (text s) p = refl
-path_led v p = refl
-
 led_as_meant : (x : Meaning) (o : Option Form) → option_map meaning (led x none o) ≡ led x none (option_map meaning o)
 unfolding led
-led_as_meant (text s) o = refl
-led_as_meant v o = refl
+led_as_meant v o = search rules
 
 pub by_meaning : (p : List ℕ) (v w : Form) → meaning v ≡ meaning w → option_map meaning (path v p) ≡ option_map meaning (path w p)
-by_meaning p v w same =
-    ap (option_map meaning) (path_led v p) ∙ led_as_meant (meaning v) (followed v (elements_of p))
-    ∙ (λ i. led (same i) none (followed_by_meaning (elements_of p) v w same i))
-    ∙ sym (led_as_meant (meaning w) (followed w (elements_of p))) ∙ ap (option_map meaning) (sym (path_led w p))
+by_meaning p v w same = search (rules, led_as_meant, led, followed_by_meaning)
 
 sound_reached : (v : Form) (e : List ℕ) (p : Option ℕ) → IsWellMade v → Sound (reached v e p)
 sound_reached v e None h = Attr.well_made e v h
@@ -70,14 +56,11 @@ sound_reached (array xs) e (Some n) h = sound_place xs n h
 sound_reached v e (Some n) h = tt
 
 sound_then : (o : Option Form) (k : Form → Option Form) → Sound o → ((x : Form) → IsWellMade x → Sound (k x)) → Sound (option_and_then k o)
-sound_then None k h g = tt
-sound_then (Some x) k h g = g x h
+sound_then x0 k h g = search rules
 
 sound_followed : (es : List (List ℕ)) (v : Form) → IsWellMade v → Sound (followed v es)
 sound_followed [] v h = h
 sound_followed (e ∷ es) v h = sound_then (reached v e (place e)) (λ part. followed part es) (sound_reached v e (place e) h) (λ x g. sound_followed es x g)
 
 pub well_made : (p : List ℕ) (v : Form) → IsWellMade v → IfSome (path v p) IsWellMade
-well_made p undefined h = tt
-well_made p none h = tt
-well_made p v h = sound_followed (elements_of p) v h
+well_made p v h = search (rules, sound_followed)

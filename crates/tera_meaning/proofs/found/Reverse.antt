@@ -1,21 +1,19 @@
 -- A reversed value is found by meaning, is no want of memory, and is well made.
-use Rattle.std.proofs.Common.{refl, sym, ap, ◌∙◌}
+use Rattle.std.proofs.Common.{refl, rules}
 use Rattle.std.proofs.lemmas.Str.{scalars-chars}
-use Rattle.std.specs.Prelude.{◌≡◌, true, List, [], Result, Ok, Err, IfOk, IfErr, refl, ◌∷◌, map, reverse}
+use Rattle.std.specs.Prelude.{◌≡◌, List, [], Result, Ok, Err, IfOk, IfErr, refl, ◌∷◌, map, reverse}
 use Rattle.std.specs.Str.{chars, encode_utf8_all}
 use Rattle.tera_meaning.specs.Form.{Form}
 use Rattle.tera_meaning.specs.Meaning.{meaning, Meaning}
 use Rattle.tera_meaning.specs.SliceRule.{reversed, shape_of}
 use Rattle.tera_meaning.specs.Tree.{text, bytes, array, items, items_list}
-use Rattle.tera_meaning.specs.WellMade.{IsWellMade, IsByte}
+use Rattle.tera_meaning.specs.WellMade.{IsWellMade}
 use Rattle.tera_report.specs.Refusal.{Refusal, not_reversible}
-use lib.Utf8.{scalar}
 use mathlib.Core.List.{reverse_aux}
-use Rattle.tera_meaning.proofs.MeaningLaws.{meant_items, items_meant}
+use Rattle.tera_meaning.proofs.MeaningLaws.{items_meant}
 use Rattle.tera_meaning.proofs.ReadLemmas.{array_shape}
 use Rattle.tera_meaning.proofs.SoundLemmas.{all_reversed, listed_well, items_well, each_scalar, spelled_well}
 use Rattle.tera_meaning.proofs.ArithmeticLemmas.{IsNoWant}
-use Rattle.std.specs.Prelude.{IfErr}
 
 module _ {X Y : Type 0} (f : X → Y) where
   map_onto : (xs ys : List X) → map f (reverse_aux xs ys) ≡ reverse_aux (map f xs) (map f ys)
@@ -32,24 +30,13 @@ reversed_meaning (bytes bs) = Ok (bytes (reverse bs))
 reversed_meaning x = Err (not_reversible [])
 
 reversed_means : (v : Form) → shape_of (reversed v) ≡ reversed_meaning (meaning v)
-reversed_means (array xs) =
-    array_shape (reverse (items_list xs)) (reverse (items_list (meant_items xs)))
-    (reverse_mapped meaning (items_list xs) ∙ ap (λ (ws : List Meaning). reverse ws) (sym (items_meant xs)))
-reversed_means v = refl
+reversed_means v = search (rules, array_shape, reverse_mapped, items_meant)
 
 pub by_meaning : (v w : Form) → meaning v ≡ meaning w → shape_of (reversed v) ≡ shape_of (reversed w)
-by_meaning v w e = reversed_means v ∙ ap reversed_meaning e ∙ sym (reversed_means w)
+by_meaning v w e = search (rules, reversed_means)
 
 pub no_want : (v : Form) → IfErr (reversed v) IsNoWant
-no_want (text t) = tt
-no_want (bytes bs) = tt
-no_want (array xs) = tt
-no_want v = λ e. cc
+no_want v = search rules
 
 pub well_made : (v : Form) → IsWellMade v → IfOk (reversed v) IsWellMade
-well_made (text t) h =
-    spelled_well (reverse (chars t.spelled))
-    (all_reversed (λ c. scalar c ≡ true) (chars t.spelled) (each_scalar (chars t.spelled) (scalars-chars t.spelled h)))
-well_made (bytes bs) h = all_reversed IsByte bs h
-well_made (array xs) h = items_well (reverse (items_list xs)) (all_reversed IsWellMade (items_list xs) (listed_well xs h))
-well_made v h = tt
+well_made v h = search (rules, spelled_well, all_reversed, each_scalar, scalars-chars, items_well, listed_well)

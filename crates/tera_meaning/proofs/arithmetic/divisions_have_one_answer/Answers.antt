@@ -6,6 +6,6 @@ pub returns-clause-are : goal.returns-clause-are
 returns-clause-are c = search rules
 
 pub returns-clause-only : goal.returns-clause-only
-returns-clause-only c = λ a b q r n h.
+returns-clause-only c a b q r n h =
     let known = returns-clause-are c a b n in
     (same_quotient a b q r _ _ h known, same_remainder a b q r _ _ h known)

@@ -1,6 +1,6 @@
-use Rattle.std.proofs.Common.{refl}
+use Rattle.std.proofs.Common.{rules}
 use Rattle.std.specs.FinMap.{gets}
 use Rattle.tera_meaning.proofs.scripts.copies_keep_their_flags.Goals as goal
 
 pub returns : goal.returns
-returns c = simp gets (refl, (refl, (refl, (refl, (refl, (refl, tt))))))
+returns c = simp gets (search rules)

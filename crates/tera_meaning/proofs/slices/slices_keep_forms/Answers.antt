@@ -7,13 +7,10 @@ use Rattle.tera_meaning.specs.Tree.{array, items}
 use Rattle.tera_meaning.proofs.SliceLaws.{sliced_is}
 use Rattle.tera_meaning.proofs.slices.slices_keep_forms.Goals as goal
 
-pub returns-clause-array : goal.returns-clause-array
-returns-clause-array c = sliced_is (array (items (held u64 1 ∷ marked (codes "a") ∷ held i128 2 ∷ []))) (Some (pos 1)) None None
-
-pub returns-clause-text : goal.returns-clause-text
+pub returns : goal.returns
 unfolding chars encode
-returns-clause-text c = sliced_is (marked (codes "abc")) (Some (negsuc 1)) None None
-
-pub returns-clause-characters : goal.returns-clause-characters
-unfolding chars encode
-returns-clause-characters c = sliced_is (normal (226 ∷ 130 ∷ 172 ∷ 195 ∷ 169 ∷ 97 ∷ [])) None None (Some (negsuc 1))
+returns c = record {
+  array = sliced_is (array (items (held u64 1 ∷ marked (codes "a") ∷ held i128 2 ∷ []))) (Some (pos 1)) None None;
+  text = sliced_is (marked (codes "abc")) (Some (negsuc 1)) None None;
+  characters = sliced_is (normal (226 ∷ 130 ∷ 172 ∷ 195 ∷ 169 ∷ 97 ∷ [])) None None (Some (negsuc 1));
+}

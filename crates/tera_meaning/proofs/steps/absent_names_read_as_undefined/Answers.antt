@@ -1,10 +1,6 @@
 use Rattle.std.specs.Prelude.{None, refl}
-use Rattle.tera_meaning.proofs.StateLaws.{remove_absent}
 use Rattle.tera_meaning.proofs.StepLaws.{escapes}
 use Rattle.tera_meaning.proofs.steps.absent_names_read_as_undefined.Goals as goal
-
-pub returns-clause-removed : goal.returns-clause-removed
-returns-clause-removed c = remove_absent
 
 pub returns-clause-escape : goal.returns-clause-escape
 returns-clause-escape c state name e = escapes state name None e refl
