@@ -1,7 +1,8 @@
 -- Characters that come off either end of a text.
-use Rattle.std.specs.Prelude.{◌≡◌, ℕ, ◌<◌, ◌≤◌, ◌⊎◌, Bool, true, false, List, [], ◌∷◌, ◌++◌, reverse, length, get_or, slice_get, Option, Some, None}
+use Rattle.std.specs.Prelude.{◌≡◌, ℕ, ◌<◌, ◌≤◌, Bool, true, false, List, [], ◌∷◌, ◌++◌, reverse, length, get_or, slice_get, Option, Some, None}
 use Rattle.std.specs.Prelude.{MatchOption, refl}
 use Rattle.std.proofs.Common.{inl, inr, sym, ◌∙◌, ap, subst, arith, append-nil}
+use Rattle.std.proofs.lemmas.Grind.{common_steps}
 use Rattle.std.proofs.Math.Seq.{take-append_seam, drop-append_seam}
 use Rattle.std.proofs.lemmas.Iterator.{YieldsList-from_chars}
 use Rattle.std.proofs.lemmas.Iterator.Adapters.{option_map_id}
@@ -20,16 +21,13 @@ use Rattle.tera_scalars.specs.Ends.{chars_from}
 
 -- the first byte of a character is no later byte of one
 first_byte : (c : ℕ) → (0 < length (encode_utf8 c)) × (128 ≤ get_or (encode_utf8 c) 0 0 → 192 ≤ get_or (encode_utf8 c) 0 0)
-first_byte c = by (order c 128) (order c 2048) (order c 65536)
-  where
-    Leads : List ℕ → Type 0
-    Leads bs = (0 < length bs) × (128 ≤ get_or bs 0 0 → 192 ≤ get_or bs 0 0)
-
-    by : (c < 128) ⊎ (128 ≤ c) → (c < 2048) ⊎ (2048 ≤ c) → (c < 65536) ⊎ (65536 ≤ c) → Leads (encode_utf8 c)
-    by (inl h) _ _ = subst Leads (sym (one c h)) (omega arith, λ m. absurd (omega arith))
-    by (inr a) (inl h) _ = subst Leads (sym (two c a h)) (omega arith, λ m. omega arith)
-    by (inr a) (inr b) (inl h) = subst Leads (sym (three c b h)) (omega arith, λ m. omega arith)
-    by (inr a) (inr b) (inr d) = subst Leads (sym (four c d)) (omega arith, λ m. omega arith)
+first_byte c = elim (order c 128) [
+  | inl h ↦ rw (one c h) (omega arith)
+  | inr a ↦ elim (order c 2048) [
+    | inl h ↦ rw (two c a h) (omega arith)
+    | inr b ↦ elim (order c 65536) [ inl h ↦ rw (three c b h) (omega arith) | inr d ↦ rw (four c d) (omega arith) ]
+  ]
+]
 
 -- the two parts of a text that is cut at a character
 parts : (xs ys : List ℕ) → IsUtf8 (xs ++ ys) → IsCharBoundary (xs ++ ys) (length xs) → IsUtf8 xs × IsUtf8 ys
@@ -49,23 +47,16 @@ module _ (bs rest : List ℕ) (c : ℕ) (utf8 : IsUtf8 bs) where
   pub last_char : bs ≡ rest ++ encode_utf8 c → IsUtf8 (encode_utf8 c) × IsUtf8 rest × (reverse (chars bs) ≡ c ∷ reverse (chars rest))
   last_char split =
       let (some, lead) = first_byte c in
-      let at : get_or (rest ++ encode_utf8 c) (length rest) 0 ≡ get_or (encode_utf8 c) 0 0 = seam rest (encode_utf8 c) in
+      let at : get_or (rest ++ encode_utf8 c) (length rest) 0 ≡ get_or (encode_utf8 c) 0 0 = grind (arith, common_steps) in
       let cut : IsCharBoundary (rest ++ encode_utf8 c) (length rest) = (omega (arith, length-append rest (encode_utf8 c)), λ h m. omega (arith, at, lead)) in
       let both = parts rest (encode_utf8 c) (subst IsUtf8 split utf8) cut in
       let alone : chars (encode_utf8 c) ≡ c ∷ [] = chars_past_char (encode_utf8 c) [] c both.1 (sym (append-nil (encode_utf8 c))) ∙ ap (λ l. c ∷ l) chars-nil in
       let all = ap chars split ∙ chars-append rest (encode_utf8 c) both.0 ∙ ap (λ l. chars rest ++ l) alone in
       (both.1, both.0, ap reverse all ∙ reverse-append (chars rest) (c ∷ []))
-    where
-      seam : (xs ys : List ℕ) → get_or (xs ++ ys) (length xs) 0 ≡ get_or ys 0 0
-      seam [] ys = refl
-      seam (x ∷ xs) ys = seam xs ys
 
 pub no_chars : (backwards : Bool) (bs : List ℕ) → length bs ≡ 0 → chars_from backwards bs ≡ []
-no_chars backwards bs e = ap (chars_from backwards) (nil_from_length bs e) ∙ by backwards
-  where
-    by : (b : Bool) → chars_from b [] ≡ []
-    by false = chars-nil
-    by true = ap reverse chars-nil
+no_chars false bs e = rw (nil_from_length bs e) chars-nil
+no_chars true bs e = rw (nil_from_length bs e, chars-nil)
 
 -- what comes off an end of what is left, where a character at that end may be split off
 pub came : {T : Type 0} (now : T → List ℕ) (s t : Chars) (backwards : Bool) (Split : ℕ → Type 0)
