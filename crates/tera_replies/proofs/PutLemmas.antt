@@ -1,69 +1,69 @@
--- What was put, and what a failed put stands for.
-use Rattle.std.proofs.Common.{◌≡◌, ℕ, Bool, List, [], ◌∷◌, sym, subst}
+-- What was put, what a failed put stands for, and what an output that broke was to get.
+use Rattle.std.proofs.Common.{◌≡◌, ◌≢◌, ℕ, Bool, List, [], ◌∷◌, ◌++◌, inl, inr, ap, refl, ◌∙◌, append_assoc}
+use Rattle.std.specs.Prelude.{Result, Ok, Err, MatchResult, IfOk, IfErr}
 use Rattle.tera_meaning.specs.State.{State}
-use Rattle.std.specs.Prelude.{Result, Ok, Err, MatchResult, OnOk, IfOk, IfErr, IsErrAnd}
 use Rattle.tera_report.specs.Sink.{Puts, Sends}
-use Rattle.tera_report.proofs.SentLaws.{sends_put}
+use Rattle.tera_report.proofs.SentLaws.{sends_nothing, sends_put, sends_joined}
 use Rattle.tera_replies.specs.declared.fault.Fault.{Fault}
 use Rattle.tera_replies.specs.declared.fault.Fault.TheVariants.{BadLine, ReadFailed, WriteFailed, OutOfMemory}
 use Rattle.tera_replies.specs.Output.{BrokeOn}
 use Rattle.tera_replies.specs.Stretch.{LineStops, IfWriteFailed, ReplyStops, Runs}
-use Rattle.tera_replies.proofs.BrokenLemmas.{broke_on_put}
 
-module _ {S E : Type 0} (takes fails : S → List ℕ → S → Type 0) where
-  pub puts_weaker : (P Q : List ℕ → Type 0) (result : Result (Unit {0}) E) (old new : S) → ((bytes : List ℕ) → P bytes → Q bytes)
-      → Puts takes fails result P old new → Puts takes fails result Q old new
-  puts_weaker P Q (Ok done) old new weaker (bytes, has, h) = (bytes, weaker bytes has, h)
-  puts_weaker P Q (Err fault) old new weaker (bytes, has, h) = (bytes, weaker bytes has, h)
+module _ {S : Type 0} {takes fails : S → List ℕ → S → Type 0} {flushes flush_fails : S → S → Type 0} where
+  pub broke_on_put : {s t : S} {a : List ℕ} → fails s a t → BrokeOn takes fails flushes flush_fails s a t
+  broke_on_put {s} {a} p = record { front = []; sent = s; sends = sends_nothing takes flushes s; fault = inl (a, refl, p) }
 
--- a fault that is passed on is the one that was met
-pub fault_passed : {T : Type 0} (result : Result T Fault) (fault : Fault) (P : Fault → Type 0)
-    → IsErrAnd result (λ passed. passed ≡ fault) → P fault → IfErr result P
-fault_passed (Ok done) fault P is has = absurd is
-fault_passed (Err passed) fault P is has = subst P (sym is) has
+  -- a flush behind these bytes failed
+  pub broke_on_flush : {s t u : S} {a : List ℕ} → Sends takes flushes s a t → flush_fails t u → BrokeOn takes fails flushes flush_fails s a u
+  broke_on_flush {t} {a} p failed = record { front = a; sent = t; sends = p; fault = inr (refl, failed) }
 
--- what stands of each answer, where one stands of it
-pub answered : {T E : Type 0} (result : Result T E) (P Q : T → Type 0) → ((answer : T) → P answer → Q answer)
-    → IfOk result P → IfOk result Q
-answered (Ok answer) P Q then has = then answer has
-answered (Err fault) P Q then has = tt
+  pub broke_on_later : {s t u : S} {a b : List ℕ} → Sends takes flushes s a t → BrokeOn takes fails flushes flush_fails t b u
+      → BrokeOn takes fails flushes flush_fails s (a ++ b) u
+  broke_on_later {a} p h = record {
+    front = a ++ h.front;
+    sent = h.sent;
+    sends = sends_joined takes flushes _ _ _ _ _ p h.sends;
+    fault = elim h.fault [
+      | inl (rest, is, failed) ↦ inl (rest, append_assoc a h.front rest ∙ ap (λ (zs : List ℕ). a ++ zs) is, failed)
+      | inr (is, failed) ↦ inr (ap (λ (zs : List ℕ). a ++ zs) is, failed)
+    ];
+  }
 
--- what ended a line ended the same line
-pub line_stops_same : {T : Type 0} (result : Result T Fault) (n : ℕ) (old : State) (line other : List ℕ) (OutStays : Type 0) (OutBroke : List ℕ → Type 0)
-    → line ≡ other → IfErr result (LineStops n old line OutStays OutBroke) → IfErr result (LineStops n old other OutStays OutBroke)
-line_stops_same result n old line other OutStays OutBroke = subst (λ (l : List ℕ). IfErr result (LineStops n old l OutStays OutBroke))
+pub puts_weaker : {S E : Type 0} (takes fails : S → List ℕ → S → Type 0) (P Q : List ℕ → Type 0) (result : Result (Unit {0}) E) (old new : S)
+    → ((bytes : List ℕ) → P bytes → Q bytes) → Puts takes fails result P old new → Puts takes fails result Q old new
+puts_weaker takes fails P Q (Ok done) old new weaker (bytes, has, h) = (bytes, weaker bytes has, h)
+puts_weaker takes fails P Q (Err fault) old new weaker (bytes, has, h) = (bytes, weaker bytes has, h)
 
--- what ended the reply of a line ended the line
-pub line_stops : {T : Type 0} (result : Result T Fault) (Replies OutBroke : List ℕ → Type 0) (OutStays : Type 0) (n : ℕ) (old : State) (line : List ℕ)
-    → ((reply : List ℕ) → Replies reply → (wanted : Bool) × (new : State) × Runs n old (line ∷ []) reply wanted new)
-    → IfErr result (ReplyStops Replies OutBroke) → IfErr result (LineStops n old line OutStays OutBroke)
-line_stops (Ok done) Replies OutBroke OutStays n old line then h = tt
-line_stops (Err (BadLine report)) Replies OutBroke OutStays n old line then h = absurd h
-line_stops (Err ReadFailed) Replies OutBroke OutStays n old line then h = absurd h
-line_stops (Err WriteFailed) Replies OutBroke OutStays n old line then (reply, is, broke) =
+-- the reply to a line leaves a run of it, and so does a write of it that failed
+pub line_answered : (result : Result Bool Fault) (Replies OutGets OutBroke : List ℕ → Type 0) (OutStays Same : Type 0) (n : ℕ) (old new : State) (line : List ℕ)
+    (w : Bool) → ((reply : List ℕ) → Replies reply → Runs n old (line ∷ []) reply w new)
+    → IfOk result (λ wanted. (reply : List ℕ) × Replies reply × OutGets reply × (wanted ≡ w)) → IfErr result (ReplyStops Replies OutBroke)
+    → record {
+      ok : IfOk result (λ wanted. (text : List ℕ) × Runs n old (line ∷ []) text wanted new × OutGets text);
+      err : IfErr result (LineStops n old line OutStays OutBroke);
+      unchanged : IfErr result (λ fault. fault ≢ WriteFailed → Same);
+      ran : IfErr result (IfWriteFailed ((text : List ℕ) × (wanted : Bool) × Runs n old (line ∷ []) text wanted new));
+    }
+line_answered (Ok wanted) Replies OutGets OutBroke OutStays Same n old new line w then (reply, is, gets, same) err =
+    record { ok = (reply, rw same (then reply is), gets); err = tt; unchanged = tt; ran = tt }
+line_answered (Err (BadLine report)) Replies OutGets OutBroke OutStays Same n old new line w then ok err = absurd err
+line_answered (Err ReadFailed) Replies OutGets OutBroke OutStays Same n old new line w then ok err = absurd err
+line_answered (Err WriteFailed) Replies OutGets OutBroke OutStays Same n old new line w then ok (reply, is, broke) =
     let ran = then reply is in
-    (reply, ran.0, ran.1, ran.2, broke)
-line_stops (Err OutOfMemory) Replies OutBroke OutStays n old line then h = absurd h
-
--- a write that failed left the line run
-pub line_ran : {T : Type 0} (result : Result T Fault) (Replies OutBroke : List ℕ → Type 0) (Ran : Type 0)
-    → ((reply : List ℕ) → Replies reply → Ran) → IfErr result (ReplyStops Replies OutBroke) → IfErr result (IfWriteFailed Ran)
-line_ran (Ok done) Replies OutBroke Ran then h = tt
-line_ran (Err (BadLine report)) Replies OutBroke Ran then h = tt
-line_ran (Err ReadFailed) Replies OutBroke Ran then h = tt
-line_ran (Err WriteFailed) Replies OutBroke Ran then (reply, is, broke) = then reply is
-line_ran (Err OutOfMemory) Replies OutBroke Ran then h = tt
+    record { ok = tt; err = (reply, w, new, ran, broke); unchanged = λ other. absurd (other refl); ran = (reply, w, ran) }
+line_answered (Err OutOfMemory) Replies OutGets OutBroke OutStays Same n old new line w then ok err = absurd err
 
 -- a reply was put, or a write failed
-module _ {S : Type 0} (takes fails : S → List ℕ → S → Type 0) (flushes flush_fails : S → S → Type 0) where
-  abbrev pub Replied : (List ℕ → Type 0) → S → S → Result (Unit {0}) Fault → Type 0
-  Replied P old new result =
-      OnOk result ((line : List ℕ) × P line × Sends takes flushes old line new)
-      × IfErr result (ReplyStops P (λ text. BrokeOn takes fails flushes flush_fails old text new))
+module _ {S E : Type 0} (takes fails : S → List ℕ → S → Type 0) (flushes flush_fails : S → S → Type 0) (P : List ℕ → Type 0) where
+  pub reply_sent : (put : Result (Unit {0}) E) (result : Result (Unit {0}) Fault) (old new : S)
+      → MatchResult put (λ _. result ≡ Ok tt) (λ _. result ≡ Err WriteFailed) → result ≡ Ok tt → Puts takes fails put P old new
+      → (line : List ℕ) × P line × Sends takes flushes old line new
+  reply_sent (Ok done) result old new written was (line, has, h) = (line, has, sends_put takes flushes old line new h)
+  reply_sent (Err fault) result old new written was h = absurd (cc)
 
-  pub replied : {E : Type 0} (P : List ℕ → Type 0) (put : Result (Unit {0}) E) (result : Result (Unit {0}) Fault) (old new : S)
-      → MatchResult put (λ _. result ≡ Ok tt) (λ _. result ≡ Err WriteFailed) → Puts takes fails put P old new → Replied P old new result
-  replied P (Ok done) result old new is (bytes, has, h) =
-      subst (Replied P old new) (sym is) ((bytes, has, sends_put takes flushes old bytes new h), tt)
-  replied P (Err fault) result old new is (bytes, has, h) =
-      subst (Replied P old new) (sym is) (tt, (bytes, has, broke_on_put takes fails flushes flush_fails old bytes new h))
+  pub reply_failed : (put : Result (Unit {0}) E) (result : Result (Unit {0}) Fault) (old new : S) (fault : Fault)
+      → MatchResult put (λ _. result ≡ Ok tt) (λ _. result ≡ Err WriteFailed) → result ≡ Err fault → Puts takes fails put P old new
+      → ReplyStops P (λ text. BrokeOn takes fails flushes flush_fails old text new) fault
+  reply_failed (Ok done) result old new fault written was h = absurd (cc)
+  reply_failed (Err refused) result old new fault written was (line, has, h) =
+      let is : fault ≡ WriteFailed = cc in rw is (line, has, broke_on_put h)

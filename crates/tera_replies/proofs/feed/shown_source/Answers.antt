@@ -1,12 +1,9 @@
-use Rattle.std.proofs.Common.{rules, ◌≡◌, Bool, true, false, List, ℕ, [], refl, sym, ap, ◌∙◌}
+use Rattle.std.proofs.Common.{rules, ◌≡◌, Bool, true, false, List, ℕ, [], refl}
 use Rattle.std.proofs.lemmas.Str.{IsUtf8-from_is_utf8, is_utf8-from_IsUtf8}
 use Rattle.std.specs.Prelude.{if◌then◌else◌}
 use Rattle.std.specs.Str.{IsUtf8, is_utf8}
 use Rattle.tera_replies.specs.Replay.{source_of}
 use Rattle.tera_replies.proofs.feed.shown_source.Goals as goal
-
-all_shown : (line : List ℕ) → IsUtf8 line → line ≡ source_of line
-all_shown line utf8 = ap (λ b. if b then line else []) (sym (is_utf8-from_IsUtf8 line utf8))
 
 none_shown : (line : List ℕ) → (IsUtf8 line → ⊥) → [] ≡ source_of line
 none_shown line other = by (is_utf8 line) refl
@@ -19,7 +16,7 @@ pub returns-in-Ok : goal.returns-in-Ok
 returns-in-Ok c =
     let same : c.in-Ok.text.now ≡ c.args.line.now = search rules in
     let utf8 : IsUtf8 c.args.line.now = search rules in
-    same ∙ all_shown c.args.line.now utf8
+    rw (is_utf8-from_IsUtf8 c.args.line.now utf8) same
 
 pub returns-in-Err : goal.returns-in-Err
 returns-in-Err c =

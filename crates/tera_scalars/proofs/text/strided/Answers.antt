@@ -1,7 +1,6 @@
 use Rattle.std.proofs.Common.{◌≡◌, ◌⊎◌, ◌++◌, ◌-◌, ◌+◌, suc, [], List, ℕ, take, arith, inl, inr, sym, ap, ap₂, subst, ◌∙◌}
 use Rattle.std.proofs.lemmas.Str.{IsUtf8-append, IsUtf8-nil}
-use Rattle.std.specs.Str.{IsUtf8, encode_utf8_all}
-use Rattle.std.specs.Str.Iter.{chars_rest}
+use Rattle.std.specs.{Str.IsUtf8, Str.encode_utf8_all, Str.Iter.chars_rest}
 use Rattle.tera_meaning.specs.Slice.{walked}
 use Rattle.tera_scalars.specs.Ends.{chars_from}
 use Rattle.tera_scalars.proofs.TextLemmas.{passes, takes, all_put}
