@@ -1,26 +1,19 @@
 -- What a stretch from the start on says of the whole input.
-use Rattle.std.proofs.Common.{◌≡◌, ℕ, ◌+◌, ◌-◌, ◌^◌, ◌≤◌, Bool, true, false, ◌||◌, ◌⊎◌, inr, List, [], ◌∷◌, ◌++◌, length, map, codes, Option, None, Some}
-use Rattle.std.proofs.Common.{cond, Result, Ok, Err, IfOk, IfErr, sym, ◌∙◌, ap, subst, refl, append_assoc, append-nil, arith}
-use Rattle.std.specs.List.{flat_map}
+use Rattle.std.proofs.Common.{◌≡◌, ℕ, ◌+◌, ◌-◌, ◌^◌, ◌≤◌, Bool, true, false, ◌||◌, ◌⊎◌, inr, List, [], ◌∷◌, ◌++◌, length, map, codes, Option, None, Some, cond}
+use Rattle.std.proofs.Common.{Result, Ok, Err, IfOk, IfErr, sym, ◌∙◌, ap, subst, refl, append_assoc, append-nil, arith}
 use Rattle.std.proofs.lemmas.List.{length-map, map-append}
-use Rattle.tera_meaning.specs.State.{State}
-use Rattle.tera_meaning.specs.Outcome.{Outcome}
-use Rattle.tera_meaning.specs.Request.{Command}
+use Rattle.std.specs.List.{flat_map}
+use Rattle.tera_meaning.specs.{State.State, Outcome.Outcome, Request.Command}
 use Rattle.tera_script.specs.Line.{IsBad}
-use Rattle.tera_report.specs.Report.{Report, report_text}
-use Rattle.tera_report.specs.Sink.{Sends}
+use Rattle.tera_report.specs.{Report.Report, Report.report_text, Sink.Sends}
 use Rattle.tera_report.proofs.SentLaws.{sends_joined}
-use Rattle.tera_replies.specs.declared.fault.Fault.{Fault}
 use Rattle.tera_replies.specs.declared.fault.Fault.TheVariants.{BadLine, ReadFailed, WriteFailed, OutOfMemory}
-use Rattle.tera_replies.specs.Output.{BrokeOn}
-use Rattle.tera_replies.specs.Reply.{AreReplies}
 use Rattle.tera_replies.specs.Script.{Script, Splits, without_return, last_line, ended, line_feed}
 use Rattle.tera_replies.specs.Replay.{lines_given, AllAnswered, ReadingFailed, MemoryFailed, WritingFailed, AreAnswered, report}
-use Rattle.tera_replies.specs.Source.{EndIsTold, MayErr}
 use Rattle.tera_replies.specs.Stretch.{bad_at, Runs, Place, Goes, StopsAtBad, Begins, LineStops, Ends, Stops, start}
-use Rattle.tera_replies.proofs.PutLemmas.{broke_on_later}
-use Rattle.tera_replies.proofs.ScriptLemmas.{Splits-more, splits, split_line}
+use Rattle.tera_replies.specs.{declared.fault.Fault.Fault, Output.BrokeOn, Reply.AreReplies, Source.EndIsTold, Source.MayErr}
 use Rattle.tera_replies.proofs.StretchLemmas.{Runs-append, Script-append, Begins-all, Went, sent_still}
+use Rattle.tera_replies.proofs.{PutLemmas.broke_on_later, ScriptLemmas.Splits-more, ScriptLemmas.splits, ScriptLemmas.split_line}
 
 -- ---- what an output that broke was to get
 

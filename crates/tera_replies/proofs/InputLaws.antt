@@ -1,10 +1,9 @@
 -- The whole input, piece by piece.
 use Rattle.std.proofs.Common.{◌≡◌, ℕ, ◌∷◌, List, [], ◌++◌, Option, None, Some, Result, IfSome, ◌∙◌, ap, sym, refl, append_assoc, append-nil}
-use Rattle.std.specs.Io.KnownBytes.{Consumes}
 use Rattle.std.proofs.lemmas.List.Concat.{flat_map-append}
+use Rattle.std.specs.Io.KnownBytes.{Consumes}
 use Rattle.tera_report.specs.inner.WriterLaws.{folds_joined}
-use Rattle.tera_replies.specs.declared.source.ReadError.{ReadError}
-use Rattle.tera_replies.specs.Source.{Attempt, bytes_given, given_by, Reads}
+use Rattle.tera_replies.specs.{declared.source.ReadError.ReadError, Source.Attempt, Source.bytes_given, Source.given_by, Source.Reads}
 use Rattle.tera_replies.specs.Stretch.{Place, start}
 use Rattle.tera_replies.proofs.StretchLemmas.{Went}
 

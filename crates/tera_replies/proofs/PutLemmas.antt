@@ -4,10 +4,8 @@ use Rattle.std.specs.Prelude.{Result, Ok, Err, MatchResult, IfOk, IfErr}
 use Rattle.tera_meaning.specs.State.{State}
 use Rattle.tera_report.specs.Sink.{Puts, Sends}
 use Rattle.tera_report.proofs.SentLaws.{sends_nothing, sends_put, sends_joined}
-use Rattle.tera_replies.specs.declared.fault.Fault.{Fault}
 use Rattle.tera_replies.specs.declared.fault.Fault.TheVariants.{BadLine, ReadFailed, WriteFailed, OutOfMemory}
-use Rattle.tera_replies.specs.Output.{BrokeOn}
-use Rattle.tera_replies.specs.Stretch.{LineStops, IfWriteFailed, ReplyStops, Runs}
+use Rattle.tera_replies.specs.{declared.fault.Fault.Fault, Output.BrokeOn, Stretch.LineStops, Stretch.IfWriteFailed, Stretch.ReplyStops, Stretch.Runs}
 
 module _ {S : Type 0} {takes fails : S → List ℕ → S → Type 0} {flushes flush_fails : S → S → Type 0} where
   pub broke_on_put : {s t : S} {a : List ℕ} → fails s a t → BrokeOn takes fails flushes flush_fails s a t
@@ -28,11 +26,6 @@ module _ {S : Type 0} {takes fails : S → List ℕ → S → Type 0} {flushes f
       | inr (is, failed) ↦ inr (ap (λ (zs : List ℕ). a ++ zs) is, failed)
     ];
   }
-
-pub puts_weaker : {S E : Type 0} (takes fails : S → List ℕ → S → Type 0) (P Q : List ℕ → Type 0) (result : Result (Unit {0}) E) (old new : S)
-    → ((bytes : List ℕ) → P bytes → Q bytes) → Puts takes fails result P old new → Puts takes fails result Q old new
-puts_weaker takes fails P Q (Ok done) old new weaker (bytes, has, h) = (bytes, weaker bytes has, h)
-puts_weaker takes fails P Q (Err fault) old new weaker (bytes, has, h) = (bytes, weaker bytes has, h)
 
 -- the reply to a line leaves a run of it, and so does a write of it that failed
 pub line_answered : (result : Result Bool Fault) (Replies OutGets OutBroke : List ℕ → Type 0) (OutStays Same : Type 0) (n : ℕ) (old new : State) (line : List ℕ)

@@ -2,27 +2,15 @@
 use Rattle.std.proofs.Common.{◌≡◌, ℕ, List, ◌++◌, codes, decimal, true, false, Result, sym, ◌∙◌, ap, refl}
 use Rattle.std.specs.Prelude.{Option, Some, None, Ok, Err, IfSome, IsSome, IsTrue}
 use Rattle.std.specs.Fmt.{debug_list, debug_str}
-use Rattle.tera_report.specs.Quoted.{QuotesList}
-use Rattle.tera_report.specs.declared.errors.Error.{Error}
-use Rattle.tera_report.specs.Refusal.{Refusal, message, stated, text_of}
+use Rattle.tera_report.specs.{Quoted.QuotesList, Quoted.quoted, declared.errors.Error.Error, Refusal.Refusal, Refusal.message, Refusal.stated, Refusal.text_of}
 use Rattle.tera_meaning.specs.Answer
-use Rattle.tera_meaning.specs.Form.{Form}
-use Rattle.tera_meaning.specs.Kind.{kind_name}
-use Rattle.tera_meaning.specs.Meaning.{layout}
-use Rattle.tera_meaning.specs.Outcome.{Outcome, is_want}
-use Rattle.tera_report.specs.Quoted.{quoted}
-use Rattle.tera_meaning.specs.Printed.{printed_with, is_exact_inside}
+use Rattle.tera_meaning.specs.{Form.Form, Kind.kind_name, Meaning.layout, Outcome.Outcome, Outcome.is_want, Printed.printed_with, Printed.is_exact_inside}
 use Rattle.tera_meaning.specs.Tree.{undefined, none}
-use Rattle.tera_report.proofs.PutLaws.{some_text}
-use Rattle.tera_report.proofs.TellLaws.{some_telling, told_known, telling_stated}
+use Rattle.tera_report.proofs.{PutLaws.some_text, TellLaws.some_telling, TellLaws.told_known, TellLaws.telling_stated}
 use Rattle.tera_context.specs.declared.call.Answer as code
 use Rattle.tera_context.specs.Steps.{ShowsOutcome}
 use Rattle.tera_replies.specs.Reply.{IsFormOf, IsListed, IsReply, IsFixedReply, order_name}
 use Rattle.tera_replies.specs.Stated.{outcome_stated}
-
--- the reply to an outcome is that to the same one
-pub same_reply : (outcome other : Outcome) (line : List ℕ) → outcome ≡ other → IsReply other line → IsReply outcome line
-same_reply outcome other line is h = rw is h
 
 pub some_form : (v : Form) → (form : List ℕ) × IsFormOf v form
 some_form undefined = (codes "undefined", refl)

@@ -1,10 +1,8 @@
 -- Bytes as lines, in one way and only one, and what lines say is one thing.
-use Rattle.std.proofs.Common.{◌≡◌, ◌≢◌, ℕ, ◌+◌, List, [], ◌∷◌, ◌++◌, All, Option, length, sym, ◌∙◌, ap, refl, append_assoc, append-nil, length-append}
-use Rattle.std.proofs.Common.{inl, inr, arith}
-use Rattle.std.proofs.lemmas.List.{get_or_at}
-use Rattle.std.proofs.lemmas.List.Concat.{flat_map-append}
+use Rattle.std.proofs.Common.{◌≡◌, ◌≢◌, ℕ, ◌+◌, List, [], ◌∷◌, ◌++◌, All, Option, length, sym, ◌∙◌, ap, refl, append_assoc, append-nil, length-append, inl}
+use Rattle.std.proofs.Common.{inr, arith}
 use Rattle.std.proofs.lemmas.List.Elements.{All-append, All-cons, All-nil, All-head, All-tail, All-get_or}
-use Rattle.std.proofs.lemmas.Bool.{cases_eq}
+use Rattle.std.proofs.{lemmas.List.get_or_at, lemmas.List.Concat.flat_map-append, lemmas.Bool.cases_eq}
 use Rattle.std.specs.List.{flat_map}
 use Rattle.tera_meaning.specs.Request.{Command}
 use Rattle.tera_script.specs.Line.{Says, IsSkipped}

@@ -1,25 +1,17 @@
 -- One run, one line and one stretch of a script after another.
-use Rattle.std.proofs.Common.{◌≡◌, ◌≢◌, ℕ, ◌+◌, Bool, false, ◌||◌, inl, inr, List, [], ◌∷◌, ◌++◌, length, Option, None, sym, ◌∙◌, ap, subst, refl, append_assoc}
-use Rattle.std.proofs.Common.{append-nil, arith}
+use Rattle.std.proofs.Common.{◌≡◌, ◌≢◌, ℕ, ◌+◌, Bool, false, ◌||◌, inl, inr, List, [], ◌∷◌, ◌++◌, length, Option, None, sym, ◌∙◌, ap, subst, refl}
+use Rattle.std.proofs.Common.{append_assoc, append-nil, arith}
+use Rattle.std.proofs.{lemmas.List.length-append, lemmas.List.length-map, lemmas.List.map-append, lemmas.List.Concat.flat_map-append}
+use Rattle.std.proofs.{lemmas.List.Elements.All-append, lemmas.List.Elements.All-cons, lemmas.List.Elements.All-nil, lemmas.List.Folds.list_any-append}
 use Rattle.std.specs.List.{flat_map, AllZip}
-use Rattle.std.proofs.lemmas.List.{length-append, length-map, map-append}
-use Rattle.std.proofs.lemmas.List.Concat.{flat_map-append}
-use Rattle.std.proofs.lemmas.List.Elements.{All-append, All-cons, All-nil}
-use Rattle.std.proofs.lemmas.List.Folds.{list_any-append}
-use Rattle.tera_meaning.specs.State.{State}
-use Rattle.tera_meaning.specs.Outcome.{Outcome, is_want}
-use Rattle.tera_meaning.specs.Request.{Command}
-use Rattle.tera_meaning.specs.Run.{IsRun}
-use Rattle.tera_meaning.specs.Step.{IsStep}
+use Rattle.tera_meaning.specs.{State.State, Outcome.Outcome, Outcome.is_want, Request.Command, Run.IsRun, Step.IsStep}
 use Rattle.tera_report.specs.Sink.{Sends}
 use Rattle.tera_report.proofs.SentLaws.{sends_nothing, sends_flush, sends_joined}
 use Rattle.tera_script.specs.Line.{Says, IsSkipped}
-use Rattle.tera_replies.specs.declared.fault.Fault.{Fault}
 use Rattle.tera_replies.specs.declared.fault.Fault.TheVariants.{BadLine, ReadFailed, WriteFailed, OutOfMemory}
-use Rattle.tera_replies.specs.Output.{BrokeOn}
 use Rattle.tera_replies.specs.Script.{BadLine as Bad, Script, HasNoLineFeed, without_return, ended, line_feed}
-use Rattle.tera_replies.specs.Reply.{IsReply, AreReplies}
 use Rattle.tera_replies.specs.Stretch.{Runs, Place, Goes, Begins, Stops, LineStops}
+use Rattle.tera_replies.specs.{declared.fault.Fault.Fault, Output.BrokeOn, Reply.IsReply, Reply.AreReplies}
 use Rattle.tera_replies.proofs.PutLemmas.{broke_on_later}
 
 -- ---- runs
@@ -27,8 +19,7 @@ use Rattle.tera_replies.proofs.PutLemmas.{broke_on_later}
 IsRun-append : (a b c : State) (xs ys : List Command) (os ps : List Outcome) → IsRun a xs os b → IsRun b ys ps c → IsRun a (xs ++ ys) (os ++ ps) c
 IsRun-append a b c [] ys [] ps h g = let P : State → Type 0 = λ s. IsRun s ys ps c in subst P h g
 IsRun-append a b c (x ∷ xs) ys (o ∷ os) ps h g = (h.0, h.1, IsRun-append h.0 b c xs ys os ps h.2 g)
-IsRun-append a b c [] ys (o ∷ os) ps h g = absurd h
-IsRun-append a b c (x ∷ xs) ys [] ps h g = absurd h
+IsRun-append a b c xs ys os ps h g = absurd h
 
 -- with no bad line among the first ones, a script goes on
 pub Script-append : (n : ℕ) (xs ys : List (List ℕ)) (cs ds : List Command) (bad : Option Bad) → Script n xs cs None → (m : ℕ) → m ≡ n + length xs
@@ -48,8 +39,7 @@ or_assoc a b c = grind arith
 AllZip-append : (xs ys : List Outcome) (ss ts : List (List ℕ)) → AllZip IsReply xs ss → AllZip IsReply ys ts → AllZip IsReply (xs ++ ys) (ss ++ ts)
 AllZip-append [] ys [] ts h g = g
 AllZip-append (x ∷ xs) ys (s ∷ ss) ts h g = (h.0, AllZip-append xs ys ss ts h.1 g)
-AllZip-append [] ys (s ∷ ss) ts h g = absurd h
-AllZip-append (x ∷ xs) ys [] ts h g = absurd h
+AllZip-append xs ys ss ts h g = absurd h
 
 -- replies behind replies
 AreReplies-append : (xs ys : List Outcome) (s t : List ℕ) → AreReplies xs s → AreReplies ys t → AreReplies (xs ++ ys) (s ++ t)

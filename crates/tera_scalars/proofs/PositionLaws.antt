@@ -1,12 +1,10 @@
 -- A walk over places that fit machine integers takes the slice between the bounds that it was made of.
-use Rattle.std.specs.Prelude.{◌≡◌, ◌≢◌, ◌⊎◌, ◌<◌, ◌≤◌, ◌+◌, ◌-◌, ◌*◌, ◌^◌, min, ℕ, zero, suc, ℤ, pos, negsuc, false, ◌||◌, List, [], ◌∷◌, length}
-use Rattle.std.specs.Prelude.{take, drop, slice_get, Option, None, Some}
+use Rattle.std.specs.Prelude.{◌≡◌, ◌≢◌, ◌⊎◌, ◌<◌, ◌≤◌, ◌+◌, ◌-◌, ◌*◌, ◌^◌, min, ℕ, zero, suc, ℤ, pos, negsuc, false, ◌||◌, List, [], ◌∷◌, length, take, drop}
+use Rattle.std.specs.Prelude.{slice_get, Option, None, Some}
 use Rattle.std.proofs.Common.{refl, ap, subst, arith, inl, inr}
-use Rattle.std.proofs.Math.Nat.{mul-le-mul_left}
-use Rattle.std.proofs.lemmas.Bool.{cases_lt, or_parts}
-use Rattle.std.proofs.lemmas.Int.{ints, clamps}
-use Rattle.tera_meaning.specs.SliceRule.{IsSliceOf, start_place, end_place}
+use Rattle.std.proofs.{Math.Nat.mul-le-mul_left, lemmas.Bool.cases_lt, lemmas.Bool.or_parts, lemmas.Int.ints, lemmas.Int.clamps}
 use Rattle.tera_meaning.specs.Slice.{IsStrided, directed, pause, place_behind, walked}
+use Rattle.tera_meaning.specs.SliceRule.{IsSliceOf, start_place, end_place}
 use Rattle.tera_meaning.proofs.SliceLaws.{strided_is_slice, walked_strides, length_directed}
 use Rattle.tera_scalars.specs.Positions.{counts_from_afar}
 

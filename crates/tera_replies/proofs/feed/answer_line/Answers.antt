@@ -1,23 +1,14 @@
 -- A line that is skipped says nothing, and one that says a call is answered by one reply.
 use Rattle.std.proofs.Common.{◌≡◌, ℕ, false, List, [], ◌∷◌, Result, ap}
-use Rattle.tera_meaning.specs.Outcome.{Outcome, is_want}
-use Rattle.tera_meaning.specs.Request.{Command}
-use Rattle.tera_meaning.specs.State.{State}
-use Rattle.tera_meaning.specs.Step.{IsStep}
-use Rattle.tera_context.specs.Call.{command_of}
+use Rattle.tera_meaning.specs.{Outcome.Outcome, Outcome.is_want, Request.Command, State.State, Step.IsStep}
 use Rattle.tera_context.specs.Lent.{LentForm, StandsFor, found, printed, lent_form}
-use Rattle.tera_context.specs.Steps.{ShowsOneOf}
-use Rattle.tera_context.specs.declared.call.Answer.{Answer}
+use Rattle.tera_context.specs.{Call.command_of, Steps.ShowsOneOf, declared.call.Answer.Answer}
 use Rattle.tera_context.proofs.ShownLaws.{shown_outcome}
 use Rattle.tera_report.proofs.SentLaws.{sends_nothing}
 use Rattle.tera_report.specs.declared.errors.Error.{Error}
 use Rattle.tera_script.specs.Line.{Says}
-use Rattle.tera_replies.specs.Reply.{IsLentLine, IsReplyLine}
-use Rattle.tera_replies.specs.Stated.{outcome_stated}
-use Rattle.tera_replies.specs.Stretch.{Runs}
-use Rattle.tera_replies.proofs.PutLemmas.{line_answered}
-use Rattle.tera_replies.proofs.ReplyLemmas.{reply_shown, want_shown}
-use Rattle.tera_replies.proofs.StretchLemmas.{Runs-skipped, Runs-says}
+use Rattle.tera_replies.specs.{Reply.IsLentLine, Reply.IsReplyLine, Stated.outcome_stated, Stretch.Runs}
+use Rattle.tera_replies.proofs.{PutLemmas.line_answered, ReplyLemmas.reply_shown, ReplyLemmas.want_shown, StretchLemmas.Runs-skipped, StretchLemmas.Runs-says}
 use Rattle.tera_replies.proofs.feed.answer_line.Goals as goal
 
 pub returns-in-Skipped-clause-ok : goal.returns-in-Skipped-clause-ok

@@ -1,7 +1,6 @@
 use Rattle.std.proofs.Common.{rules, ◌≡◌, Bool, true, false, List, ℕ, [], refl}
 use Rattle.std.proofs.lemmas.Str.{IsUtf8-from_is_utf8, is_utf8-from_IsUtf8}
-use Rattle.std.specs.Prelude.{if◌then◌else◌}
-use Rattle.std.specs.Str.{IsUtf8, is_utf8}
+use Rattle.std.specs.{Prelude.if◌then◌else◌, Str.IsUtf8, Str.is_utf8}
 use Rattle.tera_replies.specs.Replay.{source_of}
 use Rattle.tera_replies.proofs.feed.shown_source.Goals as goal
 

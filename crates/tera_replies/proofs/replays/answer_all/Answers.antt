@@ -1,13 +1,9 @@
 -- What the source gave so far is answered, also where a fault ends the loop.
 use Rattle.std.proofs.Common.{◌≡◌, ◌<◌, ◌≤◌, ◌++◌, [], Ok, inl, inr, length, length-append, take, ◌∙◌, subst, refl, rules, arith, append-nil}
-use Rattle.std.proofs.lemmas.Result.{err_from_is_err_and}
-use Rattle.std.proofs.lemmas.List.{length-take-le}
-use Rattle.tera_replies.specs.Place.{place_of}
-use Rattle.tera_replies.specs.Stretch.{start}
-use Rattle.tera_replies.specs.Source.{EndIsTold}
-use Rattle.tera_replies.proofs.PutLemmas.{broke_on_flush}
+use Rattle.std.proofs.{lemmas.Result.err_from_is_err_and, lemmas.List.length-take-le}
+use Rattle.tera_replies.specs.{Place.place_of, Stretch.start, Source.EndIsTold}
 use Rattle.tera_replies.proofs.StretchLemmas.{Begins-all, Halts-later, Went, went_flushed, went_nowhere, went_on}
-use Rattle.tera_replies.proofs.EndLemmas.{Ends-all, Ends-stops, at_failure, at_write}
+use Rattle.tera_replies.proofs.{PutLemmas.broke_on_flush, EndLemmas.Ends-all, EndLemmas.Ends-stops, EndLemmas.at_failure, EndLemmas.at_write}
 use Rattle.tera_replies.proofs.InputLaws.{fed_nothing, fed_read, fed_consumed, where_known}
 use Rattle.tera_replies.proofs.replays.answer_all.Goals as goal
 

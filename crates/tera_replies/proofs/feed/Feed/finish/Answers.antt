@@ -1,8 +1,6 @@
 -- Nothing follows the last line feed.
 use Rattle.std.proofs.Common.{rules, ◌≡◌, ◌||◌, ℕ, false, List, [], ◌∷◌, length, refl, sym, arith}
-use Rattle.std.proofs.lemmas.Bool.{eqb-true, eqb-false}
-use Rattle.std.proofs.lemmas.Result.{err_from_is_err_and}
-use Rattle.std.proofs.lemmas.List.{nil_from_length}
+use Rattle.std.proofs.{lemmas.Bool.eqb-true, lemmas.Bool.eqb-false, lemmas.Result.err_from_is_err_and, lemmas.List.nil_from_length}
 use Rattle.tera_replies.specs.Script.{last_line}
 use Rattle.tera_report.proofs.SentLaws.{sends_nothing}
 use Rattle.tera_replies.proofs.StretchLemmas.{Runs-none, or_false}

@@ -2,9 +2,7 @@
 use Rattle.std.proofs.Common.{◌≡◌, ◌+◌, ◌++◌, [], ◌∷◌, length, length-append, sym, ◌∙◌, ap, refl, append_assoc, arith}
 use Rattle.std.proofs.lemmas.Result.{err_from_is_err_and}
 use Rattle.tera_report.proofs.SentLaws.{sends_nothing}
-use Rattle.tera_replies.specs.Place.{place_of}
-use Rattle.tera_replies.specs.Script.{ended, line_feed}
-use Rattle.tera_replies.specs.declared.fault.Fault.TheVariants.{OutOfMemory}
+use Rattle.tera_replies.specs.{Place.place_of, Script.ended, Script.line_feed, declared.fault.Fault.TheVariants.OutOfMemory}
 use Rattle.tera_replies.proofs.StretchLemmas.{Goes-part, Begins-none, Halts-later, Halts-line, Went, went_nowhere, went_on}
 use Rattle.tera_replies.proofs.feed.Feed.take_piece.Goals as goal
 
