@@ -222,13 +222,13 @@ module _ {S : Type 0} (takes fails_on : S → List ℕ → S → Type 0) (flushe
       (λ text. BrokeOn takes fails_on flushes flush_fails mid text after) fault)
       → Ends bytes fails InGave InFailed (λ text. Sends takes flushes before text after)
       (λ text. BrokeOn takes fails_on flushes flush_fails before text after) result
-  Ends-all fails InGave InFailed new after (Ok wanted) p gave told (text, last, runs, is, sent) err =
-      (p.text ++ text, rw is (at_end fails told p.goes runs), sends_joined takes flushes _ _ _ _ _ p.sent sent)
-  Ends-all {bytes} fails InGave InFailed new after (Err (BadLine r)) p gave told ok (whole, (is, bad, sent)) =
-      let P : Report → Type 0 = λ said. AllAnswered bytes fails p.text (ended (report_text said)) 2 in
-      (p.text, subst P (sym is) (at_bad_end fails told p.goes whole bad), sent_still p.sent sent)
+  Ends-all fails InGave InFailed new after (Ok wanted) (front, goes, passed) gave told (text, last, runs, is, sent) err =
+      (front ++ text, rw is (at_end fails told goes runs), sends_joined takes flushes _ _ _ _ _ passed sent)
+  Ends-all {bytes} fails InGave InFailed new after (Err (BadLine r)) (front, goes, passed) gave told ok (whole, (is, bad, sent)) =
+      let P : Report → Type 0 = λ said. AllAnswered bytes fails front (ended (report_text said)) 2 in
+      (front, subst P (sym is) (at_bad_end fails told goes whole bad), sent_still passed sent)
   Ends-all fails InGave InFailed new after (Err ReadFailed) p gave told ok (whole, stops) = absurd stops
-  Ends-all fails InGave InFailed new after (Err WriteFailed) p gave told ok (whole, (text, wanted, state, runs, broke)) =
-      (p.text ++ text, broke_at_end (at_end {v = wanted} {new = state} fails told p.goes (rw whole runs)), broke_on_later p.sent broke)
-  Ends-all {bytes} fails InGave InFailed new after (Err OutOfMemory) p gave told ok (whole, sent) =
-      (p.text, at_memory [] InGave (sym (append-nil bytes)) gave (Begins-all p.goes), sent_still p.sent sent)
+  Ends-all fails InGave InFailed new after (Err WriteFailed) (front, goes, passed) gave told ok (whole, (text, wanted, state, runs, broke)) =
+      (front ++ text, broke_at_end (at_end {v = wanted} {new = state} fails told goes (rw whole runs)), broke_on_later passed broke)
+  Ends-all {bytes} fails InGave InFailed new after (Err OutOfMemory) (front, goes, passed) gave told ok (whole, sent) =
+      (front, at_memory [] InGave (sym (append-nil bytes)) gave (Begins-all goes), sent_still passed sent)

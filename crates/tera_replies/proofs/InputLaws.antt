@@ -7,11 +7,11 @@ use Rattle.tera_replies.specs.{declared.source.ReadError.ReadError, Source.Attem
 use Rattle.tera_replies.specs.Stretch.{Place, start}
 use Rattle.tera_replies.proofs.StretchLemmas.{Went}
 
-Consumes-none : (known : Option (List ℕ)) → Consumes known known []
+pub Consumes-none : (known : Option (List ℕ)) → Consumes known known []
 Consumes-none None = tt
 Consumes-none (Some xs) = refl
 
-Consumes-append : (a b c : Option (List ℕ)) (xs ys : List ℕ) → Consumes a b xs → Consumes b c ys → Consumes a c (xs ++ ys)
+pub Consumes-append : (a b c : Option (List ℕ)) (xs ys : List ℕ) → Consumes a b xs → Consumes b c ys → Consumes a c (xs ++ ys)
 Consumes-append None b c xs ys g h = tt
 Consumes-append (Some hs) None c xs ys g h = absurd g
 Consumes-append (Some hs) (Some bs) None xs ys g h = absurd h
@@ -29,7 +29,7 @@ pub reads_nothing : {R : Type 0} (gave : R → List ℕ → Result ℕ ReadError
 reads_nothing gave s = record { attempts = []; calls = refl; whole = refl }
 
 -- one read more
-reads_more : {R : Type 0} (gave : R → List ℕ → Result ℕ ReadError → R → Type 0) {s t : R} {bytes : List ℕ} (piece : List ℕ) (answer : Result ℕ ReadError)
+pub reads_more : {R : Type 0} (gave : R → List ℕ → Result ℕ ReadError → R → Type 0) {s t : R} {bytes : List ℕ} (piece : List ℕ) (answer : Result ℕ ReadError)
     (u : R) → Reads gave s bytes t → gave t piece answer u → Reads gave s (bytes ++ bytes_given answer piece) u
 reads_more gave {s} {t} piece answer u f one =
     let a : Attempt = record { piece = piece; answer = answer } in
@@ -46,19 +46,3 @@ pub record Fed {R S : Type 0} (gave : R → List ℕ → Result ℕ ReadError �
   pub consumed : Consumes first left given
   pub reads : Reads gave in_old given in_now
   pub went : Went takes flushes start given now before after
-
-pub fed_nothing : {R S : Type 0} (gave : R → List ℕ → Result ℕ ReadError → R → Type 0) (input : R) (takes : S → List ℕ → S → Type 0)
-    (flushes : S → S → Type 0) (first : Option (List ℕ)) (before : S) → Went takes flushes start [] start before before
-    → Fed gave input input takes flushes first first start before before
-fed_nothing gave input takes flushes first before went =
-    record { given = []; consumed = Consumes-none first; reads = reads_nothing gave input; went = went }
-
-module _ {R S : Type 0} {gave : R → List ℕ → Result ℕ ReadError → R → Type 0} {in_old in_now : R} {takes : S → List ℕ → S → Type 0} {flushes : S → S → Type 0}
-    {first left : Option (List ℕ)} {now : Place} {before mid : S} (f : Fed gave in_old in_now takes flushes first left now before mid) where
-  -- a read gave these bytes
-  pub fed_read : (piece : List ℕ) (answer : Result ℕ ReadError) (in_new : R) → gave in_now piece answer in_new
-      → Reads gave in_old (f.given ++ bytes_given answer piece) in_new
-  fed_read piece answer in_new one = reads_more gave piece answer in_new f.reads one
-
-  pub fed_consumed : (later : Option (List ℕ)) (bytes : List ℕ) → Consumes left later bytes → Consumes first later (f.given ++ bytes)
-  fed_consumed later bytes h = Consumes-append first left later f.given bytes f.consumed h

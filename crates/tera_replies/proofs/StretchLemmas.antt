@@ -128,19 +128,16 @@ Goes-line a new more text w part_in more_in runs numbered emptied wanted = recor
 }
 
 -- From one place to another these bytes were read, and their answers were sent.
-pub record Went {S : Type 0} (takes : S → List ℕ → S → Type 0) (flushes : S → S → Type 0) (old : Place) (bytes : List ℕ) (new : Place) (before after : S)
-    : Type 0 where
-  pub text : List ℕ
-  pub goes : Goes old bytes text new
-  pub sent : Sends takes flushes before text after
+abbrev pub Went : {S : Type 0} → (S → List ℕ → S → Type 0) → (S → S → Type 0) → Place → List ℕ → Place → S → S → Type 0
+Went takes flushes old bytes new before after = (text : List ℕ) × Goes old bytes text new × Sends takes flushes before text after
 
 module _ {S : Type 0} {takes : S → List ℕ → S → Type 0} {flushes : S → S → Type 0} where
   pub went_nowhere : (a : Place) (s : S) → HasNoLineFeed a.part → Went takes flushes a [] a s s
-  went_nowhere a s part_in = record { text = []; goes = Goes-none a part_in; sent = sends_nothing takes flushes s }
+  went_nowhere a s part_in = ([], Goes-none a part_in, sends_nothing takes flushes s)
 
   pub went_on : {a b c : Place} {xs ys : List ℕ} {s t u : S} → Went takes flushes a xs b s t → Went takes flushes b ys c t u
       → Went takes flushes a (xs ++ ys) c s u
-  went_on p q = record { text = p.text ++ q.text; goes = Goes-append p.goes q.goes; sent = sends_joined takes flushes _ _ _ _ _ p.sent q.sent }
+  went_on (text, goes, sent) (more, on, passed) = (text ++ more, Goes-append goes on, sends_joined takes flushes _ _ _ _ _ sent passed)
 
   -- nothing more was sent
   pub sent_still : {s t u : S} {text : List ℕ} → Sends takes flushes s text t → Sends takes flushes t [] u → Sends takes flushes s text u
@@ -148,7 +145,7 @@ module _ {S : Type 0} {takes : S → List ℕ → S → Type 0} {flushes : S →
 
   -- the answers so far were flushed
   pub went_flushed : {a b : Place} {xs : List ℕ} {s t u : S} → Went takes flushes a xs b s t → flushes t u → Went takes flushes a xs b s u
-  went_flushed p h = record { text = p.text; goes = p.goes; sent = sent_still p.sent (sends_flush takes flushes _ _ h) }
+  went_flushed (text, goes, sent) h = (text, goes, sent_still sent (sends_flush takes flushes _ _ h))
 
 -- ---- faults
 
@@ -177,22 +174,23 @@ module _ {S : Type 0} (takes fails : S → List ℕ → S → Type 0) (flushes f
   -- a fault behind a stretch is one of the whole
   pub Halts-later : {old now : Place} {read : List ℕ} {before mid : S} (bytes : List ℕ) (after : S) (fault : Fault)
       → Went takes flushes old read now before mid → Halts now bytes mid after fault → Halts old (read ++ bytes) before after fault
-  Halts-later {read} bytes after (BadLine report) p (text, s, sent) = (
-    p.text ++ text,
+  Halts-later {read} bytes after (BadLine report) (front, goes, passed) (text, s, sent) = (
+    front ++ text,
     record {
       read = read ++ s.read;
       unread = s.unread;
       place = s.place;
       bytes_are = ap (λ (zs : List ℕ). read ++ zs) s.bytes_are ∙ sym (append_assoc read s.read (line_feed ∷ s.unread));
-      goes = Goes-append p.goes s.goes;
+      goes = Goes-append goes s.goes;
       bad = s.bad;
       report_is = s.report_is;
     },
-    sends_joined takes flushes _ _ _ _ _ p.sent sent,
+    sends_joined takes flushes _ _ _ _ _ passed sent,
   )
   Halts-later bytes after ReadFailed p stops = absurd stops
-  Halts-later bytes after WriteFailed p (text, s, broke) = (p.text ++ text, Begins-later p.goes s, broke_on_later p.sent broke)
-  Halts-later bytes after OutOfMemory p (text, s, sent) = (p.text ++ text, Begins-later p.goes s, sends_joined takes flushes _ _ _ _ _ p.sent sent)
+  Halts-later bytes after WriteFailed (front, goes, passed) (text, s, broke) = (front ++ text, Begins-later goes s, broke_on_later passed broke)
+  Halts-later bytes after OutOfMemory (front, goes, passed) (text, s, sent) =
+      (front ++ text, Begins-later goes s, sends_joined takes flushes _ _ _ _ _ passed sent)
 
   -- a fault at a line is one at the bytes that it begins
   pub Halts-line : (now : Place) (line later : List ℕ) (mid after : S) (fault : Fault) → HasNoLineFeed now.part → HasNoLineFeed line

@@ -14,8 +14,8 @@ returns-in-Found-None g c =
 
 pub returns-in-Found-Some : goal.returns-in-Found-Some
 returns-in-Found-Some g c =
-    let outcome = Ok (found (Some c.in-Found-Some.value.now)) in
-    let is : lent_form c.args.lent ≡ Lent.found (Some c.in-Found-Some.value.now) = search rules in
+    let value = c.in-Found-Some.value.now in
+    let is : lent_form c.args.lent ≡ Lent.found (Some value) = search rules in
     rw is (MatchResult-weaker c.put_value.result c.put_value.ensures
-    (λ _ (line, reply, took). (line, (outcome, refl, reply), took))
-    (λ _ (line, reply, failed). (line, (outcome, refl, reply), failed)))
+    (λ _ (line, reply, took). (line, (Ok (found (Some value)), refl, reply), took))
+    (λ _ (line, reply, failed). (line, (Ok (found (Some value)), refl, reply), failed)))

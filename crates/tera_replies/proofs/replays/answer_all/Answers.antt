@@ -4,16 +4,19 @@ use Rattle.std.proofs.{lemmas.Result.err_from_is_err_and, lemmas.List.length-tak
 use Rattle.tera_replies.specs.{Place.place_of, Stretch.start, Source.EndIsTold}
 use Rattle.tera_replies.proofs.StretchLemmas.{Begins-all, Halts-later, Went, went_flushed, went_nowhere, went_on}
 use Rattle.tera_replies.proofs.{PutLemmas.broke_on_flush, EndLemmas.Ends-all, EndLemmas.Ends-stops, EndLemmas.at_failure, EndLemmas.at_write}
-use Rattle.tera_replies.proofs.InputLaws.{fed_nothing, fed_read, fed_consumed, where_known}
+use Rattle.tera_replies.proofs.InputLaws.{Consumes-none, Consumes-append, reads_nothing, reads_more, where_known}
 use Rattle.tera_replies.proofs.replays.answer_all.Goals as goal
 
 pub pieces-init : goal.pieces-init
 pieces-init g c =
-    let source = g.S.Source in
-    let sink = g.W.Sink in
-    let went = went_nowhere start c.args.out.now (λ k d h. absurd (omega arith)) in
+    let input = c.args.input.now in
     record {
-      fed = rw c.new-feed.ensures (fed_nothing source.gave c.args.input.now sink.takes sink.flushes (source.left c.args.input.now) c.args.out.now went);
+      fed = rw c.new-feed.ensures (record {
+        given = [];
+        consumed = Consumes-none (g.S.Source.left input);
+        reads = reads_nothing g.S.Source.gave input;
+        went = went_nowhere start c.args.out.now (λ k d h. absurd (omega arith));
+      });
       turns = omega arith;
       fails = refl;
       room = search rules;
@@ -24,24 +27,23 @@ returns-in_err-flush g c =
     let p = err_from_is_err_and c.from_residual.result c.from_residual.ensures.1 in
     let (is, failed) = c.in_err-flush.ensures.err in
     let fed = c.pieces.invariant.fed in
-    rw (p.1, p.2, is) (where_known _ _ _ _ fed.consumed (λ bytes rest left e.
-    (fed.went.text, at_write rest _ e (Begins-all fed.went.goes), broke_on_flush fed.went.sent failed)))
+    let (text, goes, sent) = fed.went in
+    rw (p.1, p.2, is) (where_known _ _ _ _ fed.consumed (λ bytes rest left e. (text, at_write rest _ e (Begins-all goes), broke_on_flush sent failed)))
 
 pub returns-in_err-count : goal.returns-in_err-count
 returns-in_err-count g c =
     let p = err_from_is_err_and c.from_residual-in_err-count.result c.from_residual-in_err-count.ensures.1 in
     let fed = c.pieces.invariant.fed in
-    let went = went_flushed fed.went c.in_ok-flush.ensures.ok in
+    let (text, goes, sent) = went_flushed fed.went c.in_ok-flush.ensures.ok in
     rw (p.1, p.2) (where_known _ _ _ _ fed.consumed (λ bytes rest left e.
     let may = rw (c.pieces.invariant.fails, left) at c.in_err-count.ensures.err in (
-      went.text,
-      at_failure rest e (inl (may, (c.pieces.input, c.read_piece.new.piece, c.in_err-count.field-0.0, fed.reads, c.in_err-count.ensures.told))) went.goes,
-      went.sent,
+      text,
+      at_failure rest e (inl (may, (c.pieces.input, c.read_piece.new.piece, c.in_err-count.field-0.0, fed.reads, c.in_err-count.ensures.told))) goes,
+      sent,
     )))
 
 pub returns-then-count-eq0 : goal.returns-then-count-eq0
 returns-then-count-eq0 g c =
-    let source = g.S.Source in
     let sink = g.W.Sink in
     let piece = c.read_piece.new.piece in
     let none : c.in_ok-count.count ≡ 0 = c.if-count-eq0.true in
@@ -49,8 +51,9 @@ returns-then-count-eq0 g c =
     let told = subst EndIsTold c.pieces.invariant.fails (c.in_ok-count.ensures.end none room) in
     let fed = c.pieces.invariant.fed in
     let went = went_flushed fed.went c.in_ok-flush.ensures.ok in
-    let reads = rw (append-nil fed.given) at (fed_read fed piece (Ok 0) c.read_piece.new.self (rw none at c.in_ok-count.ensures.told)) in
-    let consumed = rw (append-nil fed.given) at (fed_consumed fed (source.left c.read_piece.new.self) [] (rw none at c.in_ok-count.ensures.bytes.0)) in
+    let reads = rw (append-nil fed.given) at (reads_more g.S.Source.gave piece (Ok 0) c.read_piece.new.self fed.reads (rw none at c.in_ok-count.ensures.told)) in
+    let consumed = rw (append-nil fed.given) at (Consumes-append _ _ (g.S.Source.left c.read_piece.new.self) fed.given [] fed.consumed
+    (rw none at c.in_ok-count.ensures.bytes.0)) in
     where_known _ _ _ _ consumed (λ bytes rest left e.
     let ended = rw left at (c.in_ok-count.ensures.bytes.1 none room) in
     let all : bytes ≡ fed.given = e ∙ rw (ended, append-nil) in
@@ -65,31 +68,26 @@ returns-in_err-take_piece g c =
     let count = c.in_ok-count.count in
     let fault = c.in_err-take_piece.field-0.0 in
     let fed = c.pieces.invariant.fed in
-    let went = went_flushed fed.went c.in_ok-flush.ensures.ok in
-    let stops = Halts-later sink.takes sink.fails sink.flushes sink.flush_fails (take count piece) c.take_piece.new.out fault went
-    c.in_err-take_piece.ensures.err in
-    let consumed = fed_consumed fed (g.S.Source.left c.read_piece.new.self) (take count piece) c.in_ok-count.ensures.bytes.0 in
-    let reads = fed_read fed piece (Ok count) c.read_piece.new.self c.in_ok-count.ensures.told in
+    let stops = Halts-later sink.takes sink.fails sink.flushes sink.flush_fails (take count piece) c.take_piece.new.out fault
+    (went_flushed fed.went c.in_ok-flush.ensures.ok) c.in_err-take_piece.ensures.err in
+    let consumed = Consumes-append _ _ (g.S.Source.left c.read_piece.new.self) fed.given (take count piece) fed.consumed c.in_ok-count.ensures.bytes.0 in
+    let reads = reads_more g.S.Source.gave piece (Ok count) c.read_piece.new.self fed.reads c.in_ok-count.ensures.told in
     rw (p.1, p.2) (where_known _ _ _ _ consumed (λ bytes rest left e. Ends-stops rest _ _ _ _ _ fault e reads stops))
 
 pub pieces-preserved : goal.pieces-preserved
 pieces-preserved g c =
-    let sink = g.W.Sink in
     let room = c.read_piece.new.piece in
-    let piece = take c.in_ok-count.count room in
-    let taken : length piece ≡ c.in_ok-count.count = length-take-le c.in_ok-count.count room c.in_ok-count.ensures.bound in
-    let bounded : c.in_ok-count.count ≤ 8192 = search rules in
-    let (text, goes, sent) = c.in_ok-take_piece.ensures.ok in
+    let count = c.in_ok-count.count in
+    let piece = take count room in
+    let taken : length piece ≡ count = length-take-le count room c.in_ok-count.ensures.bound in
+    let bounded : count ≤ 8192 = search rules in
     let fed = c.pieces.invariant.fed in
-    let went = went_flushed fed.went c.in_ok-flush.ensures.ok in
-    let more : Went sink.takes sink.flushes (place_of c.pieces.feed) piece (place_of c.take_piece.new.self) c.flush.new.out c.take_piece.new.out =
-    record { text = text; goes = goes; sent = sent } in
     record {
       fed = record {
         given = fed.given ++ piece;
-        consumed = fed_consumed fed (g.S.Source.left c.read_piece.new.self) piece c.in_ok-count.ensures.bytes.0;
-        reads = fed_read fed room (Ok c.in_ok-count.count) c.read_piece.new.self c.in_ok-count.ensures.told;
-        went = went_on went more;
+        consumed = Consumes-append _ _ (g.S.Source.left c.read_piece.new.self) fed.given piece fed.consumed c.in_ok-count.ensures.bytes.0;
+        reads = reads_more g.S.Source.gave room (Ok count) c.read_piece.new.self fed.reads c.in_ok-count.ensures.told;
+        went = went_on (went_flushed fed.went c.in_ok-flush.ensures.ok) c.in_ok-take_piece.ensures.ok;
       };
       turns = omega (arith, c.pieces.invariant.turns, length-append fed.given piece);
       fails = c.read_piece.ensures.stays ∙ c.pieces.invariant.fails;
@@ -99,5 +97,5 @@ pieces-preserved g c =
 pub returns : goal.returns
 returns g c =
     let fed = c.pieces.invariant.fed in
-    where_known _ _ _ _ fed.consumed (λ bytes rest left e.
-    (fed.went.text, at_failure rest e (inr (omega (arith, c.pieces.invariant.turns), fed.reads)) fed.went.goes, fed.went.sent))
+    let (text, goes, sent) = fed.went in
+    where_known _ _ _ _ fed.consumed (λ bytes rest left e. (text, at_failure rest e (inr (omega (arith, c.pieces.invariant.turns), fed.reads)) goes, sent))

@@ -3,7 +3,7 @@ use Rattle.std.proofs.Common.{◌≡◌, ◌+◌, ◌++◌, [], ◌∷◌, lengt
 use Rattle.std.proofs.lemmas.Result.{err_from_is_err_and}
 use Rattle.tera_report.proofs.SentLaws.{sends_nothing}
 use Rattle.tera_replies.specs.{Place.place_of, Script.ended, Script.line_feed, declared.fault.Fault.TheVariants.OutOfMemory}
-use Rattle.tera_replies.proofs.StretchLemmas.{Goes-part, Begins-none, Halts-later, Halts-line, Went, went_nowhere, went_on}
+use Rattle.tera_replies.proofs.StretchLemmas.{Goes-part, Begins-none, Halts-later, Halts-line, went_nowhere, went_on}
 use Rattle.tera_replies.proofs.feed.Feed.take_piece.Goals as goal
 
 pub lines-init : goal.lines-init
@@ -20,26 +20,22 @@ returns-in_err-end_line-clause-err g c =
     let later = c.in-Some.later.now in
     let fault = c.in_err-end_line.field-0.0 in
     let stops = Halts-line sink.takes sink.fails sink.flushes sink.flush_fails (place_of c.lines.self) line later c.lines.out c.end_line.new.out fault
-    before.went.goes.rest line_in c.in_err-end_line.ensures.err in
+    before.went.1.rest line_in c.in_err-end_line.ensures.err in
     rw (p.1, p.2, before.piece_is, is) (Halts-later sink.takes sink.fails sink.flushes sink.flush_fails (ended line ++ later) c.end_line.new.out fault
     before.went stops)
 
 pub lines-preserved : goal.lines-preserved
 lines-preserved g c =
-    let sink = g.W.Sink in
     let before = c.lines.invariant in
-    let (text, goes, sent) = c.in_ok-end_line.ensures.ok in
     let (line_in, is) = c.in-Some.ensures.found in
     let line = c.in-Some.line.now in
     let later = c.in-Some.later.now in
     let lengths : length c.lines.rest.now ≡ length line + 1 + length later =
     omega (arith, ap length is, length-append (ended line) later, length-append line (line_feed ∷ [])) in
-    let more : Went sink.takes sink.flushes (place_of c.lines.self) (ended line) (place_of c.end_line.new.self) c.lines.out c.end_line.new.out =
-    record { text = text; goes = goes; sent = sent } in
     record {
       read = before.read ++ ended line;
       piece_is = before.piece_is ∙ rw is (sym (append_assoc before.read (ended line) later));
-      went = went_on before.went more;
+      went = went_on before.went c.in_ok-end_line.ensures.ok;
       room = omega (arith, lengths, c.in_ok-end_line.ensures.number);
     }
 
@@ -49,19 +45,13 @@ returns-in_err-extend_from_slice-clause-err g c =
     let p = err_from_is_err_and c.from_residual-in_err-extend_from_slice.result c.from_residual-in_err-extend_from_slice.ensures.1 in
     let before = c.lines.invariant in
     let rest = c.lines.rest.now in
-    let begins = Begins-none (place_of c.lines.self) rest before.went.goes.rest in
+    let begins = Begins-none (place_of c.lines.self) rest before.went.1.rest in
     rw (p.1, p.2, before.piece_is) (Halts-later sink.takes sink.fails sink.flushes sink.flush_fails rest c.lines.out OutOfMemory before.went
     ([], begins, sends_nothing sink.takes sink.flushes c.lines.out))
 
 pub returns-clause-ok : goal.returns-clause-ok
 returns-clause-ok g c =
-    let sink = g.W.Sink in
     let before = c.lines.invariant in
-    let now = place_of c.lines.self in
-    let rest = c.lines.rest.now in
-    let new = record now { part = c.extend_from_slice.new.self.items } in
-    let goes = Goes-part now rest new.part before.went.goes.rest c.in_default.ensures.none c.in_ok-extend_from_slice.ensures.items in
-    let more : Went sink.takes sink.flushes now rest new c.lines.out c.lines.out =
-    record { text = []; goes = goes; sent = sends_nothing sink.takes sink.flushes c.lines.out } in
-    let all = went_on before.went more in
-    rw before.piece_is (all.text, all.goes, all.sent)
+    let part = c.extend_from_slice.new.self.items in
+    let goes = Goes-part (place_of c.lines.self) c.lines.rest.now part before.went.1.rest c.in_default.ensures.none c.in_ok-extend_from_slice.ensures.items in
+    rw before.piece_is (went_on before.went ([], goes, sends_nothing g.W.Sink.takes g.W.Sink.flushes c.lines.out))
