@@ -3,7 +3,7 @@ use Rattle.std.proofs.Common.{◌≡◌, ℕ, ◌+◌, ◌-◌, ◌^◌, ◌≤�
 use Rattle.std.proofs.Common.{Result, Ok, Err, IfOk, IfErr, sym, ◌∙◌, ap, subst, refl, append_assoc, append-nil, arith}
 use Rattle.std.proofs.lemmas.List.{length-map, map-append}
 use Rattle.std.specs.List.{flat_map}
-use Rattle.tera_meaning.specs.{State.State, Outcome.Outcome, Request.Command}
+use Rattle.tera_meaning.specs.{State.State, Outcome.Outcome}
 use Rattle.tera_script.specs.Line.{IsBad}
 use Rattle.tera_report.specs.{Report.Report, Report.report_text, Sink.Sends}
 use Rattle.tera_report.proofs.SentLaws.{sends_joined}
@@ -81,13 +81,6 @@ all_given (Some true) lines part told = absurd told
 all_given (Some false) lines part told = refl
 all_given None lines part told = refl
 
--- a script ends at its first bad line
-Script-bad : (n m : ℕ) (xs : List (List ℕ)) (line : List ℕ) (ys : List (List ℕ)) (cs : List Command) → Script n xs cs None → m ≡ n + length xs → IsBad line
-    → Script n (xs ++ line ∷ ys) cs (Some (bad_at m line))
-Script-bad n m xs line ys cs s e bad =
-    let P : List Command → Type 0 = λ c. Script n (xs ++ line ∷ ys) c (Some (bad_at m line)) in
-    subst P (append-nil cs) (Script-append n xs (line ∷ ys) cs [] (Some (bad_at m line)) s m e (inr (inr (bad, refl, refl))))
-
 counted : {bytes text : List ℕ} {p : Place} (g : Goes start bytes text p) → p.number ≡ 1 + length (map without_return g.lines)
 counted g = omega (arith, g.number_is, length-map g.lines without_return)
 
@@ -119,7 +112,8 @@ bad_answered : {bytes read text : List ℕ} {p : Place} (fails : Option Bool) (g
     (part : List ℕ) → Splits bytes lines part → lines_given fails lines part ≡ map without_return g.lines ++ line ∷ more → IsBad line
     → AllAnswered bytes fails text (report (Some (bad_at p.number line))) 2
 bad_answered {p} fails g line lines more part split given bad =
-    let script = Script-bad 1 p.number (map without_return g.lines) line more g.runs.commands g.runs.script (counted g) bad in
+    let script = rw (append-nil g.runs.commands) at (Script-append 1 (map without_return g.lines) (line ∷ more) g.runs.commands []
+    (Some (bad_at p.number line)) g.runs.script p.number (counted g) (inr (inr (bad, refl, refl)))) in
     record {
       lines = lines;
       part = part;
@@ -152,10 +146,6 @@ at_bad_end {p} fails told g whole bad =
     bad_answered fails g p.part g.lines [] p.part (record { whole = g.split; each = g.each; rest = g.rest })
     (all_given fails g.lines p.part told ∙ ap (λ (zs : List (List ℕ)). map without_return g.lines ++ zs) whole) bad
 
--- the lines read whole, none of them bad
-runs_answer : {bytes text : List ℕ} {p : Place} (g : Goes start bytes text p) → AreAnswered (map without_return g.lines) None g.runs.outcomes
-runs_answer {p} g = record { commands = g.runs.commands; state = p.state; script = g.runs.script; run = g.runs.run }
-
 -- no memory was found
 at_memory : {bytes given text : List ℕ} (rest : List ℕ) (InGave : List ℕ → Type 0) → bytes ≡ given ++ rest → InGave given → Begins start given text
     → MemoryFailed bytes InGave text (codes "error: Out of memory\n") 1
@@ -174,7 +164,7 @@ at_memory {given} rest InGave e gave s =
       outcomes = g.runs.outcomes;
       split = Splits-more g.lines later g.each split (regrouped s.unread g s.bytes_are);
       lines_are = map-append without_return g.lines later;
-      answers = runs_answer g;
+      answers = record { commands = g.runs.commands; state = s.place.state; script = g.runs.script; run = g.runs.run };
       replied = g.runs.replied;
       err_is = refl;
       status_is = refl;
@@ -198,7 +188,7 @@ at_failure {given} {p} rest e cause g = record {
   front = e;
   cause = cause;
   split = record { whole = g.split; each = g.each; rest = g.rest };
-  answers = runs_answer g;
+  answers = record { commands = g.runs.commands; state = p.state; script = g.runs.script; run = g.runs.run };
   replied = g.runs.replied;
   err_is = refl;
   status_is = refl;

@@ -4,8 +4,6 @@ use Rattle.std.proofs.lemmas.List.Concat.{flat_map-append}
 use Rattle.std.specs.Io.KnownBytes.{Consumes}
 use Rattle.tera_report.specs.inner.WriterLaws.{folds_joined}
 use Rattle.tera_replies.specs.{declared.source.ReadError.ReadError, Source.Attempt, Source.bytes_given, Source.given_by, Source.Reads}
-use Rattle.tera_replies.specs.Stretch.{Place, start}
-use Rattle.tera_replies.proofs.StretchLemmas.{Went}
 
 pub Consumes-none : (known : Option (List ℕ)) → Consumes known known []
 Consumes-none None = tt
@@ -38,11 +36,3 @@ reads_more gave {s} {t} piece answer u f one =
       calls = folds_joined (λ x b y. gave x b.piece b.answer y) s f.attempts t (a ∷ []) u f.calls (u, one, refl);
       whole = flat_map-append given_by f.attempts (a ∷ []) ∙ (λ i. f.whole i ++ append-nil (bytes_given answer piece) i);
     }
-
--- Of the bytes that the source first had these are left, and those that it gave are answered.
-pub record Fed {R S : Type 0} (gave : R → List ℕ → Result ℕ ReadError → R → Type 0) (in_old in_now : R) (takes : S → List ℕ → S → Type 0)
-    (flushes : S → S → Type 0) (first left : Option (List ℕ)) (now : Place) (before after : S) : Type 0 where
-  pub given : List ℕ
-  pub consumed : Consumes first left given
-  pub reads : Reads gave in_old given in_now
-  pub went : Went takes flushes start given now before after

@@ -57,8 +57,7 @@ first_line [] [] x y p q e = (refl, cc)
 first_line [] (b ∷ m) x y p q e = absurd (All-head (λ byte. byte ≢ line_feed) b m q (let is : b ≡ line_feed = cc in is))
 first_line (a ∷ l) [] x y p q e = absurd (All-head (λ byte. byte ≢ line_feed) a l p (let is : a ≡ line_feed = cc in is))
 first_line (a ∷ l) (b ∷ m) x y p q e =
-    let tails : l ++ line_feed ∷ x ≡ m ++ line_feed ∷ y = cc in
-    let more = first_line l m x y (All-tail (λ byte. byte ≢ line_feed) a l p) (All-tail (λ byte. byte ≢ line_feed) b m q) tails in
+    let more = first_line l m x y (All-tail (λ byte. byte ≢ line_feed) a l p) (All-tail (λ byte. byte ≢ line_feed) b m q) (cc) in
     (cc more.0, more.1)
 
 -- no whole line is in a part of one

@@ -11,12 +11,10 @@ pub pieces-init : goal.pieces-init
 pieces-init g c =
     let input = c.args.input.now in
     record {
-      fed = rw c.new-feed.ensures (record {
-        given = [];
-        consumed = Consumes-none (g.S.Source.left input);
-        reads = reads_nothing g.S.Source.gave input;
-        went = went_nowhere start c.args.out.now (λ k d h. absurd (omega arith));
-      });
+      given = [];
+      consumed = Consumes-none (g.S.Source.left input);
+      reads = reads_nothing g.S.Source.gave input;
+      went = rw c.new-feed.ensures (went_nowhere start c.args.out.now (λ k d h. absurd (omega arith)));
       turns = omega arith;
       fails = refl;
       room = search rules;
@@ -26,19 +24,19 @@ pub returns-in_err-flush : goal.returns-in_err-flush
 returns-in_err-flush g c =
     let p = err_from_is_err_and c.from_residual.result c.from_residual.ensures.1 in
     let (is, failed) = c.in_err-flush.ensures.err in
-    let fed = c.pieces.invariant.fed in
-    let (text, goes, sent) = fed.went in
-    rw (p.1, p.2, is) (where_known _ _ _ _ fed.consumed (λ bytes rest left e. (text, at_write rest _ e (Begins-all goes), broke_on_flush sent failed)))
+    let before = c.pieces.invariant in
+    let (text, goes, sent) = before.went in
+    rw (p.1, p.2, is) (where_known _ _ _ _ before.consumed (λ bytes rest left e. (text, at_write rest _ e (Begins-all goes), broke_on_flush sent failed)))
 
 pub returns-in_err-count : goal.returns-in_err-count
 returns-in_err-count g c =
     let p = err_from_is_err_and c.from_residual-in_err-count.result c.from_residual-in_err-count.ensures.1 in
-    let fed = c.pieces.invariant.fed in
-    let (text, goes, sent) = went_flushed fed.went c.in_ok-flush.ensures.ok in
-    rw (p.1, p.2) (where_known _ _ _ _ fed.consumed (λ bytes rest left e.
-    let may = rw (c.pieces.invariant.fails, left) at c.in_err-count.ensures.err in (
+    let before = c.pieces.invariant in
+    let (text, goes, sent) = went_flushed before.went c.in_ok-flush.ensures.ok in
+    rw (p.1, p.2) (where_known _ _ _ _ before.consumed (λ bytes rest left e.
+    let may = rw (before.fails, left) at c.in_err-count.ensures.err in (
       text,
-      at_failure rest e (inl (may, (c.pieces.input, c.read_piece.new.piece, c.in_err-count.field-0.0, fed.reads, c.in_err-count.ensures.told))) goes,
+      at_failure rest e (inl (may, (c.pieces.input, c.read_piece.new.piece, c.in_err-count.field-0.0, before.reads, c.in_err-count.ensures.told))) goes,
       sent,
     )))
 
@@ -48,15 +46,15 @@ returns-then-count-eq0 g c =
     let piece = c.read_piece.new.piece in
     let none : c.in_ok-count.count ≡ 0 = c.if-count-eq0.true in
     let room : 0 < length piece = search rules in
-    let told = subst EndIsTold c.pieces.invariant.fails (c.in_ok-count.ensures.end none room) in
-    let fed = c.pieces.invariant.fed in
-    let went = went_flushed fed.went c.in_ok-flush.ensures.ok in
-    let reads = rw (append-nil fed.given) at (reads_more g.S.Source.gave piece (Ok 0) c.read_piece.new.self fed.reads (rw none at c.in_ok-count.ensures.told)) in
-    let consumed = rw (append-nil fed.given) at (Consumes-append _ _ (g.S.Source.left c.read_piece.new.self) fed.given [] fed.consumed
+    let before = c.pieces.invariant in
+    let told = subst EndIsTold before.fails (c.in_ok-count.ensures.end none room) in
+    let went = went_flushed before.went c.in_ok-flush.ensures.ok in
+    let reads = rw (append-nil before.given) at (reads_more g.S.Source.gave piece (Ok 0) c.read_piece.new.self before.reads (rw none at c.in_ok-count.ensures.told)) in
+    let consumed = rw (append-nil before.given) at (Consumes-append _ _ (g.S.Source.left c.read_piece.new.self) before.given [] before.consumed
     (rw none at c.in_ok-count.ensures.bytes.0)) in
     where_known _ _ _ _ consumed (λ bytes rest left e.
     let ended = rw left at (c.in_ok-count.ensures.bytes.1 none room) in
-    let all : bytes ≡ fed.given = e ∙ rw (ended, append-nil) in
+    let all : bytes ≡ before.given = e ∙ rw (ended, append-nil) in
     rw all (Ends-all sink.takes sink.fails sink.flushes sink.flush_fails _ _ _ c.finish.new.self.context c.finish.new.out c.finish.result went reads told
     c.finish.ensures.ok c.finish.ensures.err))
 
@@ -67,11 +65,11 @@ returns-in_err-take_piece g c =
     let piece = c.read_piece.new.piece in
     let count = c.in_ok-count.count in
     let fault = c.in_err-take_piece.field-0.0 in
-    let fed = c.pieces.invariant.fed in
+    let before = c.pieces.invariant in
     let stops = Halts-later sink.takes sink.fails sink.flushes sink.flush_fails (take count piece) c.take_piece.new.out fault
-    (went_flushed fed.went c.in_ok-flush.ensures.ok) c.in_err-take_piece.ensures.err in
-    let consumed = Consumes-append _ _ (g.S.Source.left c.read_piece.new.self) fed.given (take count piece) fed.consumed c.in_ok-count.ensures.bytes.0 in
-    let reads = reads_more g.S.Source.gave piece (Ok count) c.read_piece.new.self fed.reads c.in_ok-count.ensures.told in
+    (went_flushed before.went c.in_ok-flush.ensures.ok) c.in_err-take_piece.ensures.err in
+    let consumed = Consumes-append _ _ (g.S.Source.left c.read_piece.new.self) before.given (take count piece) before.consumed c.in_ok-count.ensures.bytes.0 in
+    let reads = reads_more g.S.Source.gave piece (Ok count) c.read_piece.new.self before.reads c.in_ok-count.ensures.told in
     rw (p.1, p.2) (where_known _ _ _ _ consumed (λ bytes rest left e. Ends-stops rest _ _ _ _ _ fault e reads stops))
 
 pub pieces-preserved : goal.pieces-preserved
@@ -81,21 +79,19 @@ pieces-preserved g c =
     let piece = take count room in
     let taken : length piece ≡ count = length-take-le count room c.in_ok-count.ensures.bound in
     let bounded : count ≤ 8192 = search rules in
-    let fed = c.pieces.invariant.fed in
+    let before = c.pieces.invariant in
     record {
-      fed = record {
-        given = fed.given ++ piece;
-        consumed = Consumes-append _ _ (g.S.Source.left c.read_piece.new.self) fed.given piece fed.consumed c.in_ok-count.ensures.bytes.0;
-        reads = reads_more g.S.Source.gave room (Ok count) c.read_piece.new.self fed.reads c.in_ok-count.ensures.told;
-        went = went_on (went_flushed fed.went c.in_ok-flush.ensures.ok) c.in_ok-take_piece.ensures.ok;
-      };
-      turns = omega (arith, c.pieces.invariant.turns, length-append fed.given piece);
-      fails = c.read_piece.ensures.stays ∙ c.pieces.invariant.fails;
+      given = before.given ++ piece;
+      consumed = Consumes-append _ _ (g.S.Source.left c.read_piece.new.self) before.given piece before.consumed c.in_ok-count.ensures.bytes.0;
+      reads = reads_more g.S.Source.gave room (Ok count) c.read_piece.new.self before.reads c.in_ok-count.ensures.told;
+      went = went_on (went_flushed before.went c.in_ok-flush.ensures.ok) c.in_ok-take_piece.ensures.ok;
+      turns = omega (arith, before.turns, length-append before.given piece);
+      fails = c.read_piece.ensures.stays ∙ before.fails;
       room = omega (arith, c.in_ok-take_piece.ensures.number);
     }
 
 pub returns : goal.returns
 returns g c =
-    let fed = c.pieces.invariant.fed in
-    let (text, goes, sent) = fed.went in
-    where_known _ _ _ _ fed.consumed (λ bytes rest left e. (text, at_failure rest e (inr (omega (arith, c.pieces.invariant.turns), fed.reads)) goes, sent))
+    let before = c.pieces.invariant in
+    let (text, goes, sent) = before.went in
+    where_known _ _ _ _ before.consumed (λ bytes rest left e. (text, at_failure rest e (inr (omega (arith, before.turns), before.reads)) goes, sent))
