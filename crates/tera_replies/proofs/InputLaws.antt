@@ -1,9 +1,228 @@
--- The whole input, piece by piece.
-use Rattle.std.proofs.Common.{◌≡◌, ℕ, ◌∷◌, List, [], ◌++◌, Option, None, Some, Result, IfSome, ◌∙◌, ap, sym, refl, append_assoc, append-nil}
-use Rattle.std.proofs.lemmas.List.Concat.{flat_map-append}
-use Rattle.std.specs.Io.KnownBytes.{Consumes}
-use Rattle.tera_report.specs.inner.WriterLaws.{folds_joined}
-use Rattle.tera_replies.specs.{declared.source.ReadError.ReadError, Source.Attempt, Source.bytes_given, Source.given_by, Source.Reads}
+-- What a stretch from the start on says of the whole input, which is read piece by piece.
+use Rattle.std.proofs.Common.{◌≡◌, ℕ, ◌+◌, ◌-◌, ◌^◌, ◌≤◌, Bool, true, false, ◌||◌, ◌⊎◌, inr, List, [], ◌∷◌, ◌++◌, length, map, codes, Option, None, Some, cond}
+use Rattle.std.proofs.Common.{Result, Ok, Err, IfOk, IfErr, sym, ◌∙◌, ap, subst, refl, append_assoc, append-nil, arith, IfSome}
+use Rattle.std.proofs.{lemmas.List.length-map, lemmas.List.map-append, lemmas.List.Concat.flat_map-append}
+use Rattle.std.specs.{Io.KnownBytes.Consumes, List.flat_map}
+use Rattle.tera_meaning.specs.{Outcome.Outcome, State.State}
+use Rattle.tera_script.specs.Line.{IsBad}
+use Rattle.tera_report.specs.{Report.Report, Report.report_text, inner.WriterLaws.folds_joined, Sink.Sends}
+use Rattle.tera_report.proofs.SentLaws.{sends_joined}
+use Rattle.tera_replies.specs.declared.fault.Fault.TheVariants.{BadLine, ReadFailed, WriteFailed, OutOfMemory}
+use Rattle.tera_replies.specs.Stretch.{bad_at, Runs, Place, Goes, StopsAtBad, Begins, LineStops, Ends, Stops, start}
+use Rattle.tera_replies.specs.Replay.{lines_given, AllAnswered, ReadingFailed, MemoryFailed, WritingFailed, AreAnswered, report}
+use Rattle.tera_replies.specs.{Script.Splits, Script.without_return, Script.last_line, Script.ended, Script.line_feed, Reply.AreReplies}
+use Rattle.tera_replies.specs.{Source.EndIsTold, Source.MayErr, Source.Attempt, Source.bytes_given, Source.given_by, Source.Reads, declared.fault.Fault.Fault}
+use Rattle.tera_replies.specs.{declared.source.ReadError.ReadError, Output.BrokeOn}
+use Rattle.tera_replies.proofs.StretchLemmas.{Runs-append, Script-append, Begins-all, Went, sent_still, Splits-more, splits, split_line}
+use Rattle.tera_replies.proofs.ReplyLemmas.{broke_on_later}
+
+-- ---- what an output that broke was to get
+
+-- the first of the lines are among those given
+first_given : (fails : Option Bool) (xs ys : List (List ℕ)) (part : List ℕ) → (more : List (List ℕ))
+    × (lines_given fails (xs ++ ys) part ≡ map without_return xs ++ (map without_return ys ++ more))
+first_given (Some true) xs ys part = ([], simp (map-append, append-nil))
+first_given (Some false) xs ys part = (last_line part, simp (map-append, append_assoc))
+first_given None xs ys part = (last_line part, simp (map-append, append_assoc))
+
+-- replies to the first lines of a beginning of the bytes
+among_given : (bytes given rest out : List ℕ) (fails : Option Bool) (lines first later : List (List ℕ)) (part : List ℕ) (outcomes : List Outcome)
+    → bytes ≡ given ++ rest → Splits given lines part → map without_return lines ≡ first ++ later → AreAnswered first None outcomes → AreReplies outcomes out
+    → WritingFailed bytes fails out
+among_given bytes given rest out fails lines first later part outcomes front split are answers replied =
+    let (others, end, s) = splits (part ++ rest) in
+    let (more, among) = first_given fails lines others end in
+    record {
+      lines = lines ++ others;
+      part = end;
+      first = first;
+      later = later ++ (map without_return others ++ more);
+      bad = None;
+      outcomes = outcomes;
+      split = Splits-more lines others split.each s
+          (front ∙ ap (λ (zs : List ℕ). zs ++ rest) split.whole ∙ append_assoc (flat_map ended lines) part rest);
+      lines_are = among ∙ ap (λ (zs : List (List ℕ)). zs ++ (map without_return others ++ more)) are
+          ∙ append_assoc first later (map without_return others ++ more);
+      answers = answers;
+      replied = replied;
+    }
+
+-- the replies that were due are, however the input ended, those to the first of the lines
+pub broke_at_end : {bytes out err : List ℕ} {fails : Option Bool} {status : ℕ} → AllAnswered bytes fails out err status → WritingFailed bytes fails out
+broke_at_end {fails} h = record {
+  lines = h.lines;
+  part = h.part;
+  first = lines_given fails h.lines h.part;
+  later = [];
+  bad = h.bad;
+  outcomes = h.outcomes;
+  split = h.split;
+  lines_are = sym (append-nil (lines_given fails h.lines h.part));
+  answers = h.answers;
+  replied = h.replied;
+}
+
+pub broke_at_failure : {bytes out err : List ℕ} {fails : Option Bool} {InGave InFailed : List ℕ → Type 0} {status : ℕ}
+    → ReadingFailed bytes fails InGave InFailed out err status → WritingFailed bytes fails out
+broke_at_failure {bytes} {out} {fails} h =
+    among_given bytes h.given h.rest out fails h.lines (map without_return h.lines) [] h.part h.outcomes h.front h.split
+    (sym (append-nil (map without_return h.lines))) h.answers h.replied
+
+pub broke_at_memory : {bytes out err : List ℕ} {InGave : List ℕ → Type 0} {status : ℕ} (fails : Option Bool) → MemoryFailed bytes InGave out err status
+    → WritingFailed bytes fails out
+broke_at_memory {bytes} {out} fails h =
+    among_given bytes h.given h.rest out fails h.lines h.first h.later h.part h.outcomes h.front h.split h.lines_are h.answers h.replied
+
+-- ---- how the input ended
+
+-- a source that tells its end gives what follows the last line feed
+all_given : (fails : Option Bool) (lines : List (List ℕ)) (part : List ℕ) → EndIsTold fails
+    → lines_given fails lines part ≡ map without_return lines ++ last_line part
+all_given (Some true) lines part told = absurd told
+all_given (Some false) lines part told = refl
+all_given None lines part told = refl
+
+counted : {bytes text : List ℕ} {p : Place} (g : Goes start bytes text p) → p.number ≡ 1 + length (map without_return g.lines)
+counted g = omega (arith, g.number_is, length-map g.lines without_return)
+
+-- the bytes, as the whole lines so far, the part at hand, and more
+regrouped : {bytes read text : List ℕ} {p : Place} (more : List ℕ) (g : Goes start read text p) → bytes ≡ read ++ more
+    → bytes ≡ flat_map ended g.lines ++ (p.part ++ more)
+regrouped {p} more g e = e ∙ ap (λ (zs : List ℕ). zs ++ more) g.split ∙ append_assoc (flat_map ended g.lines) p.part more
+
+-- the input ended
+at_end : {bytes text more : List ℕ} {p : Place} {v : Bool} {new : State} (fails : Option Bool) → EndIsTold fails → Goes start bytes text p
+    → Runs p.number p.state (last_line p.part) more v new → AllAnswered bytes fails (text ++ more) [] (cond (p.wanted || v) 1 0)
+at_end {p} {v} {new} fails told g h =
+    let all = Runs-append g.runs (counted g) h in
+    record {
+      lines = g.lines;
+      part = p.part;
+      bad = None;
+      outcomes = all.outcomes;
+      split = record { whole = g.split; each = g.each; rest = g.rest };
+      answers = record { commands = all.commands; state = new; script = rw (all_given fails g.lines p.part told) all.script; run = all.run };
+      ended = λ is. absurd (subst EndIsTold is told);
+      replied = all.replied;
+      err_is = refl;
+      status_is = ap (λ (w : Bool). cond (w || v) 1 0) g.wanted_is ∙ ap (λ (w : Bool). cond w 1 0) all.wanted_is;
+    }
+
+-- a line behind the whole ones is bad
+bad_answered : {bytes read text : List ℕ} {p : Place} (fails : Option Bool) (g : Goes start read text p) (line : List ℕ) (lines more : List (List ℕ))
+    (part : List ℕ) → Splits bytes lines part → lines_given fails lines part ≡ map without_return g.lines ++ line ∷ more → IsBad line
+    → AllAnswered bytes fails text (report (Some (bad_at p.number line))) 2
+bad_answered {p} fails g line lines more part split given bad =
+    let script = rw (append-nil g.runs.commands) at (Script-append 1 (map without_return g.lines) (line ∷ more) g.runs.commands []
+    (Some (bad_at p.number line)) g.runs.script p.number (counted g) (inr (inr (bad, refl, refl)))) in
+    record {
+      lines = lines;
+      part = part;
+      bad = Some (bad_at p.number line);
+      outcomes = g.runs.outcomes;
+      split = split;
+      answers = record { commands = g.runs.commands; state = p.state; script = rw given script; run = g.runs.run };
+      ended = λ is. refl;
+      replied = g.runs.replied;
+      err_is = refl;
+      status_is = refl;
+    }
+
+-- a line that ends with a line feed is bad
+at_bad : {bytes given text : List ℕ} {r : Report} (rest : List ℕ) (fails : Option Bool) → bytes ≡ given ++ rest → StopsAtBad start given r text
+    → AllAnswered bytes fails text (ended (report_text r)) 2
+at_bad {bytes} rest fails e s =
+    let part = s.place.part in
+    let (later, end, split) = split_line part (s.unread ++ rest) s.goes.rest in
+    let (more, given) = first_given fails s.goes.lines (part ∷ later) end in
+    let whole : bytes ≡ s.read ++ line_feed ∷ (s.unread ++ rest) =
+    e ∙ ap (λ (zs : List ℕ). zs ++ rest) s.bytes_are ∙ append_assoc s.read (line_feed ∷ s.unread) rest in
+    rw s.report_is (bad_answered fails s.goes (without_return part) (s.goes.lines ++ part ∷ later) (map without_return later ++ more) end
+    (Splits-more s.goes.lines (part ∷ later) s.goes.each split (regrouped (line_feed ∷ s.unread ++ rest) s.goes whole)) given s.bad)
+
+-- what follows the last line feed is bad
+at_bad_end : {bytes text : List ℕ} {p : Place} (fails : Option Bool) → EndIsTold fails → Goes start bytes text p → last_line p.part ≡ p.part ∷ []
+    → IsBad p.part → AllAnswered bytes fails text (report (Some (bad_at p.number p.part))) 2
+at_bad_end {p} fails told g whole bad =
+    bad_answered fails g p.part g.lines [] p.part (record { whole = g.split; each = g.each; rest = g.rest })
+    (all_given fails g.lines p.part told ∙ ap (λ (zs : List (List ℕ)). map without_return g.lines ++ zs) whole) bad
+
+-- no memory was found
+at_memory : {bytes given text : List ℕ} (rest : List ℕ) (InGave : List ℕ → Type 0) → bytes ≡ given ++ rest → InGave given → Begins start given text
+    → MemoryFailed bytes InGave text (codes "error: Out of memory\n") 1
+at_memory {given} rest InGave e gave s =
+    let g = s.goes in
+    let (later, end, split) = splits (s.place.part ++ s.unread) in
+    record {
+      given = given;
+      rest = rest;
+      front = e;
+      gave = gave;
+      lines = g.lines ++ later;
+      part = end;
+      first = map without_return g.lines;
+      later = map without_return later;
+      outcomes = g.runs.outcomes;
+      split = Splits-more g.lines later g.each split (regrouped s.unread g s.bytes_are);
+      lines_are = map-append without_return g.lines later;
+      answers = record { commands = g.runs.commands; state = s.place.state; script = g.runs.script; run = g.runs.run };
+      replied = g.runs.replied;
+      err_is = refl;
+      status_is = refl;
+    }
+
+-- a write of a reply to the first lines failed
+pub at_write : {bytes given text : List ℕ} (rest : List ℕ) (fails : Option Bool) → bytes ≡ given ++ rest → Begins start given text
+    → WritingFailed bytes fails text
+at_write rest fails e s = broke_at_memory fails (at_memory rest (λ zs. Unit {0}) e tt s)
+
+-- reading failed
+pub at_failure : {bytes given text : List ℕ} {fails : Option Bool} {InGave InFailed : List ℕ → Type 0} {p : Place} (rest : List ℕ) → bytes ≡ given ++ rest
+    → (MayErr fails (Some rest) × InFailed given) ⊎ ((2 ^ 64 - 1 ≤ length given) × InGave given) → Goes start given text p
+    → ReadingFailed bytes fails InGave InFailed text (codes "error: reading failed\n") 1
+at_failure {given} {p} rest e cause g = record {
+  given = given;
+  rest = rest;
+  lines = g.lines;
+  part = p.part;
+  outcomes = g.runs.outcomes;
+  front = e;
+  cause = cause;
+  split = record { whole = g.split; each = g.each; rest = g.rest };
+  answers = record { commands = g.runs.commands; state = p.state; script = g.runs.script; run = g.runs.run };
+  replied = g.runs.replied;
+  err_is = refl;
+  status_is = refl;
+}
+
+-- a fault in a stretch from the start on ended the whole
+pub Ends-stops : {bytes given : List ℕ} (rest : List ℕ) (fails : Option Bool) (InGave InFailed OutGets OutBroke : List ℕ → Type 0) (fault : Fault)
+    → bytes ≡ given ++ rest → InGave given → Stops start given OutGets OutBroke fault → Ends bytes fails InGave InFailed OutGets OutBroke (Err fault)
+Ends-stops rest fails InGave InFailed OutGets OutBroke (BadLine r) e gave (text, s, gets) = (text, at_bad rest fails e s, gets)
+Ends-stops rest fails InGave InFailed OutGets OutBroke ReadFailed e gave stops = absurd stops
+Ends-stops rest fails InGave InFailed OutGets OutBroke WriteFailed e gave (text, s, broke) = (text, at_write rest fails e s, broke)
+Ends-stops rest fails InGave InFailed OutGets OutBroke OutOfMemory e gave (text, s, gets) = (text, at_memory rest InGave e gave s, gets)
+
+module _ {S : Type 0} (takes fails_on : S → List ℕ → S → Type 0) (flushes flush_fails : S → S → Type 0) where
+  -- all of the input was read, and what follows the last line feed was answered, or a fault ended it
+  pub Ends-all : {bytes : List ℕ} {now : Place} {before mid : S} (fails : Option Bool) (InGave InFailed : List ℕ → Type 0) (new : State) (after : S)
+      (result : Result Bool Fault) → Went takes flushes start bytes now before mid → InGave bytes → EndIsTold fails
+      → IfOk result (λ wanted. (text : List ℕ) × (last : Bool) × Runs now.number now.state (last_line now.part) text last new
+      × (wanted ≡ (now.wanted || last)) × Sends takes flushes mid text after)
+      → IfErr result (λ fault. (last_line now.part ≡ now.part ∷ []) × LineStops now.number now.state now.part (Sends takes flushes mid [] after)
+      (λ text. BrokeOn takes fails_on flushes flush_fails mid text after) fault)
+      → Ends bytes fails InGave InFailed (λ text. Sends takes flushes before text after)
+      (λ text. BrokeOn takes fails_on flushes flush_fails before text after) result
+  Ends-all fails InGave InFailed new after (Ok wanted) (front, goes, passed) gave told (text, last, runs, is, sent) err =
+      (front ++ text, rw is (at_end fails told goes runs), sends_joined takes flushes _ _ _ _ _ passed sent)
+  Ends-all {bytes} fails InGave InFailed new after (Err (BadLine r)) (front, goes, passed) gave told ok (whole, (is, bad, sent)) =
+      let P : Report → Type 0 = λ said. AllAnswered bytes fails front (ended (report_text said)) 2 in
+      (front, subst P (sym is) (at_bad_end fails told goes whole bad), sent_still passed sent)
+  Ends-all fails InGave InFailed new after (Err ReadFailed) p gave told ok (whole, stops) = absurd stops
+  Ends-all fails InGave InFailed new after (Err WriteFailed) (front, goes, passed) gave told ok (whole, (text, wanted, state, runs, broke)) =
+      (front ++ text, broke_at_end (at_end {v = wanted} {new = state} fails told goes (rw whole runs)), broke_on_later passed broke)
+  Ends-all {bytes} fails InGave InFailed new after (Err OutOfMemory) (front, goes, passed) gave told ok (whole, sent) =
+      (front, at_memory [] InGave (sym (append-nil bytes)) gave (Begins-all goes), sent_still passed sent)
 
 pub Consumes-none : (known : Option (List ℕ)) → Consumes known known []
 Consumes-none None = tt

@@ -1,14 +1,13 @@
 -- From how answering ended to the theorem, and from watched writers to the writers.
 use Rattle.std.proofs.Common.{◌≢◌, ℕ, Bool, inl, inr, List, [], ◌∷◌, Option, None, Some, Result, Ok, Err, IfSome, sym, ◌∙◌, ap, refl}
 use Rattle.std.specs.{declared.io.Error.Error, List.FoldsTo}
-use Rattle.tera_report.specs.Sink.{Use, put, flush, Uses, Sends, Delivers, PutsThese}
 use Rattle.tera_report.specs.Watch.{watched_writer, writer_loan, SameWriter, WatchedTakes, WatchedFails, WatchedFlushes, WatchedFlushFails}
-use Rattle.tera_report.specs.declared.watch.Watched.{Watched}
+use Rattle.tera_report.specs.{Sink.Use, Sink.put, Sink.flush, Sink.Uses, Sink.Sends, Sink.Delivers, Sink.PutsThese, declared.watch.Watched.Watched}
 use Rattle.tera_report.proofs.SentLaws.{watched_sends}
 use Rattle.tera_replies.specs.declared.fault.Fault.TheVariants.{BadLine, ReadFailed, WriteFailed, OutOfMemory}
-use Rattle.tera_replies.specs.{declared.fault.Fault.Fault, Output.BrokeOn, Output.TakesOrFails, Output.WriterBroke, Output.WriterTakesOrFails}
-use Rattle.tera_replies.specs.{Replay.Replays, Replay.Writes, Replay.WritingFailed, Stretch.Ends, Stretch.EndsFlushed, Stretch.told, Stretch.status_at}
-use Rattle.tera_replies.proofs.{PutLemmas.broke_on_flush, EndLemmas.broke_at_end, EndLemmas.broke_at_failure, EndLemmas.broke_at_memory}
+use Rattle.tera_replies.specs.{Output.BrokeOn, Output.TakesOrFails, Output.WriterBroke, Output.WriterTakesOrFails, declared.fault.Fault.Fault}
+use Rattle.tera_replies.specs.{Stretch.Ends, Stretch.EndsFlushed, Stretch.told, Stretch.status_at, Replay.Replays, Replay.Writes, Replay.WritingFailed}
+use Rattle.tera_replies.proofs.{InputLaws.broke_at_end, InputLaws.broke_at_failure, InputLaws.broke_at_memory, ReplyLemmas.broke_on_flush}
 
 -- what was told was put, or putting it failed
 pub told_comes : {S E : Type 0} (takes fails : S → List ℕ → S → Type 0) (put : Result (Unit {0}) E) (text : List ℕ) (old new : S)

@@ -1,18 +1,16 @@
 -- Characters that come off either end of a text, and walks over them.
 use Rattle.std.specs.Prelude.{◌≡◌, ℕ, ◌<◌, ◌≤◌, Bool, true, false, List, [], ◌∷◌, ◌++◌, reverse, length, get_or, slice_get, Option, Some, None, MatchOption}
 use Rattle.std.specs.Prelude.{refl, ◌⊎◌, ◌+◌, ◌-◌, ◌^◌, min, zero, suc, ℤ, pos, negsuc, int_lt, take, drop}
-use Rattle.std.specs.Str.{chars, IsUtf8, IsCharBoundary, encode_utf8_all, IsAscii}
-use Rattle.std.specs.{Char.encode_utf8, Iterator.SkipsThenYields, declared.str.Chars.Chars}
-use Rattle.std.specs.Str.Iter.{chars_rest, chars_steps, chars_steps_back}
-use Rattle.std.proofs.Common.{inl, inr, sym, ◌∙◌, ap, subst, arith, append-nil, ltb-true, append_assoc}
+use Rattle.std.specs.{Str.chars, Str.IsUtf8, Str.IsCharBoundary, Str.encode_utf8_all, Str.IsAscii, Iterator.SkipsThenYields, declared.str.Chars.Chars}
+use Rattle.std.specs.{Str.Iter.chars_rest, Str.Iter.chars_steps, Str.Iter.chars_steps_back, Char.encode_utf8}
 use Rattle.std.proofs.lemmas.List.{nil_from_length, reverse-append, length-append, length-reverse, length-take, length-drop, drop-drop, take-append-drop}
-use Rattle.std.proofs.lemmas.List.{take_at, drop_at, drop_all}
 use Rattle.std.proofs.lemmas.Str.{chars-nil, encodes-chars, length-le-encodes, chars-append, chars_past_char, IsUtf8-past_char, IsUtf8-take, IsUtf8-drop}
 use Rattle.std.proofs.lemmas.Str.{IsCharBoundary-at_seam, encodes-append, chars-IsAscii, IsUtf8-from_ascii, IsCharBoundary-from_drop}
-use Rattle.std.proofs.str.Laws.{order, one, two, three, four}
-use Rattle.std.proofs.{lemmas.Grind.common_steps, lemmas.Grind.elements, Math.Seq.take-append_seam, Math.Seq.drop-append_seam}
-use Rattle.std.proofs.{lemmas.Iterator.YieldsList-from_chars, lemmas.Iterator.Adapters.option_map_id, lemmas.Iterator.Splits.YieldsList-from_shown_while}
-use Rattle.std.proofs.{lemmas.Iterator.Consumers.nth_from_yields_List, lemmas.Bool.cases_lt}
+use Rattle.std.proofs.Common.{inl, inr, sym, ◌∙◌, ap, subst, arith, append-nil, ltb-true, append_assoc}
+use Rattle.std.proofs.{str.Laws.order, str.Laws.one, str.Laws.two, str.Laws.three, str.Laws.four, Math.Seq.take-append_seam, Math.Seq.drop-append_seam}
+use Rattle.std.proofs.{lemmas.List.take_at, lemmas.List.drop_at, lemmas.List.drop_all, lemmas.Iterator.Splits.YieldsList-from_shown_while}
+use Rattle.std.proofs.{lemmas.Grind.common_steps, lemmas.Grind.elements, lemmas.Iterator.Consumers.nth_from_yields_List, lemmas.Iterator.YieldsList-from_chars}
+use Rattle.std.proofs.{lemmas.Iterator.Adapters.option_map_id, lemmas.Bool.cases_lt}
 use Rattle.tera_scalars.specs.{Ends.chars_from, Ends.near, Ends.far, Positions.turned}
 use Rattle.tera_meaning.specs.Slice.{directed, walked}
 use Rattle.tera_scalars.proofs.PositionLaws.{walked_on, walked_whole}

@@ -1,15 +1,13 @@
 -- The bytes of characters, turned where they stand.
 use Rattle.std.specs.Prelude.{◌≡◌, ◌<◌, ◌≤◌, ◌+◌, ◌-◌, ℕ, true, ◌&&◌, List, [], ◌∷◌, ◌++◌, reverse, length, take, drop, get_or}
-use Rattle.std.specs.Str.{chars, encode_utf8_all, IsUtf8, IsAscii, IsCharBoundary}
-use Rattle.std.specs.{List.swap, Char.encode_utf8}
-use Rattle.std.proofs.Common.{refl, sym, ap, ◌∙◌, subst, arith, append_assoc, append-nil}
+use Rattle.std.specs.{Str.chars, Str.encode_utf8_all, Str.IsUtf8, Str.IsAscii, Str.IsCharBoundary, Char.encode_utf8, List.swap}
 use Rattle.std.proofs.lemmas.List.{reverse-append, length-reverse, length-append, length-take-le, length-drop, get_or-drop, get_or-reverse, get_or_past}
 use Rattle.std.proofs.lemmas.List.{take_at, drop_at, take-append-drop, append_cancel_left, reverse-reverse, nil_from_length, set-append_right}
-use Rattle.std.proofs.lemmas.List.{get_or-append_right}
 use Rattle.std.proofs.lemmas.Str.{IsUtf8-drop, IsUtf8-from_ascii, chars-IsAscii, encodes-IsAscii, chars-nil, scalars-chars, chars_past_char, chars-append}
-use Rattle.std.proofs.lemmas.Str.{encodes-append, encodes-chars, IsCharBoundary-from_take}
 use Rattle.std.proofs.str.Laws.{Shape, of1, of2, of3, of4, shape, both, scalars-append}
-use Rattle.std.proofs.{lemmas.Grind.elements, lemmas.List.Edits.swap_is}
+use Rattle.std.proofs.Common.{refl, sym, ap, ◌∙◌, subst, arith, append_assoc, append-nil}
+use Rattle.std.proofs.{lemmas.Str.encodes-append, lemmas.Str.encodes-chars, lemmas.Str.IsCharBoundary-from_take, lemmas.List.get_or-append_right}
+use Rattle.std.proofs.{lemmas.List.Edits.swap_is, lemmas.Grind.elements}
 use lib.Utf8.{scalars, scalar, scalar_cases}
 
 -- ---- the character at a place

@@ -1,10 +1,10 @@
 -- What is put is the reply to the outcome for which the loan stands, and a line feed.
 use Rattle.std.proofs.Common.{◌≡◌, rules, refl, codes, Ok, Some, None}
 use Rattle.std.proofs.lemmas.Result.{MatchResult-weaker}
-use Rattle.tera_context.specs.Lent
 use Rattle.tera_context.specs.Lent.{lent_form}
 use Rattle.tera_meaning.specs.Answer.{found}
 use Rattle.tera_report.proofs.PutLaws.{puts_these}
+use Rattle.tera_context.specs.Lent
 use Rattle.tera_replies.proofs.answer.put_lent.Goals as goal
 
 pub returns-in-Found-None : goal.returns-in-Found-None

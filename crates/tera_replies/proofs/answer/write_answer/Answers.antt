@@ -1,9 +1,10 @@
 -- What was put is the reply, or a write failed.
-use Rattle.std.proofs.{Common.refl, Common.Ok, Common.Err, lemmas.Result.err_from_is_err_and}
+use Rattle.std.proofs.Common.{refl, Ok, Err}
+use Rattle.std.proofs.lemmas.Result.{err_from_is_err_and}
 use Rattle.tera_context.specs.Call.{answer_of}
 use Rattle.tera_report.specs.Errors.{kind_of, refusal_of}
 use Rattle.tera_replies.specs.Reply.{IsReplyLine}
-use Rattle.tera_replies.proofs.PutLemmas.{reply_sent, reply_failed}
+use Rattle.tera_replies.proofs.ReplyLemmas.{reply_sent, reply_failed}
 use Rattle.tera_replies.proofs.answer.write_answer.Goals as goal
 
 pub returns-in_ok-written-in-Ok-clause-ok : goal.returns-in_ok-written-in-Ok-clause-ok

@@ -1,8 +1,9 @@
 -- What was put is the reply, or a write failed.
-use Rattle.std.proofs.{Common.refl, lemmas.Result.err_from_is_err_and}
+use Rattle.std.proofs.Common.{refl}
+use Rattle.std.proofs.lemmas.Result.{err_from_is_err_and}
 use Rattle.tera_context.specs.Lent.{lent_form}
 use Rattle.tera_replies.specs.Reply.{IsLentLine}
-use Rattle.tera_replies.proofs.PutLemmas.{reply_sent, reply_failed}
+use Rattle.tera_replies.proofs.ReplyLemmas.{reply_sent, reply_failed}
 use Rattle.tera_replies.proofs.answer.write_lent.Goals as goal
 
 pub returns-clause-ok : goal.returns-clause-ok

@@ -1,5 +1,5 @@
 -- A line that is skipped says nothing, and one that says a call is answered by one reply.
-use Rattle.std.proofs.Common.{◌≡◌, ℕ, false, List, [], ◌∷◌, Result, ap}
+use Rattle.std.proofs.Common.{◌≡◌, ℕ, false, List, [], ◌∷◌, Result, inl, refl, ap}
 use Rattle.tera_meaning.specs.{Outcome.Outcome, Outcome.is_want, Request.Command, State.State, Step.IsStep}
 use Rattle.tera_context.specs.Lent.{LentForm, StandsFor, found, printed, lent_form}
 use Rattle.tera_context.specs.{Call.command_of, Steps.ShowsOneOf, declared.call.Answer.Answer}
@@ -8,12 +8,12 @@ use Rattle.tera_report.proofs.SentLaws.{sends_nothing}
 use Rattle.tera_report.specs.declared.errors.Error.{Error}
 use Rattle.tera_script.specs.Line.{Says}
 use Rattle.tera_replies.specs.{Reply.IsLentLine, Reply.IsReplyLine, Stated.outcome_stated, Stretch.Runs}
-use Rattle.tera_replies.proofs.{PutLemmas.line_answered, ReplyLemmas.reply_shown, ReplyLemmas.want_shown, StretchLemmas.Runs-skipped, StretchLemmas.Runs-says}
+use Rattle.tera_replies.proofs.{ReplyLemmas.line_answered, ReplyLemmas.reply_shown, ReplyLemmas.want_shown, StretchLemmas.Runs-silent, StretchLemmas.Runs-says}
 use Rattle.tera_replies.proofs.feed.answer_line.Goals as goal
 
 pub returns-in-Skipped-clause-ok : goal.returns-in-Skipped-clause-ok
 returns-in-Skipped-clause-ok g c =
-    ([], Runs-skipped _ _ _ (rw c.in-Skipped.is at c.in_ok-read_line.ensures.reading), sends_nothing _ _ _)
+    ([], Runs-silent _ _ _ (inl (rw c.in-Skipped.is at c.in_ok-read_line.ensures.reading, (refl, refl))), sends_nothing _ _ _)
 
 -- the reply to what was stated, and a run of the line
 says_stated : (n : ℕ) (old new : State) (line : List ℕ) (command : Command) (answer : Result Answer Error) → Says line command

@@ -1,6 +1,7 @@
 -- Which outcomes make the status 1.
 use Rattle.std.specs.Prelude.{◌≡◌, ◌≢◌, ℕ, Bool, true, false, List, [], ◌∷◌, Ok, Err, cond, refl}
-use Rattle.std.proofs.{Common.ap, Common.sym, Common.◌∙◌, Common.arith, lemmas.Bool.or_parts}
+use Rattle.std.proofs.Common.{ap, sym, ◌∙◌, arith}
+use Rattle.std.proofs.lemmas.Bool.{or_parts}
 use Rattle.tera_report.specs.Refusal.{memory_refused}
 use Rattle.tera_meaning.specs.{Outcome.Outcome, Outcome.out_of_memory, Outcome.is_want, Run.NoneWantsMemory}
 use Rattle.tera_replies.specs.Replay.{wants_memory}

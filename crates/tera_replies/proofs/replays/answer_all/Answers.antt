@@ -1,10 +1,10 @@
 -- What the source gave so far is answered, also where a fault ends the loop.
 use Rattle.std.proofs.Common.{◌≡◌, ◌<◌, ◌≤◌, ◌++◌, [], Ok, inl, inr, length, length-append, take, ◌∙◌, subst, refl, rules, arith, append-nil}
 use Rattle.std.proofs.{lemmas.Result.err_from_is_err_and, lemmas.List.length-take-le}
-use Rattle.tera_replies.specs.{Place.place_of, Stretch.start, Source.EndIsTold}
-use Rattle.tera_replies.proofs.StretchLemmas.{Begins-all, Halts-later, Went, went_flushed, went_nowhere, went_on}
-use Rattle.tera_replies.proofs.{PutLemmas.broke_on_flush, EndLemmas.Ends-all, EndLemmas.Ends-stops, EndLemmas.at_failure, EndLemmas.at_write}
-use Rattle.tera_replies.proofs.InputLaws.{Consumes-none, Consumes-append, reads_nothing, reads_more, where_known}
+use Rattle.tera_replies.specs.{Source.EndIsTold, Stretch.start}
+use Rattle.tera_replies.proofs.InputLaws.{Ends-all, Ends-stops, at_failure, at_write, Consumes-none, Consumes-append, reads_nothing, reads_more, where_known}
+use Rattle.tera_replies.proofs.StretchLemmas.{Begins-all, Halts-later, went_flushed, went_nowhere, went_on}
+use Rattle.tera_replies.proofs.ReplyLemmas.{broke_on_flush}
 use Rattle.tera_replies.proofs.replays.answer_all.Goals as goal
 
 pub pieces-init : goal.pieces-init
@@ -49,7 +49,8 @@ returns-then-count-eq0 g c =
     let before = c.pieces.invariant in
     let told = subst EndIsTold before.fails (c.in_ok-count.ensures.end none room) in
     let went = went_flushed before.went c.in_ok-flush.ensures.ok in
-    let reads = rw (append-nil before.given) at (reads_more g.S.Source.gave piece (Ok 0) c.read_piece.new.self before.reads (rw none at c.in_ok-count.ensures.told)) in
+    let reads = rw (append-nil before.given) at (reads_more g.S.Source.gave piece (Ok 0) c.read_piece.new.self before.reads
+    (rw none at c.in_ok-count.ensures.told)) in
     let consumed = rw (append-nil before.given) at (Consumes-append _ _ (g.S.Source.left c.read_piece.new.self) before.given [] before.consumed
     (rw none at c.in_ok-count.ensures.bytes.0)) in
     where_known _ _ _ _ consumed (λ bytes rest left e.

@@ -1,4 +1,4 @@
-use Rattle.std.proofs.Common.{◌≡◌, ◌*ℤ◌, ℕ, ◌%◌, ◌/◌, pos, sym, ◌∙◌, ap, arith, Some, None, to_z-of_z}
+use Rattle.std.proofs.Common.{◌≡◌, ◌*ℤ◌, ◌/◌, sym, ◌∙◌, ap, arith, Some, None, to_z-of_z}
 use Rattle.tera_meaning.specs.Arithmetic.{small, power_of}
 use Rattle.tera_meaning.proofs.PowerLaws.{power_none, even_power, odd_power, large_half, large_square}
 use Rattle.tera_scalars.proofs.Checked.{not_small, none_is_small, found_small}

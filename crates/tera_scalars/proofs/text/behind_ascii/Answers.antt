@@ -1,4 +1,5 @@
-use Rattle.std.proofs.{Common.arith, lemmas.Str.IsCharBoundary-from_take, lemmas.Str.IsCharBoundary-from_drop, lemmas.Str.IsUtf8-from_ascii}
+use Rattle.std.proofs.Common.{arith}
+use Rattle.std.proofs.lemmas.Str.{IsCharBoundary-from_take, IsCharBoundary-from_drop, IsUtf8-from_ascii}
 use Rattle.tera_scalars.proofs.text.behind_ascii.Goals as goal
 
 pub split_at-requires : goal.split_at-requires

@@ -1,4 +1,5 @@
-use Rattle.std.proofs.{Common.reverse, Common.true, lemmas.List.take_all}
+use Rattle.std.proofs.Common.{reverse, true}
+use Rattle.std.proofs.lemmas.List.{take_all}
 use Rattle.std.specs.Str.{chars}
 use Rattle.tera_scalars.proofs.TextLemmas.{chars_le_bytes}
 use Rattle.tera_scalars.proofs.text.reversed_text.Goals as goal

@@ -1,5 +1,6 @@
 -- The line at hand lies whole in what is left, or is put together.
-use Rattle.std.proofs.{Common.◌≡◌, Common.[], Common.sym, Common.arith, lemmas.Bool.eqb-true, lemmas.List.nil_from_length}
+use Rattle.std.proofs.Common.{◌≡◌, [], sym, arith}
+use Rattle.std.proofs.{lemmas.List.nil_from_length, lemmas.Bool.eqb-true}
 use Rattle.tera_replies.proofs.feed.Feed.answer_at_hand.Goals as goal
 
 pub returns-then-is_empty-clause-err : goal.returns-then-is_empty-clause-err

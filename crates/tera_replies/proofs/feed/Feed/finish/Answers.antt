@@ -3,7 +3,7 @@ use Rattle.std.proofs.Common.{rules, ◌≡◌, ◌||◌, ℕ, false, List, [], 
 use Rattle.std.proofs.{lemmas.Bool.eqb-true, lemmas.Bool.eqb-false, lemmas.Result.err_from_is_err_and, lemmas.List.nil_from_length}
 use Rattle.tera_replies.specs.Script.{last_line}
 use Rattle.tera_report.proofs.SentLaws.{sends_nothing}
-use Rattle.tera_replies.proofs.StretchLemmas.{Runs-none, or_false}
+use Rattle.tera_replies.proofs.StretchLemmas.{Runs-silent, or_false}
 use Rattle.tera_replies.proofs.feed.Feed.finish.Goals as goal
 use Rattle.tera_replies.proofs.feed.Feed.finish.Goals.{then-self, else-self}
 
@@ -11,7 +11,7 @@ pub returns-then-is_empty-clause-ok : goal.returns-then-is_empty-clause-ok
 returns-then-is_empty-clause-ok g c =
     let feed = c.args.self.now in
     let nothing : feed.part.items ≡ [] = nil_from_length feed.part.items (omega (arith, feed.part.ok.0, eqb-true _ _ (sym c.if-is_empty.ensures))) in
-    rw nothing ([], false, Runs-none feed.number feed.context, or_false feed.wanted_memory, sends_nothing _ _ _)
+    rw nothing ([], false, Runs-silent feed.number feed.context [] (refl, refl), or_false feed.wanted_memory, sends_nothing _ _ _)
 
 last_some : (xs : List ℕ) → (length xs ≡ 0 → ⊥) → last_line xs ≡ xs ∷ []
 last_some [] some = absurd (some refl)
