@@ -1,264 +1,257 @@
--- The whole input, piece by piece.
-use Rattle.std.proofs.Common.{◌≡◌, ℕ, ◌+◌, ◌-◌, ◌^◌, ◌<◌, ◌≤◌, Bool, ◌||◌, inl, inr, List, [], ◌∷◌, ◌++◌, length, take, Option, None, Some, Result, Ok, Err}
-use Rattle.std.proofs.Common.{codes, IfSome, IfOk, IfErr, cond, sym, ◌∙◌, ap, subst, refl, append_assoc, append-nil, length-append, arith}
-use Rattle.std.specs.Io.KnownBytes.{Consumes, IsAtEnd}
-use Rattle.std.proofs.lemmas.List.Concat.{flat_map-append}
-use Rattle.tera_meaning.specs.State.{State}
-use Rattle.tera_report.specs.Errors.{report_of}
-use Rattle.tera_report.specs.Report.{Report, report_text}
-use Rattle.tera_report.specs.Sink.{Sends}
-use Rattle.tera_report.proofs.SentLaws.{sends_nothing, sends_joined, sends_flush}
-use Rattle.tera_replies.specs.declared.fault.Fault.{Fault}
+-- What a stretch from the start on says of the whole input, which is read piece by piece.
+use Rattle.std.proofs.Common.{◌≡◌, ℕ, ◌+◌, ◌-◌, ◌^◌, ◌≤◌, Bool, true, false, ◌||◌, ◌⊎◌, inr, List, [], ◌∷◌, ◌++◌, length, map, codes, Option, None, Some, cond}
+use Rattle.std.proofs.Common.{Result, Ok, Err, IfOk, IfErr, sym, ◌∙◌, ap, subst, refl, append_assoc, append-nil, arith, IfSome}
+use Rattle.std.proofs.{lemmas.List.length-map, lemmas.List.map-append, lemmas.List.Concat.flat_map-append}
+use Rattle.std.specs.{Io.KnownBytes.Consumes, List.flat_map}
+use Rattle.tera_meaning.specs.{Outcome.Outcome, State.State}
+use Rattle.tera_script.specs.Line.{IsBad}
+use Rattle.tera_report.specs.{Report.Report, Report.report_text, inner.WriterLaws.folds_joined, Sink.Sends}
+use Rattle.tera_report.proofs.SentLaws.{sends_joined}
 use Rattle.tera_replies.specs.declared.fault.Fault.TheVariants.{BadLine, ReadFailed, WriteFailed, OutOfMemory}
-use Rattle.tera_replies.specs.Output.{BrokeOn}
-use Rattle.tera_replies.specs.Script.{ended, last_line, line_feed}
-use Rattle.tera_replies.specs.Replay.{AllAnswered, MemoryFailed}
-use Rattle.tera_report.specs.inner.WriterLaws.{folds_joined}
-use Rattle.tera_replies.specs.declared.source.ReadError.{ReadError}
-use Rattle.tera_replies.specs.Source.{EndIsTold, MayErr, Attempt, bytes_given, given_by, Reads, ReadFails}
-use Rattle.tera_replies.specs.Stretch.{Place, Goes, Runs, StopsAtBad, Begins, Stops, LineStops, Ends, start}
-use Rattle.tera_replies.proofs.BrokenLemmas.{broke_on_flush, broke_on_later, broke_at_end, broke_at_memory}
-use Rattle.tera_replies.proofs.StretchLemmas.{Goes-append, Goes-none}
-use Rattle.tera_replies.proofs.EndLemmas.{at_end, at_bad, at_bad_end, at_memory, at_failure}
+use Rattle.tera_replies.specs.Stretch.{bad_at, Runs, Place, Goes, StopsAtBad, Begins, LineStops, Ends, Stops, start}
+use Rattle.tera_replies.specs.Replay.{lines_given, AllAnswered, ReadingFailed, MemoryFailed, WritingFailed, AreAnswered, report}
+use Rattle.tera_replies.specs.{Script.Splits, Script.without_return, Script.last_line, Script.ended, Script.line_feed, Reply.AreReplies}
+use Rattle.tera_replies.specs.{Source.EndIsTold, Source.MayErr, Source.Attempt, Source.bytes_given, Source.given_by, Source.Reads, declared.fault.Fault.Fault}
+use Rattle.tera_replies.specs.{declared.source.ReadError.ReadError, Output.BrokeOn}
+use Rattle.tera_replies.proofs.StretchLemmas.{Runs-append, Script-append, Begins-all, Went, sent_still, Splits-more, splits, split_line}
+use Rattle.tera_replies.proofs.ReplyLemmas.{broke_on_later}
 
--- Of the bytes that the source first had these are left, and those that it gave are answered, in this many turns.
-pub record Fed {R S : Type 0} (gave : R → List ℕ → Result ℕ ReadError → R → Type 0) (in_old in_now : R) (takes : S → List ℕ → S → Type 0)
-    (flushes : S → S → Type 0) (first left : Option (List ℕ)) (turn : ℕ) (now : Place) (before after : S) : Type 0 where
-  pub given : List ℕ
-  pub text : List ℕ
-  pub consumed : Consumes first left given
-  pub reads : Reads gave in_old given in_now
-  pub goes : Goes start given text now
-  pub sent : Sends takes flushes before text after
-  pub turns : turn ≤ length given
+-- ---- what an output that broke was to get
 
-Consumes-none : (known : Option (List ℕ)) → Consumes known known []
+-- the first of the lines are among those given
+first_given : (fails : Option Bool) (xs ys : List (List ℕ)) (part : List ℕ) → (more : List (List ℕ))
+    × (lines_given fails (xs ++ ys) part ≡ map without_return xs ++ (map without_return ys ++ more))
+first_given (Some true) xs ys part = ([], simp (map-append, append-nil))
+first_given (Some false) xs ys part = (last_line part, simp (map-append, append_assoc))
+first_given None xs ys part = (last_line part, simp (map-append, append_assoc))
+
+-- replies to the first lines of a beginning of the bytes
+among_given : (bytes given rest out : List ℕ) (fails : Option Bool) (lines first later : List (List ℕ)) (part : List ℕ) (outcomes : List Outcome)
+    → bytes ≡ given ++ rest → Splits given lines part → map without_return lines ≡ first ++ later → AreAnswered first None outcomes → AreReplies outcomes out
+    → WritingFailed bytes fails out
+among_given bytes given rest out fails lines first later part outcomes front split are answers replied =
+    let (others, end, s) = splits (part ++ rest) in
+    let (more, among) = first_given fails lines others end in
+    record {
+      lines = lines ++ others;
+      part = end;
+      first = first;
+      later = later ++ (map without_return others ++ more);
+      bad = None;
+      outcomes = outcomes;
+      split = Splits-more lines others split.each s
+          (front ∙ ap (λ (zs : List ℕ). zs ++ rest) split.whole ∙ append_assoc (flat_map ended lines) part rest);
+      lines_are = among ∙ ap (λ (zs : List (List ℕ)). zs ++ (map without_return others ++ more)) are
+          ∙ append_assoc first later (map without_return others ++ more);
+      answers = answers;
+      replied = replied;
+    }
+
+-- the replies that were due are, however the input ended, those to the first of the lines
+pub broke_at_end : {bytes out err : List ℕ} {fails : Option Bool} {status : ℕ} → AllAnswered bytes fails out err status → WritingFailed bytes fails out
+broke_at_end {fails} h = record {
+  lines = h.lines;
+  part = h.part;
+  first = lines_given fails h.lines h.part;
+  later = [];
+  bad = h.bad;
+  outcomes = h.outcomes;
+  split = h.split;
+  lines_are = sym (append-nil (lines_given fails h.lines h.part));
+  answers = h.answers;
+  replied = h.replied;
+}
+
+pub broke_at_failure : {bytes out err : List ℕ} {fails : Option Bool} {InGave InFailed : List ℕ → Type 0} {status : ℕ}
+    → ReadingFailed bytes fails InGave InFailed out err status → WritingFailed bytes fails out
+broke_at_failure {bytes} {out} {fails} h =
+    among_given bytes h.given h.rest out fails h.lines (map without_return h.lines) [] h.part h.outcomes h.front h.split
+    (sym (append-nil (map without_return h.lines))) h.answers h.replied
+
+pub broke_at_memory : {bytes out err : List ℕ} {InGave : List ℕ → Type 0} {status : ℕ} (fails : Option Bool) → MemoryFailed bytes InGave out err status
+    → WritingFailed bytes fails out
+broke_at_memory {bytes} {out} fails h =
+    among_given bytes h.given h.rest out fails h.lines h.first h.later h.part h.outcomes h.front h.split h.lines_are h.answers h.replied
+
+-- ---- how the input ended
+
+-- a source that tells its end gives what follows the last line feed
+all_given : (fails : Option Bool) (lines : List (List ℕ)) (part : List ℕ) → EndIsTold fails
+    → lines_given fails lines part ≡ map without_return lines ++ last_line part
+all_given (Some true) lines part told = absurd told
+all_given (Some false) lines part told = refl
+all_given None lines part told = refl
+
+counted : {bytes text : List ℕ} {p : Place} (g : Goes start bytes text p) → p.number ≡ 1 + length (map without_return g.lines)
+counted g = omega (arith, g.number_is, length-map g.lines without_return)
+
+-- the bytes, as the whole lines so far, the part at hand, and more
+regrouped : {bytes read text : List ℕ} {p : Place} (more : List ℕ) (g : Goes start read text p) → bytes ≡ read ++ more
+    → bytes ≡ flat_map ended g.lines ++ (p.part ++ more)
+regrouped {p} more g e = e ∙ ap (λ (zs : List ℕ). zs ++ more) g.split ∙ append_assoc (flat_map ended g.lines) p.part more
+
+-- the input ended
+at_end : {bytes text more : List ℕ} {p : Place} {v : Bool} {new : State} (fails : Option Bool) → EndIsTold fails → Goes start bytes text p
+    → Runs p.number p.state (last_line p.part) more v new → AllAnswered bytes fails (text ++ more) [] (cond (p.wanted || v) 1 0)
+at_end {p} {v} {new} fails told g h =
+    let all = Runs-append g.runs (counted g) h in
+    record {
+      lines = g.lines;
+      part = p.part;
+      bad = None;
+      outcomes = all.outcomes;
+      split = record { whole = g.split; each = g.each; rest = g.rest };
+      answers = record { commands = all.commands; state = new; script = rw (all_given fails g.lines p.part told) all.script; run = all.run };
+      ended = λ is. absurd (subst EndIsTold is told);
+      replied = all.replied;
+      err_is = refl;
+      status_is = ap (λ (w : Bool). cond (w || v) 1 0) g.wanted_is ∙ ap (λ (w : Bool). cond w 1 0) all.wanted_is;
+    }
+
+-- a line behind the whole ones is bad
+bad_answered : {bytes read text : List ℕ} {p : Place} (fails : Option Bool) (g : Goes start read text p) (line : List ℕ) (lines more : List (List ℕ))
+    (part : List ℕ) → Splits bytes lines part → lines_given fails lines part ≡ map without_return g.lines ++ line ∷ more → IsBad line
+    → AllAnswered bytes fails text (report (Some (bad_at p.number line))) 2
+bad_answered {p} fails g line lines more part split given bad =
+    let script = rw (append-nil g.runs.commands) at (Script-append 1 (map without_return g.lines) (line ∷ more) g.runs.commands []
+    (Some (bad_at p.number line)) g.runs.script p.number (counted g) (inr (inr (bad, refl, refl)))) in
+    record {
+      lines = lines;
+      part = part;
+      bad = Some (bad_at p.number line);
+      outcomes = g.runs.outcomes;
+      split = split;
+      answers = record { commands = g.runs.commands; state = p.state; script = rw given script; run = g.runs.run };
+      ended = λ is. refl;
+      replied = g.runs.replied;
+      err_is = refl;
+      status_is = refl;
+    }
+
+-- a line that ends with a line feed is bad
+at_bad : {bytes given text : List ℕ} {r : Report} (rest : List ℕ) (fails : Option Bool) → bytes ≡ given ++ rest → StopsAtBad start given r text
+    → AllAnswered bytes fails text (ended (report_text r)) 2
+at_bad {bytes} rest fails e s =
+    let part = s.place.part in
+    let (later, end, split) = split_line part (s.unread ++ rest) s.goes.rest in
+    let (more, given) = first_given fails s.goes.lines (part ∷ later) end in
+    let whole : bytes ≡ s.read ++ line_feed ∷ (s.unread ++ rest) =
+    e ∙ ap (λ (zs : List ℕ). zs ++ rest) s.bytes_are ∙ append_assoc s.read (line_feed ∷ s.unread) rest in
+    rw s.report_is (bad_answered fails s.goes (without_return part) (s.goes.lines ++ part ∷ later) (map without_return later ++ more) end
+    (Splits-more s.goes.lines (part ∷ later) s.goes.each split (regrouped (line_feed ∷ s.unread ++ rest) s.goes whole)) given s.bad)
+
+-- what follows the last line feed is bad
+at_bad_end : {bytes text : List ℕ} {p : Place} (fails : Option Bool) → EndIsTold fails → Goes start bytes text p → last_line p.part ≡ p.part ∷ []
+    → IsBad p.part → AllAnswered bytes fails text (report (Some (bad_at p.number p.part))) 2
+at_bad_end {p} fails told g whole bad =
+    bad_answered fails g p.part g.lines [] p.part (record { whole = g.split; each = g.each; rest = g.rest })
+    (all_given fails g.lines p.part told ∙ ap (λ (zs : List (List ℕ)). map without_return g.lines ++ zs) whole) bad
+
+-- no memory was found
+at_memory : {bytes given text : List ℕ} (rest : List ℕ) (InGave : List ℕ → Type 0) → bytes ≡ given ++ rest → InGave given → Begins start given text
+    → MemoryFailed bytes InGave text (codes "error: Out of memory\n") 1
+at_memory {given} rest InGave e gave s =
+    let g = s.goes in
+    let (later, end, split) = splits (s.place.part ++ s.unread) in
+    record {
+      given = given;
+      rest = rest;
+      front = e;
+      gave = gave;
+      lines = g.lines ++ later;
+      part = end;
+      first = map without_return g.lines;
+      later = map without_return later;
+      outcomes = g.runs.outcomes;
+      split = Splits-more g.lines later g.each split (regrouped s.unread g s.bytes_are);
+      lines_are = map-append without_return g.lines later;
+      answers = record { commands = g.runs.commands; state = s.place.state; script = g.runs.script; run = g.runs.run };
+      replied = g.runs.replied;
+      err_is = refl;
+      status_is = refl;
+    }
+
+-- a write of a reply to the first lines failed
+pub at_write : {bytes given text : List ℕ} (rest : List ℕ) (fails : Option Bool) → bytes ≡ given ++ rest → Begins start given text
+    → WritingFailed bytes fails text
+at_write rest fails e s = broke_at_memory fails (at_memory rest (λ zs. Unit {0}) e tt s)
+
+-- reading failed
+pub at_failure : {bytes given text : List ℕ} {fails : Option Bool} {InGave InFailed : List ℕ → Type 0} {p : Place} (rest : List ℕ) → bytes ≡ given ++ rest
+    → (MayErr fails (Some rest) × InFailed given) ⊎ ((2 ^ 64 - 1 ≤ length given) × InGave given) → Goes start given text p
+    → ReadingFailed bytes fails InGave InFailed text (codes "error: reading failed\n") 1
+at_failure {given} {p} rest e cause g = record {
+  given = given;
+  rest = rest;
+  lines = g.lines;
+  part = p.part;
+  outcomes = g.runs.outcomes;
+  front = e;
+  cause = cause;
+  split = record { whole = g.split; each = g.each; rest = g.rest };
+  answers = record { commands = g.runs.commands; state = p.state; script = g.runs.script; run = g.runs.run };
+  replied = g.runs.replied;
+  err_is = refl;
+  status_is = refl;
+}
+
+-- a fault in a stretch from the start on ended the whole
+pub Ends-stops : {bytes given : List ℕ} (rest : List ℕ) (fails : Option Bool) (InGave InFailed OutGets OutBroke : List ℕ → Type 0) (fault : Fault)
+    → bytes ≡ given ++ rest → InGave given → Stops start given OutGets OutBroke fault → Ends bytes fails InGave InFailed OutGets OutBroke (Err fault)
+Ends-stops rest fails InGave InFailed OutGets OutBroke (BadLine r) e gave (text, s, gets) = (text, at_bad rest fails e s, gets)
+Ends-stops rest fails InGave InFailed OutGets OutBroke ReadFailed e gave stops = absurd stops
+Ends-stops rest fails InGave InFailed OutGets OutBroke WriteFailed e gave (text, s, broke) = (text, at_write rest fails e s, broke)
+Ends-stops rest fails InGave InFailed OutGets OutBroke OutOfMemory e gave (text, s, gets) = (text, at_memory rest InGave e gave s, gets)
+
+module _ {S : Type 0} (takes fails_on : S → List ℕ → S → Type 0) (flushes flush_fails : S → S → Type 0) where
+  -- all of the input was read, and what follows the last line feed was answered, or a fault ended it
+  pub Ends-all : {bytes : List ℕ} {now : Place} {before mid : S} (fails : Option Bool) (InGave InFailed : List ℕ → Type 0) (new : State) (after : S)
+      (result : Result Bool Fault) → Went takes flushes start bytes now before mid → InGave bytes → EndIsTold fails
+      → IfOk result (λ wanted. (text : List ℕ) × (last : Bool) × Runs now.number now.state (last_line now.part) text last new
+      × (wanted ≡ (now.wanted || last)) × Sends takes flushes mid text after)
+      → IfErr result (λ fault. (last_line now.part ≡ now.part ∷ []) × LineStops now.number now.state now.part (Sends takes flushes mid [] after)
+      (λ text. BrokeOn takes fails_on flushes flush_fails mid text after) fault)
+      → Ends bytes fails InGave InFailed (λ text. Sends takes flushes before text after)
+      (λ text. BrokeOn takes fails_on flushes flush_fails before text after) result
+  Ends-all fails InGave InFailed new after (Ok wanted) (front, goes, passed) gave told (text, last, runs, is, sent) err =
+      (front ++ text, rw is (at_end fails told goes runs), sends_joined takes flushes _ _ _ _ _ passed sent)
+  Ends-all {bytes} fails InGave InFailed new after (Err (BadLine r)) (front, goes, passed) gave told ok (whole, (is, bad, sent)) =
+      let P : Report → Type 0 = λ said. AllAnswered bytes fails front (ended (report_text said)) 2 in
+      (front, subst P (sym is) (at_bad_end fails told goes whole bad), sent_still passed sent)
+  Ends-all fails InGave InFailed new after (Err ReadFailed) p gave told ok (whole, stops) = absurd stops
+  Ends-all fails InGave InFailed new after (Err WriteFailed) (front, goes, passed) gave told ok (whole, (text, wanted, state, runs, broke)) =
+      (front ++ text, broke_at_end (at_end {v = wanted} {new = state} fails told goes (rw whole runs)), broke_on_later passed broke)
+  Ends-all {bytes} fails InGave InFailed new after (Err OutOfMemory) (front, goes, passed) gave told ok (whole, sent) =
+      (front, at_memory [] InGave (sym (append-nil bytes)) gave (Begins-all goes), sent_still passed sent)
+
+pub Consumes-none : (known : Option (List ℕ)) → Consumes known known []
 Consumes-none None = tt
 Consumes-none (Some xs) = refl
 
-Consumes-append : (a b c : Option (List ℕ)) (xs ys : List ℕ) → Consumes a b xs → Consumes b c ys → Consumes a c (xs ++ ys)
+pub Consumes-append : (a b c : Option (List ℕ)) (xs ys : List ℕ) → Consumes a b xs → Consumes b c ys → Consumes a c (xs ++ ys)
 Consumes-append None b c xs ys g h = tt
 Consumes-append (Some hs) None c xs ys g h = absurd g
 Consumes-append (Some hs) (Some bs) None xs ys g h = absurd h
 Consumes-append (Some hs) (Some bs) (Some cs) xs ys g h = g ∙ ap (λ (zs : List ℕ). xs ++ zs) h ∙ sym (append_assoc xs ys cs)
 
--- how the whole went, where it is known what the source had
-abbrev pub EndsKnown : Option (List ℕ) → Option Bool → (List ℕ → Type 0) → (List ℕ → Type 0) → (List ℕ → Type 0) → (List ℕ → Type 0)
-    → Result Bool Fault → Type 0
-EndsKnown first fails InGave InFailed OutGets OutBroke result = IfSome first (λ bytes. Ends bytes fails InGave InFailed OutGets OutBroke result)
+-- where it is known what the source had, that is what it gave and what is left
+pub where_known : (first left : Option (List ℕ)) (given : List ℕ) (P : List ℕ → Type 0) → Consumes first left given
+    → ((bytes rest : List ℕ) → left ≡ Some rest → bytes ≡ given ++ rest → P bytes) → IfSome first P
+where_known None left given P consumed then = tt
+where_known (Some bytes) None given P consumed then = absurd consumed
+where_known (Some bytes) (Some rest) given P consumed then = then bytes rest refl consumed
 
 -- no read
 pub reads_nothing : {R : Type 0} (gave : R → List ℕ → Result ℕ ReadError → R → Type 0) (s : R) → Reads gave s [] s
 reads_nothing gave s = record { attempts = []; calls = refl; whole = refl }
 
 -- one read more
-pub reads_more : {R : Type 0} (gave : R → List ℕ → Result ℕ ReadError → R → Type 0) (s : R) (bytes : List ℕ) (t : R) (piece : List ℕ)
-    (answer : Result ℕ ReadError) (u : R)
-    → Reads gave s bytes t → gave t piece answer u → Reads gave s (bytes ++ bytes_given answer piece) u
-reads_more gave s bytes t piece answer u f one =
+pub reads_more : {R : Type 0} (gave : R → List ℕ → Result ℕ ReadError → R → Type 0) {s t : R} {bytes : List ℕ} (piece : List ℕ) (answer : Result ℕ ReadError)
+    (u : R) → Reads gave s bytes t → gave t piece answer u → Reads gave s (bytes ++ bytes_given answer piece) u
+reads_more gave {s} {t} piece answer u f one =
     let a : Attempt = record { piece = piece; answer = answer } in
     record {
       attempts = f.attempts ++ a ∷ [];
       calls = folds_joined (λ x b y. gave x b.piece b.answer y) s f.attempts t (a ∷ []) u f.calls (u, one, refl);
       whole = flat_map-append given_by f.attempts (a ∷ []) ∙ (λ i. f.whole i ++ append-nil (bytes_given answer piece) i);
     }
-
--- all of some bytes are a beginning of them
-all_read : (bytes text : List ℕ) (now : Place) → Goes start bytes text now → Begins start bytes text
-all_read bytes text now goes = record { read = bytes; unread = []; place = now; bytes_are = sym (append-nil bytes); goes = goes }
-
--- what the end of the input gave
-abbrev pub LastAnswered : Place → State → (List ℕ → Type 0) → Bool → Type 0
-LastAnswered now new OutGets wanted = (text : List ℕ) × (last : Bool) × Runs now.number now.state (last_line now.part) text last new
-    × (wanted ≡ (now.wanted || last)) × OutGets text
-
-abbrev pub LastStops : Place → Type 0 → (List ℕ → Type 0) → Fault → Type 0
-LastStops now OutStays OutBroke fault = (last_line now.part ≡ now.part ∷ []) × LineStops now.number now.state now.part OutStays OutBroke fault
-
-module _ {R S : Type 0} (gave : R → List ℕ → Result ℕ ReadError → R → Type 0) (in_old : R) (takes fails_on : S → List ℕ → S → Type 0)
-    (flushes flush_fails : S → S → Type 0) where
-  -- how the whole went with an input that came so far
-  abbrev Came : R → Option (List ℕ) → Option Bool → S → S → Result Bool Fault → Type 0
-  Came in_new first fails before after result = EndsKnown first fails (λ given. Reads gave in_old given in_new) (λ given. ReadFails gave in_old given in_new)
-      (λ text. Sends takes flushes before text after) (λ text. BrokeOn takes fails_on flushes flush_fails before text after) result
-
-  -- the bytes were sent
-  abbrev Sent : S → S → List ℕ → Type 0
-  Sent before after text = Sends takes flushes before text after
-
-  abbrev IsBroken : S → S → List ℕ → Type 0
-  IsBroken before after text = BrokeOn takes fails_on flushes flush_fails before text after
-
-  pub Fed-none : (known : Option (List ℕ)) (before : S) → Fed gave in_old in_old takes flushes known known 0 start before before
-  Fed-none known before = record {
-    given = [];
-    text = [];
-    consumed = Consumes-none known;
-    reads = reads_nothing gave in_old;
-    goes = Goes-none start (λ k d h. absurd (omega arith));
-    sent = sends_nothing takes flushes before;
-    turns = omega arith;
-  }
-
-  -- the answers so far were flushed
-  pub Fed-flushed : (in_now : R) (first left : Option (List ℕ)) (turn : ℕ) (now : Place) (before mid after : S) → Fed gave in_old in_now takes flushes first
-      left turn now before mid → flushes mid after → Fed gave in_old in_now takes flushes first left turn now before after
-  Fed-flushed in_now first left turn now before mid after f h = record {
-    given = f.given;
-    text = f.text;
-    consumed = f.consumed;
-    reads = f.reads;
-    goes = f.goes;
-    sent = subst (Sent before after) (append-nil f.text) (sends_joined takes flushes before f.text mid [] after f.sent (sends_flush takes flushes mid after h));
-    turns = f.turns;
-  }
-
-  -- a read gave nothing
-  pub Fed-kept : (in_now in_new : R) (room : List ℕ) (first left later : Option (List ℕ)) (turn : ℕ) (now : Place) (before after : S)
-      → Fed gave in_old in_now takes flushes first left turn now before after → gave in_now room (Ok 0) in_new → Consumes left later []
-      → Fed gave in_old in_new takes flushes first later turn now before after
-  Fed-kept in_now in_new room first left later turn now before after f one h = record {
-    given = f.given;
-    text = f.text;
-    consumed = let P : List ℕ → Type 0 = λ zs. Consumes first later zs in
-        subst P (append-nil f.given) (Consumes-append first left later f.given [] f.consumed h);
-    reads = subst (λ zs. Reads gave in_old zs in_new) (append-nil f.given) (reads_more gave in_old f.given in_now room (Ok 0) in_new f.reads one);
-    goes = f.goes;
-    sent = f.sent;
-    turns = f.turns;
-  }
-
-  -- a read gave a piece, which was answered
-  pub Fed-more : (in_now in_new : R) (room : List ℕ) (count : ℕ) (first left later : Option (List ℕ)) (turn : ℕ) (now new : Place) (text : List ℕ)
-      (before mid after : S) → Fed gave in_old in_now takes flushes first left turn now before mid → gave in_now room (Ok count) in_new
-      → Consumes left later (take count room) → Goes now (take count room) text new → Sends takes flushes mid text after → 0 < length (take count room)
-      → Fed gave in_old in_new takes flushes first later (turn + 1) new before after
-  Fed-more in_now in_new room count first left later turn now new text before mid after f one h goes sent some = record {
-    given = f.given ++ take count room;
-    text = f.text ++ text;
-    consumed = Consumes-append first left later f.given (take count room) f.consumed h;
-    reads = reads_more gave in_old f.given in_now room (Ok count) in_new f.reads one;
-    goes = Goes-append start now new f.given (take count room) f.text text f.goes goes;
-    sent = sends_joined takes flushes before f.text mid text after f.sent sent;
-    turns = omega (arith, f.turns, length-append f.given (take count room));
-  }
-
-  -- the flush before a read failed
-  pub Fed-unflushed : (in_now : R) (first left : Option (List ℕ)) (fails : Option Bool) (turn : ℕ) (now : Place) (before mid after : S)
-      → Fed gave in_old in_now takes flushes first left turn now before mid → flush_fails mid after → Came in_now first fails before after (Err WriteFailed)
-  Fed-unflushed in_now None left fails turn now before mid after f h = tt
-  Fed-unflushed in_now (Some bytes) None fails turn now before mid after f h = absurd f.consumed
-  Fed-unflushed in_now (Some bytes) (Some rest) fails turn now before mid after f h = (
-    f.text,
-    broke_at_memory bytes f.text _ fails _ _
-        (at_memory bytes f.given rest f.text (λ given. Reads gave in_old given in_now) f.consumed f.reads (all_read f.given f.text now f.goes)),
-    broke_on_flush takes fails_on flushes flush_fails before f.text mid after f.sent h,
-  )
-
-  -- a read failed
-  pub Fed-failed : (in_now in_new : R) (room : List ℕ) (fault : ReadError) (first left : Option (List ℕ)) (fails : Option Bool) (turn : ℕ) (now : Place)
-      (before after : S) → Fed gave in_old in_now takes flushes first left turn now before after → gave in_now room (Err fault) in_new → MayErr fails left
-      → Came in_new first fails before after (Err ReadFailed)
-  Fed-failed in_now in_new room fault None left fails turn now before after f one may = tt
-  Fed-failed in_now in_new room fault (Some bytes) None fails turn now before after f one may = absurd f.consumed
-  Fed-failed in_now in_new room fault (Some bytes) (Some rest) fails turn now before after f one may =
-      (f.text, at_failure bytes f.given rest f.text fails _ _ now f.consumed (inl (may, (in_now, room, fault, f.reads, one))) f.goes, f.sent)
-
-  -- there were too many reads
-  pub Fed-too_long : (in_now : R) (first left : Option (List ℕ)) (fails : Option Bool) (turn : ℕ) (now : Place) (before after : S)
-      → Fed gave in_old in_now takes flushes first left turn now before after → 2 ^ 64 - 1 ≤ turn → Came in_now first fails before after (Err ReadFailed)
-  Fed-too_long in_now None left fails turn now before after f long = tt
-  Fed-too_long in_now (Some bytes) None fails turn now before after f long = absurd f.consumed
-  Fed-too_long in_now (Some bytes) (Some rest) fails turn now before after f long = (
-    f.text,
-    at_failure bytes f.given rest f.text fails _ (λ given. ReadFails gave in_old given in_now) now f.consumed
-        (inr (omega (arith, f.turns, long), f.reads)) f.goes,
-    f.sent,
-  )
-
-  -- a beginning of a piece was answered
-  Fed-begins : (in_now in_new : R) (room : List ℕ) (count : ℕ) (bytes left later : List ℕ) (turn : ℕ) (now : Place) (before mid : S)
-      (f : Fed gave in_old in_now takes flushes (Some bytes) (Some left) turn now before mid) → gave in_now room (Ok count) in_new
-      → Consumes (Some left) (Some later) (take count room) → (more : List ℕ) → Begins now (take count room) more
-      → MemoryFailed bytes (λ given. Reads gave in_old given in_new) (f.text ++ more) (codes "error: Out of memory\n") 1
-  Fed-begins in_now in_new room count bytes left later turn now before mid f one h more s =
-      let given = f.given ++ take count room in
-      let begins : Begins start given (f.text ++ more) = record {
-        read = f.given ++ s.read;
-        unread = s.unread;
-        place = s.place;
-        bytes_are = ap (λ (zs : List ℕ). f.given ++ zs) s.bytes_are ∙ sym (append_assoc f.given s.read s.unread);
-        goes = Goes-append start now s.place f.given s.read f.text more f.goes s.goes;
-      } in
-      let whole : bytes ≡ given ++ later = f.consumed ∙ ap (λ (zs : List ℕ). f.given ++ zs) h ∙ sym (append_assoc f.given (take count room) later) in
-      at_memory bytes given later (f.text ++ more) (λ zs. Reads gave in_old zs in_new) whole
-      (reads_more gave in_old f.given in_now room (Ok count) in_new f.reads one) begins
-
-  -- a fault in a piece
-  pub Fed-stops : (in_now in_new : R) (room : List ℕ) (count : ℕ) (first left later : Option (List ℕ)) (fails : Option Bool) (turn : ℕ) (now : Place)
-      (before mid after : S) (fault : Fault) → Fed gave in_old in_now takes flushes first left turn now before mid → gave in_now room (Ok count) in_new
-      → Consumes left later (take count room)
-      → Stops now (take count room) (Sent mid after) (IsBroken mid after) fault → Came in_new first fails before after (Err fault)
-  Fed-stops in_now in_new room count None left later fails turn now before mid after fault f one h stops = tt
-  Fed-stops in_now in_new room count (Some bytes) None later fails turn now before mid after fault f one h stops = absurd f.consumed
-  Fed-stops in_now in_new room count (Some bytes) (Some left) None fails turn now before mid after fault f one h stops = absurd h
-  Fed-stops in_now in_new room count (Some bytes) (Some left) (Some later) fails turn now before mid after (BadLine e) f one h stops =
-      let s = stops.1 in
-      let text = f.text ++ stops.0 in
-      let at : StopsAtBad start bytes (report_of e.value) text = record {
-        read = f.given ++ s.read;
-        unread = s.unread ++ later;
-        place = s.place;
-        bytes_are = f.consumed ∙ ap (λ (zs : List ℕ). f.given ++ zs) (h ∙ ap (λ (zs : List ℕ). zs ++ later) s.bytes_are
-            ∙ append_assoc s.read (line_feed ∷ s.unread) later) ∙ sym (append_assoc f.given s.read (line_feed ∷ s.unread ++ later));
-        goes = Goes-append start now s.place f.given s.read f.text stops.0 f.goes s.goes;
-        bad = s.bad;
-        report_is = s.report_is;
-      } in
-      (text, at_bad bytes text fails (report_of e.value) at, sends_joined takes flushes before f.text mid stops.0 after f.sent stops.2)
-  Fed-stops in_now in_new room count (Some bytes) (Some left) (Some later) fails turn now before mid after ReadFailed f one h stops = absurd stops
-  Fed-stops in_now in_new room count (Some bytes) (Some left) (Some later) fails turn now before mid after WriteFailed f one h (more, begun, broke) =
-      let at = Fed-begins in_now in_new room count bytes left later turn now before mid f one h more begun in
-      (f.text ++ more, broke_at_memory bytes _ _ fails _ _ at, broke_on_later takes fails_on flushes flush_fails before f.text mid more after f.sent broke)
-  Fed-stops in_now in_new room count (Some bytes) (Some left) (Some later) fails turn now before mid after OutOfMemory f one h (more, begun, sent) = (
-    f.text ++ more,
-    Fed-begins in_now in_new room count bytes left later turn now before mid f one h more begun,
-    sends_joined takes flushes before f.text mid more after f.sent sent,
-  )
-
-  -- the source has given all that it had
-  all_given : (in_now : R) (bytes rest : List ℕ) (turn : ℕ) (now : Place) (before after : S) (f : Fed gave in_old in_now takes flushes (Some bytes) (Some rest)
-      turn now before after) → rest ≡ [] → Goes start bytes f.text now
-  all_given in_now bytes rest turn now before after f e =
-      let P : List ℕ → Type 0 = λ zs. Goes start zs f.text now in
-      subst P (sym (f.consumed ∙ ap (λ (zs : List ℕ). f.given ++ zs) e ∙ append-nil f.given)) f.goes
-
-  -- nothing more was sent
-  sent_still : (text : List ℕ) (before mid after : S) → Sends takes flushes before text mid → Sends takes flushes mid [] after → Sends takes flushes before text
-      after
-  sent_still text before mid after p q = subst (Sent before after) (append-nil text) (sends_joined takes flushes before text mid [] after p q)
-
-  pub Fed-all : (in_now : R) (first left : Option (List ℕ)) (fails : Option Bool) (turn : ℕ) (now : Place) (new : State) (before mid after : S)
-      (result : Result Bool Fault) → Fed gave in_old in_now takes flushes first left turn now before mid → IsAtEnd left → EndIsTold fails
-      → IfOk result (LastAnswered now new (Sent mid after)) → IfErr result (LastStops now (Sent mid after []) (IsBroken mid after))
-      → Came in_now first fails before after result
-  Fed-all in_now None left fails turn now new before mid after result f end told ok err = tt
-  Fed-all in_now (Some bytes) None fails turn now new before mid after result f end told ok err = absurd f.consumed
-  Fed-all in_now (Some bytes) (Some rest) fails turn now new before mid after (Ok wanted) f end told ok err =
-      let P : Bool → Type 0 = λ w. AllAnswered bytes fails (f.text ++ ok.0) [] (cond w 1 0) in
-      let all = at_end bytes f.text ok.0 fails now ok.1 new told (all_given in_now bytes rest turn now before mid f end) ok.2 in
-      (f.text ++ ok.0, subst P (sym ok.3) all, sends_joined takes flushes before f.text mid ok.0 after f.sent ok.4)
-  Fed-all in_now (Some bytes) (Some rest) fails turn now new before mid after (Err (BadLine e)) f end told ok err =
-      let P : Report → Type 0 = λ r. AllAnswered bytes fails f.text (ended (report_text r)) 2 in
-      let all = at_bad_end bytes f.text fails now told (all_given in_now bytes rest turn now before mid f end) err.0 err.1.1 in
-      (f.text, subst P (sym err.1.0) all, sent_still f.text before mid after f.sent err.1.2)
-  Fed-all in_now (Some bytes) (Some rest) fails turn now new before mid after (Err ReadFailed) f end told ok err = absurd err.1
-  Fed-all in_now (Some bytes) (Some rest) fails turn now new before mid after (Err WriteFailed) f end told ok (last, (text, wanted, state, runs, broke)) =
-      let run = subst (λ (lines : List (List ℕ)). Runs now.number now.state lines text wanted state) (sym last) runs in
-      let all = at_end bytes f.text text fails now wanted state told (all_given in_now bytes rest turn now before mid f end) run in
-      (f.text ++ text, broke_at_end bytes _ _ fails _ all, broke_on_later takes fails_on flushes flush_fails before f.text mid text after f.sent broke)
-  Fed-all in_now (Some bytes) (Some rest) fails turn now new before mid after (Err OutOfMemory) f end told ok err = (
-    f.text,
-    at_memory bytes f.given rest f.text (λ given. Reads gave in_old given in_now) f.consumed f.reads (all_read f.given f.text now f.goes),
-    sent_still f.text before mid after f.sent err.1,
-  )

@@ -1,21 +1,13 @@
--- From how answering ended to the theorem.
-use Rattle.std.proofs.Common.{◌≡◌, ℕ, Bool, inl, inr, List, Option, None, Some, Result, Ok, Err, IfSome, sym, subst, refl}
-use Rattle.tera_report.specs.Sink.{Sends, Delivers, PutsThese}
-use Rattle.tera_replies.specs.declared.fault.Fault.{Fault}
+-- From how answering ended to the theorem, and from watched writers to the writers.
+use Rattle.std.proofs.Common.{◌≢◌, ℕ, Bool, inl, inr, List, [], ◌∷◌, Option, None, Some, Result, Ok, Err, IfSome, sym, ◌∙◌, ap, refl}
+use Rattle.std.specs.{declared.io.Error.Error, List.FoldsTo}
+use Rattle.tera_report.specs.Watch.{watched_writer, writer_loan, SameWriter, WatchedTakes, WatchedFails, WatchedFlushes, WatchedFlushFails}
+use Rattle.tera_report.specs.{Sink.Use, Sink.put, Sink.flush, Sink.Uses, Sink.Sends, Sink.Delivers, Sink.PutsThese, declared.watch.Watched.Watched}
+use Rattle.tera_report.proofs.SentLaws.{watched_sends}
 use Rattle.tera_replies.specs.declared.fault.Fault.TheVariants.{BadLine, ReadFailed, WriteFailed, OutOfMemory}
-use Rattle.tera_replies.specs.Output.{BrokeOn, TakesOrFails}
-use Rattle.tera_replies.specs.Replay.{Replays, Writes, WritingFailed}
-use Rattle.tera_replies.specs.Stretch.{Ends, EndsFlushed, told, status_at}
-use Rattle.tera_replies.proofs.BrokenLemmas.{broke_on_flush, broke_at_end, broke_at_failure, broke_at_memory}
-
-ends_replays : (bytes : List ℕ) (fails : Option Bool) (InGave InFailed OutGets OutBroke ErrGets : List ℕ → Type 0) (result : Result Bool Fault)
-    → Ends bytes fails InGave InFailed OutGets OutBroke result → ErrGets (told result)
-    → Replays bytes fails InGave InFailed OutGets OutBroke ErrGets (status_at result)
-ends_replays bytes fails InGave InFailed OutGets OutBroke ErrGets (Ok wanted) h told = inl (h.0, _, inl h.1, h.2, told)
-ends_replays bytes fails InGave InFailed OutGets OutBroke ErrGets (Err (BadLine report)) h told = inl (h.0, _, inl h.1, h.2, told)
-ends_replays bytes fails InGave InFailed OutGets OutBroke ErrGets (Err ReadFailed) h told = inl (h.0, _, inr (inl h.1), h.2, told)
-ends_replays bytes fails InGave InFailed OutGets OutBroke ErrGets (Err WriteFailed) h told = inr (h.0, h.1, h.2, refl, told)
-ends_replays bytes fails InGave InFailed OutGets OutBroke ErrGets (Err OutOfMemory) h told = inl (h.0, _, inr (inr h.1), h.2, told)
+use Rattle.tera_replies.specs.{Output.BrokeOn, Output.TakesOrFails, Output.WriterBroke, Output.WriterTakesOrFails, declared.fault.Fault.Fault}
+use Rattle.tera_replies.specs.{Stretch.Ends, Stretch.EndsFlushed, Stretch.told, Stretch.status_at, Replay.Replays, Replay.Writes, Replay.WritingFailed}
+use Rattle.tera_replies.proofs.{InputLaws.broke_at_end, InputLaws.broke_at_failure, InputLaws.broke_at_memory, ReplyLemmas.broke_on_flush}
 
 -- what was told was put, or putting it failed
 pub told_comes : {S E : Type 0} (takes fails : S → List ℕ → S → Type 0) (put : Result (Unit {0}) E) (text : List ℕ) (old new : S)
@@ -23,70 +15,38 @@ pub told_comes : {S E : Type 0} (takes fails : S → List ℕ → S → Type 0) 
 told_comes takes fails (Ok done) text old new h = inl h
 told_comes takes fails (Err fault) text old new h = inr h
 
-module _ {S : Type 0} (InGave InFailed : List ℕ → Type 0) (takes fails_on : S → List ℕ → S → Type 0) (flushes flush_fails : S → S → Type 0)
-    (bytes : List ℕ) (fails : Option Bool) (old mid new : S) where
-  abbrev Broken : List ℕ → Type 0
-  Broken text = BrokeOn takes fails_on flushes flush_fails old text new
+module _ (bytes : List ℕ) (fails : Option Bool) (InGave InFailed : List ℕ → Type 0) where
+  -- what is due where no write failed
+  ends_write : (OutGets OutBroke : List ℕ → Type 0) (ending : Result Bool Fault) → ending ≢ Err WriteFailed
+      → Ends bytes fails InGave InFailed OutGets OutBroke ending
+      → (out : List ℕ) × Writes bytes fails InGave InFailed out (told ending) (status_at ending) × OutGets out
+  ends_write OutGets OutBroke (Ok wanted) other (out, h, gets) = (out, inl h, gets)
+  ends_write OutGets OutBroke (Err (BadLine report)) other (out, h, gets) = (out, inl h, gets)
+  ends_write OutGets OutBroke (Err ReadFailed) other (out, h, gets) = (out, inr (inl h), gets)
+  ends_write OutGets OutBroke (Err WriteFailed) other h = absurd (other refl)
+  ends_write OutGets OutBroke (Err OutOfMemory) other (out, h, gets) = (out, inr (inr h), gets)
 
-  abbrev Answered : Result Bool Fault → Type 0
-  Answered result = Ends bytes fails InGave InFailed (λ text. Sends takes flushes old text mid)
-      (λ text. BrokeOn takes fails_on flushes flush_fails old text mid) result
+  due : (out err : List ℕ) (status : ℕ) → Writes bytes fails InGave InFailed out err status → WritingFailed bytes fails out
+  due out err status (inl h) = broke_at_end h
+  due out err status (inr (inl h)) = broke_at_failure h
+  due out err status (inr (inr h)) = broke_at_memory fails h
 
-  abbrev Delivered : Result Bool Fault → Type 0
-  Delivered result = Ends bytes fails InGave InFailed (λ text. Delivers takes flushes old text new) Broken result
-
-  -- a last flush went well
-  flushed_well : (ending : Result Bool Fault) → Answered ending → flushes mid new → (ending ≡ Err WriteFailed → ⊥) → Delivered ending
-  flushed_well (Ok wanted) h f other = (h.0, h.1, (mid, h.2, f))
-  flushed_well (Err (BadLine report)) h f other = (h.0, h.1, (mid, h.2, f))
-  flushed_well (Err ReadFailed) h f other = (h.0, h.1, (mid, h.2, f))
-  flushed_well (Err WriteFailed) h f other = absurd (other refl)
-  flushed_well (Err OutOfMemory) h f other = (h.0, h.1, (mid, h.2, f))
-
-  -- it failed
-  flushed_badly : (ending : Result Bool Fault) → Answered ending → flush_fails mid new → (ending ≡ Err WriteFailed → ⊥)
-      → (text : List ℕ) × WritingFailed bytes fails text × Broken text
-  flushed_badly (Ok wanted) h f other =
-      (h.0, broke_at_end bytes _ _ fails _ h.1, broke_on_flush takes fails_on flushes flush_fails old h.0 mid new h.2 f)
-  flushed_badly (Err (BadLine report)) h f other =
-      (h.0, broke_at_end bytes _ _ fails _ h.1, broke_on_flush takes fails_on flushes flush_fails old h.0 mid new h.2 f)
-  flushed_badly (Err ReadFailed) h f other =
-      (h.0, broke_at_failure bytes _ _ fails _ _ _ h.1, broke_on_flush takes fails_on flushes flush_fails old h.0 mid new h.2 f)
-  flushed_badly (Err WriteFailed) h f other = absurd (other refl)
-  flushed_badly (Err OutOfMemory) h f other =
-      (h.0, broke_at_memory bytes _ _ fails _ _ h.1, broke_on_flush takes fails_on flushes flush_fails old h.0 mid new h.2 f)
-
-  ends_flushed : (ending result : Result Bool Fault) → Answered ending → EndsFlushed flushes flush_fails ending result mid new → Delivered result
-  ends_flushed ending result h (inl (is, was, same)) =
-      let broke : Answered (Err WriteFailed) = subst Answered was h in
-      subst Delivered (sym is) (broke.0, broke.1, subst (λ (s : S). BrokeOn takes fails_on flushes flush_fails old broke.0 s) (sym same) broke.2)
-  ends_flushed ending result h (inr (inl (is, other, f))) = subst Delivered (sym is) (flushed_well ending h f other)
-  ends_flushed ending result h (inr (inr (is, other, f))) = subst Delivered (sym is) (flushed_badly ending h f other)
-
--- What was answered, what a last flush made of it, what was told of that, and the status.
-pub record Ended {S T : Type 0} (InGave InFailed : List ℕ → Type 0) (takes fails_on : S → List ℕ → S → Type 0) (flushes flush_fails : S → S → Type 0)
-    (err_takes err_fails : T → List ℕ → T → Type 0) (first : Option (List ℕ)) (fails : Option Bool) (old new : S) (err_old err_new : T) (status : ℕ)
-    : Type 0 where
-  pub mid : S
-  pub ending : Result Bool Fault
-  pub result : Result Bool Fault
-  pub answered : IfSome first (λ bytes. Answered InGave InFailed takes fails_on flushes flush_fails bytes fails old mid new ending)
-  pub flushed : EndsFlushed flushes flush_fails ending result mid new
-  pub tells : TakesOrFails err_takes err_fails err_old (told result) err_new
-  pub status_is : status ≡ status_at result
-
--- it is the theorem, where it is known what the source had
-pub replayed : {S T : Type 0} (InGave InFailed : List ℕ → Type 0) (takes fails_on : S → List ℕ → S → Type 0) (flushes flush_fails : S → S → Type 0)
-    (err_takes err_fails : T → List ℕ → T → Type 0) (first : Option (List ℕ)) (fails : Option Bool) (old new : S) (err_old err_new : T) (status : ℕ)
-    → Ended InGave InFailed takes fails_on flushes flush_fails err_takes err_fails first fails old new err_old err_new status
-    → IfSome first (λ bytes. Replays bytes fails InGave InFailed (λ text. Delivers takes flushes old text new)
-    (λ text. BrokeOn takes fails_on flushes flush_fails old text new) (λ text. TakesOrFails err_takes err_fails err_old text err_new) status)
-replayed InGave InFailed takes fails_on flushes flush_fails err_takes err_fails None fails old new err_old err_new status h = tt
-replayed InGave InFailed takes fails_on flushes flush_fails err_takes err_fails (Some bytes) fails old new err_old err_new status h =
-    let P : ℕ → Type 0 = λ s. Replays bytes fails InGave InFailed (λ text. Delivers takes flushes old text new)
-    (λ text. BrokeOn takes fails_on flushes flush_fails old text new) (λ text. TakesOrFails err_takes err_fails err_old text err_new) s in
-    subst P (sym h.status_is) (ends_replays bytes fails InGave InFailed _ _ _ h.result
-    (ends_flushed InGave InFailed takes fails_on flushes flush_fails bytes fails old h.mid new h.ending h.result h.answered h.flushed) h.tells)
+  -- what was answered and what a last flush made of it is the theorem, where it is told
+  pub ends_replay : {S : Type 0} (takes fails_on : S → List ℕ → S → Type 0) (flushes flush_fails : S → S → Type 0) (ErrGets : List ℕ → Type 0)
+      (old mid new : S) (ending result : Result Bool Fault) → EndsFlushed flushes flush_fails ending result mid new → ErrGets (told result)
+      → Ends bytes fails InGave InFailed (λ text. Sends takes flushes old text mid)
+      (λ text. BrokeOn takes fails_on flushes flush_fails old text mid) ending
+      → Replays bytes fails InGave InFailed (λ text. Delivers takes flushes old text new)
+      (λ text. BrokeOn takes fails_on flushes flush_fails old text new) ErrGets (status_at result)
+  ends_replay takes fails_on flushes flush_fails ErrGets old mid new ending result (inl (is, was, same)) tells h =
+      let (out, failed, broke) = rw was at h in
+      rw (is, same) (inr (out, failed, broke, refl, rw is at tells))
+  ends_replay takes fails_on flushes flush_fails ErrGets old mid new ending result (inr (inl (is, other, passed))) tells h =
+      let (out, writes, sent) = ends_write _ _ ending other h in
+      rw is (inl (out, told ending, writes, (mid, sent, passed), rw is at tells))
+  ends_replay takes fails_on flushes flush_fails ErrGets old mid new ending result (inr (inr (is, other, failed))) tells h =
+      let (out, writes, sent) = ends_write _ _ ending other h in
+      rw is (inr (out, due out (told ending) (status_at ending) writes, broke_on_flush sent failed, refl, rw is at tells))
 
 writes_weaker : (bytes : List ℕ) (fails : Option Bool) (InGave InFailed InHad InFaulty : List ℕ → Type 0) (out err : List ℕ) (status : ℕ)
     → ((given : List ℕ) → InGave given → InHad given) → ((given : List ℕ) → InFailed given → InFaulty given)
@@ -137,3 +97,52 @@ replays_weaker (Some bytes) fails InGave InFailed InHad InFaulty OutGets OutHas 
     inl (answers, report, writes_weaker bytes fails InGave InFailed InHad InFaulty answers report status had faulty writes, out answers gets, err report told)
 replays_weaker (Some bytes) fails InGave InFailed InHad InFaulty OutGets OutHas OutBroke OutFaulty ErrGets ErrHas status had faulty out broke err
     (inr (due, failed, is_broken, is, told)) = inr (due, failed, broke due is_broken, is, err _ told)
+
+-- ---- watched writers
+
+-- what is sent to a watched writer leaves the same writer watched
+module _ {W : Type 0} (contents : W → Option (List ℕ)) (wrote : W → List ℕ → Result ℕ Error → W → Type 0) (flushed : W → Result (Unit {0}) Error → W → Type 0)
+  where
+    abbrev Takes : Watched W → List ℕ → Watched W → Type 0
+    Takes = WatchedTakes contents wrote
+
+    abbrev Fails : Watched W → List ℕ → Watched W → Type 0
+    Fails = WatchedFails contents wrote
+
+    abbrev Flushed : Watched W → Watched W → Type 0
+    Flushed = WatchedFlushes contents flushed
+
+    abbrev FlushFailed : Watched W → Watched W → Type 0
+    FlushFailed = WatchedFlushFails contents flushed
+
+    turns_same : (s : Watched W) (uses : List Use) (t : Watched W) → FoldsTo (Uses Takes Flushed) s uses t → SameWriter s t
+    turns_same s [] t p = sym (ap writer_loan p)
+    turns_same s (put a ∷ uses) t (mid, p, later) = turns_same mid uses t later ∙ p.same
+    turns_same s (flush ∷ uses) t (mid, p, later) = turns_same mid uses t later ∙ p.same
+
+    pub delivers_same : (s : Watched W) (text : List ℕ) (t : Watched W) → Delivers Takes Flushed s text t → SameWriter s t
+    delivers_same s text t (sent, p, q) = q.same ∙ turns_same s p.uses sent p.turns
+
+    pub broke_same : (s : Watched W) (text : List ℕ) (t : Watched W) → BrokeOn Takes Fails Flushed FlushFailed s text t → SameWriter s t
+    broke_same s text t h = elim h.fault [
+      | inl (rest, is, failed) ↦ failed.same ∙ turns_same s h.sends.uses h.sent h.sends.turns
+      | inr (is, failed) ↦ failed.1.same ∙ turns_same s h.sends.uses h.sent h.sends.turns
+    ]
+
+    pub broke_writer : (s : Watched W) (text : List ℕ) (t : Watched W) → BrokeOn Takes Fails Flushed FlushFailed s text t
+        → WriterBroke wrote flushed (watched_writer s) text (watched_writer t)
+    broke_writer s text t h = record {
+      front = h.front;
+      sent = watched_writer h.sent;
+      sends = watched_sends contents wrote flushed s h.front h.sent h.sends;
+      fault = elim h.fault [ inl (rest, is, failed) ↦ inl (rest, is, failed.broke) | inr (is, failed) ↦ inr (is, (failed.0, failed.1.passed)) ];
+    }
+
+    pub told_same : (s : Watched W) (text : List ℕ) (t : Watched W) → TakesOrFails Takes Fails s text t → SameWriter s t
+    told_same s text t (inl p) = p.same
+    told_same s text t (inr p) = p.same
+
+    pub told_writer : (s : Watched W) (text : List ℕ) (t : Watched W) → TakesOrFails Takes Fails s text t
+        → WriterTakesOrFails contents wrote (watched_writer s) text (watched_writer t)
+    told_writer s text t (inl p) = inl (p.grows, p.passed)
+    told_writer s text t (inr p) = inr p.broke

@@ -1,11 +1,9 @@
 -- What the checked operations of std answer, by whether an i128 holds the exact result.
 use Rattle.std.specs.Prelude.{◌≡◌, ◌<◌, ◌^◌, ℤ, pos, negsuc, true, false, if◌then◌else◌, Option, Some, None, SomeIff, FitsSigned}
-use Rattle.std.proofs.Common.{sym, ◌∙◌, ap, arith, ltb-true, lt-ltb}
-use Rattle.std.proofs.lemmas.Bool.{cond-true, cond-false, false_from_ne_true}
-use Rattle.std.proofs.lemmas.Option.{cond_some}
 use Rattle.std.specs.Int.{w128}
-use Rattle.tera_meaning.specs.Arithmetic.{small}
-use Rattle.tera_meaning.specs.Integer.{is_small}
+use Rattle.std.proofs.Common.{sym, ◌∙◌, ap, arith, ltb-true, lt-ltb}
+use Rattle.std.proofs.{lemmas.Bool.cond-true, lemmas.Bool.cond-false, lemmas.Bool.false_from_ne_true, lemmas.Option.cond_some}
+use Rattle.tera_meaning.specs.{Arithmetic.small, Integer.is_small}
 
 small_fits : (z : ℤ) → is_small z ≡ true → FitsSigned w128 z
 small_fits (pos n) h = let less : n < 2 ^ 127 = ltb-true n (2 ^ 127) h in record { sfits = omega arith }

@@ -1,6 +1,4 @@
-mod CharLemmas
 mod Checked
-mod LossyLemmas
 mod PlaceLemmas
 pub mod PositionLaws
 mod TextLemmas

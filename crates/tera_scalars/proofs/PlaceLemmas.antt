@@ -1,15 +1,12 @@
 -- What `parse` reads is a place.
-use Rattle.std.specs.Prelude.{◌≡◌, ℕ, ◌^◌, ◌<◌, ◌==◌, ◌&&◌, nat_lt, Bool, true, false, if◌then◌else◌, cond, List, [], ◌∷◌, length, drop, Some, None}
-use Rattle.std.specs.Prelude.{Result, Ok, Err, OkIff, refl}
+use Rattle.std.specs.Prelude.{◌≡◌, ℕ, ◌^◌, ◌<◌, ◌==◌, ◌&&◌, nat_lt, Bool, true, false, if◌then◌else◌, cond, List, [], ◌∷◌, length, drop, Some, None, Result}
+use Rattle.std.specs.Prelude.{Ok, Err, OkIff, refl}
+use Rattle.std.specs.Str.Parse.{AllDigits, IsNumeral, digits_value, without_leading_plus, ParsesUnsigned}
+use Rattle.std.specs.{Char.is_ascii_digit, Char.digit_value, Str.all_ascii_digits, Result.result_ok}
 use Rattle.std.proofs.Common.{Decides, ap, subst, arith}
 use Rattle.std.proofs.lemmas.Bool.Decides.{Decides-and, Decides-like, Decides-ltb, nat_tests}
 use Rattle.std.proofs.lemmas.Str.Parse.{digit_from_value}
-use Rattle.std.specs.Char.{is_ascii_digit, digit_value}
-use Rattle.std.specs.Result.{result_ok}
-use Rattle.std.specs.Str.{all_ascii_digits}
-use Rattle.std.specs.Str.Parse.{AllDigits, IsNumeral, digits_value, without_leading_plus, ParsesUnsigned}
-use Rattle.tera_meaning.specs.Path.{place, without_plus}
-use Rattle.tera_meaning.specs.Read.{is_nonempty}
+use Rattle.tera_meaning.specs.{Path.place, Path.without_plus, Read.is_nonempty}
 
 same_front : (bs : List ℕ) → without_leading_plus bs ≡ without_plus bs
 same_front [] = refl

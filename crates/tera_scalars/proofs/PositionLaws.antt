@@ -1,12 +1,10 @@
 -- A walk over places that fit machine integers takes the slice between the bounds that it was made of.
-use Rattle.std.specs.Prelude.{◌≡◌, ◌≢◌, ◌⊎◌, ◌<◌, ◌≤◌, ◌+◌, ◌-◌, ◌*◌, ◌^◌, min, ℕ, zero, suc, ℤ, pos, negsuc, false, ◌||◌, List, [], ◌∷◌, length}
-use Rattle.std.specs.Prelude.{take, drop, slice_get, Option, None, Some}
+use Rattle.std.specs.Prelude.{◌≡◌, ◌≢◌, ◌⊎◌, ◌<◌, ◌≤◌, ◌+◌, ◌-◌, ◌*◌, ◌^◌, min, ℕ, zero, suc, ℤ, pos, negsuc, false, ◌||◌, List, [], ◌∷◌, length, take, drop}
+use Rattle.std.specs.Prelude.{slice_get, Option, None, Some}
 use Rattle.std.proofs.Common.{refl, ap, subst, arith, inl, inr}
-use Rattle.std.proofs.Math.Nat.{mul-le-mul_left}
-use Rattle.std.proofs.lemmas.Bool.{cases_lt, or_parts}
-use Rattle.std.proofs.lemmas.Int.{ints, clamps}
-use Rattle.tera_meaning.specs.SliceRule.{IsSliceOf, start_place, end_place}
+use Rattle.std.proofs.{Math.Nat.mul-le-mul_left, lemmas.Bool.cases_lt, lemmas.Bool.or_parts, lemmas.Int.ints, lemmas.Int.clamps}
 use Rattle.tera_meaning.specs.Slice.{IsStrided, directed, pause, place_behind, walked}
+use Rattle.tera_meaning.specs.SliceRule.{IsSliceOf, start_place, end_place}
 use Rattle.tera_meaning.proofs.SliceLaws.{strided_is_slice, walked_strides, length_directed}
 use Rattle.tera_scalars.specs.Positions.{counts_from_afar}
 
@@ -48,23 +46,16 @@ module _ {X : Type 0} where
     taken = λ k b. subst (λ i. slice_get ys k ≡ slice_get xs i) (omega (arith, h.before k b)) (h.taken k b);
   }
 
-start_uncounted : (step : ℤ) (start : Option ℤ) (n m from : ℕ) → m ≤ n → counts_from_afar step start ≡ false
-    → place_behind step n from ≡ start_place step n start → place_behind step m (min from m) ≡ start_place step m start
-start_uncounted (pos s) None n m from less near e = omega (arith, ints)
-start_uncounted (negsuc s) None n m from less near e = omega (arith, ints)
-start_uncounted (pos s) (Some (pos b)) n m from less near e = omega (arith, ints, clamps)
-start_uncounted (pos s) (Some (negsuc b)) n m from less near e = cc
-start_uncounted (negsuc s) (Some (pos b)) n m from less near e = cc
-start_uncounted (negsuc s) (Some (negsuc b)) n m from less near e = omega (arith, ints, clamps)
-
-end_uncounted : (step : ℤ) (end : Option ℤ) (n m until : ℕ) → m ≤ n → counts_from_afar step end ≡ false
-    → place_behind step n until ≡ end_place step n end → place_behind step m (min until m) ≡ end_place step m end
-end_uncounted (pos s) None n m until less near e = omega (arith, ints)
-end_uncounted (negsuc s) None n m until less near e = omega (arith, ints)
-end_uncounted (pos s) (Some (pos b)) n m until less near e = omega (arith, ints, clamps)
-end_uncounted (pos s) (Some (negsuc b)) n m until less near e = cc
-end_uncounted (negsuc s) (Some (pos b)) n m until less near e = cc
-end_uncounted (negsuc s) (Some (negsuc b)) n m until less near e = omega (arith, ints, clamps)
+-- a bound that takes no count has its place among fewer items too
+uncounted : (step : ℤ) (bound : Option ℤ) (n m at : ℕ) → m ≤ n → counts_from_afar step bound ≡ false
+    → (place_behind step n at ≡ start_place step n bound → place_behind step m (min at m) ≡ start_place step m bound)
+    × (place_behind step n at ≡ end_place step n bound → place_behind step m (min at m) ≡ end_place step m bound)
+uncounted (pos s) None n m at less near = ((λ e. omega (arith, ints)), (λ e. omega (arith, ints)))
+uncounted (negsuc s) None n m at less near = ((λ e. omega (arith, ints)), (λ e. omega (arith, ints)))
+uncounted (pos s) (Some (pos b)) n m at less near = ((λ e. omega (arith, ints, clamps)), (λ e. omega (arith, ints, clamps)))
+uncounted (pos s) (Some (negsuc b)) n m at less near = cc
+uncounted (negsuc s) (Some (pos b)) n m at less near = cc
+uncounted (negsuc s) (Some (negsuc b)) n m at less near = ((λ e. omega (arith, ints, clamps)), (λ e. omega (arith, ints, clamps)))
 
 module _ {X : Type 0} where
   -- the length is the count, or more where no bound takes the count
@@ -82,18 +73,13 @@ module _ {X : Type 0} where
       elim known [
         | inl near ↦
             let both = or_parts (counts_from_afar step start) (counts_from_afar step end) near in
-            (start_uncounted step start n m from less both.0 s, end_uncounted step end n m until less both.1 e)
+            ((uncounted step start n m from less both.0).0 s, (uncounted step end n m until less both.1).1 e)
         | inr same ↦
             let first : min from m ≡ from = omega arith in
             let last : min until m ≡ until = omega arith in
             (rw first (rw same at s), rw last (rw same at e))
-      ]
-      in
-      let walk : IsStrided (directed step xs) from (min until m) by ys =
-      subst (λ b. IsStrided (directed step xs) from (min until m) b ys) one_on
-      (subst (λ k. IsStrided (directed step xs) from (min until k) (suc (by - 1)) ys) (length_directed step xs)
-      (walked_strides (by - 1) from until (directed step xs)))
-      in
+      ] in
+      let walk = rw (length_directed step xs, one_on) at (walked_strides (by - 1) from until (directed step xs)) in
       stride_slices xs ys start end step (min from m) (min until m) by nonzero (omega arith) (omega arith) places.0 places.1 pace
       (settled (directed step xs) ys from (min until m) by m (omega arith) walk)
 

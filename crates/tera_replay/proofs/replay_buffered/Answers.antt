@@ -2,7 +2,7 @@
 use Rattle.std.proofs.Common.{refl, rules}
 use Rattle.tera_replay.proofs.BufferLemmas.{nothing_read, took_or_failed}
 use Rattle.tera_replies.proofs.InputLaws.{reads_nothing}
-use Rattle.tera_replies.proofs.WatchedLaws.{told_same, told_writer}
+use Rattle.tera_replies.proofs.ReplayLaws.{told_same, told_writer}
 use Rattle.tera_replay.proofs.replay_buffered.Goals as goal
 
 pub returns-in-Some-clause-known : goal.returns-in-Some-clause-known

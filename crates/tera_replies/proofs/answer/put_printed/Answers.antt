@@ -3,13 +3,10 @@ use Rattle.std.proofs.Common.{ℕ, List, rules, refl, sym, append_assoc, ◌++�
 use Rattle.std.proofs.lemmas.Result.{MatchResult-weaker}
 use Rattle.tera_context.specs.Lent.{printed}
 use Rattle.tera_meaning.specs.Answer
-use Rattle.tera_meaning.specs.Form.{Form}
-use Rattle.tera_meaning.specs.Meaning.{layout}
+use Rattle.tera_meaning.specs.{Form.Form, Meaning.layout, Printed.Prints}
 use Rattle.tera_meaning.specs.Printed as prints
-use Rattle.tera_meaning.specs.Printed.{Prints}
 use Rattle.tera_report.specs.Sink.{OfSome}
-use Rattle.tera_replies.specs.Reply.{IsLentLine}
-use Rattle.tera_replies.specs.Script.{ended}
+use Rattle.tera_replies.specs.{Reply.IsLentLine, Script.ended}
 use Rattle.tera_replies.proofs.answer.put_printed.Goals as goal
 
 -- the line behind the word is one for what is printed

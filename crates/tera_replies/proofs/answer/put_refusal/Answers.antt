@@ -2,10 +2,8 @@
 use Rattle.std.proofs.Common.{rules, refl, sym, append_assoc, ◌++◌, codes, Err}
 use Rattle.std.proofs.lemmas.Result.{MatchResult-weaker}
 use Rattle.tera_report.proofs.TellLaws.{some_telling}
-use Rattle.tera_report.specs.Errors.{kind_of, refusal_of}
-use Rattle.tera_report.specs.Sink.{OfSome}
-use Rattle.tera_replies.specs.Reply.{IsReplyLine}
-use Rattle.tera_replies.specs.Script.{ended}
+use Rattle.tera_report.specs.{Errors.kind_of, Errors.refusal_of, Sink.OfSome}
+use Rattle.tera_replies.specs.{Reply.IsReplyLine, Script.ended}
 use Rattle.tera_replies.proofs.answer.put_refusal.Goals as goal
 
 pub returns-in_err-put : goal.returns-in_err-put

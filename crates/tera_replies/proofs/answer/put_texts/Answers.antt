@@ -1,10 +1,9 @@
 -- The word, the texts and the line feed are put in turn.
 use Rattle.std.proofs.Common.{rules, refl, sym, append_assoc, ◌++◌, codes, map}
-use Rattle.std.specs.String.{string_bytes}
 use Rattle.std.proofs.lemmas.Result.{MatchResult-weaker}
+use Rattle.std.specs.String.{string_bytes}
 use Rattle.tera_report.specs.Sink.{OfSome}
-use Rattle.tera_replies.specs.Reply.{IsListedLine}
-use Rattle.tera_replies.specs.Script.{ended}
+use Rattle.tera_replies.specs.{Reply.IsListedLine, Script.ended}
 use Rattle.tera_replies.proofs.ReplyLemmas.{some_list}
 use Rattle.tera_replies.proofs.answer.put_texts.Goals as goal
 

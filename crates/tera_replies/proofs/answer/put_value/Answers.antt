@@ -3,8 +3,7 @@ use Rattle.std.proofs.Common.{rules, refl, sym, append_assoc, ◌++◌, codes, O
 use Rattle.std.proofs.lemmas.Result.{MatchResult-weaker}
 use Rattle.tera_report.specs.Sink.{OfSome}
 use Rattle.tera_meaning.specs.Answer.{found}
-use Rattle.tera_replies.specs.Reply.{IsReplyLine}
-use Rattle.tera_replies.specs.Script.{ended}
+use Rattle.tera_replies.specs.{Reply.IsReplyLine, Script.ended}
 use Rattle.tera_replies.proofs.ReplyLemmas.{some_form}
 use Rattle.tera_replies.proofs.answer.put_value.Goals as goal
 

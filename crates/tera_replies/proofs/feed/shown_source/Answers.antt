@@ -1,27 +1,15 @@
-use Rattle.std.proofs.Common.{rules, ◌≡◌, Bool, true, false, List, ℕ, [], refl, sym, ap, ◌∙◌}
-use Rattle.std.proofs.lemmas.Str.{IsUtf8-from_is_utf8, is_utf8-from_IsUtf8}
-use Rattle.std.specs.Prelude.{if◌then◌else◌}
+use Rattle.std.proofs.Common.{rules, ◌≡◌}
+use Rattle.std.proofs.{lemmas.Str.IsUtf8-from_is_utf8, lemmas.Str.is_utf8-from_IsUtf8, lemmas.Bool.false_from_ne_true}
 use Rattle.std.specs.Str.{IsUtf8, is_utf8}
-use Rattle.tera_replies.specs.Replay.{source_of}
 use Rattle.tera_replies.proofs.feed.shown_source.Goals as goal
-
-all_shown : (line : List ℕ) → IsUtf8 line → line ≡ source_of line
-all_shown line utf8 = ap (λ b. if b then line else []) (sym (is_utf8-from_IsUtf8 line utf8))
-
-none_shown : (line : List ℕ) → (IsUtf8 line → ⊥) → [] ≡ source_of line
-none_shown line other = by (is_utf8 line) refl
-  where
-    by : (b : Bool) → is_utf8 line ≡ b → [] ≡ (if b then line else [])
-    by true is = absurd (other (IsUtf8-from_is_utf8 line is))
-    by false is = refl
 
 pub returns-in-Ok : goal.returns-in-Ok
 returns-in-Ok c =
     let same : c.in-Ok.text.now ≡ c.args.line.now = search rules in
     let utf8 : IsUtf8 c.args.line.now = search rules in
-    same ∙ all_shown c.args.line.now utf8
+    rw (is_utf8-from_IsUtf8 c.args.line.now utf8) same
 
 pub returns-in-Err : goal.returns-in-Err
 returns-in-Err c =
     let other : IsUtf8 c.args.line.now → ⊥ = search rules in
-    none_shown c.args.line.now other
+    rw (false_from_ne_true (is_utf8 c.args.line.now) (λ e. other (IsUtf8-from_is_utf8 c.args.line.now e)))

@@ -1,10 +1,8 @@
 -- What is sent to a room is taken by it, together.
 use Rattle.std.proofs.Common.{◌≡◌, ℕ, inl, inr, List, [], ◌∷◌, length, length-append, sym, ap, subst, arith}
 use Rattle.std.specs.List.{FoldsTo, flat_map}
-use Rattle.tera_report.specs.Room.{RoomTakes, RoomFails, HasRoomFor}
-use Rattle.tera_report.specs.Sink.{Use, put, flush, bytes_put, Uses, Sends}
-use Rattle.tera_report.specs.declared.room.Room.{Room}
-use Rattle.tera_report.specs.inner.SinkLaws.{room_nothing, room_joined}
+use Rattle.tera_report.specs.{Sink.Use, Sink.put, Sink.flush, Sink.bytes_put, Sink.Uses, Sink.Sends, inner.SinkLaws.room_nothing, inner.SinkLaws.room_joined}
+use Rattle.tera_report.specs.{Room.RoomTakes, Room.RoomFails, Room.HasRoomFor, declared.room.Room.Room}
 use Rattle.tera_replies.specs.Output.{BrokeOn}
 use Rattle.tera_replies.proofs.laws.rooms_break_where_they_are_full.Goals as goal
 

@@ -1,4 +1,4 @@
-use Rattle.tera_replies.proofs.ScriptLemmas.{one_script}
+use Rattle.tera_replies.proofs.StretchLemmas.{one_script}
 use Rattle.tera_replies.proofs.laws.scripts_say_one_thing.Goals as goal
 
 pub returns : goal.returns

@@ -1,8 +1,7 @@
 -- What is said of the watched writers is said of the writers.
 use Rattle.std.proofs.Common.{rules}
 use Rattle.tera_report.proofs.SentLaws.{watched_delivers}
-use Rattle.tera_replies.proofs.ReplayLaws.{replays_weaker}
-use Rattle.tera_replies.proofs.WatchedLaws.{delivers_same, broke_same, broke_writer, told_same, told_writer}
+use Rattle.tera_replies.proofs.ReplayLaws.{replays_weaker, delivers_same, broke_same, broke_writer, told_same, told_writer}
 use Rattle.tera_replies.proofs.replays.replay.Goals as goal
 
 pub returns-clause-known : goal.returns-clause-known

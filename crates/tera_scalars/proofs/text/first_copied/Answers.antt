@@ -1,5 +1,4 @@
-use Rattle.std.proofs.Common.{◌≡◌, ℕ, List, IfOk, subst, ◌∙◌}
-use Rattle.std.specs.String.{string_bytes}
+use Rattle.std.proofs.Common.{◌∙◌}
 use Rattle.tera_scalars.proofs.TextLemmas.{before_left}
 use Rattle.tera_scalars.proofs.text.first_copied.Goals as goal
 
@@ -11,5 +10,5 @@ split_at-requires c = (before_left _ _ c.args.count c.utf8.text c.behind-rest.ut
 
 pub returns : goal.returns
 returns c =
-    let front = (before_left _ _ c.args.count c.utf8.text c.behind-rest.utf8 c.behind-rest.ensures).2 in
-    subst (λ (bs : List ℕ). IfOk c.from_str.result (λ t. string_bytes t ≡ bs)) (c.split_at.ensures.front ∙ front) c.from_str.ensures.ok
+    let front = c.split_at.ensures.front ∙ (before_left _ _ c.args.count c.utf8.text c.behind-rest.utf8 c.behind-rest.ensures).2 in
+    rw (← front) c.from_str.ensures.ok

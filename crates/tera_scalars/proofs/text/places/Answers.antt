@@ -1,4 +1,4 @@
-use Rattle.tera_scalars.proofs.CharLemmas.{chars_le_bytes}
+use Rattle.tera_scalars.proofs.TextLemmas.{chars_le_bytes}
 use Rattle.std.proofs.Common.{false}
 use Rattle.tera_scalars.proofs.text.places.Goals as goal
 

@@ -1,13 +1,8 @@
 use Rattle.std.proofs.Common.{◌≡◌, ◌≢◌, List, ℕ, ℤ, IfOk, pos, ◌-◌, refl, ap, subst, take, ◌∙◌}
-use Rattle.std.proofs.lemmas.Int.{to_z-of_z}
-use Rattle.std.proofs.lemmas.Result.{IfOk-weaker}
-use Rattle.std.specs.Int.{w128, cast_unsigned, cast_signed}
-use Rattle.std.specs.Str.{chars, encode_utf8_all}
-use Rattle.std.specs.String.{string_bytes}
-use Rattle.tera_meaning.specs.SliceRule.{IsSliceOf}
-use Rattle.tera_meaning.specs.Slice.{walked}
-use Rattle.tera_scalars.proofs.PositionLaws.{walk_slices}
-use Rattle.tera_scalars.proofs.TextLemmas.{turned_directed}
+use Rattle.std.proofs.{lemmas.Int.to_z-of_z, lemmas.Result.IfOk-weaker}
+use Rattle.std.specs.{Int.w128, Int.cast_unsigned, Int.cast_signed, Str.chars, Str.encode_utf8_all, String.string_bytes}
+use Rattle.tera_meaning.specs.{SliceRule.IsSliceOf, Slice.walked}
+use Rattle.tera_scalars.proofs.{PositionLaws.walk_slices, TextLemmas.turned_directed}
 use Rattle.tera_scalars.proofs.text.sliced_text.Goals as goal
 
 pub returns : goal.returns

@@ -1,7 +1,6 @@
 use Rattle.std.proofs.Common.{◌≡◌, ◌⊎◌, ◌++◌, ◌-◌, ◌+◌, suc, [], List, ℕ, take, arith, inl, inr, sym, ap, ap₂, subst, ◌∙◌}
 use Rattle.std.proofs.lemmas.Str.{IsUtf8-append, IsUtf8-nil}
-use Rattle.std.specs.Str.{IsUtf8, encode_utf8_all}
-use Rattle.std.specs.Str.Iter.{chars_rest}
+use Rattle.std.specs.{Str.IsUtf8, Str.encode_utf8_all, Str.Iter.chars_rest}
 use Rattle.tera_meaning.specs.Slice.{walked}
 use Rattle.tera_scalars.specs.Ends.{chars_from}
 use Rattle.tera_scalars.proofs.TextLemmas.{passes, takes, all_put}
@@ -26,15 +25,14 @@ loop-turn-preserved c =
     let m = c.args.count - (c.loop-turn.turn + 1) in
     let less : n ≡ suc m = omega arith in
     elim c.if-waits-gt0.branch [
-      | then-waits-gt0 w ↦ rw w.made-is (rw w.waits-is (record {
-        text = before.text;
-        so_far = passes p n m next _ _ _ _ off less _ w.if-waits-gt0.true before.so_far;
-      }))
+      | then-waits-gt0 w ↦
+          let one : c.loop-turn.waits ≡ suc c.if-waits-gt0.waits = omega (arith, w.waits-is) in
+          rw w.made-is (record { text = before.text; so_far = passes p n m next _ _ _ _ off less _ _ one before.so_far })
       | else-waits-gt0+in_ok-put_bytes w ↦
           let put = ap (λ v. v.items) w.made-is ∙ w.in_ok-put_bytes.ensures.items in
           rw (w.waits-is ∙ w.saturating_sub-waits.ensures) (record {
             text = subst IsUtf8 (sym put) (IsUtf8-append _ _ before.text text);
-            so_far = takes p n m next _ _ _ _ off less _ _ w.if-waits-gt0.false (put ∙ ap (λ (bs : List ℕ). c.loop-turn.made.items ++ bs) is) before.so_far;
+            so_far = takes p n m next _ _ _ _ off less _ _ (omega arith) (put ∙ ap (λ (bs : List ℕ). c.loop-turn.made.items ++ bs) is) before.so_far;
           })
     ]
 

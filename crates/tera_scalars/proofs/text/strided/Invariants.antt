@@ -1,7 +1,6 @@
 -- What was put is a text, and with what the walk takes of the rest it is all that it takes.
 use Rattle.std.proofs.Common.{◌-◌, take}
-use Rattle.std.specs.Str.{IsUtf8, encode_utf8_all}
-use Rattle.std.specs.Str.Iter.{chars_rest}
+use Rattle.std.specs.{Str.IsUtf8, Str.encode_utf8_all, Str.Iter.chars_rest}
 use Rattle.tera_meaning.specs.Slice.{walked}
 use Rattle.tera_scalars.specs.Ends.{chars_from}
 use Rattle.tera_scalars.proofs.TextLemmas.{Remains}

@@ -1,5 +1,5 @@
 use Rattle.std.proofs.Common.{true, false}
-use Rattle.tera_scalars.proofs.CharLemmas.{came, first_char, last_char}
+use Rattle.tera_scalars.proofs.TextLemmas.{came, first_char, last_char}
 use Rattle.tera_scalars.proofs.text.take_next.Goals as goal
 
 pub returns-then-backwards : goal.returns-then-backwards

@@ -1,36 +1,23 @@
-use Rattle.std.proofs.Common.{refl, arith}
-use Rattle.tera_scalars.proofs.TurnLemmas.{widths_at, spells_within}
+use Rattle.std.proofs.Common.{arith}
+use Rattle.tera_scalars.proofs.TurnLemmas.{spelled}
 use Rattle.tera_scalars.proofs.text.width_at.Goals as goal
 
-pub returns-then-first-lt128-clause-spells : goal.returns-then-first-lt128-clause-spells
-returns-then-first-lt128-clause-spells c =
-    let (h, is) = widths_at c.args.bytes.now c.args.at _ c.requires.text c.requires.within refl in h.one (omega (arith, is, c.if-first-lt128.true))
+pub returns-then-first-lt128 : goal.returns-then-first-lt128
+returns-then-first-lt128 c =
+    let (d, rest, split, left, is, inside) = spelled c.args.bytes.now c.args.at c.requires.text c.requires.within in
+    record { spells = (d, rest, split, left, omega (arith, is.one)); within = omega arith; few = omega arith }
 
-pub returns-then-first-lt224-clause-spells : goal.returns-then-first-lt224-clause-spells
-returns-then-first-lt224-clause-spells c =
-    let (h, is) = widths_at c.args.bytes.now c.args.at _ c.requires.text c.requires.within refl in
-    h.two (omega (arith, is, c.if-first-lt128.false)) (omega (arith, is, c.if-first-lt224.true))
+pub returns-then-first-lt224 : goal.returns-then-first-lt224
+returns-then-first-lt224 c =
+    let (d, rest, split, left, is, inside) = spelled c.args.bytes.now c.args.at c.requires.text c.requires.within in
+    record { spells = (d, rest, split, left, omega (arith, is.two)); within = omega (arith, is.two); few = omega arith }
 
-pub returns-then-first-lt224-clause-within : goal.returns-then-first-lt224-clause-within
-returns-then-first-lt224-clause-within c =
-    let (h, is) = widths_at c.args.bytes.now c.args.at _ c.requires.text c.requires.within refl in
-    spells_within c.args.bytes.now c.args.at 2 (omega arith) (h.two (omega (arith, is, c.if-first-lt128.false)) (omega (arith, is, c.if-first-lt224.true)))
+pub returns-then-first-lt240 : goal.returns-then-first-lt240
+returns-then-first-lt240 c =
+    let (d, rest, split, left, is, inside) = spelled c.args.bytes.now c.args.at c.requires.text c.requires.within in
+    record { spells = (d, rest, split, left, omega (arith, is.three)); within = omega (arith, is.three); few = omega arith }
 
-pub returns-then-first-lt240-clause-spells : goal.returns-then-first-lt240-clause-spells
-returns-then-first-lt240-clause-spells c =
-    let (h, is) = widths_at c.args.bytes.now c.args.at _ c.requires.text c.requires.within refl in
-    h.three (omega (arith, is, c.if-first-lt224.false)) (omega (arith, is, c.if-first-lt240.true))
-
-pub returns-then-first-lt240-clause-within : goal.returns-then-first-lt240-clause-within
-returns-then-first-lt240-clause-within c =
-    let (h, is) = widths_at c.args.bytes.now c.args.at _ c.requires.text c.requires.within refl in
-    spells_within c.args.bytes.now c.args.at 3 (omega arith) (h.three (omega (arith, is, c.if-first-lt224.false)) (omega (arith, is, c.if-first-lt240.true)))
-
-pub returns-else-first-lt240-clause-spells : goal.returns-else-first-lt240-clause-spells
-returns-else-first-lt240-clause-spells c =
-    let (h, is) = widths_at c.args.bytes.now c.args.at _ c.requires.text c.requires.within refl in h.four (omega (arith, is, c.if-first-lt240.false))
-
-pub returns-else-first-lt240-clause-within : goal.returns-else-first-lt240-clause-within
-returns-else-first-lt240-clause-within c =
-    let (h, is) = widths_at c.args.bytes.now c.args.at _ c.requires.text c.requires.within refl in
-    spells_within c.args.bytes.now c.args.at 4 (omega arith) (h.four (omega (arith, is, c.if-first-lt240.false)))
+pub returns-else-first-lt240 : goal.returns-else-first-lt240
+returns-else-first-lt240 c =
+    let (d, rest, split, left, is, inside) = spelled c.args.bytes.now c.args.at c.requires.text c.requires.within in
+    record { spells = (d, rest, split, left, omega (arith, is.four)); within = omega (arith, is.four); few = omega arith }

@@ -1,20 +1,14 @@
 -- The line at hand lies whole in what is left, or is put together.
-use Rattle.std.proofs.Common.{◌≡◌, [], ◌++◌, sym, ◌∙◌, ap, arith}
-use Rattle.std.proofs.lemmas.Bool.{eqb-true}
-use Rattle.std.proofs.lemmas.List.{nil_from_length}
-use Rattle.tera_replies.specs.Script.{without_return}
-use Rattle.tera_replies.proofs.PutLemmas.{line_stops_same}
+use Rattle.std.proofs.Common.{◌≡◌, [], sym, arith}
+use Rattle.std.proofs.{lemmas.List.nil_from_length, lemmas.Bool.eqb-true}
 use Rattle.tera_replies.proofs.feed.Feed.answer_at_hand.Goals as goal
 
 pub returns-then-is_empty-clause-err : goal.returns-then-is_empty-clause-err
 returns-then-is_empty-clause-err g c =
     let part = c.args.self.now.part in
     let nothing : part.items ≡ [] = nil_from_length part.items (omega (arith, part.ok.0, eqb-true _ _ (sym c.if-is_empty.ensures))) in
-    line_stops_same c.answer_line.result _ _ _ _ _ _ (c.trimmed.ensures ∙ ap (λ l. without_return (l ++ c.args.rest.now)) (sym nothing))
-    c.answer_line.ensures.err
+    rw nothing (rw c.trimmed.ensures at c.answer_line.ensures.err)
 
 pub returns-in_ok-extend_from_slice-clause-err : goal.returns-in_ok-extend_from_slice-clause-err
 returns-in_ok-extend_from_slice-clause-err g c =
-    let whole = c.as_slice.ensures.value ∙ c.in_ok-extend_from_slice.ensures.items in
-    line_stops_same c.answer_line-else-is_empty.result _ _ _ _ _ _ (c.trimmed-line.ensures ∙ ap without_return whole)
-    c.answer_line-else-is_empty.ensures.err
+    rw (c.trimmed-line.ensures, c.as_slice.ensures.value, c.in_ok-extend_from_slice.ensures.items) at c.answer_line-else-is_empty.ensures.err
