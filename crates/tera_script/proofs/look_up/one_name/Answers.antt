@@ -4,9 +4,5 @@ use Rattle.tera_script.proofs.look_up.one_name.Goals as goal
 
 pub returns-then-are_blanks : goal.returns-then-are_blanks
 returns-then-are_blanks c =
-    let named = ap (λ name. Some (name, c.in_ok-name.rest.now)) c.name_in.ensures in
-    record {
-      rest = c.in_ok-name.rest.now;
-      found = name_part c.args.bytes.now (named ∙ c.in_ok-name.ensures.operand);
-      blanks = sym c.are_blanks.ensures ∙ c.if-are_blanks.true;
-    }
+    let found = name_part _ (ap (λ name. Some (name, c.in_ok-name.rest.now)) c.name_in.ensures ∙ c.in_ok-name.ensures.operand) in
+    record { rest = c.in_ok-name.rest.now; found = found; blanks = sym c.are_blanks.ensures ∙ c.if-are_blanks.true }
