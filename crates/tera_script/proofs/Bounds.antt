@@ -1,6 +1,6 @@
 -- Bounds: what the readers of bounds give is spelled so, and what is spelled so is read.
-use Rattle.std.proofs.Common.{◌≡◌, ◌<◌, ℕ, ℤ, Bool, true, false, List, [], ◌∷◌, ◌++◌, length, take, ◌-◌, Option, Some, None, refl, ap, sym, ◌∙◌, ◌⊎◌}
-use Rattle.std.proofs.Common.{length-append, inl, inr, arith, append_assoc, append-nil, subst}
+use Rattle.std.proofs.Common.{◌≡◌, ◌<◌, ℕ, ℤ, Bool, true, false, List, [], ◌∷◌, ◌++◌, length, ◌-◌, Option, Some, None, refl, ap, sym, ◌∙◌, ◌⊎◌, length-append}
+use Rattle.std.proofs.Common.{inl, inr, arith, append_assoc, append-nil, subst}
 use Rattle.std.specs.List.{list_all}
 use Rattle.std.specs.Str.Parse.{IsNumeral, digits_value}
 use Rattle.std.proofs.lemmas.Bool.Decides.{nat_tests}
@@ -11,7 +11,8 @@ use Rattle.tera_script.specs.Line.{IsBound, SpellsBound, SpellsBounds}
 use Rattle.tera_script.specs.Number.{sign_of, signed}
 use Rattle.tera_script.specs.inner.Command.{Begins}
 use Rattle.tera_script.specs.Readers.{Stops, front, past, gap_at, is_word_byte, digits_at, small_in, bound_in, bound_at, bounds_at}
-use Rattle.tera_script.proofs.Fronts.{empty_list, front_cut, past_stops, front_is, past_is}
+use Rattle.std.proofs.lemmas.List.{nil_from_length}
+use Rattle.tera_script.proofs.Fronts.{front_cut, past_stops, front_is, past_is}
 use Rattle.tera_script.proofs.Integers.{magnitude_fits, digits_at_found, digits_at_only}
 use Rattle.tera_script.proofs.Names.{gap_found, gap_only}
 use Rattle.tera_script.proofs.Operands.{gap_ends_word}
@@ -27,7 +28,7 @@ small_found minus bytes z e =
     let h : (m : ℕ) × (rest : List ℕ) × (digits_at bytes ≡ Some (m, rest)) × (length rest ≡ 0) × (z ≡ signed minus m) × IsOfKind i128 z =
     grind (arith, nat_tests) in
     let digits = digits_at_found bytes h.0 h.1 h.2 in
-    let all = digits.spelled ∙ ap (λ xs. digits.digits ++ xs) (empty_list h.1 h.3) ∙ append-nil digits.digits in
+    let all = digits.spelled ∙ ap (λ xs. digits.digits ++ xs) (nil_from_length h.1 h.3) ∙ append-nil digits.digits in
     subst (λ xs. IsSmallNumber minus xs z) (sym all) (digits.numeral, h.4 ∙ ap (signed minus) digits.value, h.5)
 
 small_only : (minus : Bool) (digits : List ℕ) (z : ℤ) → IsSmallNumber minus digits z → small_in minus digits ≡ Some z
@@ -40,7 +41,7 @@ small_only minus digits z h =
 bound_found : (word : List ℕ) (bound : Option ℤ) → bound_in word ≡ Some bound → IsBound word bound
 unfolding bound_in
 bound_found [] bound e = cc
-bound_found (b ∷ bytes) None e = grind (arith, nat_tests, empty_list bytes)
+bound_found (b ∷ bytes) None e = grind (arith, nat_tests, nil_from_length bytes)
 bound_found (b ∷ bytes) (Some z) e =
     let h : ((b ≡ 45) × (small_in true bytes ≡ Some z)) ⊎ (small_in false (b ∷ bytes) ≡ Some z) = grind (arith, nat_tests) in
     elim h [
@@ -107,8 +108,7 @@ bounds_found bytes bounds rest e =
 
 -- no word goes on where a bound follows
 pub bound_ends_word : (part : List ℕ) (bound : Option ℤ) (rest : List ℕ) → SpellsBound part bound → Stops is_word_byte (part ++ rest)
-bound_ends_word part bound rest h = subst (Stops is_word_byte) (sym (ap (λ xs. xs ++ rest) h.4 ∙ append_assoc h.0 h.1 rest))
-    (gap_ends_word h.0 (h.1 ++ rest) h.2)
+bound_ends_word part bound rest h = rw (h.4, append_assoc h.0 h.1 rest) (gap_ends_word h.0 (h.1 ++ rest) h.2)
 
 pub bounds_only : (part : List ℕ) (bounds : Bounds) (rest : List ℕ) → SpellsBounds part bounds → Stops is_word_byte rest → bounds_at (part ++ rest)
     ≡ Some (bounds, rest)

@@ -92,8 +92,7 @@ module _ (row : Row) (bytes : List ℕ) where
 
 operands_end_name : (row : Row) (command : Command) (part after : List ℕ) → SpellsOperands row part command → Stops is_name_byte (part ++ after)
 operands_end_name row command part after h =
-    subst (Stops is_name_byte) (sym (ap (λ xs. xs ++ after) h.whole ∙ append_assoc h.first h.second after))
-    ((parts_of (shape_of row.making)).opens h.first (h.second ++ after) h.given h.spells)
+    rw (h.whole, append_assoc h.first h.second after) ((parts_of (shape_of row.making)).opens h.first (h.second ++ after) h.given h.spells)
 
 -- ---- the reader of a shape
 
@@ -107,17 +106,18 @@ asked (of_literal f) (operands.Literal name value) = refl
 asked (of_map f) (operands.Map source) = refl
 asked m o = refl
 
-module _ {known : Known} {s : Shape} (k : IsOfShape known s) (bytes : List ℕ) where
+module _ {known : Known} {s : Shape} (k : IsOfShape known s) where
   its_shape : s ≡ shape_of (row_of known.verb).making
   its_shape = sym k.shaped ∙ sym k.is.0
 
+module _ {known : Known} {s : Shape} (k : IsOfShape known s) {bytes : List ℕ} where
   pub no_operands : IsGivenAt s bytes None → AreOperandsOf (row_of known.verb) bytes None
-  no_operands none = no_given (row_of known.verb) bytes (subst (λ x. IsGivenAt x bytes None) its_shape none)
+  no_operands none = no_given (row_of known.verb) bytes (subst (λ x. IsGivenAt x bytes None) (its_shape k) none)
 
-  module _ (given : Given s) (rest : List ℕ) (found : IsGivenAt s bytes (Some (given, rest))) where
+  module _ {given : Given s} {rest : List ℕ} (found : IsGivenAt s bytes (Some (given, rest))) where
     pub nothing_behind : None ≡ into_in known.keeps rest → AreOperandsOf (row_of known.verb) bytes None
     nothing_behind n =
-        let t = subst (λ x. (g : Given x) × IsGivenAt x bytes (Some (g, rest))) its_shape (given, found) in
+        let t = subst (λ x. (g : Given x) × IsGivenAt x bytes (Some (g, rest))) (its_shape k) (given, found) in
         no_into (row_of known.verb) bytes t.0 rest t.1 (ap (λ keeps. into_in keeps rest) k.is.1 ∙ sym n)
 
     pub step_made : (o : Operands) → given_in s o ≡ Some given → {into : Option (List ℕ)} → Some into ≡ into_in known.keeps rest
@@ -126,7 +126,7 @@ module _ {known : Known} {s : Shape} (k : IsOfShape known s) (bytes : List ℕ) 
     step_made o g {into = into} n (Err error) h = tt
     step_made o g {into = into} n (Ok answer) h =
         let row = row_of known.verb in
-        let t = subst (λ x. (g : Given x) × (given_in x o ≡ Some g) × IsGivenAt x bytes (Some (g, rest))) its_shape (given, g, found) in
+        let t = subst (λ x. (g : Given x) × (given_in x o ≡ Some g) × IsGivenAt x bytes (Some (g, rest))) (its_shape k) (given, g, found) in
         let request : request_in row.making o ≡ Some (requested row.making t.0) = asked row.making o ∙ ap (option_map (requested row.making)) t.1 in
         let is = h ∙ ap (option_map (λ (request : Request). record { request = request; into = into })) request in
         subst (AreOperandsOf row bytes) (sym is) (answered row bytes t.0 rest t.2 into (ap (λ keeps. into_in keeps rest) k.is.1 ∙ sym n))
@@ -151,10 +151,10 @@ command_parts bytes command h =
       behind = record { part = part; after = h.after; spells = h.spells.2; blanks = h.blanks; spelled = refl };
     }
 
-pub command_none_name : (bytes : List ℕ) → name_at bytes ≡ None → IsCommandAt bytes None
-command_none_name bytes e = λ utf8 command h. let found = (command_parts bytes command h).named in cc
+pub command_none_name : {bytes : List ℕ} → name_at bytes ≡ None → IsCommandAt bytes None
+command_none_name {bytes} e = λ utf8 command h. let found = (command_parts bytes command h).named in cc
 
-module _ (bytes word rest : List ℕ) (n : name_at bytes ≡ Some (word, rest)) where
+module _ (bytes : List ℕ) {word rest : List ℕ} (n : name_at bytes ≡ Some (word, rest)) where
   parts_same : (command : Command) (parts : CommandParts bytes command) → (word ≡ word_of parts.verb) × (rest ≡ parts.rest)
   parts_same command parts = some_pair_parts word (word_of parts.verb) rest parts.rest (sym n ∙ parts.named)
 

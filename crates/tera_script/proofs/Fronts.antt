@@ -1,6 +1,6 @@
 -- The bytes at the front that pass a test, and those behind them.
-use Rattle.std.proofs.Common.{◌≡◌, ◌≢◌, ◌+◌, Option, Some, None, ◌-◌, ◌≤◌, ℕ, Bool, true, false, ◌&&◌, List, [], ◌∷◌, ◌++◌, length, take, drop, refl, ap, sym}
-use Rattle.std.proofs.Common.{◌∙◌, arith, append_assoc, length-append}
+use Rattle.std.proofs.Common.{◌≡◌, ◌≢◌, ◌+◌, Option, Some, None, ◌-◌, ◌≤◌, ℕ, Bool, true, false, List, [], ◌∷◌, ◌++◌, length, take, drop, refl, ap, sym, ◌∙◌}
+use Rattle.std.proofs.Common.{arith, append_assoc, length-append}
 use Rattle.std.proofs.lemmas.List.{take_at, drop_at}
 use Rattle.std.proofs.lemmas.Option.{some_pair_parts}
 use Rattle.std.proofs.lemmas.Str.{encode_ascii}
@@ -12,18 +12,6 @@ use Rattle.std.proofs.lemmas.Slice.Eq.{strip_prefix_is}
 use Rattle.std.proofs.lemmas.Bool.Decides.{nat_tests, Decides-eqb}
 use Rattle.tera_script.specs.Word.{is_blank}
 use Rattle.tera_script.specs.Readers.{Stops, front, past, is_word_byte, behind}
-
-abbrev pub head : List ℕ → ℕ
-head [] = 0
-head (b ∷ xs) = b
-
-abbrev pub tail : List ℕ → List ℕ
-tail [] = []
-tail (b ∷ xs) = xs
-
-pub empty_list : (xs : List ℕ) → length xs ≡ 0 → xs ≡ []
-empty_list [] h = refl
-empty_list (b ∷ xs) h = absurd (omega arith)
 
 module _ (p : ℕ → Bool) where
   pub front-past : (xs : List ℕ) → front p xs ++ past p xs ≡ xs
@@ -39,23 +27,15 @@ module _ (p : ℕ → Bool) where
   past_stops [] = tt
   past_stops (b ∷ xs) = grind (arith, past_stops xs)
 
-  pub past_at_stop : (ys : List ℕ) → Stops p ys → past p ys ≡ ys
-  past_at_stop ys h = grind arith
-
-  pub front_at_stop : (ys : List ℕ) → Stops p ys → front p ys ≡ []
-  front_at_stop ys h = grind arith
-
-  pub both_pass : (a b : Bool) → (a && b) ≡ true → (a ≡ true) × (b ≡ true)
-  both_pass true b e = (refl, e)
-  both_pass false b e = cc
-
   -- bytes that pass, before bytes that do not begin with one that does, are the front
   pub front_is : (xs ys : List ℕ) → list_all p xs ≡ true → Stops p ys → front p (xs ++ ys) ≡ xs
-  front_is [] ys h s = front_at_stop ys s
+  front_is [] [] h s = refl
+  front_is [] (y ∷ ys) h s = rw s refl
   front_is (b ∷ xs) ys h s = grind (arith, front_is xs ys)
 
   pub past_is : (xs ys : List ℕ) → list_all p xs ≡ true → Stops p ys → past p (xs ++ ys) ≡ ys
-  past_is [] ys h s = past_at_stop ys s
+  past_is [] [] h s = refl
+  past_is [] (y ∷ ys) h s = rw s refl
   past_is (b ∷ xs) ys h s = grind (arith, past_is xs ys)
 
   -- where the bytes are cut before those behind the front
@@ -81,20 +61,15 @@ pub ruleset ascii = (encode_ascii)
 
 -- some bytes, and then those that were read
 pub behind_nothing : (read : Option (List ℕ × List ℕ)) → behind [] read ≡ read
-behind_nothing None = refl
-behind_nothing (Some found) = refl
+behind_nothing read = grind arith
 
 pub behind_both : (xs ys : List ℕ) (read : Option (List ℕ × List ℕ)) → behind xs (behind ys read) ≡ behind (xs ++ ys) read
-behind_both xs ys None = refl
-behind_both xs ys (Some found) = ap (λ zs. Some (zs, found.1)) (sym (append_assoc xs ys found.0))
+behind_both xs ys read = grind (arith, append_assoc {A = ℕ})
 
 pub behind_found : (front' : List ℕ) (read : Option (List ℕ × List ℕ)) (t rest : List ℕ) → behind front' read ≡ Some (t, rest)
     → (u : List ℕ) × (read ≡ Some (u, rest)) × (t ≡ front' ++ u)
 behind_found front' None t rest e = cc
 behind_found front' (Some (u, r)) t rest e = let same = some_pair_parts (front' ++ u) t r rest e in (u, (λ i. Some (u, same.1 i)), sym same.0)
-
-pub blank_ends_word : (b : ℕ) → is_blank b ≡ true → is_word_byte b ≡ false
-blank_ends_word b h = grind (arith, nat_tests)
 
 -- a byte of no word ends one, behind blanks too
 pub bracket_or_comma : (xs : List ℕ) (b : ℕ) (rest : List ℕ) → past is_blank xs ≡ b ∷ rest → is_word_byte b ≡ false → Stops is_word_byte xs

@@ -1,16 +1,15 @@
 -- Numbers: what the reader gives is spelled so, and what is spelled so is read.
-use Rattle.std.proofs.Common.{◌≡◌, ◌≢◌, ◌+◌, ◌*◌, ◌<◌, ◌≤◌, ◌^◌, ℕ, zero, suc, ℤ, pos, negsuc, Bool, true, false, ◌&&◌, eqb, ltb, List, [], ◌∷◌, ◌++◌}
-use Rattle.std.proofs.Common.{length, Option, Some, None, refl, ap, sym, ◌∙◌, ◌⊎◌, inl, inr, arith, append_assoc, length-append, subst}
+use Rattle.std.proofs.Common.{◌≡◌, ◌≢◌, ◌+◌, ◌*◌, ◌<◌, ◌≤◌, ◌^◌, ℕ, Bool, true, false, List, [], ◌∷◌, ◌++◌, length, Option, Some, None, refl, ap, sym, ◌∙◌, ◌⊎◌}
+use Rattle.std.proofs.Common.{inl, inr, arith, append_assoc, length-append, subst}
 use Rattle.std.specs.Char.{digit_value, is_ascii_digit}
 use Rattle.std.specs.List.{list_all}
 use Rattle.std.specs.Str.Parse.{AllDigits, IsNumeral, digits_value, digits_value_after}
 use Rattle.std.proofs.lemmas.Bool.Decides.{nat_tests}
 use Rattle.std.proofs.lemmas.Slice.Eq.{bytes_eq-Decides}
 use Rattle.std.proofs.lemmas.Str.Parse.{digit_from_value}
-use Rattle.tera_meaning.specs.Kind.{integer_kind_name}
-use Rattle.tera_meaning.specs.Integer.{IntegerKind, u64, i64, u128, i128, Integer, IsOfKind}
-use Rattle.tera_script.specs.Number.{sign_of, suffix_of, signed, IsSignFor, IsFirstKind, IsKindFor, SpellsNumber}
-use Rattle.tera_script.specs.Readers.{Stops, digits_from, digits_at, if_named, suffix_in, is_of_kind, is_sign_for, in_kind, integer_of, unsigned_in, number_in}
+use Rattle.tera_meaning.specs.Integer.{IntegerKind, Integer, IsOfKind}
+use Rattle.tera_script.specs.Number.{sign_of, suffix_of, signed, IsKindFor, SpellsNumber}
+use Rattle.tera_script.specs.Readers.{Stops, digits_from, digits_at, suffix_in, integer_of, unsigned_in, number_in}
 
 -- the tests and the facts
 pub magnitude_fits : (kind : IntegerKind) (minus : Bool) (m : ℕ) → IsOfKind kind (signed minus m) → m < 2 ^ 128

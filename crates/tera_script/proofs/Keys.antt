@@ -12,8 +12,7 @@ use Rattle.tera_meaning.specs.Tree.{text}
 use Rattle.tera_script.specs.Text.{SpellsText, BeginsWithText}
 use Rattle.tera_script.specs.Literal.{SpellsKey}
 use Rattle.tera_script.specs.Number.{SpellsNumber}
-use Rattle.tera_script.specs.Readers.{Stops, front, past, digits_at, unsigned_in, number_in, is_word_byte, key_in, plain_key_at, IsKeyAt}
-use Rattle.tera_script.specs.Readers.{IsQuotedAt}
+use Rattle.tera_script.specs.Readers.{Stops, front, past, digits_at, unsigned_in, number_in, is_word_byte, key_in, plain_key_at, IsKeyAt, IsQuotedAt}
 use Rattle.tera_script.proofs.Fronts.{front-past, front_is, past_stops}
 use Rattle.tera_script.proofs.Integers.{number_found, number_only}
 use Rattle.tera_script.proofs.Words.{number_is_word, other_word}

@@ -8,7 +8,7 @@ use Rattle.tera_script.specs.Verb.{word_of}
 use Rattle.tera_script.specs.Line.{Says, IsSkipped, IsBad, SpellsCommand}
 use Rattle.tera_script.specs.Readers.{Stops, front, past, is_end_or_comment}
 use Rattle.tera_script.specs.inner.Command.{EndsIn, IsCommandAt}
-use Rattle.tera_script.proofs.Fronts.{both_pass, front-past, front_all, past_is, front_cut}
+use Rattle.tera_script.proofs.Fronts.{front_all, past_is, front_cut}
 use Rattle.tera_script.proofs.Names.{name_is_not_blank}
 use Rattle.tera_script.proofs.Verbs.{word_is_name}
 use Rattle.tera_script.proofs.Commands.{one_command_at}
@@ -39,18 +39,10 @@ skipped_past line (inl h) = ap is_end_or_comment (all_past line h)
 skipped_past line (inr h) = ap is_end_or_comment (ap (past is_blank) h.3 ∙ past_is is_blank h.0 (35 ∷ h.1) h.2 refl)
 
 past_skipped : (line rest : List ℕ) → past is_blank line ≡ rest → is_end_or_comment rest ≡ true → IsSkipped line
-past_skipped line [] e h =
-    inl (subst AreBlanks (sym (append-nil (front is_blank line)) ∙ ap (λ xs. front is_blank line ++ xs) (sym e) ∙ front-past is_blank line)
-    (front_all is_blank line))
+past_skipped line [] e h = inl (subst AreBlanks (sym (front_cut is_blank line [] e ∙ append-nil (front is_blank line))) (front_all is_blank line))
 past_skipped line (b ∷ rest) e h =
     let hash : b ≡ 35 = grind (arith, nat_tests, h) in
-    inr (
-      front is_blank line,
-      rest,
-      front_all is_blank line,
-      sym (front-past is_blank line) ∙ ap (λ xs. front is_blank line ++ xs)
-          (e ∙ ap (λ c. c ∷ rest) hash),
-    )
+    inr (front is_blank line, rest, front_all is_blank line, front_cut is_blank line (35 ∷ rest) (e ∙ ap (λ c. c ∷ rest) hash))
 
 name_is_no_comment : (name rest : List ℕ) → IsName name → is_end_or_comment (name ++ rest) ≡ false
 name_is_no_comment name rest n = grind (arith, nat_tests)
@@ -63,7 +55,7 @@ skipped_says_nothing line command s h =
     cc
 
 -- by the bytes past the blanks, and whether they are none or begin a comment
-module _ (line : List ℕ) {bytes : List ℕ} {ends : Bool} (b : bytes ≡ past is_blank line) (e : ends ≡ is_end_or_comment bytes) where
+module _ {line bytes : List ℕ} {ends : Bool} (b : bytes ≡ past is_blank line) (e : ends ≡ is_end_or_comment bytes) where
   pub is_skipped : ends ≡ true → IsSkipped line
   is_skipped h = past_skipped line bytes (sym b) (sym e ∙ h)
 

@@ -1,6 +1,6 @@
 -- No bytes begin with two literals, and what the readers of literals answer.
-use Rattle.std.proofs.Common.{◌≡◌, ◌≢◌, ◌<◌, ◌≤◌, ◌+◌, ℕ, Bool, true, false, List, [], ◌∷◌, ◌++◌, length, drop, Option, Some, None, Result, Ok, Err, IfOk, refl}
-use Rattle.std.proofs.Common.{ap, sym, ◌∙◌, arith, append_assoc, append-nil, length-append, subst, lit<}
+use Rattle.std.proofs.Common.{◌≡◌, ◌≢◌, ◌≤◌, ◌+◌, ℕ, Bool, true, false, List, [], ◌∷◌, ◌++◌, length, drop, Option, Some, None, refl, ap, sym, ◌∙◌, arith}
+use Rattle.std.proofs.Common.{append_assoc, append-nil, length-append, subst}
 use Rattle.std.specs.List.{AllByRecursion}
 use Rattle.std.specs.Str.{IsUtf8}
 use Rattle.std.proofs.lemmas.List.{drop_at, append_cancel_left}
@@ -16,22 +16,16 @@ use Rattle.tera_script.specs.Word.{is_blank}
 use Rattle.tera_script.specs.Literal.{mark_of, SpellsKey, SpellsTree, SpellsLiteral, tree_value}
 use Rattle.tera_script.specs.Readers.{Stops, front, past, is_word_byte, value_in, plain_at, hex_at, bytes_read, BeginsWithLiteral, BeginsWithKey}
 use Rattle.tera_script.specs.Readers.{BeginsWithPair, Ends, IsLiteralAt, IsQuotedAt, IsArrayAt, IsMapAt}
-use Rattle.tera_script.proofs.Fronts.{head, tail, bracket_or_comma}
+use Rattle.tera_script.proofs.Fronts.{bracket_or_comma}
 use Rattle.tera_script.proofs.Openings.{Opening, plain, quoted, hex, bracket, brace, opened, IsOpening, opening_is, Stands, stands, stops_end, literal_of}
 use Rattle.tera_script.proofs.Openings.{quoted_utf8}
 use Rattle.tera_script.proofs.Series.{AreClosedBy, IsOnlyPart, only_all}
 use Rattle.tera_script.proofs.Shapes.{key_tree}
 use Rattle.tera_script.proofs.Texts.{one_reading, text_is_utf8}
 use Rattle.tera_script.proofs.Utf8.{after_byte}
-use Rattle.tera_script.proofs.Words.{value_is_flat, no_value_nowhere, word_is_value}
+use Rattle.tera_script.proofs.Words.{value_is_flat, no_value_nowhere}
 use Rattle.tera_values.specs.Key.{key_value}
 use Rattle.tera_values.specs.View.{marked}
-
-pub more : (m n : ℕ) → m < n → m ≡ n → ⊥
-more m n h e = omega arith
-
-pub less : (m n : ℕ) → n < m → m ≡ n → ⊥
-less m n h e = omega arith
 
 -- no literal begins with a comma, a closing bracket or a closing brace
 module _ (c : ℕ) (opens : (ys : List ℕ) → opened (c ∷ ys) ≡ plain) (word : is_word_byte c ≡ false) where
@@ -60,10 +54,10 @@ abbrev pub EndsPair : KeyForm × Form → List ℕ → Type 0
 EndsPair p rest = Ends p.1 rest
 
 pub items_closed : AreClosedBy BeginsWithLiteral Ends 93
-items_closed = record { stops = stops_end; opens = no_literal; word = refl; comma = less 93 44 (lit< tt) }
+items_closed = record { stops = stops_end; opens = no_literal; word = refl; comma = λ e. omega arith }
 
 pub pairs_closed : AreClosedBy BeginsWithPair EndsPair 125
-pairs_closed = record { stops = λ e. stops_end e.1; opens = λ xs e rest ys b is ends. no_pair xs e rest ys b is; word = refl; comma = less 125 44 (lit< tt) }
+pairs_closed = record { stops = λ e. stops_end e.1; opens = λ xs e rest ys b is ends. no_pair xs e rest ys b is; word = refl; comma = λ e. omega arith }
 
 -- the literal, and the pair, is the only one where it stands; and so is each part of an array or a map
 abbrev pub IsOnly : Form → Type 0
@@ -82,7 +76,7 @@ only_by plain xs v w x y only s t = (same_Some v w (sym s.0 ∙ t.0), sym s.1 �
 only_by (quoted safe ys) xs v w x y only s t =
     let r = one_reading s.0 t.0 x y s.1 t.1 s.2 t.2 (sym s.4 ∙ t.4) in
     let same : s.0 ++ 34 ∷ x ≡ s.0 ++ 34 ∷ y = sym s.4 ∙ t.4 ∙ ap (λ inner. inner ++ 34 ∷ y) (sym r.0) in
-    (s.3 ∙ ap (λ u. marked u safe) r.1 ∙ sym t.3, ap tail (append_cancel_left s.0 (34 ∷ x) (34 ∷ y) same))
+    (s.3 ∙ ap (λ u. marked u safe) r.1 ∙ sym t.3, cc (append_cancel_left s.0 (34 ∷ x) (34 ∷ y) same))
 only_by (hex ys) xs v w x y only s t = let p = some_pair_parts s.0 t.0 x y (sym s.2 ∙ t.2) in (s.1 ∙ ap bytes p.0 ∙ sym t.1, p.1)
 only_by (bracket ys) xs v w x y only s t =
     let r = only_all BeginsWithLiteral Ends 93 items_closed (items_list s.0) (subst AreOnly s.1 only) ys x s.2 (items_list t.0) y t.2 in
@@ -115,7 +109,7 @@ only_key xs k x l y b c s t =
 pub only_pair : (k : KeyForm) (v : Form) → IsOnly v → IsOnlyPair (k, v)
 only_pair k v only xs x b s p y c ends =
     let keys = only_key xs k b.0 p.0 c.0 b.2 c.2 (key_ends k b.0 b.1 b.3) (key_ends p.0 c.0 c.1 c.3) in
-    let next : b.1 ≡ c.1 = ap tail (sym b.3 ∙ ap (past is_blank) keys.1 ∙ c.3) in
+    let next : b.1 ≡ c.1 = cc (keys.1) in
     let values = only (past is_blank b.1) x b.4 s p.1 y (subst (λ ys. BeginsWithLiteral (past is_blank ys) p.1 y) (sym next) c.4) ends in
     ((λ i. (keys.0 i, values.0 i)), values.1)
 
@@ -146,7 +140,7 @@ one_value literal v w p q =
     p.2 ∙ ap tree_value trees.0 ∙ sym q.2
 
 pub other_byte : (b c : ℕ) (xs ys : List ℕ) → b ≢ c → b ∷ xs ≡ c ∷ ys → ⊥
-other_byte b c xs ys n e = n (ap head e)
+other_byte b c xs ys n e = n (cc)
 
 -- what is answered of a literal that is opened so
 abbrev pub IsOpenedAt : Opening → ℕ → List ℕ → Option (Form × List ℕ) → Type 0
@@ -157,9 +151,9 @@ IsOpenedAt (bracket ys) levels xs answer = IsArrayAt levels ys answer
 IsOpenedAt (brace ys) levels xs answer = IsMapAt levels ys answer
 
 module _ (levels : ℕ) (xs : List ℕ) where
-  there : (o : Opening) (v : Form) (rest : List ℕ) → IsOpening xs o → Stands o xs v rest → v ≡ tree_value v → depth v ≤ levels
-      → IsLiteralAt levels xs (Some (v, rest))
-  there o v rest i s value shallow = let l = literal_of o xs v rest i s in (v, value, l.0, l.1, shallow)
+  there : (o : Opening) (v : Form) (found : Form × List ℕ) → IsOpening xs o → Stands o xs v found.1 → found.0 ≡ tree_value v → depth v ≤ levels
+      → IsLiteralAt levels xs (Some found)
+  there o v found i s value shallow = let l = literal_of o xs v found.1 i s in (v, value, l.0, l.1, shallow)
 
   opened_found : (o : Opening) (answer : Option (Form × List ℕ)) → IsOpening xs o
       → ((w : Form) (rest : List ℕ) → BeginsWithLiteral xs w rest → Stops is_word_byte rest → Stands o xs w rest) → IsOpenedAt o levels xs answer
@@ -167,28 +161,23 @@ module _ (levels : ℕ) (xs : List ℕ) where
   unfolding plain_at
   opened_found plain (Some found) i meant h =
       let e : (value_in (front is_word_byte xs) ≡ Some found.0) × (past is_word_byte xs ≡ found.1) = grind arith in
-      there plain found.0 found.1 tt e (word_is_value (front is_word_byte xs) found.0 e.0) (value_is_flat levels (front is_word_byte xs) found.0 e.0)
+      let flat = value_is_flat levels (front is_word_byte xs) found.0 e.0 in
+      there plain found.0 found tt e flat.0 flat.1
   opened_found plain None i meant h = λ utf8 w rest b d stops. let e = (meant w rest b stops).0 in grind arith
-  opened_found (quoted safe ys) (Some found) i meant h =
-      let l = literal_of (quoted safe ys) xs (marked h.1 safe) found.1 i (h.0, h.1, h.2, refl, h.4) in
-      (marked h.1 safe, h.3, l.0, l.1, omega arith)
+  opened_found (quoted safe ys) (Some found) i meant h = there (quoted safe ys) (marked h.1 safe) found i (h.0, h.1, h.2, refl, h.4) h.3 (omega arith)
   opened_found (quoted safe ys) None i meant h = λ utf8 w rest b d stops.
       let s = meant w rest b stops in
       h s.1 s.0 rest (quoted_utf8 safe s.0 rest (subst IsUtf8 (i ∙ ap (λ zs. mark_of safe ++ (34 ∷ zs)) s.4) utf8)) s.2 s.4
   opened_found (hex ys) answer i meant h = rw h (go (hex_at ys) refl)
     where
       go : (read : Option (List ℕ × List ℕ)) → hex_at ys ≡ read → IsLiteralAt levels xs (bytes_read read)
-      go (Some found) e = there (hex ys) (bytes found.0) found.1 i (found.0, refl, e) refl (omega arith)
+      go (Some found) e = there (hex ys) (bytes found.0) (bytes found.0, found.1) i (found.0, refl, e) refl (omega arith)
       go None e = λ utf8 w rest b d stops. let found = (meant w rest b stops).2 in cc
-  opened_found (bracket ys) (Some found) i meant h =
-      let l = literal_of (bracket ys) xs (array h.0) found.1 i (h.0, refl, h.2) in
-      (array h.0, h.1, l.0, l.1, h.3)
+  opened_found (bracket ys) (Some found) i meant h = there (bracket ys) (array h.0) found i (h.0, refl, h.2) h.1 h.3
   opened_found (bracket ys) None i meant h = λ utf8 w rest b d stops.
       let s = meant w rest b stops in
       h (after_byte ys 91 (omega arith) (subst IsUtf8 i utf8)) s.0 rest s.2 (subst (λ v. depth v ≤ levels) s.1 d)
-  opened_found (brace ys) (Some found) i meant h =
-      let l = literal_of (brace ys) xs (object h.0) found.1 i (h.0, refl, h.2) in
-      (object h.0, h.1, l.0, l.1, h.3)
+  opened_found (brace ys) (Some found) i meant h = there (brace ys) (object h.0) found i (h.0, refl, h.2) h.1 h.3
   opened_found (brace ys) None i meant h = λ utf8 w rest b d stops.
       let s = meant w rest b stops in
       h (after_byte ys 123 (omega arith) (subst IsUtf8 i utf8)) s.0 rest s.2 (subst (λ v. depth v ≤ levels) s.1 d)
@@ -221,8 +210,3 @@ quoted_some safe xs t rest used value h v r =
     let used_is : length (h.0 ++ (34 ∷ [])) ≡ used = omega (arith, length-append h.0 (34 ∷ []), h.4) in
     let behind : rest ≡ h.1 = r ∙ ap (drop used) cut ∙ drop_at (h.0 ++ (34 ∷ [])) h.1 used used_is in
     (h.0, t, h.2, v, h.3 ∙ ap (λ ys. h.0 ++ 34 ∷ ys) (sym behind))
-
--- what holds of an answer, from something else that does
-pub on_answer : {A E : Type 0} (P Q : A → Type 0) (r : Result A E) → ((a : A) → P a → Q a) → IfOk r P → IfOk r Q
-on_answer P Q (Ok a) f h = f a h
-on_answer P Q (Err e) f h = h

@@ -12,7 +12,7 @@ use Rattle.tera_meaning.proofs.TreeLaws.{list_of_members}
 use Rattle.tera_script.specs.Word.{is_blank}
 use Rattle.tera_script.specs.Literal.{tree_value, pair_values, in_places}
 use Rattle.tera_script.specs.Readers.{past, AllIn, BeginsWithLiteral, BeginsWithKey, BeginsWithPair, IsKeyAt, IsLiteralAt, IsPairAt, IsMapAt}
-use Rattle.tera_script.proofs.Fronts.{tail, bracket_or_comma}
+use Rattle.tera_script.proofs.Fronts.{bracket_or_comma}
 use Rattle.tera_script.proofs.Literals.{EndsPair, pairs_closed, only_at, only_pair, key_literal, key_ends, only_key}
 use Rattle.tera_script.proofs.Openings.{literal_utf8}
 use Rattle.tera_script.proofs.Series.{ArePartsOf, deepest, IsSoFar, IsNowhere, IsWhole, past_utf8, none_so_far, no_part, no_mark, last_part, one_more}
@@ -24,9 +24,7 @@ use Rattle.tera_values.specs.Key.{key_value}
 at_value_utf8 : (xs : List ℕ) (k : KeyForm) (after next : List ℕ) → BeginsWithKey xs k after → past is_blank after ≡ 58 ∷ next → IsUtf8 xs
     → IsUtf8 (past is_blank next)
 at_value_utf8 xs k after next b e u =
-    past_utf8 next
-    (after_byte next 58 (omega arith)
-    (subst IsUtf8 e (past_utf8 after (literal_utf8 xs (key_value k) after (key_literal xs k after b) (key_ends k after next e) u))))
+    past_utf8 next (after_byte next 58 (omega arith) (subst IsUtf8 e (past_utf8 after (literal_utf8 xs (key_value k) after (key_literal xs k after b) u))))
 
 abbrev pair_depth : KeyForm × Form → ℕ
 pair_depth p = depth p.1
@@ -35,7 +33,7 @@ pair_parts : ArePartsOf BeginsWithPair EndsPair 125
 pair_parts = record {
   closed = pairs_closed;
   only = λ e. only_pair e.0 e.1 (only_at e.1);
-  utf8 = λ xs e rest b ends u. literal_utf8 (past is_blank b.1) e.1 rest b.4 ends (at_value_utf8 xs e.0 b.0 b.1 b.2 b.3 u);
+  utf8 = λ xs e rest b u. literal_utf8 (past is_blank b.1) e.1 rest b.4 (at_value_utf8 xs e.0 b.0 b.1 b.2 b.3 u);
 }
 
 -- where no key stands
@@ -54,7 +52,7 @@ module _ {xs : List ℕ} {k : KeyForm} {after : List ℕ} (read : IsKeyAt xs (So
   module _ {next : List ℕ} (e : past is_blank after ≡ 58 ∷ next) where
     pub no_pair_value : {levels : ℕ} → IsLiteralAt levels (past is_blank next) None → IsPairAt levels xs None
     no_pair_value n = λ utf8 pair rest b d stops.
-        let same : b.1 ≡ next = ap tail (sym b.3 ∙ ap (past is_blank) (sym (same_after pair rest b).1) ∙ e) in
+        let same : b.1 ≡ next = cc ((same_after pair rest b).1) in
         n (at_value_utf8 xs k after next read.0 e utf8) pair.1 rest (subst (λ ys. BeginsWithLiteral (past is_blank ys) pair.1 rest) same b.4) d stops
 
 -- ---- all of them

@@ -1,16 +1,15 @@
 -- Gaps, names and operands: what the readers give is spelled so, and what is spelled so is read.
-use Rattle.std.proofs.Common.{◌≡◌, ℕ, Bool, true, false, cond, List, [], ◌∷◌, ◌++◌, Option, Some, None, refl, ap, sym, ◌∙◌, arith, append_assoc}
+use Rattle.std.proofs.Common.{◌≡◌, ℕ, true, List, [], ◌∷◌, ◌++◌, Option, Some, None, refl, ap, sym, ◌∙◌, arith, append_assoc}
 use Rattle.std.specs.Borrow.{Bor}
-use Rattle.std.specs.List.{list_all}
 use Rattle.std.specs.Option.{option_map}
 use Rattle.std.specs.Prelude.{IfSome}
-use Rattle.std.proofs.lemmas.Option.{cond_some, option_and_then_some, some_pair_parts}
+use Rattle.std.proofs.lemmas.Option.{cond_some}
 use Rattle.std.proofs.lemmas.Bool.Decides.{nat_tests}
 use Rattle.tera_script.specs.Word.{is_blank, IsGap, is_name_start, is_name_byte, IsName}
 use Rattle.tera_script.specs.Line.{SpellsOperand}
 use Rattle.tera_script.specs.Readers.{Stops, front, past, gap_at, name_at, operand_at, named_rest}
 use Rattle.tera_script.specs.inner.Command.{Begins}
-use Rattle.tera_script.proofs.Fronts.{front-past, front_all, past_stops, front_is, past_is, both_pass}
+use Rattle.tera_script.proofs.Fronts.{front-past, front_all, past_stops, front_is, past_is}
 
 -- a gap stands before the rest
 pub record HasGap (bytes rest : List ℕ) : Type 0 where

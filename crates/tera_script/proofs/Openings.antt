@@ -1,7 +1,8 @@
 -- What the first bytes of a literal say of it: five ways to open one.
-use Rattle.std.proofs.Common.{◌≡◌, ℕ, Bool, true, false, cond, eqb, eqb-true, List, [], ◌∷◌, ◌++◌, Some, None, refl, ap, sym, ◌∙◌, arith, append_assoc, subst}
+use Rattle.std.proofs.lemmas.Bool.Decides.{nat_tests}
+use Rattle.std.proofs.Common.{◌<◌}
+use Rattle.std.proofs.Common.{◌≡◌, ℕ, Bool, true, false, cond, eqb, List, [], ◌∷◌, ◌++◌, Some, None, refl, ap, sym, ◌∙◌, arith, append_assoc, subst}
 use Rattle.std.specs.Str.{IsUtf8}
-use Rattle.std.proofs.lemmas.Bool.{cond_both}
 use Rattle.tera_meaning.specs.Integer.{Integer}
 use Rattle.tera_meaning.specs.Form.{Form, MarkedText}
 use Rattle.tera_meaning.specs.KeyMeaning.{KeyForm}
@@ -9,7 +10,7 @@ use Rattle.tera_meaning.specs.Tree.{Items, Members, text, bytes, array, object}
 use Rattle.tera_script.specs.Literal.{mark_of, SpellsTree}
 use Rattle.tera_script.specs.Readers.{Stops, front, past, number_in, unsigned_in, digits_at, is_word_byte, value_in, hex_at, BeginsWithLiteral, Ends, ItemsAt}
 use Rattle.tera_script.specs.Readers.{PairsAt, IsQuotedAt}
-use Rattle.tera_script.proofs.Fronts.{front_cut, past_stops, front_all}
+use Rattle.tera_script.proofs.Fronts.{front_cut, past_stops}
 use Rattle.tera_script.proofs.HexBytes.{hex_only, hex_found}
 use Rattle.tera_script.proofs.Shapes.{quoted_bytes, items_at, pairs_at, items_spelled, pairs_spelled}
 use Rattle.tera_script.proofs.Utf8.{utf8_past_word, after_byte, around_byte}
@@ -40,21 +41,8 @@ IsOpening xs (hex ys) = xs ≡ 120 ∷ 34 ∷ ys
 IsOpening xs (bracket ys) = xs ≡ 91 ∷ ys
 IsOpening xs (brace ys) = xs ≡ 123 ∷ ys
 
-letter_is : (f : List ℕ → Opening) (b letter : ℕ) (xs : List ℕ) → b ≡ letter → ((ys : List ℕ) → IsOpening (letter ∷ 34 ∷ ys) (f ys))
-    → IsOpening (b ∷ xs) (behind f xs)
-letter_is f b letter [] e h = tt
-letter_is f b letter (c ∷ xs) e h =
-    cond_both (eqb c 34) (f xs) plain (IsOpening (b ∷ c ∷ xs)) (λ q. subst (λ zs. IsOpening zs (f xs)) (λ i. sym e i ∷ sym (eqb-true c 34 q) i ∷ xs) (h xs))
-    (λ q. tt)
-
 pub opening_is : (xs : List ℕ) → IsOpening xs (opened xs)
-opening_is [] = tt
-opening_is (b ∷ xs) =
-    let Is = IsOpening (b ∷ xs) in
-    let first = λ (n : ℕ) (h : eqb b n ≡ true). ap (λ c. c ∷ xs) (eqb-true b n h) in
-    cond_both (eqb b 34) _ _ Is (first 34) (λ q. cond_both (eqb b 91) _ _ Is (first 91) (λ q. cond_both (eqb b 123) _ _ Is (first 123) (λ q.
-    cond_both (eqb b 115) _ _ Is (λ h. letter_is (quoted true) b 115 xs (eqb-true b 115 h) (λ ys. refl)) (λ q.
-    cond_both (eqb b 120) _ _ Is (λ h. letter_is hex b 120 xs (eqb-true b 120 h) (λ ys. refl)) (λ q. tt)))))
+opening_is xs = grind (arith, nat_tests)
 
 -- a literal stands there that is opened so
 abbrev pub Stands : Opening → List ℕ → Form → List ℕ → Type 0
@@ -132,27 +120,21 @@ literal_of (brace ys) xs v rest i s =
     let spelled = i ∙ ap (λ zs. 123 ∷ zs) (p.2 ∙ sym (append_assoc p.0 (125 ∷ []) rest)) in
     rw (s.1) (record { literal = 123 ∷ (p.0 ++ 125 ∷ []); spells = (p.0, p.1, refl); spelled = spelled }, tt)
 
--- UTF-8 goes on in a text and behind a literal
-quoted_around : (safe : Bool) (inner rest : List ℕ) → IsUtf8 (mark_of safe ++ (34 ∷ (inner ++ 34 ∷ rest))) → IsUtf8 inner × IsUtf8 rest
-quoted_around true inner rest u =
-    around_byte inner rest 34 (omega arith) (after_byte (inner ++ 34 ∷ rest) 34 (omega arith) (after_byte (34 ∷ (inner ++ 34 ∷ rest)) 115 (omega arith) u))
-quoted_around false inner rest u = around_byte inner rest 34 (omega arith) (after_byte (inner ++ 34 ∷ rest) 34 (omega arith) u)
-
+-- UTF-8 goes on in a text, and behind a literal, whose last byte is ASCII
 pub quoted_utf8 : (safe : Bool) (inner rest : List ℕ) → IsUtf8 (mark_of safe ++ (34 ∷ (inner ++ 34 ∷ rest))) → IsUtf8 inner
-quoted_utf8 safe inner rest u = (quoted_around safe inner rest u).0
+quoted_utf8 true inner rest u =
+    (around_byte inner rest 34 (omega arith) (after_byte (inner ++ 34 ∷ rest) 34 (omega arith) (after_byte (34 ∷ (inner ++ 34 ∷ rest)) 115 (omega arith) u))).0
+quoted_utf8 false inner rest u = (around_byte inner rest 34 (omega arith) (after_byte (inner ++ 34 ∷ rest) 34 (omega arith) u)).0
 
-utf8_by : (o : Opening) (xs : List ℕ) (v : Form) (rest : List ℕ) → IsOpening xs o → Stands o xs v rest → IsUtf8 xs → IsUtf8 rest
-utf8_by plain xs v rest i s u = utf8_past_word (front is_word_byte xs) rest (front_all is_word_byte xs) (subst IsUtf8 (front_cut is_word_byte xs rest s.1) u)
-utf8_by (quoted safe ys) xs v rest i s u = (quoted_around safe s.0 rest (subst IsUtf8 (i ∙ ap (λ zs. mark_of safe ++ (34 ∷ zs)) s.4) u)).1
-utf8_by (hex ys) xs v rest i s u =
-    let has = hex_found ys s.0 rest s.2 in
-    (around_byte (120 ∷ 34 ∷ has.digits) rest 34 (omega arith) (subst IsUtf8 (i ∙ ap (λ zs. 120 ∷ 34 ∷ zs) has.spelled) u)).1
-utf8_by (bracket ys) xs v rest i s u =
-    let p = items_spelled s.0 ys rest s.2 in
-    (around_byte (91 ∷ p.0) rest 93 (omega arith) (subst IsUtf8 (i ∙ ap (λ zs. 91 ∷ zs) p.2) u)).1
-utf8_by (brace ys) xs v rest i s u =
-    let p = pairs_spelled s.0 ys rest s.2 in
-    (around_byte (123 ∷ p.0) rest 125 (omega arith) (subst IsUtf8 (i ∙ ap (λ zs. 123 ∷ zs) p.2) u)).1
+behind_last : {literal : List ℕ} (front : List ℕ) (b : ℕ) (rest : List ℕ) → b < 128 → literal ≡ front ++ b ∷ [] → IsUtf8 (literal ++ rest) → IsUtf8 rest
+behind_last front b rest ascii is u = (around_byte front rest b ascii (subst IsUtf8 (ap (λ l. l ++ rest) is ∙ append_assoc front (b ∷ []) rest) u)).1
 
-pub literal_utf8 : (xs : List ℕ) (v : Form) (rest : List ℕ) → BeginsWithLiteral xs v rest → Ends v rest → IsUtf8 xs → IsUtf8 rest
-literal_utf8 xs v rest b ends = utf8_by (opened xs) xs v rest (opening_is xs) (stands xs v rest b ends)
+spelled_utf8 : (literal rest : List ℕ) (v : Form) → SpellsTree literal v → IsUtf8 (literal ++ rest) → IsUtf8 rest
+spelled_utf8 literal rest (text t) h = behind_last (mark_of t.safe ++ (34 ∷ h.0)) 34 rest (omega arith) h.2
+spelled_utf8 literal rest (bytes bs) h = behind_last (120 ∷ 34 ∷ h.0) 34 rest (omega arith) h.2
+spelled_utf8 literal rest (array all) h = behind_last (91 ∷ h.0) 93 rest (omega arith) h.2
+spelled_utf8 literal rest (object all) h = behind_last (123 ∷ h.0) 125 rest (omega arith) h.2
+spelled_utf8 literal rest v h = utf8_past_word literal rest (flat_word literal v tt h).bytes
+
+pub literal_utf8 : (xs : List ℕ) (v : Form) (rest : List ℕ) → BeginsWithLiteral xs v rest → IsUtf8 xs → IsUtf8 rest
+literal_utf8 xs v rest b u = spelled_utf8 b.literal rest v b.spells (subst IsUtf8 b.spelled u)

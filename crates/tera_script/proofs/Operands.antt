@@ -1,38 +1,30 @@
 -- Where gaps and names end what stands before them, and the name for what is found.
-use Rattle.std.proofs.Common.{◌≡◌, ℕ, Bool, true, false, cond, eqb, ◌&&◌, List, [], ◌∷◌, ◌++◌, Option, Some, None, refl, ap, sym, ◌∙◌, inl, inr, arith}
-use Rattle.std.proofs.Common.{append_assoc, subst, eqb-true}
+use Rattle.std.proofs.Common.{◌≡◌, ℕ, Bool, true, false, List, [], ◌∷◌, ◌++◌, Option, Some, None, refl, ap, sym, ◌∙◌, arith, append_assoc, subst}
 use Rattle.std.specs.List.{list_all}
-use Rattle.std.specs.Option.{option_and_then, option_map}
+use Rattle.std.specs.Option.{option_and_then}
 use Rattle.std.proofs.lemmas.Bool.Decides.{nat_tests}
-use Rattle.std.proofs.lemmas.Option.{cond_some, option_and_then_some}
 use Rattle.tera_script.specs.Word.{is_blank, AreBlanks, IsGap, is_name_byte}
 use Rattle.tera_script.specs.Line.{SpellsOperand, SpellsInto}
 use Rattle.tera_script.specs.Readers.{Stops, gap_at, operand_at, one_in, arrow_at, into_in, is_word_byte}
 use Rattle.tera_script.specs.inner.Command.{Before}
-use Rattle.tera_script.proofs.Fronts.{both_pass, blank_ends_word}
 use Rattle.tera_script.proofs.Names.{gap_only, gap_found, operand_found, operand_only}
 
 -- where no word goes on, no name does
-word_end_is_name_end : (b : ℕ) → is_word_byte b ≡ false → is_name_byte b ≡ false
-word_end_is_name_end b h = grind (arith, nat_tests)
-
 pub stops_name : (rest : List ℕ) → Stops is_word_byte rest → Stops is_name_byte rest
-stops_name [] s = tt
-stops_name (b ∷ rest) s = word_end_is_name_end b s
+stops_name rest s = grind (arith, nat_tests)
 
 -- where a blank stands, no word goes on
 pub blanks_end_word : (xs : List ℕ) → AreBlanks xs → Stops is_word_byte xs
 blanks_end_word [] h = tt
-blanks_end_word (b ∷ xs) h = blank_ends_word b (both_pass is_blank (is_blank b) (list_all is_blank xs) h).0
+blanks_end_word (b ∷ xs) h = grind (arith, nat_tests)
 
 pub gap_ends_word : (gap rest : List ℕ) → IsGap gap → Stops is_word_byte (gap ++ rest)
 gap_ends_word [] rest g = absurd (omega (arith, g.0))
-gap_ends_word (b ∷ gap) rest g = blank_ends_word b (both_pass is_blank (is_blank b) (list_all is_blank gap) g.1).0
+gap_ends_word (b ∷ gap) rest g = grind (arith, nat_tests)
 
 -- what begins with a gap ends a word, and a name
 pub behind_gap : (part gap inner rest : List ℕ) → IsGap gap → part ≡ gap ++ inner → Stops is_word_byte (part ++ rest)
-behind_gap part gap inner rest g e =
-    subst (Stops is_word_byte) (sym (ap (λ xs. xs ++ rest) e ∙ append_assoc gap inner rest)) (gap_ends_word gap (inner ++ rest) g)
+behind_gap part gap inner rest g e = rw (e, append_assoc gap inner rest) (gap_ends_word gap (inner ++ rest) g)
 
 pub operand_ends_name : (operand name rest : List ℕ) → SpellsOperand operand name → Stops is_name_byte (operand ++ rest)
 operand_ends_name operand name rest h = stops_name (operand ++ rest) (behind_gap operand h.0 name rest h.1 h.3)
@@ -110,5 +102,4 @@ into_only true bytes (Some name) h =
 pub into_ends_word : (keeps : Bool) (bytes : List ℕ) (into : Option (List ℕ)) → HasInto keeps bytes into → Stops is_word_byte bytes
 into_ends_word keeps bytes None h = subst (Stops is_word_byte) (sym (h.spelled ∙ ap (λ xs. xs ++ h.after) h.spells)) (blanks_end_word h.after h.blanks)
 into_ends_word false bytes (Some name) h = absurd h.spells
-into_ends_word true bytes (Some name) h = subst (Stops is_word_byte) (sym h.spelled)
-    (behind_gap h.part h.spells.0 (45 ∷ 62 ∷ h.spells.1) h.after h.spells.2 h.spells.4)
+into_ends_word true bytes (Some name) h = rw (h.spelled) (behind_gap h.part h.spells.0 (45 ∷ 62 ∷ h.spells.1) h.after h.spells.2 h.spells.4)

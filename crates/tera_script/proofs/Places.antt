@@ -1,6 +1,6 @@
 -- Of equal keys that are written in a map the first stands in its place, with the last value.
-use Rattle.std.specs.Prelude.{◌≡◌, Bool, true, false, cond, if◌then◌else◌, List, [], ◌∷◌, ◌++◌, reverse, Option, Some, None, refl}
-use Rattle.std.proofs.Common.{sym, ◌∙◌, ap, append_assoc, append-nil}
+use Rattle.std.specs.Prelude.{◌≡◌, Bool, true, false, cond, if◌then◌else◌, List, [], ◌∷◌, ◌++◌, reverse, Some, None, refl}
+use Rattle.std.proofs.Common.{sym, ◌∙◌, ap, append_assoc, append-nil, arith}
 use Rattle.std.proofs.lemmas.List.{reverse-append}
 use Rattle.std.proofs.lemmas.List.Sums.{fold-append}
 use Rattle.std.specs.Cmp.{alike_right, Equal-is}
@@ -18,18 +18,6 @@ use Rattle.tera_script.specs.Literal.{in_places, key_at}
 abbrev ties : KeyForm → KeyForm → Bool
 ties = eq_by_cmp key_form_order
 
-or_none : {X : Type 0} (o : Option X) → o ≡ option_or o None
-or_none None = refl
-or_none (Some x) = refl
-
-cond_or : {X : Type 0} (b : Bool) (x : X) (o p : Option X) → cond b (Some x) (option_or o p) ≡ option_or (cond b (Some x) o) p
-cond_or true x o p = refl
-cond_or false x o p = refl
-
-or_assoc : {X : Type 0} (o p q : Option X) → option_or (option_or o p) q ≡ option_or o (option_or p q)
-or_assoc None p q = refl
-or_assoc (Some x) p q = refl
-
 -- of two keys that tie a key ties with both or with neither
 tied : (q k l : KeyForm) → ties k l ≡ true → ties q k ≡ ties q l
 tied q k l t = ap is_eq (alike_right form_total k l q ((Equal-is (key_form_order k l)).0 t))
@@ -40,16 +28,7 @@ tied q k l t = ap is_eq (alike_right form_total k l q ((Equal-is (key_form_order
 key_put : (ps : List (KeyForm × Form)) (k : KeyForm) (v : Form) (q : KeyForm)
     → key_at (put key_form_order ps k v) q ≡ option_or (key_at ps q) (cond (ties q k) (Some k) None)
 key_put [] k v q = refl
-key_put (p ∷ ps) k v q =
-    elim (ties k p.0) as (λ b. ties k p.0 ≡ b → key_at (if b then (p.0, v) ∷ ps else p ∷ put key_form_order ps k v) q
-    ≡ option_or (key_at (p ∷ ps) q) (cond (ties q k) (Some k) None)) [
-      | true ↦ λ t. same_key (ties q p.0) ∙ ap (λ b. option_or (key_at (p ∷ ps) q) (cond b (Some k) None)) (sym (tied q k p.0 t))
-      | false ↦ λ t. ap (cond (ties q p.0) (Some p.0)) (key_put ps k v q) ∙ cond_or (ties q p.0) p.0 (key_at ps q) (cond (ties q k) (Some k) None)
-    ] refl
-  where
-    same_key : (b : Bool) → cond b (Some p.0) (key_at ps q) ≡ option_or (cond b (Some p.0) (key_at ps q)) (cond b (Some k) None)
-    same_key true = refl
-    same_key false = or_none (key_at ps q)
+key_put (p ∷ ps) k v q = grind (arith, key_put ps k v q, tied q k p.0)
 
 -- a new key stands behind all others, and every other stays in its place
 keys_put : (ps : List (KeyForm × Form)) (k : KeyForm) (v : Form)
@@ -71,36 +50,30 @@ keys_put_all (e ∷ es) ps =
     (one.0 ++ more.0, more.1 ∙ ap (λ ks. ks ++ more.0) one.1 ∙ append_assoc (keys_of ps) one.0 more.0)
 
 key_put_all : (es ps : List (KeyForm × Form)) (q : KeyForm) → key_at (put_all key_form_order ps es) q ≡ option_or (key_at ps q) (key_at es q)
-key_put_all [] ps q = or_none (key_at ps q)
-key_put_all (e ∷ es) ps q =
-    key_put_all es (put key_form_order ps e.0 e.1) q
-    ∙ ap (λ o. option_or o (key_at es q)) (key_put ps e.0 e.1 q)
-    ∙ or_assoc (key_at ps q) (cond (ties q e.0) (Some e.0) None) (key_at es q)
-    ∙ ap (option_or (key_at ps q)) (sym (cond_or (ties q e.0) e.0 None (key_at es q)))
+key_put_all [] ps q = grind arith
+key_put_all (e ∷ es) ps q = grind (arith, key_put_all es (put key_form_order ps e.0 e.1) q, key_put ps e.0 e.1 q)
 
 value_behind : (xs : List (KeyForm × Form)) (e : KeyForm × Form) (q : KeyForm)
     → value_at key_form_order (xs ++ e ∷ []) q ≡ option_or (value_at key_form_order xs q) (cond (ties q e.0) (Some e.1) None)
 value_behind [] e q = refl
-value_behind (x ∷ xs) e q =
-    ap (cond (ties q x.0) (Some x.1)) (value_behind xs e q)
-    ∙ cond_or (ties q x.0) x.1 (value_at key_form_order xs q) (cond (ties q e.0) (Some e.1) None)
+value_behind (x ∷ xs) e q = grind (arith, value_behind xs e q)
 
 value_put_all : (es ps : List (KeyForm × Form)) (q : KeyForm)
     → value_at key_form_order (put_all key_form_order ps es) q ≡ option_or (value_at key_form_order (reverse es) q) (value_at key_form_order ps q)
 value_put_all [] ps q = refl
-value_put_all (e ∷ es) ps q =
-    value_put_all es (put key_form_order ps e.0 e.1) q
-    ∙ ap (option_or (value_at key_form_order (reverse es) q))
-    (found_put key_form_order form_total ps e.0 e.1 q ∙ cond_or (ties q e.0) e.1 None (value_at key_form_order ps q))
-    ∙ sym (or_assoc (value_at key_form_order (reverse es) q) (cond (ties q e.0) (Some e.1) None) (value_at key_form_order ps q))
-    ∙ ap (λ o. option_or o (value_at key_form_order ps q)) (sym (value_behind (reverse es) e q))
-    ∙ ap (λ l. option_or (value_at key_form_order l q) (value_at key_form_order ps q)) (sym (reverse-append (e ∷ []) es))
+value_put_all (e ∷ es) ps q = grind (
+  arith,
+  value_put_all es (put key_form_order ps e.0 e.1) q,
+  found_put key_form_order form_total ps e.0 e.1 q,
+  value_behind (reverse es) e q,
+  reverse-append (e ∷ []) es,
+)
 
 -- ---- what is written
 
 pub last_value : (written : List (KeyForm × Form)) (key : KeyForm) → value_at key_form_order (in_places written) key ≡ value_at key_form_order (reverse written)
     key
-last_value written key = value_put_all written [] key ∙ sym (or_none (value_at key_form_order (reverse written) key))
+last_value written key = grind (arith, value_put_all written [] key)
 
 pub first_key : (written : List (KeyForm × Form)) (key : KeyForm) → key_at (in_places written) key ≡ key_at written key
 first_key written key = key_put_all written [] key

@@ -1,6 +1,6 @@
 -- Worked lines: each part of a line is what its reader answers, and that is computed.
-use Rattle.std.proofs.Common.{◌≡◌, ◌≢◌, ◌≤◌, ℕ, zero, suc, pos, true, false, cond, eqb, List, [], ◌∷◌, ◌++◌, Option, Some, None, refl, sym, ap, ◌∙◌, arith}
-use Rattle.std.proofs.Common.{append-nil, append_assoc, subst, lit<, lit≤}
+use Rattle.std.proofs.Common.{◌≡◌, ◌≢◌, ◌≤◌, ℕ, zero, suc, pos, true, false, cond, eqb, List, [], ◌∷◌, ◌++◌, Option, Some, None, refl, sym, ap, arith}
+use Rattle.std.proofs.Common.{append-nil, append_assoc, lit<, lit≤}
 use borrow.Author.Tests.{eqb_apart}
 use Rattle.std.specs.Prelude.{codes}
 use Rattle.tera_meaning.specs.Form.{Form}
@@ -15,14 +15,13 @@ use Rattle.tera_script.specs.Line.{levels, Says, IsBad}
 use Rattle.tera_script.specs.Literal.{IsPair, SpellsKey, SpellsTree}
 use Rattle.tera_script.specs.Nested.{in_brackets, in_arrays, in_turns, in_both}
 use Rattle.tera_script.specs.Number.{SpellsNumber}
-use Rattle.tera_script.specs.Readers.{past, gap_at, name_at, operand_at, names_at, into_in, BeginsWithKey, BeginsWithPair, BeginsWithLiteral, IsPairAt}
-use Rattle.tera_script.specs.Readers.{Ends, Stops, is_word_byte, IsLiteralAt, IsMapAt, is_end_or_comment}
+use Rattle.tera_script.specs.Readers.{past, gap_at, name_at, operand_at, names_at, into_in, BeginsWithKey, BeginsWithPair, BeginsWithLiteral, IsPairAt, Ends}
+use Rattle.tera_script.specs.Readers.{Stops, is_word_byte, IsLiteralAt, IsMapAt, is_end_or_comment}
 use Rattle.tera_script.specs.Text.{itself}
 use Rattle.tera_script.specs.Verb.{Given, Making, of_name, of_names, shape_of, requested, row_of, word_of}
 use Rattle.tera_script.specs.Word.{is_blank, AreBlanks}
 use Rattle.tera_script.proofs.Commands.{no_given, no_into, answered, command_answer}
 use Rattle.tera_script.proofs.Values.{name_part, both_at, value_parts, value_at, names_part}
-use Rattle.tera_script.proofs.Fronts.{head}
 use Rattle.tera_script.proofs.Lines.{bad_command, line_says}
 use Rattle.tera_script.proofs.Literals.{IsOpenedAt, literal_found, only_at}
 use Rattle.tera_script.proofs.Maps.{no_pairs_yet, no_more_pair}
@@ -34,10 +33,10 @@ use Rattle.std.specs.Option.{option_map}
 -- a call's word and what stands behind it
 module _ (verb : Verb) {line behind : List ℕ} (n : name_at (past is_blank line) ≡ Some (word_of verb, behind)) where
   says : {command : Command} → all_ascii line ≡ true → AreOperandsOf (row_of verb) behind (Some command) → Says line command
-  says {command} u h = line_says line refl refl (ascii_utf8 line u) (command_answer (past is_blank line) (word_of verb) behind n verb refl (Some command) h)
+  says {command} u h = line_says {line = line} refl refl (ascii_utf8 line u) (command_answer (past is_blank line) n verb refl (Some command) h)
 
   pub bad_call : is_end_or_comment (past is_blank line) ≡ false → AreOperandsOf (row_of verb) behind None → IsBad line
-  bad_call e h = bad_command line refl refl e (command_answer (past is_blank line) (word_of verb) behind n verb refl None h)
+  bad_call e h = bad_command {line = line} refl refl e (command_answer (past is_blank line) n verb refl None h)
 
 -- one name and two
 abbrev pub names_in : (making : Making) → List ℕ → Option (Given (shape_of making) × List ℕ)
@@ -66,7 +65,7 @@ module _ (verb : Verb) {line behind rest : List ℕ} {given : Given (shape_of (r
 pub value_given : (behind : List ℕ) {name at_value literal : List ℕ} → operand_at behind ≡ Some (name, at_value) → gap_at at_value ≡ Some literal
     → (answer : Option (Form × List ℕ)) → IsLiteralAt levels literal answer
     → IsGivenAt shape.Literal behind (option_map (λ found. ((name, found.0), found.1)) answer)
-value_given behind {name} {at_value} {literal} o g answer h = both_at value_parts behind (sym o) answer (value_at at_value literal g answer h)
+value_given behind {name} {at_value} {literal} o g answer h = both_at value_parts behind (sym o) answer (value_at at_value g answer h)
 
 blanks_only : (after : List ℕ) → AreBlanks after → into_in false after ≡ Some None
 unfolding into_in
@@ -153,4 +152,4 @@ pub a_is_one : (rest : List ℕ) → Ends (number (one i64)) rest
 a_is_one rest s = (number (one i64), refl, pair_at (key_a (codes ": 1" ++ rest)) refl (tree_at (codes "1") one_spelled refl), s, lit≤ tt)
 
 pub apart : {b c : ℕ} {xs ys : List ℕ} → eqb b c ≡ false → b ∷ xs ≢ c ∷ ys
-apart {b} {c} n e = eqb_apart b c n (ap head e)
+apart {b} {c} n e = eqb_apart b c n (cc)

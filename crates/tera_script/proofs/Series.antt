@@ -4,7 +4,7 @@ use Rattle.std.proofs.Common.{arith}
 use Rattle.std.specs.List.{AllByRecursion}
 use Rattle.tera_script.specs.Word.{is_blank, AreBlanks}
 use Rattle.tera_script.specs.Readers.{Stops, front, past, is_word_byte, AllIn, MoreIn, BeginsWithLiteral, BeginsWithPair}
-use Rattle.tera_script.proofs.Fronts.{head, tail, past_is, front_cut, front_all, bracket_or_comma, front-past, length-past}
+use Rattle.tera_script.proofs.Fronts.{past_is, front_cut, front_all, bracket_or_comma, front-past, length-past}
 use Rattle.std.specs.Str.{IsUtf8}
 use Rattle.tera_meaning.specs.Form.{Form}
 use Rattle.tera_meaning.specs.KeyMeaning.{KeyForm}
@@ -76,11 +76,11 @@ module _ {E : Type 0} (Begins : List ℕ → E → List ℕ → Type 0) (Ends : 
 
   pub only_more : (es : List E) → AllByRecursion (IsOnlyPart Begins Ends) es → (xs x : List ℕ) → MoreIn Begins close xs es x
       → (fs : List E) (y : List ℕ) → MoreIn Begins close xs fs y → (es ≡ fs) × (x ≡ y)
-  only_more [] o xs x h [] y g = (refl, ap tail (sym h ∙ g))
-  only_more [] o xs x h (f ∷ fs) y g = absurd (closed.comma (ap head (sym h ∙ g.2)))
-  only_more (e ∷ es) o xs x h [] y g = absurd (closed.comma (ap head (sym g ∙ h.2)))
+  only_more [] o xs x h [] y g = (refl, cc)
+  only_more [] o xs x h (f ∷ fs) y g = absurd (closed.comma (cc))
+  only_more (e ∷ es) o xs x h [] y g = absurd (closed.comma (cc))
   only_more (e ∷ es) o xs x h (f ∷ fs) y g =
-      let next : h.0 ≡ g.0 = ap tail (sym h.2 ∙ g.2) in
+      let next : h.0 ≡ g.0 = cc in
       let begins = subst (λ ys. Begins (past is_blank ys) f g.1) (sym next) g.3 in
       let first = o.0 (past is_blank h.0) h.1 h.3 (ends_before e es h.1 x h.4) f g.1 begins (ends_before f fs g.1 y g.4) in
       let rest = only_more es o.1 h.1 x h.4 fs y (subst (λ ys. MoreIn Begins close ys fs y) (sym first.1) g.4) in
@@ -88,7 +88,7 @@ module _ {E : Type 0} (Begins : List ℕ → E → List ℕ → Type 0) (Ends : 
 
   pub only_all : (es : List E) → AllByRecursion (IsOnlyPart Begins Ends) es → (xs x : List ℕ) → AllIn Begins close xs es x
       → (fs : List E) (y : List ℕ) → AllIn Begins close xs fs y → (es ≡ fs) × (x ≡ y)
-  only_all [] o xs x h [] y g = (refl, ap tail (sym h ∙ g))
+  only_all [] o xs x h [] y g = (refl, cc)
   only_all [] o xs x h (f ∷ fs) y g = absurd (closed.opens (past is_blank xs) f g.0 x g.1 h (ends_before f fs g.0 y g.2))
   only_all (e ∷ es) o xs x h [] y g = absurd (closed.opens (past is_blank xs) e h.0 y h.1 g (ends_before e es h.0 x h.2))
   only_all (e ∷ es) o xs x h (f ∷ fs) y g = only_more (e ∷ es) o (44 ∷ xs) x (xs, h.0, refl, h.1, h.2) (f ∷ fs) y (xs, g.0, refl, g.1, g.2)
@@ -102,7 +102,7 @@ deepest deep (e ∷ es) = max (deep e) (deepest deep es)
 pub record ArePartsOf {E : Type 0} (Begins : List ℕ → E → List ℕ → Type 0) (EndsPart : E → List ℕ → Type 0) (close : ℕ) : Type 0 where
   pub closed : AreClosedBy Begins EndsPart close
   pub only : (e : E) → IsOnlyPart Begins EndsPart e
-  pub utf8 : (xs : List ℕ) (e : E) (rest : List ℕ) → Begins xs e rest → EndsPart e rest → IsUtf8 xs → IsUtf8 rest
+  pub utf8 : (xs : List ℕ) (e : E) (rest : List ℕ) → Begins xs e rest → IsUtf8 xs → IsUtf8 rest
 
 pub past_utf8 : (xs : List ℕ) → IsUtf8 xs → IsUtf8 (past is_blank xs)
 past_utf8 xs u = utf8_past_blanks (front is_blank xs) (past is_blank xs) (front_all is_blank xs) (subst IsUtf8 (sym (front-past is_blank xs)) u)
@@ -224,7 +224,7 @@ module _ {E : Type 0} {Begins : List ℕ → E → List ℕ → Type 0} {EndsPar
       one_more {next} {after} d m a = rw a (record {
         shallow = deepest_last Begins EndsPart close deep es e depth so_far.shallow d;
         utf8 = λ utf8.
-            past_utf8 next (after_byte next 44 (omega arith) (subst IsUtf8 m (past_utf8 behind (parts.utf8 rest e behind b ends (so_far.utf8 utf8)))));
+            past_utf8 next (after_byte next 44 (omega arith) (subst IsUtf8 m (past_utf8 behind (parts.utf8 rest e behind b (so_far.utf8 utf8)))));
         forward = λ f others after end c n. subst (λ all. AllIn Begins close inside all end) (sym (append_assoc es (e ∷ []) (f ∷ others)))
             (so_far.forward e (f ∷ others) behind end b (next, after, m, c, n));
         backward = λ all end h. let f = follows all end h in at_next all f.0 end f.1 f.2;
@@ -233,9 +233,9 @@ module _ {E : Type 0} {Begins : List ℕ → E → List ℕ → Type 0} {EndsPar
           at_next : (all others : List E) (end : List ℕ) → MoreIn Begins close behind others end → all ≡ es ++ e ∷ others → HasPart Begins EndsPart close deep
               (past is_blank next) all
               (es ++ e ∷ []) end
-          at_next all [] end n is = absurd (parts.closed.comma (ap head (sym n ∙ m)))
+          at_next all [] end n is = absurd (parts.closed.comma (cc))
           at_next all (f ∷ others) end n is =
-              let same : n.0 ≡ next = ap tail (sym n.2 ∙ m) in
+              let same : n.0 ≡ next = cc in
               record {
                 part = f;
                 others = others;

@@ -1,10 +1,10 @@
 -- What stands at the front of bytes that begin with a literal, and what stands between brackets and braces.
+use Rattle.std.proofs.Common.{arith}
 use Rattle.std.proofs.Common.{◌≡◌, ℕ, Bool, true, false, List, [], ◌∷◌, ◌++◌, refl, ap, sym, ◌∙◌, append_assoc, subst}
 use Rattle.tera_meaning.specs.Integer.{Integer}
 use Rattle.tera_meaning.specs.Form.{Form, MarkedText}
 use Rattle.tera_meaning.specs.KeyMeaning.{KeyForm, truth_key, number_key, text_key, owned, borrowed}
-use Rattle.tera_meaning.specs.Tree.{Items, Members, text, bytes, array, object, no_items, item, no_members, member, items_list}
-use Rattle.tera_meaning.specs.Tree.{members_list}
+use Rattle.tera_meaning.specs.Tree.{Items, Members, text, bytes, array, object, no_items, item, no_members, member, items_list, members_list}
 use Rattle.tera_script.specs.Word.{is_blank, AreBlanks}
 use Rattle.tera_script.specs.Literal.{mark_of, IsPadded, IsPair, SpellsKey, SpellsTree, SpellsItems, SpellsMore, SpellsPairs, SpellsMorePairs}
 use Rattle.tera_script.specs.Readers.{Stops, front, past, BeginsWithLiteral, BeginsWithKey, BeginsWithPair, ItemsAt, MoreAt, PairsAt, MorePairsAt}
@@ -18,13 +18,11 @@ quoted_bytes true inner rest = ap (λ xs. 115 ∷ 34 ∷ xs) (append_assoc inner
 quoted_bytes false inner rest = ap (λ xs. 34 ∷ xs) (append_assoc inner (34 ∷ []) rest)
 
 mark_stops_blanks : (safe : Bool) (xs : List ℕ) → Stops is_blank (mark_of safe ++ (34 ∷ xs))
-mark_stops_blanks true xs = refl
-mark_stops_blanks false xs = refl
+mark_stops_blanks safe xs = grind arith
 
 -- no literal begins with a blank
 pub literal_stops_blanks : (literal rest : List ℕ) (value : Form) → SpellsTree literal value → Stops is_blank (literal ++ rest)
-literal_stops_blanks literal rest (text t) h = subst (Stops is_blank) (sym (ap (λ l. l ++ rest) h.2 ∙ quoted_bytes t.safe h.0 rest))
-    (mark_stops_blanks t.safe (h.0 ++ 34 ∷ rest))
+literal_stops_blanks literal rest (text t) h = rw (h.2, quoted_bytes t.safe h.0 rest) (mark_stops_blanks t.safe (h.0 ++ 34 ∷ rest))
 literal_stops_blanks literal rest (bytes bs) h = rw (h.2) refl
 literal_stops_blanks literal rest (array xs) h = rw (h.2) refl
 literal_stops_blanks literal rest (object ps) h = rw (h.2) refl
@@ -40,10 +38,8 @@ key_tree literal (text_key (borrowed t)) h = absurd h
 -- what stands between blanks, behind those before it
 padded_parts : (P : List ℕ → Type 0) (first tail : List ℕ) (p : IsPadded P first) → Stops is_blank (p.1 ++ (p.2 ++ tail)) → past is_blank (first ++ tail) ≡ p.1
     ++ (p.2 ++ tail)
-padded_parts P first tail p stops =
-    let inside = append_assoc p.1 p.2 tail in
-    let spelled = ap (λ xs. xs ++ tail) p.6 ∙ append_assoc p.0 (p.1 ++ p.2) tail ∙ ap (λ xs. p.0 ++ xs) inside in
-    ap (past is_blank) spelled ∙ past_is is_blank p.0 (p.1 ++ (p.2 ++ tail)) p.3 stops
+padded_parts P first tail (before, inside, after, blanks, _, _, e) stops =
+    rw (e, append_assoc before (inside ++ after) tail, append_assoc inside after tail) (past_is is_blank before (inside ++ (after ++ tail)) blanks stops)
 
 -- an item, a key and a pair between blanks
 padded_at : (first tail : List ℕ) (value : Form) → IsPadded (λ literal. SpellsTree literal value) first → StandsBefore BeginsWithLiteral (first ++ tail) value

@@ -1,6 +1,5 @@
 -- The state of a map whose keys are all texts.
-use Rattle.std.proofs.Common.{◌≡◌, ℕ, false, cond, List, [], ◌∷◌, ◌++◌, Some, None, IsSome, refl, ap, sym, ◌∙◌, subst, append_assoc, arith}
-use Rattle.std.proofs.Common.{append-nil}
+use Rattle.std.proofs.Common.{◌≡◌, ℕ, false, cond, List, [], ◌∷◌, ◌++◌, Some, None, IsSome, refl, ap, sym, ◌∙◌, subst, append_assoc, arith, append-nil}
 use Rattle.std.proofs.lemmas.Option.{same_Some}
 use Rattle.std.specs.Cmp.{eq_by_cmp_equiv}
 use Rattle.std.specs.Cmp.Lexicographic.{slice_cmp, nat_list_cmp_total}
@@ -10,7 +9,7 @@ use Rattle.std.specs.Map.{keys_of}
 use Rattle.std.specs.Ordering.{nat_cmp, eq_by_cmp}
 use Rattle.tera_meaning.specs.Form.{Form}
 use Rattle.tera_meaning.proofs.PutLaws.{found_put, put_last}
-use Rattle.tera_meaning.specs.KeyMeaning.{KeyForm, text_key, owned, key_meaning, key_order}
+use Rattle.tera_meaning.specs.KeyMeaning.{KeyForm, text_key, owned}
 use Rattle.tera_meaning.specs.Pairs.{HasDistinctKeys, key_form_order, value_at}
 use Rattle.tera_meaning.specs.Read.{members_in}
 use Rattle.tera_meaning.specs.State.{State}
@@ -34,20 +33,17 @@ IsTextPair pair = IsSome (text_in_key pair.0)
 
 texts_on : (done : List (KeyForm × Form)) (k : KeyForm) (v : Form) (t : List ℕ) → text_in_key k ≡ Some t
     → AllByRecursion IsTextPair done → AllByRecursion IsTextPair (done ++ (k, v) ∷ [])
-texts_on [] k v t is h = (subst IsSome (sym is) refl, tt)
+texts_on [] k v t is h = (grind arith, tt)
 texts_on (d ∷ done) k v t is h = (h.0, texts_on done k v t is h.1)
 
 text_in_middle : (ys rest : List (KeyForm × Form)) (e : KeyForm × Form) → AllByRecursion IsTextPair (ys ++ e ∷ rest) → IsTextPair e
 text_in_middle [] rest e h = h.0
 text_in_middle (y ∷ ys) rest e h = text_in_middle ys rest e h.1
 
-meant_text : (k : KeyForm) (t : List ℕ) → text_in_key k ≡ Some t → key_meaning k ≡ text_key t
-meant_text k t e = grind arith
-
 -- whether a name is the text of a key
 name_ties : (k : KeyForm) (t name : List ℕ) → text_in_key k ≡ Some t
     → eq_by_cmp (slice_cmp nat_cmp) name t ≡ eq_by_cmp key_form_order (text_key (owned name)) k
-name_ties k t name e = ap (eq_by_cmp key_order (text_key name)) (sym (meant_text k t e))
+name_ties k t name e = grind arith
 
 -- ---- the pairs one by one
 
@@ -62,8 +58,7 @@ none_before : (ys rest : List (KeyForm × Form)) (k : KeyForm) (v : Form) → Ha
 unfolding IsDistinct
 none_before [] rest k v h = refl
 none_before (y ∷ ys) rest k v h =
-    let apart : eq_by_cmp key_form_order k y.0 ≡ false = (eq_by_cmp_equiv form_total).symm k y.0 ∙ apart_later y.0 k v ys rest h.0 in
-    ap (λ b. cond b (Some y.1) (value_at key_form_order ys k)) apart ∙ none_before ys rest k v h.1
+    grind (arith, (eq_by_cmp_equiv form_total).symm k y.0, apart_later y.0 k v ys rest h.0, none_before ys rest k v h.1)
 
 -- what the pairs have with one more behind them
 value_on : (done rest : List (KeyForm × Form)) (k : KeyForm) (v : Form) (q : KeyForm) → HasDistinctKeys key_form_order (done ++ (k, v) ∷ rest)
@@ -76,22 +71,7 @@ value_on done rest k v q apart =
 abbrev pub HoldsSoFar : State → List (KeyForm × Form) → Type 0
 HoldsSoFar state done = (name : List ℕ) → get state name ≡ value_at key_form_order done (text_key (owned name))
 
-holds_on : (state : State) (done rest : List (KeyForm × Form)) (k : KeyForm) (v : Form) (t : List ℕ)
-    → HasDistinctKeys key_form_order (done ++ (k, v) ∷ rest) → text_in_key k ≡ Some t → HoldsSoFar state done
-    → HoldsSoFar (insert state t v) (done ++ (k, v) ∷ [])
-holds_on state done rest k v t apart is h name =
-    get-insert nat_list_cmp_total state t v name
-    ∙ (λ i. cond (name_ties k t name is i) (Some v) (h name i))
-    ∙ sym (value_on done rest k v (text_key (owned name)) apart)
-
 -- ---- the whole map
-
-no_text_named : (value : Form) (done rest : List (KeyForm × Form)) (k : KeyForm) (v : Form)
-    → members_in value ≡ Some (done ++ (k, v) ∷ rest) → text_in_key k ≡ None → IsSourceOf value None
-no_text_named value done rest k v is none = λ pairs state map named.
-    let same : pairs ≡ done ++ (k, v) ∷ rest = same_Some _ _ (sym (ap members_in map ∙ ap Some (list_of_members pairs)) ∙ is) in
-    let text : IsSome (text_in_key k) = text_in_middle done rest (k, v) (subst (AllByRecursion IsTextPair) same named.0) in
-    let nothing : IsSome {T = List ℕ} None = subst IsSome none text in cc
 
 -- the keys so far are texts, and what they have is held under them; with those that are left they are the map's
 pub record IsSoFar (value : Form) (state : State) (left : List (KeyForm × Form)) : Type 0 where
@@ -112,7 +92,11 @@ module _ {value : Form} {state : State} {left : List (KeyForm × Form)} (h : IsS
     here ps = h.done ++ ps
 
     pub none_named : text_in_key k ≡ None → IsSourceOf value None
-    none_named none = no_text_named value h.done rest k v (h.whole ∙ ap (λ ps. Some (here ps)) was) none
+    none_named none = λ pairs state map named.
+        let same : pairs ≡ here ((k, v) ∷ rest)
+        = same_Some _ _ (sym (ap members_in map ∙ ap Some (list_of_members pairs)) ∙ h.whole ∙ ap (λ ps. Some (here ps)) was) in
+        let text = text_in_middle h.done rest (k, v) (subst (AllByRecursion IsTextPair) same named.0) in
+        grind (arith, text)
 
     pub one_more : {t : List ℕ} {after : State} → text_in_key k ≡ Some t → after ≡ insert state t v → IsSoFar value after rest
     one_more {t} {after} is e =
@@ -121,7 +105,8 @@ module _ {value : Form} {state : State} {left : List (KeyForm × Form)} (h : IsS
         record {
           done = h.done ++ (k, v) ∷ [];
           texts = texts_on h.done k v t is h.texts;
-          so_far = subst (λ s. HoldsSoFar s (h.done ++ (k, v) ∷ [])) (sym e) (holds_on state h.done rest k v t apart is h.so_far);
+          so_far = λ name. ap (λ s. get s name) e ∙ get-insert nat_list_cmp_total state t v name
+              ∙ (λ i. cond (name_ties k t name is i) (Some v) (h.so_far name i)) ∙ sym (value_on h.done rest k v (text_key (owned name)) apart);
           whole = h.whole ∙ ap (λ ps. Some (here ps)) was ∙ ap Some moved;
           apart = subst (HasDistinctKeys key_form_order) moved apart;
         }

@@ -8,13 +8,11 @@ use Rattle.std.specs.Option.{option_and_then}
 use Rattle.std.specs.Str.Parse.{AllDigits, digits_value, digits_value_after}
 use Rattle.std.proofs.Math.Nat.{pow-le-pow_right}
 use Rattle.std.proofs.lemmas.Bool.Decides.{nat_tests}
-use Rattle.std.proofs.lemmas.Int.Digits.{digits_value_push}
+use Rattle.std.proofs.lemmas.Int.Digits.{digits_value_push, digits_push}
 use Rattle.std.proofs.lemmas.List.{append_cancel_right}
 use Rattle.std.proofs.lemmas.Option.{some_pair_parts}
-use Rattle.tera_script.specs.Text.{Token, itself, quote, backslash, line_feed, carriage_return, tab, null, character, spelling, decoding, IsToken, SpellsText}
-use Rattle.tera_script.specs.Text.{BeginsWithText}
-use Rattle.tera_script.specs.TextParts.{IsPlain, IsNoRun, BeginsWithRun, Place, at_token, at_letter, at_brace, at_digit, letter_token}
-use Rattle.tera_script.specs.TextParts.{text_from, escape_at}
+use Rattle.tera_script.specs.Text.{Token, itself, character, spelling, decoding, IsToken, SpellsText, BeginsWithText}
+use Rattle.tera_script.specs.TextParts.{IsPlain, IsNoRun, BeginsWithRun, Place, at_token, at_letter, at_brace, at_digit, letter_token, text_from, escape_at}
 use Rattle.tera_script.specs.Readers.{behind}
 use Rattle.tera_script.proofs.Fronts.{behind_nothing, behind_both, behind_found}
 use Rattle.tera_script.proofs.Utf8.{utf8_tokens}
@@ -35,21 +33,20 @@ one_byte front b bytes t rest g = record {
 }
 
 last_byte : (p : Token) (front : List ℕ) (b : ℕ) (bytes t rest : List ℕ) → IsToken p → spelling p ≡ front ++ b ∷ []
-    → (u : List ℕ) × GoesOn [] bytes u rest × (t ≡ decoding p ++ u) → GoesOn front (b ∷ bytes) t rest
-last_byte p front b bytes t rest h is (u, g, means) =
+    → behind (decoding p) (text_from bytes at_token) ≡ Some (t, rest) → ((u : List ℕ) → text_from bytes at_token ≡ Some (u, rest) → GoesOn [] bytes u rest)
+    → GoesOn front (b ∷ bytes) t rest
+last_byte p front b bytes t rest h is read goes_on =
+    let found = behind_found (decoding p) (text_from bytes at_token) t rest read in
+    let g = goes_on found.0 found.1 in
     let s = g.spells in
     one_byte front b bytes t rest (record {
       inner = g.inner;
-      spells = (p ∷ s.0, (h, s.1), (λ i. sym is i ++ s.2 i), means ∙ ap (λ xs. decoding p ++ xs) s.3);
+      spells = (p ∷ s.0, (h, s.1), (λ i. sym is i ++ s.2 i), found.2 ∙ ap (λ xs. decoding p ++ xs) s.3);
       spelled = g.spelled;
     })
 
 letter_is : (b : ℕ) (p : Token) → letter_token b ≡ Some p → IsToken p × (spelling p ≡ 92 ∷ b ∷ [])
 letter_is b p e = grind (arith, nat_tests)
-
-one_digit : (ds : List ℕ) (b : ℕ) → AllDigits 16 ds → digit_value b < 16 → AllDigits 16 (ds ++ b ∷ [])
-one_digit [] b all h = (h, tt)
-one_digit (d ∷ ds) b all h = (all.0, one_digit ds b all.1 h)
 
 mutual
   unfolding text_from
@@ -62,8 +59,7 @@ mutual
       elim h [
         | inl h ↦ record { inner = []; spells = ([], tt, refl, h.1); spelled = λ i. h.0 i ∷ h.2 i }
         | inr (inl h) ↦ rw (h.0) (one_byte [] 92 bytes t rest (letter_found bytes t rest h.1))
-        | inr (inr h) ↦ let found = behind_found (b ∷ []) (text_from bytes at_token) t rest h.1 in
-            last_byte (itself b) [] b bytes t rest h.0 refl (found.0, token_found bytes found.0 rest found.1, found.2)
+        | inr (inr h) ↦ last_byte (itself b) [] b bytes t rest h.0 refl h.1 (λ u. token_found bytes u rest)
       ]
 
   letter_found : (bytes t rest : List ℕ) → text_from bytes at_letter ≡ Some (t, rest) → GoesOn (92 ∷ []) bytes t rest
@@ -73,10 +69,7 @@ mutual
       ⊎ ((p : Token) × (letter_token b ≡ Some p) × (behind (decoding p) (text_from bytes at_token) ≡ Some (t, rest))) = grind (arith, nat_tests) in
       elim h [
         | inl h ↦ rw (h.0) (one_byte (92 ∷ []) 117 bytes t rest (brace_found bytes t rest h.1))
-        | inr h ↦
-            let found = behind_found (decoding h.0) (text_from bytes at_token) t rest h.2 in
-            let letter = letter_is b h.0 h.1 in
-            last_byte h.0 (92 ∷ []) b bytes t rest letter.0 letter.1 (found.0, token_found bytes found.0 rest found.1, found.2)
+        | inr h ↦ let letter = letter_is b h.0 h.1 in last_byte h.0 (92 ∷ []) b bytes t rest letter.0 letter.1 h.2 (λ u. token_found bytes u rest)
       ]
 
   brace_found : (bytes t rest : List ℕ) → text_from bytes at_brace ≡ Some (t, rest) → GoesOn (92 ∷ 117 ∷ []) bytes t rest
@@ -94,15 +87,12 @@ mutual
       ⊎ ((digit_value b < 16) × (length ds < 6) × (text_from bytes (at_digit (n * 16 + digit_value b) (length ds + 1)) ≡ Some (t, rest))) =
       grind (arith, nat_tests) in
       elim h [
-        | inl h ↦
-            let found = behind_found (encode_utf8 n) (text_from bytes at_token) t rest h.3 in
-            rw (h.0) (last_byte (character ds) (92 ∷ 117 ∷ 123 ∷ ds) 125 bytes t rest (all, h.1, few, h.2) refl
-            (found.0, token_found bytes found.0 rest found.1, found.2))
+        | inl h ↦ rw (h.0) (last_byte (character ds) (92 ∷ 117 ∷ 123 ∷ ds) 125 bytes t rest (all, h.1, few, h.2) refl h.3 (λ u. token_found bytes u rest))
         | inr h ↦
             let longer : text_from bytes (at_digit (digits_value 16 (ds ++ b ∷ [])) (length (ds ++ b ∷ []))) ≡ Some (t, rest) =
             rw (digits_value_push 16 ds b, length-append ds (b ∷ [])) (h.2) in
             one_byte (92 ∷ 117 ∷ 123 ∷ ds) b bytes t rest
-            (digit_found bytes (ds ++ b ∷ []) t rest (one_digit ds b all h.0) (omega (arith, h.1, length-append ds (b ∷ []))) longer)
+            (digit_found bytes (ds ++ b ∷ []) t rest (digits_push 16 ds b all h.0) (omega (arith, h.1, length-append ds (b ∷ []))) longer)
       ]
 
 -- ---- what is spelled so is read
@@ -173,17 +163,12 @@ unfolding text_from
 run_read [] bytes plain = sym (behind_nothing (text_from bytes at_token))
 run_read (b ∷ run) bytes plain = let first = plain.0 in let more = run_read run bytes plain.1 in grind (arith, nat_tests, more, behind_both)
 
-pub run_taken : (decoded longer bytes run rest : List ℕ) → BeginsWithRun bytes run rest → longer ≡ decoded ++ run
-    → behind longer (text_from rest at_token) ≡ behind decoded (text_from bytes at_token)
-run_taken decoded longer bytes run rest r is =
-    rw (is, r.1) (sym (behind_both decoded run (text_from rest at_token)) ∙ ap (behind decoded) (sym (run_read run rest r.0)))
-
 -- an escape, and then what stands behind it
 abbrev IsInside : Place → Type 0
 IsInside at_token = ⊥
 IsInside place = Unit {0}
 
-abbrev pub then_text : Option (List ℕ × List ℕ) → Option (List ℕ × List ℕ)
+abbrev then_text : Option (List ℕ × List ℕ) → Option (List ℕ × List ℕ)
 then_text read = option_and_then (λ found. behind found.0 (text_from found.1 at_token)) read
 
 escapes : (bytes : List ℕ) (place : Place) → IsInside place → text_from bytes place ≡ then_text (escape_at bytes place)
@@ -195,7 +180,7 @@ escapes (b ∷ bytes) at_brace inside = grind (arith, nat_tests, escapes bytes (
 escapes (b ∷ bytes) (at_digit n count) inside = grind (arith, nat_tests, escapes bytes (at_digit (n * 16 + digit_value b) (count + 1)) tt)
 
 -- what stands behind a run, if it is no closing quote, is a backslash
-pub letter_next : {rest after : List ℕ} {byte : ℕ} → rest ≡ byte ∷ after → IsNoRun rest → byte ≢ 34
+letter_next : {rest after : List ℕ} {byte : ℕ} → rest ≡ byte ∷ after → IsNoRun rest → byte ≢ 34
     → text_from rest at_token ≡ then_text (escape_at after at_letter)
 unfolding text_from
 letter_next {rest} {after} {byte} e ends unclosed =
@@ -206,21 +191,29 @@ letter_next {rest} {after} {byte} e ends unclosed =
 pub powers : (place : ℕ) → (16 ^ place ≡ 16 ^ place) × (place ≤ 5 → 16 ^ place ≤ 16 ^ 5)
 powers place = (refl, λ short. pow-le-pow_right {n = 16} (omega arith) short)
 
--- what is decoded, and then what the rest gives, is what all bytes give
-module _ (decoded rest bytes : List ℕ) (read : behind decoded (text_from rest at_token) ≡ text_from bytes at_token) where
-  pub stopped : text_from rest at_token ≡ None → (text : List ℕ) (used : ℕ) → BeginsWithText bytes text used → ⊥
-  stopped none text used b = no_text (sym read ∙ ap (behind decoded) none) b
+-- what is decoded with a run more, and then what the rest gives, is what all bytes give
+module _ (before run rest old decoded bytes : List ℕ) (r : BeginsWithRun before run rest) (is : decoded ≡ old ++ run)
+    (was : behind old (text_from before at_token) ≡ text_from bytes at_token)
+  where
+    read : behind decoded (text_from rest at_token) ≡ text_from bytes at_token
+    read = rw (is, ← was, r.1) (sym (behind_both old run (text_from rest at_token)) ∙ ap (behind old) (sym (run_read run rest r.0)))
 
-  pub closed : {after : List ℕ} {byte : ℕ} → rest ≡ byte ∷ after → byte ≡ 34 → BeginsWithText bytes decoded (length bytes - length after)
-  unfolding text_from
-  closed {after} {byte} e is = text_found bytes decoded after (sym read ∙ rw (e, is, append-nil decoded) refl)
+    pub stopped : text_from rest at_token ≡ None → (text : List ℕ) (used : ℕ) → BeginsWithText bytes text used → ⊥
+    stopped none text used b = no_text (sym read ∙ ap (behind decoded) none) b
 
-  pub escaped : (next : List ℕ) (c : ℕ) {after : List ℕ} {byte : ℕ} → rest ≡ byte ∷ after → IsNoRun rest → byte ≢ 34
-      → Some (encode_utf8 c, next) ≡ escape_at after at_letter
-      → behind (decoded ++ encode_utf8 c) (text_from next at_token) ≡ text_from bytes at_token
-  escaped next c e ends unclosed found =
-      sym (behind_both decoded (encode_utf8 c) (text_from next at_token))
-      ∙ ap (behind decoded) (sym (letter_next e ends unclosed ∙ ap then_text (sym found))) ∙ read
+    pub closed : {after : List ℕ} {byte : ℕ} → rest ≡ byte ∷ after → byte ≡ 34 → BeginsWithText bytes decoded (length bytes - length after)
+    unfolding text_from
+    closed {after} {byte} e is = text_found bytes decoded after (sym read ∙ rw (e, is, append-nil decoded) refl)
+
+    pub no_escape : {after : List ℕ} {byte : ℕ} → rest ≡ byte ∷ after → byte ≢ 34 → None ≡ escape_at after at_letter → (text : List ℕ) (used : ℕ)
+        → BeginsWithText bytes text used → ⊥
+    no_escape e unclosed none = stopped (letter_next e r.2 unclosed ∙ ap then_text (sym none))
+
+    pub escaped : (next : List ℕ) (c : ℕ) {after : List ℕ} {byte : ℕ} → rest ≡ byte ∷ after → byte ≢ 34 → Some (encode_utf8 c, next) ≡ escape_at after at_letter
+        → behind (decoded ++ encode_utf8 c) (text_from next at_token) ≡ text_from bytes at_token
+    escaped next c e unclosed found =
+        sym (behind_both decoded (encode_utf8 c) (text_from next at_token))
+        ∙ ap (behind decoded) (sym (letter_next e r.2 unclosed ∙ ap then_text (sym found))) ∙ read
 
 -- a run and the quote that closes it
 pub plain_spelling : (run : List ℕ) → AllByRecursion IsPlain run → SpellsText run run

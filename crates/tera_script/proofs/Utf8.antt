@@ -8,23 +8,19 @@ use Rattle.std.proofs.lemmas.Str.{IsUtf8-append, IsUtf8-encode, IsUtf8-take, IsU
 use Rattle.std.proofs.lemmas.Str.{IsCharBoundary-after_ascii}
 use Rattle.std.proofs.lemmas.Str.Ascii.{IsAscii-nil, IsAscii-cons}
 use Rattle.std.proofs.lemmas.Grind.{common_steps}
-use Rattle.tera_script.specs.Text.{Token, itself, quote, backslash, line_feed, carriage_return, tab, null, character, spelling, decoding, IsToken}
+use Rattle.tera_script.specs.Text.{Token, itself, character, spelling, decoding, IsToken}
 use Rattle.std.specs.Str.{IsUtf8, IsAscii}
 use Rattle.std.proofs.lemmas.Bool.Decides.{nat_tests}
 use Rattle.tera_script.specs.Line.{SpellsOperand}
 use Rattle.tera_script.specs.Word.{is_blank, AreBlanks, is_name_byte, IsName}
 use Rattle.tera_script.specs.Readers.{is_word_byte}
-use Rattle.tera_script.proofs.Fronts.{both_pass}
-
--- the byte behind a front
-pub byte_at : (xs zs : List ℕ) (b : ℕ) → get_or (xs ++ (b ∷ zs)) (length xs) 0 ≡ b
-byte_at xs zs b = ap (λ n. get_or (xs ++ (b ∷ zs)) n 0) (sym (add-zero (length xs))) ∙ get_or-append-add xs (b ∷ zs) 0 0
+use Rattle.std.proofs.lemmas.Bool.{and_parts}
 
 -- UTF-8 may be cut before and after an ASCII byte
 pub around_byte : (xs zs : List ℕ) (b : ℕ) → b < 128 → IsUtf8 (xs ++ (b ∷ zs)) → IsUtf8 xs × IsUtf8 zs
 around_byte xs zs b ascii u =
     let inside : length xs < length (xs ++ (b ∷ zs)) = grind (arith, common_steps) in
-    let small : get_or (xs ++ (b ∷ zs)) (length xs) 0 < 128 = rw (byte_at xs zs b) ascii in
+    let small : get_or (xs ++ (b ∷ zs)) (length xs) 0 < 128 = rw (← add-zero (length xs), get_or-append-add xs (b ∷ zs) 0 0) ascii in
     let front = IsUtf8-take (xs ++ (b ∷ zs)) (length xs) u (IsCharBoundary-before_ascii (xs ++ (b ∷ zs)) (length xs) inside small) in
     let back = IsUtf8-drop (xs ++ (b ∷ zs)) (length xs + 1) u (IsCharBoundary-after_ascii (xs ++ (b ∷ zs)) (length xs) u inside small) in
     let cut : drop (length xs + 1) (xs ++ (b ∷ zs)) ≡ zs = ap (drop (length xs + 1)) (sym (append_assoc xs (b ∷ []) zs)) ∙ drop_at (xs ++ (b ∷ [])) zs
@@ -38,14 +34,12 @@ after_digits : (digits zs : List ℕ) → AllDigits 16 digits → IsUtf8 (digits
 after_digits [] zs h u = u
 after_digits (d ∷ ds) zs h u = after_digits ds zs h.1 (after_byte (ds ++ zs) d (grind (arith, h.0)) u)
 
-ascii_text : (b : ℕ) → b < 128 → IsUtf8 (b ∷ [])
-ascii_text b h = IsUtf8-from_ascii (b ∷ []) (IsAscii-cons b [] h IsAscii-nil)
-
 -- an escape's bytes may be cut off, and what it stands for is UTF-8
 escaped : (xs zs ts : List ℕ) (letter b : ℕ) → letter < 128 → b < 128 → (IsUtf8 zs → IsUtf8 ts) → IsUtf8 (xs ++ (92 ∷ letter ∷ zs)) → IsUtf8 (xs ++ (b ∷ ts))
 escaped xs zs ts letter b ascii decoded rest u =
     let cut = around_byte xs (letter ∷ zs) 92 (omega arith) u in
-    IsUtf8-append xs (b ∷ ts) cut.0 (IsUtf8-append (b ∷ []) ts (ascii_text b decoded) (rest (after_byte zs letter ascii cut.1)))
+    IsUtf8-append xs (b ∷ ts) cut.0
+    (IsUtf8-append (b ∷ []) ts (IsUtf8-from_ascii (b ∷ []) (IsAscii-cons b [] decoded IsAscii-nil)) (rest (after_byte zs letter ascii cut.1)))
 
 pub utf8_tokens : (xs : List ℕ) (ps : List Token) → AllByRecursion IsToken ps → IsUtf8 (xs ++ flat_map spelling ps) → IsUtf8 (xs ++ flat_map decoding ps)
 utf8_tokens xs [] h u = u
@@ -64,11 +58,11 @@ utf8_tokens xs (p ∷ ps) h u = escaped xs (flat_map spelling ps) (flat_map deco
 module _ (p : ℕ → Bool) (ascii : (b : ℕ) → p b ≡ true → b < 128) where
   utf8_past : (xs ys : List ℕ) → list_all p xs ≡ true → IsUtf8 (xs ++ ys) → IsUtf8 ys
   utf8_past [] ys h u = u
-  utf8_past (b ∷ xs) ys h u = let e = both_pass p (p b) (list_all p xs) h in utf8_past xs ys e.1 (after_byte (xs ++ ys) b (ascii b e.0) u)
+  utf8_past (b ∷ xs) ys h u = let e = and_parts (p b) (list_all p xs) h in utf8_past xs ys e.1 (after_byte (xs ++ ys) b (ascii b e.0) u)
 
   ascii_from : (xs : List ℕ) → list_all p xs ≡ true → IsAscii xs
   ascii_from [] h = IsAscii-nil
-  ascii_from (b ∷ xs) h = let e = both_pass p (p b) (list_all p xs) h in IsAscii-cons b xs (ascii b e.0) (ascii_from xs e.1)
+  ascii_from (b ∷ xs) h = let e = and_parts (p b) (list_all p xs) h in IsAscii-cons b xs (ascii b e.0) (ascii_from xs e.1)
 
 name_byte_is_ascii : (b : ℕ) → is_name_byte b ≡ true → b < 128
 name_byte_is_ascii b h = grind (arith, nat_tests)

@@ -1,5 +1,5 @@
 -- Parts of a line: what a reader of one answers, and of one that stands behind a name or a gap.
-use Rattle.std.proofs.Common.{◌≡◌, ℕ, List, ◌++◌, Option, Some, None, refl, ap, sym, ◌∙◌, append_assoc, subst, false, [], ◌∷◌}
+use Rattle.std.proofs.Common.{arith, ◌≡◌, ℕ, List, ◌++◌, Option, Some, None, refl, ap, sym, ◌∙◌, append_assoc, subst, false, [], ◌∷◌}
 use Rattle.std.specs.Option.{option_map, option_and_then}
 use Rattle.std.specs.Str.{IsUtf8}
 use Rattle.std.proofs.lemmas.Option.{some_pair_parts, same_Some}
@@ -21,12 +21,11 @@ use Rattle.tera_meaning.proofs.TreeLaws.{list_of_members}
 use Rattle.tera_script.specs.declared.bound.Bounds.{Bounds}
 use Rattle.tera_script.specs.declared.verb.Shape.{Shape}
 use Rattle.tera_script.specs.declared.verb.Shape.TheVariants as shape
-use Rattle.tera_script.specs.Text.{SpellsText}
+use Rattle.tera_script.specs.Literal.{SpellsTree}
 use Rattle.tera_script.specs.Literal.{tree_value}
 use Rattle.tera_script.proofs.Bounds.{bounds_found, bounds_only, bound_ends_word}
-use Rattle.tera_script.proofs.Fronts.{tail}
-use Rattle.tera_script.proofs.Literals.{only_at}
-use Rattle.tera_script.proofs.Openings.{stops_end, quoted_utf8}
+use Rattle.tera_script.proofs.Literals.{only_at, literal_found}
+use Rattle.tera_script.proofs.Openings.{stops_end}
 use Rattle.tera_script.proofs.Shapes.{literal_stops_blanks}
 use Rattle.tera_script.proofs.Sources.{one_state}
 use Rattle.tera_script.proofs.Verbs.{same_type}
@@ -64,19 +63,19 @@ module _ {E : Type 0} {Spells : List ℕ → E → Type 0} {EndsSo : E → List 
         record { part = s.1; spells = s.3; spelled = refl },
       )
 
-  pub no_name : (bytes : List ℕ) → None ≡ operand_at bytes → IsPartAt (SpellsBoth Spells) (EndsBoth EndsSo) bytes None
-  no_name bytes e = λ utf8 both rest h s. let found = (has_both bytes both rest h).1 in cc
+  pub no_name : {bytes : List ℕ} → None ≡ operand_at bytes → IsPartAt (SpellsBoth Spells) (EndsBoth EndsSo) bytes None
+  no_name {bytes} e = λ utf8 both rest h s. let found = (has_both bytes both rest h).1 in cc
 
   pub both_at : (bytes : List ℕ) {name behind : List ℕ} → Some (name, behind) ≡ operand_at bytes → (answer : Option (E × List ℕ))
       → IsPartAt Spells EndsSo behind answer
       → IsPartAt (SpellsBoth Spells) (EndsBoth EndsSo) bytes (option_map (λ found. ((name, found.0), found.1)) answer)
-  both_at bytes {name = name} {behind = behind} n None nothing = λ utf8 both rest h s.
+  both_at bytes {name} {behind} n None nothing = λ utf8 both rest h s.
       let has = has_both bytes both rest h in
       let same = some_pair_parts name both.0 behind has.0 (n ∙ has.1) in
       let operand = (operand_found bytes name behind (sym n)).0 in
       nothing (utf8_past_operand operand.part name behind operand.spells (subst IsUtf8 operand.spelled utf8)) both.1 rest
       (subst (λ xs. Begins Spells xs both.1 rest) (sym same.1) has.2) s
-  both_at bytes {name = name} {behind = behind} n (Some (e, rest)) found =
+  both_at bytes {name} {behind} n (Some (e, rest)) found =
       let operand = (operand_found bytes name behind (sym n)).0 in
       let begins = found.0 in (
         record {
@@ -96,12 +95,8 @@ module _ {E : Type 0} {Spells : List ℕ → E → Type 0} {EndsSo : E → List 
         let rest = parts.one a.0 p.1 q.1 x y a.2 s (subst (λ xs. Begins Spells xs q.1 y) (sym same.1) b.2) t in
         ((λ i. (same.0 i, rest.0 i)), rest.1);
     ends = λ both rest s. parts.ends both.1 rest s;
-    opens = λ part rest both h. subst (Stops is_name_byte) (sym (ap (λ xs. xs ++ rest) h.4 ∙ append_assoc h.0 h.1 rest))
-        (operand_ends_name h.0 both.0 (h.1 ++ rest) h.2);
+    opens = λ part rest both h. rw (h.4, append_assoc h.0 h.1 rest) (operand_ends_name h.0 both.0 (h.1 ++ rest) h.2);
   }
-
-gap_utf8 : (bytes rest : List ℕ) → gap_at bytes ≡ Some rest → IsUtf8 bytes → IsUtf8 rest
-gap_utf8 bytes rest g u = let gap = gap_found bytes rest g in utf8_past_blanks gap.gap rest gap.blanks.1 (subst IsUtf8 gap.spelled u)
 
 -- ---- values
 
@@ -137,14 +132,16 @@ value_parts = record {
   opens = λ part rest v h. stops_name (part ++ rest) (behind_gap part h.0 h.1 rest h.3 h.7);
 }
 
-pub no_gap : (bytes : List ℕ) → gap_at bytes ≡ None → IsValueAt bytes None
-no_gap bytes e = λ utf8 value rest h s. let found = at_literal bytes value rest h in cc
+pub no_gap : {bytes : List ℕ} → gap_at bytes ≡ None → IsValueAt bytes None
+no_gap {bytes} e = λ utf8 value rest h s. let found = at_literal bytes value rest h in cc
 
-pub value_at : (bytes at_value : List ℕ) → gap_at bytes ≡ Some at_value → (answer : Option (Form × List ℕ)) → IsLiteralAt levels at_value answer
+pub value_at : (bytes : List ℕ) {at_value : List ℕ} → gap_at bytes ≡ Some at_value → (answer : Option (Form × List ℕ)) → IsLiteralAt levels at_value answer
     → IsValueAt bytes answer
-value_at bytes at_value g None nothing = λ utf8 value rest h s.
-    nothing (gap_utf8 bytes at_value g utf8) h.spells.2 rest (literal_of bytes at_value g value rest h) h.spells.5 s
-value_at bytes at_value g (Some (value, rest)) found =
+value_at bytes {at_value} g None nothing = λ utf8 value rest h s.
+    let gap = gap_found bytes at_value g in
+    let u = utf8_past_blanks gap.gap at_value gap.blanks.1 (subst IsUtf8 gap.spelled utf8) in
+    nothing u h.spells.2 rest (literal_of bytes at_value g value rest h) h.spells.5 s
+value_at bytes {at_value} g (Some (value, rest)) found =
     let gap = gap_found bytes at_value g in
     let l = found.2 in (
       record {
@@ -160,56 +157,46 @@ value_at bytes at_value g (Some (value, rest)) found =
 abbrev spelled_text : List ℕ → Form
 spelled_text t = text (record { spelled = t; safe = false })
 
-quoted_at : (bytes t rest : List ℕ) (h : Begins SpellsQuoted bytes t rest) → gap_at bytes ≡ Some (h.spells.1 ++ rest)
-quoted_at bytes t rest h = rw (h.spelled, h.spells.4, append_assoc h.spells.0 h.spells.1 rest)
-    (gap_only h.spells.0 (h.spells.1 ++ rest) h.spells.2 (literal_stops_blanks h.spells.1 rest (spelled_text t) h.spells.3))
+-- a text is a value
+abbrev quoted_value : (bytes t rest : List ℕ) → Begins SpellsQuoted bytes t rest → Begins SpellsValue bytes (spelled_text t) rest
+quoted_value bytes t rest h = record {
+  part = h.part;
+  spells = (h.spells.0, h.spells.1, spelled_text t, h.spells.2, h.spells.3, omega arith, refl, h.spells.4);
+  spelled = h.spelled;
+}
 
-quoted_literal : (bytes literal : List ℕ) (g : gap_at bytes ≡ Some literal) (t rest : List ℕ) (h : Begins SpellsQuoted bytes t rest)
-    → BeginsWithLiteral literal (spelled_text t) rest
-quoted_literal bytes literal g t rest h =
-    record { literal = h.spells.1; spells = h.spells.3; spelled = same_Some _ _ (sym g ∙ quoted_at bytes t rest h) }
+text_tree : (t : List ℕ) (tree : Form) → spelled_text t ≡ tree_value tree → tree ≡ spelled_text t
+text_tree t (text u) e = sym e
+text_tree t tree e = absurd (cc)
+
+text_by_value : (bytes : List ℕ) (answer : Option (List ℕ × List ℕ)) → IsValueAt bytes (option_map (λ found. (spelled_text found.0, found.1)) answer)
+    → IsTextAt bytes answer
+text_by_value bytes None nothing = λ utf8 t rest h s. nothing utf8 (spelled_text t) rest (quoted_value bytes t rest h) s
+text_by_value bytes (Some (t, rest)) found =
+    let s = found.0.spells in
+    (record { part = found.0.part; spells = (s.0, s.1, s.3, subst (SpellsTree s.1) (text_tree t s.2 s.6) s.4, s.7); spelled = found.0.spelled }, tt)
 
 pub quoted_parts : AreParts SpellsQuoted EndsItself
 quoted_parts = record {
   one = λ bytes t u x y h s g r.
-      let at = quoted_at bytes t x h in
-      let same = only_at (spelled_text t) (h.spells.1 ++ x) x (quoted_literal bytes (h.spells.1 ++ x) at t x h) tt (spelled_text u) y
-      (quoted_literal bytes (h.spells.1 ++ x) at u y g) tt in
+      let same = value_parts.one bytes (spelled_text t) (spelled_text u) x y (quoted_value bytes t x h) tt (quoted_value bytes u y g) tt in
       (same_Some t u (ap text_in same.0), same.1);
   ends = λ t rest s. tt;
   opens = λ part rest t h. stops_name (part ++ rest) (behind_gap part h.0 h.1 rest h.2 h.4);
 }
 
-pub text_none_gap : (bytes : List ℕ) → gap_at bytes ≡ None → IsTextAt bytes None
-text_none_gap bytes e = λ utf8 t rest h s. let found = quoted_at bytes t rest h in cc
+pub text_none_gap : {bytes : List ℕ} → gap_at bytes ≡ None → IsTextAt bytes None
+text_none_gap {bytes} e = text_by_value bytes None (no_gap e)
 
-module _ (bytes literal : List ℕ) (g : gap_at bytes ≡ Some literal) where
-  literal_is : (t rest : List ℕ) (h : Begins SpellsQuoted bytes t rest) → literal ≡ 34 ∷ (h.spells.3.0 ++ 34 ∷ rest)
-  literal_is t rest h =
-      same_Some literal (h.spells.1 ++ rest) (sym g ∙ quoted_at bytes t rest h) ∙ ap (λ xs. xs ++ rest) h.spells.3.2
-      ∙ ap (λ xs. 34 ∷ xs) (append_assoc h.spells.3.0 (34 ∷ []) rest)
-
+module _ (bytes : List ℕ) {literal : List ℕ} (g : gap_at bytes ≡ Some literal) where
   pub text_none_quote : ((quoted : List ℕ) → literal ≡ 34 ∷ quoted → ⊥) → IsTextAt bytes None
-  text_none_quote no_quote = λ utf8 t rest h s. no_quote (h.spells.3.0 ++ 34 ∷ rest) (literal_is t rest h)
+  text_none_quote no_quote = λ utf8 t rest h s.
+      let at = same_Some literal (h.spells.1 ++ rest) (sym g ∙ at_literal bytes (spelled_text t) rest (quoted_value bytes t rest h)) in
+      no_quote ((h.spells.3.0 ++ 34 ∷ []) ++ rest) (at ∙ ap (λ xs. xs ++ rest) h.spells.3.2)
 
-  module _ (quoted : List ℕ) (q : literal ≡ 34 ∷ quoted) where
-    pub text_none : IsQuotedAt false quoted None → IsTextAt bytes None
-    text_none none = λ utf8 t rest h s.
-        let whole : IsUtf8 (34 ∷ (h.spells.3.0 ++ 34 ∷ rest)) = subst IsUtf8 (literal_is t rest h) (gap_utf8 bytes literal g utf8) in
-        none t h.spells.3.0 rest (quoted_utf8 false h.spells.3.0 rest whole) h.spells.3.1 (ap tail (sym q ∙ literal_is t rest h))
-
-    pub text_found : (t rest : List ℕ) → IsQuotedAt false quoted (Some (spelled_text t, rest)) → IsTextAt bytes (Some (t, rest))
-    text_found t rest found =
-        let gap = gap_found bytes literal g in
-        let texts = same_Some t found.1 (ap text_in found.3) in (
-          record {
-            part = gap.gap ++ (34 ∷ (found.0 ++ 34 ∷ []));
-            spells = (gap.gap, 34 ∷ (found.0 ++ 34 ∷ []), gap.blanks, (found.0, subst (SpellsText found.0) (sym texts) found.2, refl), refl);
-            spelled = gap.spelled ∙ ap (λ xs. gap.gap ++ xs) (q ∙ ap (λ xs. 34 ∷ xs) (found.4 ∙ sym (append_assoc found.0 (34 ∷ []) rest)))
-                ∙ sym (append_assoc gap.gap (34 ∷ (found.0 ++ 34 ∷ [])) rest);
-          },
-          tt,
-        )
+  pub text_at : (quoted : List ℕ) → literal ≡ 34 ∷ quoted → (answer : Option (List ℕ × List ℕ))
+      → IsQuotedAt false quoted (option_map (λ found. (spelled_text found.0, found.1)) answer) → IsTextAt bytes answer
+  text_at quoted q answer h = text_by_value bytes answer (value_at bytes g _ (rw q (literal_found levels (34 ∷ quoted) _ h)))
 
 -- ---- bounds
 
@@ -221,8 +208,8 @@ pub bounds_parts : AreParts SpellsBounds EndsWord
 bounds_parts = record {
   one = λ bytes a b x y h s g t. some_pair_parts a b x y (sym (bounds_front bytes a x h s) ∙ bounds_front bytes b y g t);
   ends = λ a rest s. s;
-  opens = λ part rest a h. stops_name (part ++ rest) (subst (Stops is_word_byte) (sym (ap (λ xs. xs ++ rest) h.6 ∙ append_assoc h.0 (h.1 ++ h.2) rest))
-      (bound_ends_word h.0 a.start ((h.1 ++ h.2) ++ rest) h.3));
+  opens = λ part rest a h.
+      stops_name (part ++ rest) (rw (h.6, append_assoc h.0 (h.1 ++ h.2) rest) (bound_ends_word h.0 a.start ((h.1 ++ h.2) ++ rest) h.3));
 }
 
 pub bounds_part : (bytes : List ℕ) {answer : Option (Bounds × List ℕ)} → answer ≡ bounds_at bytes → IsPartAt SpellsBounds EndsWord bytes answer
@@ -249,18 +236,18 @@ source_parts = record {
   opens = λ part rest source h. value_parts.opens part rest (object (members h.0)) h.1;
 }
 
-pub source_none : (bytes : List ℕ) → IsValueAt bytes None → IsGivenAt shape.Map bytes None
-source_none bytes nothing = λ utf8 source rest h s. nothing utf8 (object (members h.spells.0)) rest (source_value bytes source rest h) s
+pub source_none : {bytes : List ℕ} → IsValueAt bytes None → IsGivenAt shape.Map bytes None
+source_none {bytes} nothing = λ utf8 source rest h s. nothing utf8 (object (members h.spells.0)) rest (source_value bytes source rest h) s
 
-pub source_at : (bytes : List ℕ) (value : Form) (rest : List ℕ) → IsValueAt bytes (Some (value, rest)) → IsSourceOf value None
+pub source_at : {bytes : List ℕ} {value : Form} {rest : List ℕ} → IsValueAt bytes (Some (value, rest)) → IsSourceOf value None
     → IsGivenAt shape.Map bytes None
-source_at bytes value rest found nothing = λ utf8 source other h s.
+source_at {bytes} {value} {rest} found nothing = λ utf8 source other h s.
     nothing h.spells.0 source (value_parts.one bytes value (object (members h.spells.0)) rest other found.0 found.1 (source_value bytes source other h) tt).0
     h.spells.2
 
-pub source_found : (bytes : List ℕ) (value : Form) (source : State) (rest : List ℕ) → IsValueAt bytes (Some (value, rest)) → IsSourceOf value (Some source)
+pub source_found : {bytes : List ℕ} {value : Form} {source : State} {rest : List ℕ} → IsValueAt bytes (Some (value, rest)) → IsSourceOf value (Some source)
     → IsGivenAt shape.Map bytes (Some (source, rest))
-source_found bytes value source rest found named =
+source_found {bytes} {value} {source} {rest} found named =
     (record { part = found.0.part; spells = (named.0, subst (SpellsValue found.0.part) named.1 found.0.spells, named.2); spelled = found.0.spelled }, tt)
 
 -- ---- an integer type and a name
@@ -268,23 +255,20 @@ source_found bytes value source rest found named =
 pub names_parts : AreParts (SpellsGiven shape.Names) (EndsGiven shape.Names)
 names_parts = both_parts name_parts
 
--- the name behind a name
-abbrev behind_of : List ℕ → List ℕ × List ℕ → Option ((List ℕ × List ℕ) × List ℕ)
-behind_of left right = Some ((left, right.0), right.1)
+-- a name, and the name behind it
+abbrev both_names : Option (List ℕ × List ℕ) → Option ((List ℕ × List ℕ) × List ℕ)
+both_names left = option_and_then (λ l. option_map (λ right. ((l.0, right.0), right.1)) (operand_at l.1)) left
 
-as_map : (left : List ℕ) (right : Option (List ℕ × List ℕ)) → option_map (λ found. ((left, found.0), found.1)) right ≡ option_and_then (behind_of left) right
-as_map left None = refl
-as_map left (Some right) = refl
+names_are : (bytes : List ℕ) → names_at bytes ≡ both_names (operand_at bytes)
+unfolding names_at
+names_are bytes = grind arith
 
-names_by : (bytes : List ℕ) (left : Option (List ℕ × List ℕ)) → left ≡ operand_at bytes
-    → IsGivenAt shape.Names bytes (option_and_then (λ l. option_and_then (behind_of l.0) (operand_at l.1)) left)
-names_by bytes None l = no_name name_parts bytes l
-names_by bytes (Some (left, behind)) l =
-    subst (IsGivenAt shape.Names bytes) (as_map left (operand_at behind)) (both_at name_parts bytes l (operand_at behind) (name_part behind refl))
+names_by : (bytes : List ℕ) (left : Option (List ℕ × List ℕ)) → left ≡ operand_at bytes → IsGivenAt shape.Names bytes (both_names left)
+names_by bytes None l = no_name name_parts l
+names_by bytes (Some (left, behind)) l = both_at name_parts bytes l (operand_at behind) (name_part behind refl)
 
 pub names_part : (bytes : List ℕ) {answer : Option ((List ℕ × List ℕ) × List ℕ)} → answer ≡ names_at bytes → IsGivenAt shape.Names bytes answer
-unfolding names_at
-names_part bytes e = subst (IsGivenAt shape.Names bytes) (sym e) (names_by bytes (operand_at bytes) refl)
+names_part bytes e = rw (e, names_are bytes) (names_by bytes (operand_at bytes) refl)
 
 typed_names : (bytes : List ℕ) (given : IntegerType × List ℕ) (rest : List ℕ) → Begins (SpellsGiven shape.Type) bytes given rest
     → Begins (SpellsGiven shape.Names) bytes (type_name given.0, given.1) rest
@@ -300,11 +284,11 @@ type_parts = record {
   opens = λ part rest given h. names_parts.opens part rest (type_name given.0, given.1) h;
 }
 
-module _ (bytes : List ℕ) where
+module _ {bytes : List ℕ} where
   pub type_none : IsGivenAt shape.Names bytes None → IsGivenAt shape.Type bytes None
   type_none nothing = λ utf8 given rest h s. nothing utf8 (type_name given.0, given.1) rest (typed_names bytes given rest h) s
 
-  module _ (word name rest : List ℕ) (found : IsGivenAt shape.Names bytes (Some ((word, name), rest))) where
+  module _ {word name rest : List ℕ} (found : IsGivenAt shape.Names bytes (Some ((word, name), rest))) where
     pub type_unknown : IsTypeOf word None → IsGivenAt shape.Type bytes None
     type_unknown none = λ utf8 given other h s.
         let same = names_parts.one bytes (word, name) (type_name given.0, given.1) rest other found.0 found.1 (typed_names bytes given other h)

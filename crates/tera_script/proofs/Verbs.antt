@@ -7,6 +7,7 @@ use Rattle.tera_script.specs.Verb.{word_of}
 use Rattle.tera_script.specs.inner.Call.{IsLike}
 use Rattle.std.specs.Prelude.{◌≡◌, ℕ, List, [], ◌∷◌, cond, Option, Some, None, refl}
 use Rattle.std.specs.Str.{bytes_eq}
+use Rattle.std.proofs.lemmas.Option.{same_Some}
 use Rattle.tera_meaning.specs.Conversion.{IntegerType, type_name, u8, u16, u32, u64, u128, usize, i8, i16, i32, i64, i128, isize}
 
 pub word_is_name : (v : Verb) → IsName (word_of v)
@@ -37,7 +38,7 @@ like_itself v = (_, _, _, (refl, refl, refl))
 pub same_verb : (v w : Verb) → word_of v ≡ word_of w → v ≡ w
 same_verb v w e = let like = like_itself v in one_like v w like.0 like.1 like.2 like.3 (subst (λ word. IsLike word like.0 like.1 like.2) e like.3)
 
-module _ (word behind others : List ℕ) (b c : ℕ) (e : word ≡ b ∷ behind) (f : behind ≡ c ∷ others) where
+module _ {word behind others : List ℕ} {b c : ℕ} (e : word ≡ b ∷ behind) (f : behind ≡ c ∷ others) where
   -- a word like which no verb's is is none's
   pub no_verb : ((v : Verb) → IsLike (word_of v) (length word) b c → ⊥) → (v : Verb) → ¬ (word_of v ≡ word)
   no_verb none v is = none v (subst (λ w. IsLike w (length word) b c) (sym is) (is_like word behind others b c e f))
@@ -61,8 +62,5 @@ named_is : (type : IntegerType) → named (type_name type) ≡ Some type
 named_is u8 = refl
 named_is type = refl
 
-some_type : (a b : IntegerType) → Some a ≡ Some b → a ≡ b
-some_type a b e = cc
-
 pub same_type : (a b : IntegerType) → type_name a ≡ type_name b → a ≡ b
-same_type a b e = some_type a b (sym (named_is a) ∙ ap named e ∙ named_is b)
+same_type a b e = same_Some a b (sym (named_is a) ∙ ap named e ∙ named_is b)

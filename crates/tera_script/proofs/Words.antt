@@ -1,5 +1,5 @@
 -- Words: literals without quotes and brackets.
-use Rattle.std.proofs.Common.{◌≡◌, ℕ, Bool, true, false, IsTrue, cond, List, [], ◌∷◌, ◌++◌, length, Some, None, refl, ap, sym, ◌∙◌, arith, ◌≤◌, ◌<◌, take, ◌-◌}
+use Rattle.std.proofs.Common.{◌≡◌, ℕ, Bool, true, false, IsTrue, cond, List, [], ◌∷◌, ◌++◌, length, Some, None, refl, ap, sym, ◌∙◌, arith, ◌≤◌, ◌<◌, ◌-◌}
 use Rattle.std.specs.Prelude.{codes}
 use Rattle.std.specs.Char.{is_ascii_digit}
 use Rattle.std.specs.List.{list_all}
@@ -32,9 +32,6 @@ unfolding value_in number_in unsigned_in digits_at
 of_number word n e =
     let no = λ (other : List ℕ). other_word word other n e in
     rw (no (codes "undefined") refl, no (codes "none") refl, no (codes "true") refl, no (codes "false") refl) (ap number_value e)
-
-number_value_only : (word : List ℕ) (n : Integer) → SpellsNumber word n → value_in word ≡ Some (number n)
-number_value_only word n h = of_number word n (number_only word n h)
 
 -- the bytes of a number
 digits_are_word : (digits : List ℕ) → list_all is_ascii_digit digits ≡ true → list_all is_word_byte digits ≡ true
@@ -81,7 +78,7 @@ flat_word literal undefined f h = rw h (record { names = refl; bytes = refl })
 flat_word literal none f h = rw h (record { names = refl; bytes = refl })
 flat_word literal (truth true) f h = rw h (record { names = refl; bytes = refl })
 flat_word literal (truth false) f h = rw h (record { names = refl; bytes = refl })
-flat_word literal (number n) f h = record { names = number_value_only literal n h; bytes = number_is_word literal n h }
+flat_word literal (number n) f h = record { names = of_number literal n (number_only literal n h); bytes = number_is_word literal n h }
 flat_word literal v f h = absurd f
 
 -- a word is what stands at the front
@@ -106,10 +103,6 @@ word_stops_blanks [] rest value w = let n = w.names in let m = no_value_nowhere 
 word_stops_blanks (b ∷ literal) rest value w = word_is_not_blank (b ∷ literal) rest (omega arith) w.bytes
 
 -- no word spells an array or a map
-pub value_is_flat : (levels : ℕ) (word : List ℕ) (v : Form) → value_in word ≡ Some v → depth v ≤ levels
+pub value_is_flat : (levels : ℕ) (word : List ℕ) (v : Form) → value_in word ≡ Some v → (v ≡ tree_value v) × (depth v ≤ levels)
 unfolding value_in
 value_is_flat levels word v e = grind arith
-
-pub word_is_value : (word : List ℕ) (v : Form) → value_in word ≡ Some v → v ≡ tree_value v
-unfolding value_in
-word_is_value word v e = grind arith

@@ -1,8 +1,9 @@
 use Rattle.std.proofs.Common.{◌∷◌, length, None, ap, sym, ◌∙◌, arith, subst}
+use Rattle.std.proofs.lemmas.Result.{IfOk-weaker}
 use Rattle.tera_script.specs.Readers.{IsLiteralAt}
 use Rattle.tera_script.proofs.Arrays.{no_items_yet, no_item, no_item_mark, no_item_end, last_item, next_item}
 use Rattle.tera_script.proofs.Fronts.{no_prefix, behind_prefix}
-use Rattle.tera_script.proofs.Literals.{on_answer, literal_found, plain_found, other_byte}
+use Rattle.tera_script.proofs.Literals.{literal_found, plain_found, other_byte}
 use Rattle.tera_script.proofs.Maps.{no_pairs_yet, no_more_pair, no_pair_mark, no_pair_end, last_pair, next_pair, no_pair_key, no_colon, no_pair_value}
 use Rattle.tera_script.proofs.Series.{literal_length, pair_length, shorter_rest}
 use Rattle.tera_script.proofs.literal.+literal.Goals as goal
@@ -49,31 +50,31 @@ take_array-loop-items-preserved t c =
 pub take_literal-returns-in-Some : goal.take_literal-returns-in-Some
 take_literal-returns-in-Some t c =
     let opens = behind_prefix c.args.bytes.now c.strip_prefix.ensures.cases c.as_slice.ensures c.in-Some.is in
-    on_answer _ _ c.take_quoted.result (λ answer h. literal_found c.args.levels c.args.bytes.now _ (rw opens h)) c.take_quoted.ensures
+    IfOk-weaker c.take_quoted.result _ _ (λ answer h. literal_found c.args.levels c.args.bytes.now _ (rw opens h)) c.take_quoted.ensures
 
 pub take_literal-returns-in-Some-strip_prefix : goal.take_literal-returns-in-Some-strip_prefix
 take_literal-returns-in-Some-strip_prefix t c =
     let opens = behind_prefix c.args.bytes.now c.strip_prefix-in_default.ensures.cases c.as_slice-in_default.ensures c.in-Some-strip_prefix.is in
-    on_answer _ _ c.take_quoted-in-Some-strip_prefix.result (λ answer h. literal_found c.args.levels c.args.bytes.now _ (rw opens h))
+    IfOk-weaker c.take_quoted-in-Some-strip_prefix.result _ _ (λ answer h. literal_found c.args.levels c.args.bytes.now _ (rw opens h))
     c.take_quoted-in-Some-strip_prefix.ensures
 
 pub take_literal-returns-in-Some-strip_prefix-2 : goal.take_literal-returns-in-Some-strip_prefix-2
 take_literal-returns-in-Some-strip_prefix-2 t c =
     let opens = behind_prefix c.args.bytes.now c.strip_prefix-in_default-strip_prefix.ensures.cases c.as_slice-in_default-strip_prefix.ensures
     c.in-Some-strip_prefix-2.is in
-    on_answer _ _ c.take_bytes.result (λ answer h. literal_found c.args.levels c.args.bytes.now _ (rw opens h)) c.take_bytes.ensures
+    IfOk-weaker c.take_bytes.result _ _ (λ answer h. literal_found c.args.levels c.args.bytes.now _ (rw opens h)) c.take_bytes.ensures
 
 pub take_literal-returns-in-Some-strip_prefix-3 : goal.take_literal-returns-in-Some-strip_prefix-3
 take_literal-returns-in-Some-strip_prefix-3 t c =
     let opens = behind_prefix c.args.bytes.now c.strip_prefix-in_default-strip_prefix-2.ensures.cases c.as_slice-in_default-strip_prefix-2.ensures
     c.in-Some-strip_prefix-3.is in
-    on_answer _ _ c.take_array.result (λ answer h. literal_found c.args.levels c.args.bytes.now _ (rw opens h)) c.take_array.ensures
+    IfOk-weaker c.take_array.result _ _ (λ answer h. literal_found c.args.levels c.args.bytes.now _ (rw opens h)) c.take_array.ensures
 
 pub take_literal-returns-in-Some-strip_prefix-4 : goal.take_literal-returns-in-Some-strip_prefix-4
 take_literal-returns-in-Some-strip_prefix-4 t c =
     let opens = behind_prefix c.args.bytes.now c.strip_prefix-in_default-strip_prefix-3.ensures.cases c.as_slice-in_default-strip_prefix-3.ensures
     c.in-Some-strip_prefix-4.is in
-    on_answer _ _ c.take_map.result (λ answer h. literal_found c.args.levels c.args.bytes.now _ (rw opens h)) c.take_map.ensures
+    IfOk-weaker c.take_map.result _ _ (λ answer h. literal_found c.args.levels c.args.bytes.now _ (rw opens h)) c.take_map.ensures
 
 pub take_literal-returns-in_default-strip_prefix-4 : goal.take_literal-returns-in_default-strip_prefix-4
 take_literal-returns-in_default-strip_prefix-4 t c = plain_found c.args.levels c.args.bytes.now _

@@ -13,16 +13,11 @@ returns-in_err-second c =
 
 pub returns-in_err-known : goal.returns-in_err-known
 returns-in_err-known c =
-    rw c.from_residual-in_err-known.ensures (no_verb c.args.word.now _ _ c.in_ok-first.first.now c.in_ok-second.second.now c.in_ok-first.ensures.cases.0
-    c.in_ok-second.ensures.cases.0 (λ v like. let some = c.in_err-known.ensures.found v like in cc))
+    rw c.from_residual-in_err-known.ensures
+    (no_verb c.in_ok-first.ensures.cases.0 c.in_ok-second.ensures.cases.0 (λ v like. let some = c.in_err-known.ensures.found v like in cc))
 
 pub returns-else-eq : goal.returns-else-eq
 returns-else-eq c =
-    no_other_verb c.args.word.now _ _ c.in_ok-first.first.now c.in_ok-second.second.now c.in_ok-first.ensures.cases.0 c.in_ok-second.ensures.cases.0
-    c.in_ok-known.known.verb c.in_ok-known.ensures.like
-    (λ is.
-    let e = sym c.in_ok-known.ensures.word ∙ is in
-    let yes = (bytes_eq-Decides c.in_ok-known.spelled.now c.args.word.now).1 e in
-    let no = c.eq.ensures in
-    let so = c.if-eq.false in
-    cc)
+    no_other_verb c.in_ok-first.ensures.cases.0 c.in_ok-second.ensures.cases.0 c.in_ok-known.known.verb c.in_ok-known.ensures.like (λ is.
+    let yes = (bytes_eq-Decides c.in_ok-known.spelled.now c.args.word.now).1 (sym c.in_ok-known.ensures.word ∙ is) in
+    cc (c.eq.ensures, c.if-eq.false))

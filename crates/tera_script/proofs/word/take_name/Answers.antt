@@ -1,5 +1,4 @@
 use Rattle.std.proofs.Common.{◌∷◌, arith}
-use Rattle.std.proofs.lemmas.Bool.Decides.{nat_tests}
 use Rattle.tera_script.specs.Word.{is_name_byte}
 use Rattle.tera_script.specs.Readers.{name_at}
 use Rattle.tera_script.proofs.Fronts.{past_cut}

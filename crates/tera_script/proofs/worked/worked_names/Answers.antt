@@ -1,4 +1,4 @@
-use Rattle.std.proofs.Common.{refl, None, Some, lit≤}
+use Rattle.std.proofs.Common.{refl, Some, lit≤}
 use Rattle.std.specs.Prelude.{codes}
 use Rattle.tera_meaning.specs.Integer.{i64}
 use Rattle.tera_meaning.specs.Tree.{number}
