@@ -16,9 +16,34 @@ pub fn owned(alloc: Global, text: &str) -> Key<'static> {
     }
 }
 
-/// A key that holds that short text in place.
+/// A key that owns that text, in place where it is short.
 pub fn in_place(alloc: Global, text: &str) -> Key<'static> {
     Key::of_text(alloc, text).unwrap_or(Key::Bool(false))
+}
+
+// The key holds its text in place.
+fn is_in_place(key: Key<'static>) -> bool {
+    let is_short = match &key {
+        Key::Short(_) => true,
+        _ => false,
+    };
+    drop(key);
+    is_short
+}
+
+#[test]
+fn short_texts_stand_in_place(rt: HostRuntime) {
+    let alloc = rt.alloc();
+    hold(
+        &rt,
+        &[
+            is_in_place(in_place(alloc, "")),
+            is_in_place(in_place(alloc, "0123456789abcd\u{e9}")),
+            !is_in_place(in_place(alloc, "0123456789abcde\u{e9}")),
+            are_equal(in_place(alloc, "é"), owned(alloc, "é")),
+            are_equal(Key::Str("é"), in_place(alloc, "é")),
+        ],
+    );
 }
 
 #[test]
