@@ -123,20 +123,17 @@ module _ {W : Type 0} (contents : W → Option (List ℕ)) (wrote : W → List �
     pub delivers_same : (s : Watched W) (text : List ℕ) (t : Watched W) → Delivers Takes Flushed s text t → SameWriter s t
     delivers_same s text t (sent, p, q) = q.same ∙ turns_same s p.uses sent p.turns
 
-    pub broke_same : (s : Watched W) (text : List ℕ) (t : Watched W) → BrokeOn Takes Fails Flushed FlushFailed s text t → SameWriter s t
-    broke_same s text t h = elim h.fault [
-      | inl (rest, is, failed) ↦ failed.same ∙ turns_same s h.sends.uses h.sent h.sends.turns
-      | inr (is, failed) ↦ failed.1.same ∙ turns_same s h.sends.uses h.sent h.sends.turns
-    ]
-
-    pub broke_writer : (s : Watched W) (text : List ℕ) (t : Watched W) → BrokeOn Takes Fails Flushed FlushFailed s text t
-        → WriterBroke wrote flushed (watched_writer s) text (watched_writer t)
-    broke_writer s text t h = record {
-      front = h.front;
-      sent = watched_writer h.sent;
-      sends = watched_sends contents wrote flushed s h.front h.sent h.sends;
-      fault = elim h.fault [ inl (rest, is, failed) ↦ inl (rest, is, failed.broke) | inr (is, failed) ↦ inr (is, (failed.0, failed.1.passed)) ];
-    }
+    pub broke_watched : (s : Watched W) (text : List ℕ) (t : Watched W) → BrokeOn Takes Fails Flushed FlushFailed s text t
+        → SameWriter s t × WriterBroke wrote flushed (watched_writer s) text (watched_writer t)
+    broke_watched s text t h =
+        let first = turns_same s h.sends.uses h.sent h.sends.turns in
+        let sent = watched_writer h.sent in
+        let sends = watched_sends contents wrote flushed s h.front h.sent h.sends in
+        elim h.fault [
+          | inl (rest, is, failed) ↦ (failed.same ∙ first, record { front = h.front; sent = sent; sends = sends; fault = inl (rest, is, failed.broke) })
+          | inr (is, (refused, flushing)) ↦
+              (flushing.same ∙ first, record { front = h.front; sent = sent; sends = sends; fault = inr (is, (refused, flushing.passed)) })
+        ]
 
     pub told_same : (s : Watched W) (text : List ℕ) (t : Watched W) → TakesOrFails Takes Fails s text t → SameWriter s t
     told_same s text t (inl p) = p.same

@@ -63,15 +63,12 @@ pub returns-in_err-take_piece : goal.returns-in_err-take_piece
 returns-in_err-take_piece g c =
     let p = err_from_is_err_and c.from_residual-in_err-take_piece.result c.from_residual-in_err-take_piece.ensures.1 in
     let sink = g.W.Sink in
-    let piece = c.read_piece.new.piece in
-    let count = c.in_ok-count.count in
-    let fault = c.in_err-take_piece.field-0.0 in
     let before = c.pieces.invariant in
-    let stops = Halts-later sink.takes sink.fails sink.flushes sink.flush_fails (take count piece) c.take_piece.new.out fault
-    (went_flushed before.went c.in_ok-flush.ensures.ok) c.in_err-take_piece.ensures.err in
-    let consumed = Consumes-append _ _ (g.S.Source.left c.read_piece.new.self) before.given (take count piece) before.consumed c.in_ok-count.ensures.bytes.0 in
-    let reads = reads_more g.S.Source.gave piece (Ok count) c.read_piece.new.self before.reads c.in_ok-count.ensures.told in
-    rw (p.1, p.2) (where_known _ _ _ _ consumed (λ bytes rest left e. Ends-stops rest _ _ _ _ _ fault e reads stops))
+    let went = went_flushed before.went c.in_ok-flush.ensures.ok in
+    let consumed = Consumes-append _ _ (g.S.Source.left c.read_piece.new.self) before.given _ before.consumed c.in_ok-count.ensures.bytes.0 in
+    let reads = reads_more g.S.Source.gave c.read_piece.new.piece (Ok c.in_ok-count.count) _ before.reads c.in_ok-count.ensures.told in
+    let stops = Halts-later sink.takes sink.fails sink.flushes sink.flush_fails _ _ c.in_err-take_piece.field-0.0 went c.in_err-take_piece.ensures.err in
+    rw (p.1, p.2) (where_known _ _ _ _ consumed (λ bytes rest left e. Ends-stops rest _ _ _ _ _ c.in_err-take_piece.field-0.0 e reads stops))
 
 pub pieces-preserved : goal.pieces-preserved
 pieces-preserved g c =

@@ -1,7 +1,7 @@
 -- What is said of the watched writers is said of the writers.
 use Rattle.std.proofs.Common.{rules}
 use Rattle.tera_report.proofs.SentLaws.{watched_delivers}
-use Rattle.tera_replies.proofs.ReplayLaws.{replays_weaker, delivers_same, broke_same, broke_writer, told_same, told_writer}
+use Rattle.tera_replies.proofs.ReplayLaws.{replays_weaker, delivers_same, broke_watched, told_same, told_writer}
 use Rattle.tera_replies.proofs.replays.replay.Goals as goal
 
 pub returns-clause-known : goal.returns-clause-known
@@ -20,8 +20,7 @@ returns-clause-known g c =
     let got = watched_delivers out.contents out.wrote out.flushed first text last gets in
     search rules)
     (λ text gets.
-    let same = broke_same out.contents out.wrote out.flushed first text last gets in
-    let broke = broke_writer out.contents out.wrote out.flushed first text last gets in
+    let (same, broke) = broke_watched out.contents out.wrote out.flushed first text last gets in
     search rules)
     (λ text gets.
     let same = told_same err.contents err.wrote err.flushed silent text told gets in

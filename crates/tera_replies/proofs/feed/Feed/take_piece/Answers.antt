@@ -16,13 +16,8 @@ returns-in_err-end_line-clause-err g c =
     let p = err_from_is_err_and c.from_residual.result c.from_residual.ensures.1 in
     let before = c.lines.invariant in
     let (line_in, is) = c.in-Some.ensures.found in
-    let line = c.in-Some.line.now in
-    let later = c.in-Some.later.now in
-    let fault = c.in_err-end_line.field-0.0 in
-    let stops = Halts-line sink.takes sink.fails sink.flushes sink.flush_fails (place_of c.lines.self) line later c.lines.out c.end_line.new.out fault
-    before.went.1.rest line_in c.in_err-end_line.ensures.err in
-    rw (p.1, p.2, before.piece_is, is) (Halts-later sink.takes sink.fails sink.flushes sink.flush_fails (ended line ++ later) c.end_line.new.out fault
-    before.went stops)
+    rw (p.1, p.2, before.piece_is, is) (Halts-later sink.takes sink.fails sink.flushes sink.flush_fails _ _ _ before.went
+    (Halts-line sink.takes sink.fails sink.flushes sink.flush_fails _ _ _ _ _ _ before.went.1.rest line_in c.in_err-end_line.ensures.err))
 
 pub lines-preserved : goal.lines-preserved
 lines-preserved g c =
@@ -44,9 +39,8 @@ returns-in_err-extend_from_slice-clause-err g c =
     let sink = g.W.Sink in
     let p = err_from_is_err_and c.from_residual-in_err-extend_from_slice.result c.from_residual-in_err-extend_from_slice.ensures.1 in
     let before = c.lines.invariant in
-    let rest = c.lines.rest.now in
-    let begins = Begins-none (place_of c.lines.self) rest before.went.1.rest in
-    rw (p.1, p.2, before.piece_is) (Halts-later sink.takes sink.fails sink.flushes sink.flush_fails rest c.lines.out OutOfMemory before.went
+    let begins = Begins-none (place_of c.lines.self) c.lines.rest.now before.went.1.rest in
+    rw (p.1, p.2, before.piece_is) (Halts-later sink.takes sink.fails sink.flushes sink.flush_fails c.lines.rest.now c.lines.out OutOfMemory before.went
     ([], begins, sends_nothing sink.takes sink.flushes c.lines.out))
 
 pub returns-clause-ok : goal.returns-clause-ok
