@@ -7,11 +7,12 @@ function, with its type and trait as the prover spells them ('Value.format', 'Va
 another item. An edit of a definition or of a macro has a line 'only: PATH' too: the function that it makes false, such as
 a law. Its file may stand in specs/, FUNCTION is PATH's, and the edit is tried alone, on that function.
 
-A check takes an edit of each of many functions. An edit is refused where a goal of its function's contract is not proved: a
-return's, or an invariant's, but not that a sum fits, that a call is allowed or that a loop ends. What a shared check does not
-show to be refused is tried alone, and then from nothing. Where a proof by hand names what the edit took away, it is tried without that part; a goal that is
-then open counts only where the prover finds values at which it is false, or where it is proved of the right body
-without that part.
+A check takes an edit of each of many functions, and the other functions stand edited beside them, so that no right body of
+these is proved: a function is proved over the contracts of what it calls. An edit is refused where a goal of its function's
+contract is not proved: a return's, or an invariant's, but not that a sum fits, that a call is allowed or that a loop ends. What
+a shared check does not show to be refused is tried alone, and then from nothing. Where a proof by hand names what the edit took
+away, it is tried without that part; a goal that is then open counts only where the prover finds values at which it is false, or
+where it is proved of the right body without that part.
 
 Prints a line 'pass ..' or 'FAIL ..' for each edit, and 'wrong bodies: end'. It uses the libraries that `rt ci` built, and
 begins with a copy of the work that checks kept in out/. With `--gate LOG` it runs beside an `rt ci` that writes LOG: the edits
@@ -55,7 +56,7 @@ KEPT = re.compile(r"-(?:init|preserved)(?:-|$)|(?:^|-)invariant_of-")
 SAFE = re.compile(r"(?:^|-)(?:overflow_|nonzero_|(?:slice_|offset_)?bounds-)|-(?:requires|smaller)(?:-|$)")
 
 
-MANY = 50  # the edits of a check that two jobs share
+MANY = 60  # the most edits of a check: of many more the prover begins copies of itself, which take a third more time
 MONTH = 30 * 24 * 3600  # how many seconds an answer that no run asks for is kept
 
 
@@ -200,6 +201,11 @@ class Edit:
         home = f"{subject}/{'.'.join([*(it for it in modules if it[0].isupper()), last])}"
         return None if os.path.dirname(self.path) == home else f"it belongs in {home}/"
 
+    @property
+    def place_in_crate(self):
+        """What two edits of one function share."""
+        return self.file, self.first
+
     def place(self, lines, at):
         return place_of(lines, self.text[:at].count("\n"))
 
@@ -342,10 +348,106 @@ def left_out(text, goals):
 
 
 def flags_of(edits):
-    """The flags of a check of the edits' functions, or of the whole crate where an edit stands in none. Two jobs share what
-    takes minutes."""
+    """The flags of a check of the edits' functions, or of the whole crate where an edit stands in none. A second job would take a
+    third more processor time."""
     only = [f"--only={it.only}" for it in edits if it.only]
-    return ["--jobs", "2" if len(edits) > MANY else "1", *(dict.fromkeys(only) if len(only) == len(edits) else [])]
+    return ["--jobs", "1", *(dict.fromkeys(only) if len(only) == len(edits) else [])]
+
+
+class Ask:
+    """What a check is to have of an edit's function: the wrong body or the right one, and which proofs by hand with less in them."""
+
+    def __init__(self, edit, proofs, lost, is_right=False):
+        self.edit, self.proofs, self.is_right = edit, dict(proofs), is_right
+        self.title = edit.name + (f" without {parts(lost)}" if lost else "") + (", as it was" if is_right else "")
+
+
+def texts_of(asks):
+    """The texts of the files that the asks change."""
+    proofs = {file: text for ask in asks for file, text in ask.proofs.items()}
+    return {**edited([it.edit for it in asks if not it.is_right]), **proofs}
+
+
+def judging(edit, crate):
+    """Judges an edit: yields each ask, takes what the check said of it, and returns the goals that the edit is refused by, or else
+    none and why it is not refused."""
+    said, proofs, lost = (yield Ask(edit, {}, set())), {}, set()
+    while said.lost - lost and not said.refused_by():
+        for file in {file for file, _ in said.lost}:
+            text = proofs.get(file) or read(f"{crate.folder}/{file}")
+            proofs[file] = left_out(text, [goal for at, goal in said.lost if at == file])
+        lost |= said.lost
+        said = yield Ask(edit, proofs, lost)
+    goals = said.refused_by()
+    if not proofs or not goals or any(said.open.get(it) for it in goals):
+        return goals, said.cause()
+    right = (yield Ask(edit, proofs, lost, is_right=True)).open
+    told = [it for it in goals if not any(is_within(it, goal) or is_within(goal, it) for goal in right)]
+    return told, f"its proof by hand names what the edit took away: {parts(lost)}; without it the right body is open too"
+
+
+class Shared:
+    """The asks of many edits, an edit of a function to a check. The text of a check has an edit of every function: of one that it is
+    not to judge the first edit, or the one that was judged last. So what a function calls is refused once, and no check proves the
+    right body of what another edits. What waits for another function, or asks for a right body, comes in a second pass, which
+    begins with the right text."""
+
+    def __init__(self, edits, crate):
+        self.judges = {it: judging(it, crate) for it in edits}
+        self.asks, self.later = {it: next(self.judges[it]) for it in edits}, {}
+        self.standing = {place: asks[0] for place, asks in self.by_function().items()}
+
+    def by_function(self):
+        """The asks that are left in this pass, of each function those of one after another."""
+        found = {}
+        for ask in self.asks.values():
+            found.setdefault(ask.edit.place_in_crate, []).append(ask)
+        return found
+
+    def batch(self):
+        """The asks of the next check, at most one of each function, or none at the end. Functions of which most is left come first."""
+        if not self.asks:
+            self.asks, self.later, self.standing = self.later, {}, {}
+        most = sorted(self.by_function().values(), key=len, reverse=True)
+        return [asks[0] for asks in most[:MANY]]
+
+    def beside(self, batch):
+        """The asks of other functions that stand beside these in the text."""
+        places = {it.edit.place_in_crate for it in batch}
+        return [it for place, it in self.standing.items() if place not in places]
+
+    def take(self, batch, lines):
+        """Takes what a check of these asks said. Yields each edit that is judged by that, with the goals that it is refused by: none
+        where it is to be tried alone."""
+        saids = {it: Said(it.edit, lines) for it in batch}
+        waiting = [it for it in batch if is_to_come(it, saids[it])]
+        is_stuck = len(waiting) == len(batch) and not self.beside(batch)
+        for ask in batch:
+            del self.asks[ask.edit]
+            if ask in waiting and not is_stuck:
+                self.later[ask.edit] = ask
+            elif ask in waiting:
+                yield ask.edit, []
+            else:
+                yield from self.judged(ask.edit, saids[ask])
+        if saids[batch[0]].reached:
+            self.standing.update({it.edit.place_in_crate: it for it in batch})
+
+    def judged(self, edit, said):
+        """Hands what was said of an edit on to its judge, who asks for more, or has judged."""
+        try:
+            ask = self.judges[edit].send(said)
+            (self.later if ask.is_right else self.asks)[edit] = ask
+        except StopIteration as end:
+            yield edit, end.value[0]
+
+
+def is_to_come(ask, said):
+    """Whether another edit of the check is why the prover says too little of this one."""
+    if not said.reached:
+        return not any(said.edit.is_around(PLACE.match(it)) for it in said.lines)
+    is_waiting = bool(WAITS.search(" ".join(said.statuses)))
+    return is_waiting and (ask.is_right or not (said.refused_by() or said.lost))
 
 
 class Trial:
@@ -354,11 +456,13 @@ class Trial:
     def __init__(self, rt, crate, kept, told):
         self.rt, self.crate, self.kept, self.told, self.counts, self.refused = rt, crate, kept, told, [0, 0], []
 
-    def checked(self, title, edits, proofs=None):
-        """The lines of a check of the edits' functions, or of the whole crate where an edit stands in none."""
-        start, texts = time.monotonic(), {**({} if title.endswith("as it was") else edited(edits)), **(proofs or {})}
-        said = self.rt.checked(self.crate, texts, flags_of(edits), self.kept).stdout
+    def checked(self, asks, beside=()):
+        """The lines of a check of what is asked, where more asks stand beside that."""
+        start = time.monotonic()
+        flags = flags_of([it.edit for it in asks])
+        said = self.rt.checked(self.crate, texts_of([*asks, *beside]), flags, self.kept).stdout
         if self.told:
+            title = " ".join(it.title for it in asks)
             with open(self.told, "a", encoding="utf-8") as it:
                 it.write(f"== {title} ({time.monotonic() - start:.0f} s)\n{said}\n")
         # what a line says goes on in the lines below that stand in from the margin
@@ -373,53 +477,33 @@ class Trial:
         for edit in edits:
             if edit.fault:
                 self.settle(edit, None, edit.fault)
-        alone = [(it, None) for it in edits if not it.fault and (it.breaks or not it.own)]
-        edits = [it for it in edits if not it.fault and it.own and not it.breaks]
-        while edits:
-            batch = [*{(it.file, it.first): it for it in reversed(edits)}.values()][::-1]
-            lines = self.checked(" ".join(it.name for it in batch), batch)
-            saids = [Said(it, lines) for it in batch]
-            waiting = [it.edit for it in saids if self.is_to_come(it)]
-            if len(waiting) == len(batch):
-                waiting = []
-            for said in saids:
-                if said.refused_by():
-                    self.settle(said.edit, said.refused_by(), None)
-                elif said.edit not in waiting:
-                    alone.append((said.edit, said if said.lost else None))
-            edits = [it for it in edits if it not in batch or it in waiting]
-        for edit, said in alone:
-            goals, fault = self.judged(edit, said)
+        edits = [it for it in edits if not it.fault]
+        alone = [it for it in edits if it.breaks or not it.own]
+        shared = Shared([it for it in edits if it not in alone], self.crate)
+        while batch := shared.batch():
+            for edit, goals in shared.take(batch, self.checked(batch, shared.beside(batch))):
+                if goals:
+                    self.settle(edit, goals, None)
+                else:
+                    alone.append(edit)
+        for edit in alone:
+            goals, fault = self.judged(edit)
             self.settle(edit, *((goals, fault) if goals else self.judged_anew(edit)))
-
-    @staticmethod
-    def is_to_come(said):
-        """Whether another edit of the check is why the prover says nothing of this one."""
-        if not said.reached:
-            return not any(said.edit.is_around(PLACE.match(it)) for it in said.lines)
-        return not (said.refused_by() or said.lost or said.open) and bool(WAITS.search(" ".join(said.statuses)))
 
     def judged_anew(self, edit):
         """The same as `judged`, from nothing: what earlier checks kept is not why an edit is not refused."""
         with tempfile.TemporaryDirectory(prefix="wrong-") as room:
-            return Trial(self.rt, self.crate, room, self.told).judged(edit, None)
+            return Trial(self.rt, self.crate, room, self.told).judged(edit)
 
-    def judged(self, edit, said):
+    def judged(self, edit):
         """The goals that an edit is refused by where it is tried alone, or else why it is not refused."""
-        said = said or Said(edit, self.checked(f"{edit.name} alone", [edit]))
-        proofs, lost = {}, set()
-        while said.lost - lost and not said.refused_by():
-            for file in {file for file, _ in said.lost}:
-                text = proofs.get(file) or read(f"{self.crate.folder}/{file}")
-                proofs[file] = left_out(text, [goal for at, goal in said.lost if at == file])
-            lost |= said.lost
-            said = Said(edit, self.checked(f"{edit.name} without {parts(lost)}", [edit], proofs))
-        goals = said.refused_by()
-        if not proofs or not goals or any(said.open.get(it) for it in goals):
-            return goals, said.cause()
-        right = Said(edit, self.checked(f"{edit.name} without {parts(lost)}, as it was", [edit], proofs)).open
-        told = [it for it in goals if not any(is_within(it, goal) or is_within(goal, it) for goal in right)]
-        return told, f"its proof by hand names what the edit took away: {parts(lost)}; without it the right body is open too"
+        judge = judging(edit, self.crate)
+        ask = next(judge)
+        while True:
+            try:
+                ask = judge.send(Said(edit, self.checked([ask])))
+            except StopIteration as end:
+                return end.value
 
 
 def edits_below(folder, crate):
