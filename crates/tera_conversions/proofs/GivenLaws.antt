@@ -1,11 +1,10 @@
 -- What parts give and refuse, one after another.
-use Rattle.std.specs.Prelude.{◌≡◌, ◌⊎◌, List, [], ◌∷◌, ◌++◌, length}
+use Rattle.std.specs.Prelude.{◌≡◌, ◌⊎◌, List, [], ◌∷◌, ◌++◌, length, true, false, Result, Ok, Err, IfErr, IsOk}
 use Rattle.std.specs.List.{AllZip}
 use Rattle.std.proofs.Common.{inl, inr, subst, ap, sym, refl, ◌∙◌, arith}
 use Rattle.std.proofs.lemmas.List.{reverse-append, length-append}
 use Rattle.std.proofs.lemmas.List.Sums.{fold_push}
 use Rattle.std.specs.BTreeMap.{insert_entry}
-use Rattle.std.specs.Prelude.{true, false, Result, Ok, Err, IfErr, IsOk}
 use Rattle.std.specs.Result.{IsErrAnd}
 use Rattle.tera_conversions.specs.Given.{FirstRefuses, PartsRefuse, GivesPair, PutsPairs, PutsRising}
 use Rattle.tera_meaning.specs.Form.{Form}

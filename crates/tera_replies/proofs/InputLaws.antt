@@ -10,8 +10,8 @@ use Rattle.tera_report.proofs.SentLaws.{sends_joined}
 use Rattle.tera_replies.specs.declared.fault.Fault.TheVariants.{BadLine, ReadFailed, WriteFailed, OutOfMemory}
 use Rattle.tera_replies.specs.Stretch.{bad_at, Runs, Place, Goes, StopsAtBad, Begins, LineStops, Ends, Stops, start}
 use Rattle.tera_replies.specs.Replay.{lines_given, AllAnswered, ReadingFailed, MemoryFailed, WritingFailed, AreAnswered, report}
-use Rattle.tera_replies.specs.{Script.Splits, Script.without_return, Script.last_line, Script.ended, Script.line_feed, Reply.AreReplies}
-use Rattle.tera_replies.specs.{Source.EndIsTold, Source.MayErr, Source.Attempt, Source.bytes_given, Source.given_by, Source.Reads, declared.fault.Fault.Fault}
+use Rattle.tera_replies.specs.{Script.Splits, Script.without_return, Script.last_line, Script.ended, Script.line_feed, Reply.AreReplies, Source.EndIsTold}
+use Rattle.tera_replies.specs.{Source.MayErr, Source.Attempt, Source.bytes_given, Source.given_by, Source.Reads, declared.fault.Fault.Fault}
 use Rattle.tera_replies.specs.{declared.source.ReadError.ReadError, Output.BrokeOn}
 use Rattle.tera_replies.proofs.StretchLemmas.{Runs-append, Script-append, Begins-all, Went, sent_still, Splits-more, splits, split_line}
 use Rattle.tera_replies.proofs.ReplyLemmas.{broke_on_later}

@@ -5,8 +5,8 @@ use Rattle.tera_report.specs.Watch.{watched_writer, writer_loan, SameWriter, Wat
 use Rattle.tera_report.specs.{Sink.Use, Sink.put, Sink.flush, Sink.Uses, Sink.Sends, Sink.Delivers, Sink.PutsThese, declared.watch.Watched.Watched}
 use Rattle.tera_report.proofs.SentLaws.{watched_sends}
 use Rattle.tera_replies.specs.declared.fault.Fault.TheVariants.{BadLine, ReadFailed, WriteFailed, OutOfMemory}
-use Rattle.tera_replies.specs.{Output.BrokeOn, Output.TakesOrFails, Output.WriterBroke, Output.WriterTakesOrFails, declared.fault.Fault.Fault}
-use Rattle.tera_replies.specs.{Stretch.Ends, Stretch.EndsFlushed, Stretch.told, Stretch.status_at, Replay.Replays, Replay.Writes, Replay.WritingFailed}
+use Rattle.tera_replies.specs.{Output.BrokeOn, Output.TakesOrFails, Output.WriterBroke, Output.WriterTakesOrFails, declared.fault.Fault.Fault, Stretch.Ends}
+use Rattle.tera_replies.specs.{Stretch.EndsFlushed, Stretch.told, Stretch.status_at, Replay.Replays, Replay.Writes, Replay.WritingFailed}
 use Rattle.tera_replies.proofs.{InputLaws.broke_at_end, InputLaws.broke_at_failure, InputLaws.broke_at_memory, ReplyLemmas.broke_on_flush}
 
 -- what was told was put, or putting it failed

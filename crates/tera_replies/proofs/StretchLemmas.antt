@@ -1,7 +1,7 @@
 -- Bytes as lines, what lines say, and one run and one stretch of a script after another.
-use Rattle.std.proofs.Common.{◌≡◌, ◌≢◌, ℕ, ◌+◌, List, [], ◌∷◌, ◌++◌, All, Option, length, sym, ◌∙◌, ap, refl, append_assoc, append-nil, length-append, inl}
+use Rattle.std.proofs.Common.{◌≡◌, ◌≢◌, ℕ, ◌+◌, List, [], ◌∷◌, ◌++◌, All, Option, length, sym, ◌∙◌, ap, refl, append_assoc, append-nil, length-append, inl, inr}
+use Rattle.std.proofs.Common.{arith, Bool, false, ◌||◌, None, subst}
 use Rattle.std.proofs.lemmas.List.Elements.{All-append, All-cons, All-nil, All-head, All-tail, All-get_or}
-use Rattle.std.proofs.Common.{inr, arith, Bool, false, ◌||◌, None, subst}
 use Rattle.std.proofs.{lemmas.List.get_or_at, lemmas.List.length-map, lemmas.List.map-append, lemmas.List.Concat.flat_map-append}
 use Rattle.std.proofs.{lemmas.List.Folds.list_any-append, lemmas.Bool.cases_eq}
 use Rattle.std.specs.List.{flat_map, AllZip}

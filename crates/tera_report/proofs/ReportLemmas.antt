@@ -1,8 +1,8 @@
 -- Runs of one character, and the pieces of reports with their lengths.
-use Rattle.std.proofs.lemmas.List.{nil_from_length}
-use Rattle.std.proofs.Common.{◌≡◌, ℕ, ◌+◌, ◌-◌, ◌<◌, ◌≤◌, List, [], ◌∷◌, ◌++◌, min, length, replicate, map, codes, take, drop}
-use Rattle.std.proofs.Common.{get_or, slice_range, refl, sym, ap, ◌∙◌, arith, append_assoc}
-use Rattle.std.proofs.lemmas.List.{drop_more, length-append, length-map, length-replicate, length-take, map-append, take-append-drop, take-replicate}
+use Rattle.std.proofs.lemmas.List.{nil_from_length, drop_more, length-append, length-map, length-replicate, length-take, map-append, take-append-drop}
+use Rattle.std.proofs.lemmas.List.{take-replicate}
+use Rattle.std.proofs.Common.{◌≡◌, ℕ, ◌+◌, ◌-◌, ◌<◌, ◌≤◌, List, [], ◌∷◌, ◌++◌, min, length, replicate, map, codes, take, drop, get_or, slice_range, refl, sym}
+use Rattle.std.proofs.Common.{ap, ◌∙◌, arith, append_assoc}
 use Rattle.std.proofs.lemmas.List.Concat.{flat_map-append}
 use Rattle.std.proofs.lemmas.List.Elements.{All-replicate}
 use Rattle.std.proofs.lemmas.Str.{chars-nil, chars_from_encodes, chars-IsAscii}

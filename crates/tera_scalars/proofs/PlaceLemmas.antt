@@ -1,6 +1,6 @@
 -- What `parse` reads is a place.
-use Rattle.std.specs.Prelude.{◌≡◌, ℕ, ◌^◌, ◌<◌, ◌==◌, ◌&&◌, nat_lt, Bool, true, false, if◌then◌else◌, cond, List, [], ◌∷◌, length, drop, Some, None, Result}
-use Rattle.std.specs.Prelude.{Ok, Err, OkIff, refl}
+use Rattle.std.specs.Prelude.{◌≡◌, ℕ, ◌^◌, ◌<◌, ◌==◌, ◌&&◌, nat_lt, Bool, true, false, if◌then◌else◌, cond, List, [], ◌∷◌, length, drop, Some, None, Result, Ok}
+use Rattle.std.specs.Prelude.{Err, OkIff, refl}
 use Rattle.std.specs.Str.Parse.{AllDigits, IsNumeral, digits_value, without_leading_plus, ParsesUnsigned}
 use Rattle.std.specs.{Char.is_ascii_digit, Char.digit_value, Str.all_ascii_digits, Result.result_ok}
 use Rattle.std.proofs.Common.{Decides, ap, subst, arith}

@@ -21,8 +21,7 @@ use Rattle.tera_meaning.proofs.TreeLaws.{list_of_members}
 use Rattle.tera_script.specs.declared.bound.Bounds.{Bounds}
 use Rattle.tera_script.specs.declared.verb.Shape.{Shape}
 use Rattle.tera_script.specs.declared.verb.Shape.TheVariants as shape
-use Rattle.tera_script.specs.Literal.{SpellsTree}
-use Rattle.tera_script.specs.Literal.{tree_value}
+use Rattle.tera_script.specs.Literal.{SpellsTree, tree_value}
 use Rattle.tera_script.proofs.Bounds.{bounds_found, bounds_only, bound_ends_word}
 use Rattle.tera_script.proofs.Literals.{only_at, literal_found}
 use Rattle.tera_script.proofs.Openings.{stops_end}

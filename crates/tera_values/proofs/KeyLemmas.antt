@@ -1,6 +1,6 @@
 -- Keys in a list: the place of one, and lists of keys of the same forms.
-use Rattle.std.specs.Prelude.{◌≡◌, nat_eq, ◌+◌, ℕ, Bool, suc, true, false, not, cond, ◌||◌, nat_lt, is_some}
-use Rattle.std.specs.Prelude.{List, [], ◌∷◌, ◌++◌, length, map, Option, Some, None, position, refl}
+use Rattle.std.specs.Prelude.{◌≡◌, nat_eq, ◌+◌, ℕ, Bool, suc, true, false, not, cond, ◌||◌, nat_lt, is_some, List, [], ◌∷◌, ◌++◌, length, map, Option, Some}
+use Rattle.std.specs.Prelude.{None, position, refl}
 use Rattle.std.proofs.Common.{sym, ◌∙◌, ap, arith, get_or}
 use Rattle.std.proofs.lemmas.Bool.Decides.{nat_tests}
 use Rattle.std.proofs.lemmas.Map.Keys.{IsDistinct-push}

@@ -15,8 +15,8 @@ use Rattle.tera_meaning.specs.Read.{items_in, members_in, is_nonempty}
 use Rattle.tera_meaning.proofs.MeaningLaws.{meant_items}
 use Rattle.tera_meaning.specs.Pairs.{HasDistinctKeys, key_form_order}
 use Rattle.tera_meaning.proofs.TreeLaws.{items_of_list, list_of_members, members_of_list}
-use Rattle.tera_meaning.specs.Tree.{undefined, none, truth, number, text, bytes, object, array, items, items_list}
-use Rattle.tera_meaning.specs.Tree.{members, members_list, depth, items_depth, members_depth}
+use Rattle.tera_meaning.specs.Tree.{undefined, none, truth, number, text, bytes, object, array, items, items_list, members, members_list, depth, items_depth}
+use Rattle.tera_meaning.specs.Tree.{members_depth}
 use Rattle.tera_meaning.specs.WellMade.{IsWellMade, IsWellMadeKey, AreWellMade, AreWellMadeMembers}
 
 pub meant_length : (xs : List Form) → length (items_list (meant_items (items xs))) ≡ length xs

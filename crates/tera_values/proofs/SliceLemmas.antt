@@ -1,6 +1,6 @@
 -- Items that a walk takes one at a time.
-use Rattle.std.specs.Prelude.{◌≡◌, ◌≢◌, ◌<◌, ◌≤◌, ◌+◌, ◌-◌, ◌*◌, ◌^◌, min, ℕ, zero, suc, ℤ, pos, negsuc, int_lt, Bool, true, false, List, [], ◌∷◌, ◌++◌}
-use Rattle.std.specs.Prelude.{length, slice_get, Option, Some, Result, Ok, Err, IfOk, IfErr}
+use Rattle.std.specs.Prelude.{◌≡◌, ◌≢◌, ◌<◌, ◌≤◌, ◌+◌, ◌-◌, ◌*◌, ◌^◌, min, ℕ, zero, suc, ℤ, pos, negsuc, int_lt, Bool, true, false, List, [], ◌∷◌, ◌++◌, length}
+use Rattle.std.specs.Prelude.{slice_get, Option, Some, Result, Ok, Err, IfOk, IfErr}
 use Rattle.std.proofs.Common.{refl, sym, ap, ◌∙◌, subst, arith, inl, inr, length-append, ltb-true, reverse, take}
 use Rattle.std.proofs.lemmas.Bool.{cases_lt}
 use Rattle.std.proofs.lemmas.List.{length-reverse, take_more}
@@ -16,8 +16,7 @@ use Rattle.tera_meaning.proofs.TreeLaws.{list_of_items}
 use Rattle.tera_meaning.specs.SliceRule.{IsSliceOf, IsCutBy, IsSliced, start_place, end_place}
 use Rattle.tera_meaning.specs.Slice.{IsStrided, directed, pause, place_behind, slice_of, cut, cut_by, sliced}
 use Rattle.tera_values.specs.View.{marked}
-use Rattle.tera_meaning.proofs.SliceLaws.{slices_same, slice_of_is}
-use Rattle.tera_meaning.proofs.SliceLaws.{sliced_is}
+use Rattle.tera_meaning.proofs.SliceLaws.{slices_same, slice_of_is, sliced_is}
 use Rattle.tera_scalars.proofs.PositionLaws.{stride_slices}
 use Rattle.tera_scalars.specs.Positions.{turned}
 

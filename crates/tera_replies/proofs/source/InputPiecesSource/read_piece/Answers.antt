@@ -1,6 +1,6 @@
 -- What is given is the front of what was left.
-use Rattle.std.proofs.Common.{◌≡◌, ℕ, ◌+◌, ◌-◌, ◌<◌, List, [], ◌++◌, length, length-append, length-drop, take, drop, get_or, sym, ◌∙◌, ap, arith}
-use Rattle.std.proofs.Common.{append_assoc, take-append-drop}
+use Rattle.std.proofs.Common.{◌≡◌, ℕ, ◌+◌, ◌-◌, ◌<◌, List, [], ◌++◌, length, length-append, length-drop, take, drop, get_or, sym, ◌∙◌, ap, arith, append_assoc}
+use Rattle.std.proofs.Common.{take-append-drop}
 use Rattle.std.proofs.lemmas.List.{take_rest, drop_more, take_at, drop-drop}
 use Rattle.std.specs.Borrow.{Bor}
 use Rattle.tera_replies.specs.Source.{joined, left_of}
