@@ -1,6 +1,6 @@
 -- Answers depend on meanings alone.
 use Rattle.tera_meaning.proofs.ReadLemmas.{fields_by_meaning}
-use Rattle.std.specs.Prelude.{◌≡◌, ℕ, suc, length, Bool, List, [], ◌∷◌, Option, Some, Result, Ok, is_some, refl}
+use Rattle.std.specs.Prelude.{◌≡◌, ℕ, length, Bool, List, [], ◌∷◌, Option, Some, Result, Ok, is_some, refl}
 use Rattle.std.proofs.Common.{sym, ◌∙◌, ap, subst, rules}
 use Rattle.std.specs.Option.{option_map, unwrap_or}
 use Rattle.std.specs.Cmp.Lexicographic.{slice_cmp, nat_list_cmp_total}
@@ -11,22 +11,22 @@ use Rattle.tera_report.proofs.EscapeLaws.{one_spelling_each}
 use Rattle.tera_meaning.specs.Form.{Form}
 use Rattle.tera_meaning.specs.Meaning.{Layout, layout, meaning}
 use Rattle.tera_meaning.specs.Printed.{printed, IsExact, Prints}
-use Rattle.tera_meaning.specs.Read.{marked_safe, size_in, truthy_in}
-use Rattle.tera_meaning.specs.State.{State, read, form_at}
+use Rattle.tera_meaning.specs.Read.{marked_safe, size_in}
+use Rattle.tera_meaning.specs.State.{State, read}
 use Rattle.tera_meaning.specs.Alike.{MeanTheSame, RequestTheSame, AskTheSame, AllAskTheSame, IsSettled, AreAlike}
 use Rattle.tera_meaning.specs.Answer
 use Rattle.tera_meaning.specs.Search.{Found, found_at}
 use Rattle.tera_meaning.specs.Lookup.{seen_by}
 use Rattle.tera_meaning.proofs.ContainsLemmas.{holds_by_meaning}
 use Rattle.tera_meaning.proofs.Owed.{found_shape, read_alike, meaning_alike}
-use Rattle.tera_meaning.proofs.found.{owed}
+use Rattle.tera_meaning.proofs.found.{found_alike}
 use Rattle.tera_meaning.specs.Outcome.{Outcome, shape}
 use Rattle.tera_meaning.specs.Question.{Question, IsAnswered, IsSettledAnswer}
 use Rattle.tera_meaning.proofs.ExtendLaws.{extended_alike}
 use Rattle.tera_meaning.specs.Request.{Request, set, extend, remove, mark_safe, ask, weigh, find, Command}
 use Rattle.tera_meaning.specs.Run.{AreOutcomes, state_after_all}
 use Rattle.tera_meaning.specs.Step.{found_or_kept, keeping, marking_into, ComesTo, IsOutcome, leaves, state_after}
-use Rattle.tera_meaning.specs.Tree.{undefined, text}
+use Rattle.tera_meaning.specs.Tree.{undefined}
 use Rattle.tera_meaning.specs.Weighing.{Weighing, weighed, truth_told}
 
 -- marking changes no meaning
@@ -58,15 +58,11 @@ asked_alike : (question : Question) (held also : Option Form) (o p : Outcome) �
     → IsAnswered question held o → IsAnswered question also p → IsSettledAnswer question (layout (read held)) (layout (read also))
     → shape o ≡ shape p
 asked_alike Question.has held also o p h e d s = both e d (λ i. Ok (Answer.truth (held_alike held also h i)))
-asked_alike Question.truthy held also o p h e d s =
-    both e d (λ i. Ok (Answer.truth (truthy_in (read_alike held also h i))))
+asked_alike Question.truthy held also o p h e d s = search (rules, both, read_alike)
 asked_alike Question.len held also o p h e d s = both e d (λ i. Ok (Answer.size (size_in (read_alike held also h i))))
-asked_alike Question.print held also o p h (t, prints, e) (u, again, d) s =
-    both e d (λ i. Ok (Answer.text (text_alike (layout (read held)) (layout (read also)) t u s prints again i)))
-asked_alike Question.escape held also o p h (t, v, prints, spells, e) (u, w, again, spelled, d) s =
-    both e d (λ i. Ok (Answer.text (word_alike v w t u (text_alike (layout (read held)) (layout (read also)) t u s prints again) spells spelled i)))
-asked_alike Question.fields held also o p h e d s =
-    both e d (λ i. Ok (Answer.texts (fields_by_meaning (read held) (read also) (read_alike held also h) i)))
+asked_alike Question.print held also o p h (t, prints, e) (u, again, d) s = search (rules, both, text_alike)
+asked_alike Question.escape held also o p h (t, v, prints, spells, e) (u, w, again, spelled, d) s = search (rules, both, word_alike, text_alike)
+asked_alike Question.fields held also o p h e d s = search (rules, both, fields_by_meaning, read_alike)
 asked_alike Question.walk held also o p h e d s = absurd s
 asked_alike Question.is_safe held also o p h e d s = absurd s
 asked_alike Question.kind held also o p h e d s = absurd s
@@ -86,11 +82,9 @@ module _ (f g : State) (h : MeanTheSame f g) where
   outcomes_same (remove name) into o p e d s = both e d (λ i. Ok (Answer.found (h name i)))
   outcomes_same (ask question name) into o p e d s =
       asked_alike question (held_at f name) (held_at g name) o p (h name) e d s
-  outcomes_same (weigh weighing left right) into o p e d s =
-      both e d (weighed_alike weighing (form_at f left) (form_at f right) (form_at g left) (form_at g right) (meaning_alike f g h left)
-      (meaning_alike f g h right))
+  outcomes_same (weigh weighing left right) into o p e d s = search (rules, both, weighed_alike, meaning_alike)
   outcomes_same (find search) into o p e d s =
-      both e d (kept_shape into (found_at f search) (found_at g search) ((owed search).by_meaning f g h))
+      both e d (kept_shape into (found_at f search) (found_at g search) (found_alike search f g h))
   outcomes_same v into o p e d s = both e d refl
 
   outcomes_alike : (q r : Request) (into : Option (List ℕ)) (o p : Outcome) → RequestTheSame q r → ComesTo f q into o
@@ -120,7 +114,7 @@ module _ (f g : State) (h : MeanTheSame f g) where
   states_same (extend source) into = extended_alike f g source source h (λ name. refl)
   states_same (remove name) into = removed_alike f g name h
   states_same (mark_safe name) into = marked_alike name into
-  states_same (find search) into = kept_alike into (found_at f search) (found_at g search) ((owed search).by_meaning f g h)
+  states_same (find search) into = kept_alike into (found_at f search) (found_at g search) (found_alike search f g h)
   states_same v into = h
 
   states_left_alike : (q r : Request) (into : Option (List ℕ)) → RequestTheSame q r
@@ -143,30 +137,19 @@ all_ask_the_same (command ∷ commands) = (asks_the_same command, all_ask_the_sa
 
 pub all_outcomes_alike : (f g : State) (cs ds : List Command) (os ps : List Outcome) → MeanTheSame f g
     → AllAskTheSame cs ds → AreOutcomes f cs os → AreOutcomes g ds ps → AreAlike f g cs ds os ps
-all_outcomes_alike f g [] [] [] [] h a e i = tt
 all_outcomes_alike f g (c ∷ cs) (d ∷ ds) (o ∷ os) (p ∷ ps) h a e i =
-    (outcome_alike f g h c d o p a.0 e.0 i.0, all_outcomes_alike (state_after f c) (state_after g d) cs ds os ps (state_alike f g h c d a.0) a.1 e.1 i.1)
-all_outcomes_alike f g [] [] (o ∷ os) ps h a e i = absurd e
-all_outcomes_alike f g [] [] [] (p ∷ ps) h a e i = absurd i
-all_outcomes_alike f g (c ∷ cs) (d ∷ ds) [] ps h a e i = absurd e
-all_outcomes_alike f g (c ∷ cs) (d ∷ ds) (o ∷ os) [] h a e i = absurd i
-all_outcomes_alike f g [] (d ∷ ds) os ps h a e i = absurd a
-all_outcomes_alike f g (c ∷ cs) [] os ps h a e i = absurd a
+    search (rules, outcome_alike, state_alike, (all_outcomes_alike (state_after f c) (state_after g d) cs ds os ps (state_alike f g h c d a.0) a.1 e.1 i.1))
+all_outcomes_alike f g x2 x3 os ps h a e i = search rules
 
 pub states_alike : (f g : State) (cs ds : List Command) → MeanTheSame f g → AllAskTheSame cs ds
     → MeanTheSame (state_after_all f cs) (state_after_all g ds)
-states_alike f g [] [] h a = h
-states_alike f g (c ∷ cs) (d ∷ ds) h a =
-    states_alike (state_after f c) (state_after g d) cs ds (state_alike f g h c d a.0) a.1
-states_alike f g cs ds h a = absurd a
+states_alike f g (c ∷ cs) (d ∷ ds) h a = search (rules, state_alike, (states_alike (state_after f c) (state_after g d) cs ds (state_alike f g h c d a.0) a.1))
+states_alike f g cs ds h a = search rules
 
 -- outcomes that are alike are as many as the commands
 pub as_many : (f g : State) (cs ds : List Command) (os ps : List Outcome) → AreAlike f g cs ds os ps
     → (length cs ≡ length os) × (length os ≡ length ps) × (length ds ≡ length ps)
-as_many f g [] [] [] [] h = (refl, refl, refl)
-as_many f g (c ∷ cs) (d ∷ ds) (o ∷ os) (p ∷ ps) h =
-    let rest : (length cs ≡ length os) × (length os ≡ length ps) × (length ds ≡ length ps) = as_many (state_after f c) (state_after g d) cs ds os ps h.1 in
-    (ap suc rest.0, ap suc rest.1, ap suc rest.2)
-as_many f g cs ds os ps h = absurd h
+as_many f g (c ∷ cs) (d ∷ ds) (o ∷ os) (p ∷ ps) h = search (rules, (as_many (state_after f c) (state_after g d) cs ds os ps h.1))
+as_many f g cs ds os ps h = search rules
 
 pub ruleset laws = (outcome_alike, state_alike, all_outcomes_alike, states_alike)

@@ -1,6 +1,6 @@
 -- Being one of a list, by recursion.
-use Rattle.std.specs.Prelude.{◌≡◌, ◌⊎◌, zero, suc, List, [], ◌∷◌}
-use Rattle.std.proofs.Common.{sym, inl, inr, arith}
+use Rattle.std.specs.Prelude.{◌≡◌, ◌⊎◌, suc, List, [], ◌∷◌}
+use Rattle.std.proofs.Common.{sym, inl, inr, arith, rules}
 use Rattle.std.specs.List.{Contains}
 
 abbrev pub Among : {X : Type 0} → List X → X → Type 0
@@ -8,9 +8,8 @@ Among [] x = ⊥
 Among (y ∷ ys) x = (x ≡ y) ⊎ Among ys x
 
 pub among : {X : Type 0} (xs : List X) (x : X) → Contains xs x → Among xs x
-among [] x (k, below, is) = absurd (omega arith)
-among (y ∷ ys) x (zero, below, is) = inl (sym is)
-among (y ∷ ys) x (suc k, below, is) = inr (among ys x (k, omega arith, is))
+among (y ∷ ys) x (suc k, below, is) = search (rules, (among ys x (k, omega arith, is)))
+among x0 x x2 = search rules
 
 pub contained : {X : Type 0} (xs : List X) (x : X) → Among xs x → Contains xs x
 contained [] x a = absurd a

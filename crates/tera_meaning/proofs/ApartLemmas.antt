@@ -130,8 +130,7 @@ module _ (f g : State) where
 
   agree_or_differ : (names : List (List ℕ)) → Differ ⊎ AllByRecursion Agree names
   agree_or_differ [] = inr tt
-  agree_or_differ (name ∷ names) =
-      more_agree name names (held_decided (held_at f name) (held_at g name)) (agree_or_differ names)
+  agree_or_differ (name ∷ names) = search (rules, more_agree, held_decided, held_at, (agree_or_differ names))
 
   agree_at : (name k : List ℕ) (ks : List (List ℕ)) (b : Bool) → eq_by_cmp (slice_cmp nat_cmp) name k ≡ b
       → (b || list_any (eq_by_cmp (slice_cmp nat_cmp) name) ks) ≡ true
@@ -141,8 +140,7 @@ module _ (f g : State) where
   agree_among : (name : List ℕ) (ks : List (List ℕ)) → AllByRecursion Agree ks
       → list_any (eq_by_cmp (slice_cmp nat_cmp) name) ks ≡ true → Agree name
   agree_among name [] all h = cc
-  agree_among name (k ∷ ks) all h =
-      agree_at name k ks (eq_by_cmp (slice_cmp nat_cmp) name k) refl h (agree_among name ks all.1) all.0
+  agree_among name (k ∷ ks) all h = search (rules, agree_at, slice_cmp, (agree_among name ks all.1))
 
   agree_held : (name : List ℕ) (o p : Option Form) → held_at f name ≡ o → held_at g name ≡ p
       → (is_some o ≡ true → Agree name) → (is_some p ≡ true → Agree name) → Agree name

@@ -1,6 +1,6 @@
 -- The partial order of meanings answers as the order does, or not at all.
 use Rattle.std.proofs.lemmas.Option.{none-some, same_Some}
-use Rattle.std.specs.Prelude.{◌≡◌, ℕ, ℤ, Bool, List, [], ◌∷◌, Option, Some, None, ◌==◌, if◌then◌else◌, refl}
+use Rattle.std.specs.Prelude.{◌≡◌, ℕ, ℤ, Bool, List, ◌∷◌, Option, Some, None, ◌==◌, if◌then◌else◌, refl}
 use Rattle.std.proofs.Common.{◌∙◌, ap, rules}
 use Rattle.std.specs.Cmp.{some_flip}
 use Rattle.std.specs.Cmp.Lexicographic.{slice_partial_cmp}
@@ -40,10 +40,8 @@ mutual
       then_agrees (decided x y) (decided_items xs ys) (compare x y) (compare_items xs ys) answer (decided_agrees x y) (items_agree xs ys) e
 
 pub decided_arrays : (xs ys : List Meaning) → decided_items (items xs) (items ys) ≡ slice_partial_cmp decided xs ys
-decided_arrays [] [] = refl
-decided_arrays [] (y ∷ ys) = refl
-decided_arrays (x ∷ xs) [] = refl
-decided_arrays (x ∷ xs) (y ∷ ys) = ap (partial_ordering_then (decided x y)) (decided_arrays xs ys)
+decided_arrays (x ∷ xs) (y ∷ ys) = search (rules, (decided_arrays xs ys))
+decided_arrays x0 x1 = search rules
 
 mutual
   pub decided_swapped : (x y : Meaning) → decided x y ≡ option_map ordering_reverse (decided y x)

@@ -75,11 +75,7 @@ module _ {K V : Type 0} (order : K → K → Ordering) (total : IsTotalOrder ord
         → ((l : K) → order l d ≡ Less → (value_at order ps l ≡ None) × (value_at order qs l ≡ None))
         → by_values order values x y (goes_on order ps d) (goes_on order qs d) ≡ r → Outcome ps qs r
     unfolding Outcome
-    least_at ps qs d r x y f g differ under is = inr (
-      d,
-      ((λ i. option_eq (eq_by_cmp values) (f i) (g i)) ∙ differ, λ l m. neither ps qs l (under l m).0 (under l m).1),
-      sym is ∙ sym (decides ps qs d x y (goes_on order ps d) (goes_on order qs d) f g refl refl),
-    )
+    least_at ps qs d r x y f g differ under is = search (rules, neither, decides)
 
     module _ (p q : K × V) (ps qs : List (K × V)) (h : Rises order (p ∷ ps)) (g : Rises order (q ∷ qs)) where
       first_left : order p.0 q.0 ≡ Less → Outcome (p ∷ ps) (q ∷ qs) Less

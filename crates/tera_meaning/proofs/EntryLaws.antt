@@ -5,9 +5,9 @@ use Rattle.std.specs.BTreeMap.{insert_entry}
 use Rattle.std.specs.Cmp.{IsTotalOrder}
 use Rattle.std.specs.Cmp.Lexicographic.{slice_cmp}
 use Rattle.std.specs.Option.{option_eq}
-use Rattle.std.specs.Ordering.{ordering_then, on, eq_by_cmp, match_ordering}
+use Rattle.std.specs.Ordering.{on, eq_by_cmp}
 use Rattle.std.specs.declared.cmp.Ordering.{Ordering}
-use Rattle.std.specs.declared.cmp.Ordering.TheVariants.{Less, Equal, Greater}
+use Rattle.std.specs.declared.cmp.Ordering.TheVariants.{Equal}
 use Rattle.tera_meaning.specs.Form.{Form}
 use Rattle.tera_meaning.proofs.KeyLaws.{key_total, form_total}
 use Rattle.tera_meaning.proofs.UniqueLaws.{same_rising, rising_permutes, only_rising}
@@ -33,13 +33,7 @@ module _ {J K U V : Type 0} (f : J → K) (g : U → V) (order : K → K → Ord
   insert_read : (k : J) (v : U) (es : List (J × U)) → map read (insert_entry (on f order) es k v) ≡ insert_entry order (map read es) (f k) (g v)
   unfolding read
   insert_read k v [] = refl
-  insert_read k v (e ∷ es) =
-      elim (order (f k) (f e.0)) as (λ r. map read (match_ordering r ((k, v) ∷ e ∷ es) ((e.0, v) ∷ es) (e ∷ insert_entry (on f order) es k v))
-      ≡ match_ordering r ((f k, g v) ∷ map read (e ∷ es)) ((f e.0, g v) ∷ map read es) (read e ∷ insert_entry order (map read es) (f k) (g v))) [
-        | Less ↦ refl
-        | Equal ↦ refl
-        | Greater ↦ ap (λ ys. (f e.0, g e.1) ∷ ys) (insert_read k v es)
-      ]
+  insert_read k v (e ∷ es) = search (rules, read, (insert_read k v es))
 
   rising_read : (es : List (J × U)) → map (λ p. (f p.0, g p.1)) (rising (on f order) es) ≡ rising order (map (λ p. (f p.0, g p.1)) es)
   unfolding read
@@ -49,10 +43,8 @@ module _ {J K U V : Type 0} (f : J → K) (g : U → V) (order : K → K → Ord
   slice_read : (values : V → V → Ordering) (xs ys : List (J × U))
       → slice_cmp (entry_order order values) (map (λ p. (f p.0, g p.1)) xs) (map (λ p. (f p.0, g p.1)) ys)
       ≡ slice_cmp (entry_order (on f order) (on g values)) xs ys
-  slice_read values (x ∷ xs) (y ∷ ys) = ap (ordering_then (entry_order (on f order) (on g values) x y)) (slice_read values xs ys)
-  slice_read values [] [] = refl
-  slice_read values [] (y ∷ ys) = refl
-  slice_read values (x ∷ xs) [] = refl
+  slice_read values (x ∷ xs) (y ∷ ys) = search (rules, (slice_read values xs ys))
+  slice_read values x1 x2 = search rules
 
 -- ---- how maps compare
 

@@ -1,9 +1,9 @@
 -- States are equal where they mean the same.
 use Rattle.std.proofs.lemmas.Bool.{and_parts, and_from}
-use Rattle.std.specs.Prelude.{◌≡◌, ◌↔◌, ℕ, Bool, cond, ◌&&◌, T, IsTrue, List, [], ◌∷◌, map, Some, refl}
+use Rattle.std.specs.Prelude.{◌≡◌, ◌↔◌, ℕ, Bool, ◌&&◌, T, IsTrue, List, [], ◌∷◌, map, refl}
 use Rattle.std.proofs.Common.{sym, ◌∙◌, ap, rules}
 use Rattle.std.specs.Option.{option_map}
-use Rattle.std.specs.Ordering.{nat_cmp, eq_by_cmp, is_lt}
+use Rattle.std.specs.Ordering.{nat_cmp, is_lt}
 use Rattle.std.specs.Cmp.{IsPartialEquivalence, partial_equiv_from_equiv, on_per, and_per}
 use Rattle.std.specs.Cmp.Lexicographic.{slice_cmp, pointwise, lists_per, nat_list_cmp_total, nat_list_eq_equiv, bytes_decides}
 use Rattle.std.specs.FinMap.{find, entries, entries_sorted, is_sorted, get-entries}
@@ -37,16 +37,10 @@ pair_same : (p q : Pair) → IsTrue (same_pair p q) → (p.0 ≡ q.0) × (meanin
 pair_same p q h = search (rules, and_parts, same_is)
 
 same_meant : (ps qs : List Pair) → IsTrue (pointwise same_pair ps qs) → meant ps ≡ meant qs
-same_meant [] [] h = refl
-same_meant (p ∷ ps) (q ∷ qs) h =
-    let first = pair_same p q ((and_parts (same_pair p q) _ h).0) in
-    let rest = same_meant ps qs ((and_parts (same_pair p q) _ h).1) in
-    λ i. (first.0 i, first.1 i) ∷ rest i
-same_meant [] (q ∷ qs) h = cc
-same_meant (p ∷ ps) [] h = cc
+same_meant (p ∷ ps) (q ∷ qs) h = search (rules, pair_same, and_parts, same_pair, (same_meant ps qs))
+same_meant x0 x1 h = search rules
 
 meant_same : (ps qs : List Pair) → meant ps ≡ meant qs → IsTrue (pointwise same_pair ps qs)
-meant_same [] [] e = refl
 meant_same (p ∷ ps) (q ∷ qs) e =
     let first : ◌≡◌ {A = List ℕ × Meaning} (p.0, meaning p.1) (q.0, meaning q.1) = cc in
     let names : p.0 ≡ q.0 = ap (λ x. x.0) first in
@@ -54,15 +48,12 @@ meant_same (p ∷ ps) (q ∷ qs) e =
     let rest : meant ps ≡ meant qs = cc in
     and_from (same_pair p q) _ (and_from (bytes_eq p.0 q.0) _ ((bytes_decides p.0 q.0).1 names) ((same_is (meaning p.1) (meaning q.1)).1 values))
     (meant_same ps qs rest)
-meant_same [] (q ∷ qs) e = cc
-meant_same (p ∷ ps) [] e = cc
+meant_same x0 x1 e = search rules
 
 find_meant : (name : List ℕ) (ps : List Pair)
     → find (slice_cmp nat_cmp) name (meant ps) ≡ option_map meaning (find (slice_cmp nat_cmp) name ps)
 find_meant name [] = refl
-find_meant name (p ∷ ps) =
-    ap (cond (eq_by_cmp (slice_cmp nat_cmp) name p.0) (Some (meaning p.1))) (find_meant name ps)
-    ∙ sym (picked meaning (eq_by_cmp (slice_cmp nat_cmp) name p.0) p.1 (find (slice_cmp nat_cmp) name ps))
+find_meant name (p ∷ ps) = search (rules, slice_cmp, picked, find, (find_meant name ps))
 
 below_meant : (name : List ℕ) (ps : List Pair) → below_all (slice_cmp nat_cmp) name (meant ps) ≡ below_all (slice_cmp nat_cmp) name ps
 below_meant name [] = refl

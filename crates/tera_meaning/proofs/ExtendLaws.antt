@@ -3,7 +3,7 @@ use Rattle.std.proofs.Math.Facts.{and_yes, yes_and}
 use Rattle.std.specs.Prelude.{◌≡◌, ◌<◌, ℕ, Bool, cond, T, IsSome, List, [], ◌∷◌, ◌++◌, length, take, drop, Option, Some, None, refl}
 use Rattle.std.proofs.Common.{sym, ◌∙◌, ap, subst, arith, take-append-drop, length-drop, length-take-le, rules}
 use Rattle.std.specs.Option.{option_or}
-use Rattle.std.specs.Ordering.{nat_cmp, eq_by_cmp, is_lt}
+use Rattle.std.specs.Ordering.{nat_cmp}
 use Rattle.std.specs.Cmp.Lexicographic.{slice_cmp, nat_list_cmp_total}
 use Rattle.std.specs.FinMap.{get, find, insert, entries, from_entries, from_sorted, is_sorted, get-entries, get-insert, get-from_entries, get-from_sorted}
 use Rattle.std.specs.FinMap.{entries-from_sorted, len, len-entries, entries_sorted}
@@ -24,9 +24,7 @@ find_either : (name : List ℕ) (first later : List (List ℕ × Form))
     → find (slice_cmp nat_cmp) name (first ++ later)
     ≡ option_or (find (slice_cmp nat_cmp) name first) (find (slice_cmp nat_cmp) name later)
 find_either name [] later = refl
-find_either name (p ∷ first) later =
-    ap (cond (eq_by_cmp (slice_cmp nat_cmp) name p.0) (Some p.1)) (find_either name first later)
-    ∙ chosen_or (eq_by_cmp (slice_cmp nat_cmp) name p.0) p.1 (find (slice_cmp nat_cmp) name first) (find (slice_cmp nat_cmp) name later)
+find_either name (p ∷ first) later = search (rules, slice_cmp, chosen_or, find, (find_either name first later))
 
 -- ---- the extended state
 
@@ -77,16 +75,12 @@ entries_of_rising pairs h =
 above_first : (name : List ℕ) (pairs later : List (List ℕ × Form))
     → T (below_all (slice_cmp nat_cmp) name (pairs ++ later)) → T (below_all (slice_cmp nat_cmp) name pairs)
 above_first name [] later h = tt
-above_first name (p ∷ pairs) later h =
-    let step = is_lt (slice_cmp nat_cmp name p.0) in
-    yes_and step _ ((and_yes step _ h).0) (above_first name pairs later ((and_yes step _ h).1))
+above_first name (p ∷ pairs) later h = search (rules, slice_cmp, yes_and, and_yes, (above_first name pairs later))
 
 -- the first of pairs that rise rise
 pub rising_first : (pairs later : List (List ℕ × Form)) → T (is_rising (pairs ++ later)) → T (is_rising pairs)
 rising_first [] later h = tt
-rising_first (p ∷ pairs) later h =
-    let above = below_all (slice_cmp nat_cmp) p.0 (pairs ++ later) in
-    yes_and _ _ (above_first p.0 pairs later ((and_yes above _ h).0)) (rising_first pairs later ((and_yes above _ h).1))
+rising_first (p ∷ pairs) later h = search (rules, below_all, slice_cmp, yes_and, above_first, and_yes, (rising_first pairs later))
 
 -- of a state there is a beginning of each length below its own
 module _ (whole : State) (n : ℕ) (fewer : n < len whole) where

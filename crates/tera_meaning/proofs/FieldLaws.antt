@@ -6,7 +6,7 @@ use Rattle.std.specs.Cmp.{tied_itself}
 use Rattle.std.specs.Cmp.Lexicographic.{slice_cmp, nat_list_cmp_total}
 use Rattle.std.specs.List.{AllByRecursion}
 use Rattle.std.specs.List.Sorted.{IsStrictlySortedBy}
-use Rattle.std.specs.Ordering.{nat_cmp, ordering_reverse, match_ordering}
+use Rattle.std.specs.Ordering.{nat_cmp, match_ordering}
 use Rattle.std.specs.declared.cmp.Ordering.{Ordering}
 use Rattle.std.specs.declared.cmp.Ordering.TheVariants.{Less, Equal, Greater}
 use Rattle.tera_meaning.proofs.Among.{Among, among, contained}
@@ -26,21 +26,12 @@ below_less s t (u ∷ us) p h = (nat_list_cmp_total.trans s t u p h.0, below_les
 
 below_put : (s t : List ℕ) (us : List (List ℕ)) → order s t ≡ Less → Below s us → Below s (insert_key order us t)
 below_put s t [] p h = (p, tt)
-below_put s t (u ∷ us) p h = elim (order t u) as (λ r. Below s (match_ordering r (t ∷ u ∷ us) (u ∷ us) (u ∷ insert_key order us t))) [
-  | Less ↦ (p, h)
-  | Equal ↦ h
-  | Greater ↦ (h.0, below_put s t us p h.1)
-]
+below_put s t (u ∷ us) p h = search (rules, order, (below_put s t us p h.1))
 
 put_rises : (t : List ℕ) (us : List (List ℕ)) → IsStrictlySortedBy order us → IsStrictlySortedBy order (insert_key order us t)
 unfolding IsStrictlySortedBy
 put_rises t [] h = (tt, tt)
-put_rises t (u ∷ us) h = elim (order t u) as (λ r. order t u ≡ r
-    → IsStrictlySortedBy order (match_ordering r (t ∷ u ∷ us) (u ∷ us) (u ∷ insert_key order us t))) [
-      | Less ↦ λ p. ((p, below_less t u us p h.0), h)
-      | Equal ↦ λ p. h
-      | Greater ↦ λ p. (below_put u t us (nat_list_cmp_total.antisymm u t ∙ ap ordering_reverse p) h.0, put_rises t us h.1)
-    ] refl
+put_rises t (u ∷ us) h = search (rules, order, below_less, below_put, nat_list_cmp_total, (put_rises t us h.1))
 
 rising_rises : (ts : List (List ℕ)) → IsStrictlySortedBy order (rising_texts ts)
 unfolding IsStrictlySortedBy

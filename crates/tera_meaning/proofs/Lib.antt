@@ -1,7 +1,6 @@
 mod AlikeLemmas
 mod Among
 mod ApartLemmas
-mod ArithmeticLemmas
 mod CalculatedLemmas
 pub mod ChainedLaws
 mod ContainsLemmas

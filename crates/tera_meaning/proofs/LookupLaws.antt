@@ -1,5 +1,5 @@
 -- Indices from either end of a list, and the parts of a text.
-use Rattle.std.specs.Prelude.{◌≡◌, ℕ, ◌-◌, ◌⊎◌, ◌&&◌, ◌||◌, Bool, true, false, ◌++◌, [], ◌∷◌, ◌↔◌, List, refl}
+use Rattle.std.specs.Prelude.{◌≡◌, ℕ, ◌-◌, ◌⊎◌, ◌||◌, Bool, true, false, ◌++◌, [], ◌∷◌, ◌↔◌, List, refl}
 use Rattle.std.proofs.Common.{inl, inr, ◌∙◌, ap, rules}
 use Rattle.std.proofs.lemmas.Bool.{and_parts, eq-eqb, eqb-true}
 use Rattle.std.specs.Str.Iter.{HasSubslice}
@@ -17,9 +17,8 @@ begins_split (b ∷ bs) (p ∷ part) h =
     (rest, λ i. same i ∷ more i)
 
 begins_again : (part rest : List ℕ) → begins_with (part ++ rest) part ≡ true
-begins_again [] [] = refl
-begins_again [] (r ∷ rest) = refl
-begins_again (p ∷ part) rest = ap (λ b. b && begins_with (part ++ rest) part) (eq-eqb p p refl) ∙ begins_again part rest
+begins_again (p ∷ part) rest = search (rules, eq-eqb, (begins_again part rest))
+begins_again x0 rest = search rules
 
 either : (a b : Bool) → (a || b) ≡ true → (a ≡ true) ⊎ (b ≡ true)
 either x0 b h = search rules

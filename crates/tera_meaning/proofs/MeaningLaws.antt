@@ -6,8 +6,7 @@ use Rattle.std.specs.BTreeMap.{insert_entry}
 use Rattle.std.specs.List.{Contains}
 use Rattle.std.specs.Map.{lookup}
 use Rattle.std.specs.Option.{option_map}
-use Rattle.std.specs.Ordering.{eq_by_cmp, match_ordering}
-use Rattle.std.specs.declared.cmp.Ordering.TheVariants.{Less, Equal, Greater}
+use Rattle.std.specs.Ordering.{eq_by_cmp}
 use Rattle.tera_meaning.specs.Form.{Form, MarkedText}
 use Rattle.tera_meaning.specs.Integer.{Integer}
 use Rattle.tera_meaning.specs.KeyMeaning.{KeyForm, KeyMeaning, key_meaning, key_order}
@@ -70,9 +69,7 @@ picked f x1 x o = search rules
 found_there : (ps : List (KeyForm × Form)) (k : KeyMeaning)
     → option_map meaning (lookup (λ l. eq_by_cmp key_order k (key_meaning l)) ps) ≡ value_at key_order (map pair_meaning ps) k
 found_there [] k = refl
-found_there (p ∷ ps) k =
-    picked meaning (eq_by_cmp key_order k (key_meaning p.0)) p.1 _
-    ∙ ap (cond (eq_by_cmp key_order k (key_meaning p.0)) (Some (meaning p.1))) (found_there ps k)
+found_there (p ∷ ps) k = search (rules, picked, (found_there ps k))
 
 pub found_meant : (ps : List (KeyForm × Form)) (k : KeyForm)
     → value_at key_order (rising key_order (map pair_meaning ps)) (key_meaning k) ≡ option_map meaning (value_at key_form_order ps k)
@@ -99,9 +96,7 @@ size_meant ps h = search (rules, map_means, list_of_members, length_meant)
 
 some_inserted : (qs : List (KeyMeaning × Meaning)) (k : KeyMeaning) (x : Meaning) → is_nonempty (insert_entry key_order qs k x) ≡ true
 some_inserted [] k x = refl
-some_inserted (q ∷ qs) k x =
-    elim (key_order k q.0) as (λ r. is_nonempty (match_ordering r ((k, x) ∷ q ∷ qs) ((q.0, x) ∷ qs) (q ∷ insert_entry key_order qs k x)) ≡ true)
-    [ Less ↦ refl | Equal ↦ refl | Greater ↦ refl ]
+some_inserted (q ∷ qs) k x = search rules
 
 some_meant : (ps : List (KeyForm × Form)) → is_nonempty (rising key_order (map pair_meaning ps)) ≡ is_nonempty ps
 some_meant x0 = search (rules, some_inserted)

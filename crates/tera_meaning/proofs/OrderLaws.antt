@@ -1,5 +1,5 @@
 -- The order of meanings is total, and ties equal meanings alone.
-use Rattle.std.specs.Prelude.{◌≡◌, ℕ, ◌<◌, ◌≤◌, ◌↔◌, IsTrue, List, [], ◌∷◌, ℤ, refl}
+use Rattle.std.specs.Prelude.{◌≡◌, ℕ, ◌<◌, ◌≤◌, ◌↔◌, IsTrue, List, ◌∷◌, ℤ, refl}
 use Rattle.std.proofs.Common.{sym, ◌∙◌, ap, arith, rules}
 use Rattle.std.specs.Ordering.{ordering_then, ordering_reverse, as_partial_cmp}
 use Rattle.std.specs.declared.cmp.Ordering.TheVariants.{Less, Equal}
@@ -156,17 +156,11 @@ compare_tie x y = (compare_exact x y, λ e. ap (λ w. compare x w) (sym e) ∙ c
 
 -- arrays and maps compare as the lists of their items and pairs: the first that differ decide, and else the lengths
 pub items_by_first_difference : (xs ys : List Meaning) → compare (array (items xs)) (array (items ys)) ≡ slice_cmp compare xs ys
-items_by_first_difference [] [] = refl
-items_by_first_difference [] (y ∷ ys) = refl
-items_by_first_difference (x ∷ xs) [] = refl
-items_by_first_difference (x ∷ xs) (y ∷ ys) = ap (ordering_then (compare x y)) (items_by_first_difference xs ys)
+items_by_first_difference (x ∷ xs) (y ∷ ys) = search (rules, (items_by_first_difference xs ys))
+items_by_first_difference x0 x1 = search rules
 
 pub members_by_first_difference : (ps qs : List (KeyMeaning × Meaning)) → compare (object (members ps)) (object (members qs)) ≡ slice_cmp pair_order ps qs
-members_by_first_difference [] [] = refl
-members_by_first_difference [] (q ∷ qs) = refl
-members_by_first_difference (p ∷ ps) [] = refl
-members_by_first_difference (p ∷ ps) (q ∷ qs) =
-    ap (λ o. ordering_then (key_order p.0 q.0) (ordering_then (compare p.1 q.1) o)) (members_by_first_difference ps qs)
-    ∙ then_nested (key_order p.0 q.0) (compare p.1 q.1) (slice_cmp pair_order ps qs)
+members_by_first_difference (p ∷ ps) (q ∷ qs) = search (rules, then_nested, slice_cmp, (members_by_first_difference ps qs))
+members_by_first_difference x0 x1 = search rules
 
 pub ruleset laws = (compare_total, compare_partial, same_is, same_equivalence, items_by_first_difference, members_by_first_difference)

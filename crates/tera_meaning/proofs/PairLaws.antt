@@ -1,12 +1,12 @@
 -- Pair lists rise, hold just their entries, and are ordered by the least key at which they differ.
 use Rattle.std.specs.Prelude.{◌≡◌, ◌||◌, Bool, true, cond, List, [], ◌∷◌, Some, refl}
-use Rattle.std.proofs.Common.{sym, ◌∙◌, ap, rules}
+use Rattle.std.proofs.Common.{◌∙◌, ap, rules}
 use Rattle.std.specs.BTreeMap.{insert_entry}
 use Rattle.std.specs.Cmp.{IsTotalOrder, alike_right}
 use Rattle.std.specs.List.{AllByRecursion}
 use Rattle.std.specs.List.Sorted.{IsStrictlySortedBy}
 use Rattle.std.specs.Map.{keys_of}
-use Rattle.std.specs.Ordering.{ordering_reverse, eq_by_cmp, is_lt, is_eq, match_ordering}
+use Rattle.std.specs.Ordering.{ordering_reverse, eq_by_cmp, is_lt, match_ordering}
 use Rattle.std.specs.declared.cmp.Ordering.{Ordering}
 use Rattle.std.specs.declared.cmp.Ordering.TheVariants.{Less, Equal, Greater}
 use Rattle.tera_meaning.specs.Pairs.{Rises, rising, value_at, goes_on}
@@ -52,22 +52,12 @@ module _ {K V : Type 0} (order : K → K → Ordering) (total : IsTotalOrder ord
 
   below_insert : (k l : K) (v : V) (es : List (K × V)) → order k l ≡ Less → Below order k es → Below order k (insert_entry order es l v)
   below_insert k l v [] p h = (p, tt)
-  below_insert k l v (e ∷ es) p h =
-      elim (order l e.0) as (λ r. Below order k (match_ordering r ((l, v) ∷ e ∷ es) ((e.0, v) ∷ es) (e ∷ insert_entry order es l v))) [
-        | Less ↦ (p, h)
-        | Equal ↦ h
-        | Greater ↦ (h.0, below_insert k l v es p h.1)
-      ]
+  below_insert k l v (e ∷ es) p h = search (rules, (below_insert k l v es p h.1))
 
   insert_rises : (k : K) (v : V) (es : List (K × V)) → Rises order es → Rises order (insert_entry order es k v)
   unfolding IsStrictlySortedBy
   insert_rises k v [] h = (tt, tt)
-  insert_rises k v (e ∷ es) h =
-      elim (order k e.0) as (λ r. order k e.0 ≡ r → Rises order (match_ordering r ((k, v) ∷ e ∷ es) ((e.0, v) ∷ es) (e ∷ insert_entry order es k v))) [
-        | Less ↦ λ p. ((p, below_less k e.0 es p h.0), h)
-        | Equal ↦ λ p. h
-        | Greater ↦ λ p. (below_insert e.0 k v es (turned order total k e.0 p) h.0, insert_rises k v es h.1)
-      ] refl
+  insert_rises k v (e ∷ es) h = search (rules, below_less, below_insert, turned, (insert_rises k v es h.1))
 
   pub rising_rises : (es : List (K × V)) → Rises order (rising order es)
   unfolding IsStrictlySortedBy
@@ -77,16 +67,7 @@ module _ {K V : Type 0} (order : K → K → Ordering) (total : IsTotalOrder ord
   found_insert : (q k : K) (v : V) (es : List (K × V)) → value_at order (insert_entry order es k v) q
       ≡ cond (eq_by_cmp order q k) (Some v) (value_at order es q)
   found_insert q k v [] = refl
-  found_insert q k v (e ∷ es) =
-      elim (order k e.0) as (λ r. order k e.0 ≡ r → value_at order (match_ordering r ((k, v) ∷ e ∷ es) ((e.0, v) ∷ es) (e ∷ insert_entry order es k v)) q
-      ≡ cond (eq_by_cmp order q k) (Some v) (value_at order (e ∷ es) q)) [
-        | Less ↦ λ p. refl
-        | Equal ↦ λ p. shadowed (eq_by_cmp order q e.0) (Some v) (Some e.1) (value_at order es q)
-            ∙ ap (λ r. cond (is_eq r) (Some v) (value_at order (e ∷ es) q)) (sym (alike_right total k e.0 q p))
-        | Greater ↦ λ p. ap (cond (eq_by_cmp order q e.0) (Some e.1)) (found_insert q k v es)
-            ∙ swapped (eq_by_cmp order q e.0) (eq_by_cmp order q k) (Some e.1) (Some v) (value_at order es q)
-            (λ a b. equal_greater (sym (joined order total q k e.0 b a) ∙ p))
-      ] refl
+  found_insert q k v (e ∷ es) = search (rules, shadowed, alike_right, swapped, equal_greater, joined, (found_insert q k v es))
 
   -- what is below all entries goes before them, so a list that rises is its own rising list
   insert_first : (k : K) (v : V) (es : List (K × V)) → Below order k es → insert_entry order es k v ≡ (k, v) ∷ es
@@ -105,13 +86,7 @@ module _ {K V : Type 0} (order : K → K → Ordering) (total : IsTotalOrder ord
 
   more_insert : (q k : K) (v : V) (es : List (K × V)) → goes_on order (insert_entry order es k v) q ≡ (is_lt (order q k) || goes_on order es q)
   more_insert q k v [] = refl
-  more_insert q k v (e ∷ es) =
-      elim (order k e.0) as (λ r. order k e.0 ≡ r → goes_on order (match_ordering r ((k, v) ∷ e ∷ es) ((e.0, v) ∷ es) (e ∷ insert_entry order es k v)) q
-      ≡ (is_lt (order q k) || goes_on order (e ∷ es) q)) [
-        | Less ↦ λ p. refl
-        | Equal ↦ λ p. or_twice (is_lt (order q e.0)) (goes_on order es q) ∙ ap (λ r. is_lt r || goes_on order (e ∷ es) q) (sym (alike_right total k e.0 q p))
-        | Greater ↦ λ p. ap (λ b. is_lt (order q e.0) || b) (more_insert q k v es) ∙ or_turned (is_lt (order q e.0)) (is_lt (order q k)) (goes_on order es q)
-      ] refl
+  more_insert q k v (e ∷ es) = search (rules, or_twice, alike_right, or_turned, (more_insert q k v es))
 
   -- and it has a greater key where the entries have one
   pub more_rising : (es : List (K × V)) (q : K) → goes_on order (rising order es) q ≡ goes_on order es q

@@ -42,8 +42,7 @@ one_times x = search rules
 pub power_add : (base : ℤ) (m n : ℕ) → power_of base (m + n) ≡ power_of base m *ℤ power_of base n
 unfolding power_of
 power_add base zero n = ap (power_of base) (zero-add n) ∙ sym (one_times (power_of base n))
-power_add base (suc m) n =
-    ap (power_of base) (suc-add m n) ∙ ap (λ s. base *ℤ s) (power_add base m n) ∙ sym (times_assoc (power_of base m) (power_of base n) base)
+power_add base (suc m) n = search (rules, suc-add, times_assoc, (power_add base m n))
 
 half_and_half : (e : ℕ) → (e / 2 + e / 2) + e % 2 ≡ e
 half_and_half e = omega arith
@@ -75,11 +74,7 @@ size_large x0 h = search rules
 -- the size of a power of a number that is at most 1 in size
 size_of_one : (base : ℤ) (n : ℕ) → unsigned_abs base ≤ 1 → unsigned_abs (power_of base n) ≤ 1
 size_of_one base zero h = let e : unsigned_abs (power_of base 0) ≡ 1 = ap unsigned_abs (power_none base) in omega arith
-size_of_one base (suc n) h =
-    let e : unsigned_abs (power_of base (suc n)) ≡ unsigned_abs base * unsigned_abs (power_of base n) =
-    ap unsigned_abs (power_more base n) ∙ unsigned_abs-mul base (power_of base n) in
-    let most : unsigned_abs base * unsigned_abs (power_of base n) ≤ 1 * 1 = mul-le-mul h (size_of_one base n h) in
-    omega arith
+size_of_one base (suc n) h = search (rules, power_more, unsigned_abs-mul, mul-le-mul, (size_of_one base n h))
 
 -- the last factor of an odd power, or none, is no smaller than 1 where the base is larger than 1
 rest_size : (base : ℤ) (e : ℕ) → 1 < unsigned_abs base → 1 ≤ unsigned_abs (power_of base (e % 2))
@@ -134,12 +129,7 @@ large_square base e h = search (rules, even_power, large_odd_power)
 -- of a base of 2 or more in size, a power of 128 factors or more
 pub large_power : (base : ℤ) (n : ℕ) → 1 < unsigned_abs base → 2 ^ n ≤ unsigned_abs (power_of base n)
 large_power base zero h = let e : unsigned_abs (power_of base 0) ≡ 1 = ap unsigned_abs (power_none base) in omega (arith, e)
-large_power base (suc n) h =
-    let e : unsigned_abs (power_of base (suc n)) ≡ unsigned_abs base * unsigned_abs (power_of base n) =
-    ap unsigned_abs (power_more base n) ∙ unsigned_abs-mul base (power_of base n) in
-    let most : 2 * 2 ^ n ≤ unsigned_abs base * unsigned_abs (power_of base n) = mul-le-mul h (large_power base n h) in
-    let twice : 2 ^ suc n ≡ 2 ^ n * 2 = pow-suc 2 n in
-    omega (arith, e, most, twice)
+large_power base (suc n) h = search (rules, power_more, unsigned_abs-mul, mul-le-mul, pow-suc, (large_power base n h))
 
 pub power_outside : (base : ℤ) (n : ℕ) → 1 < unsigned_abs base → 128 ≤ n → is_small (power_of base n) ≡ false
 power_outside base n h g =

@@ -49,9 +49,7 @@ members_told (p ∷ ps) h =
 
 members_tell : (ps : List (KeyMeaning × Layout)) → AllByRecursion (λ p. IsExactKey p.0 × IsExactInside p.1) ps → IsTrue (are_exact_members (members ps))
 members_tell [] h = refl
-members_tell (p ∷ ps) h =
-    and_from (is_exact_key p.0) (is_exact_inside p.1 && are_exact_members (members ps)) h.0.0
-    (and_from (is_exact_inside p.1) (are_exact_members (members ps)) h.0.1 (members_tell ps h.1))
+members_tell (p ∷ ps) h = search (rules, and_from, (members_tell ps h.1))
 
 pub exact_members : (ps : List (KeyMeaning × Layout)) → IsTrue (are_exact_members (members ps)) ↔ All (λ p. IsExactKey p.0 × IsExactInside p.1) ps
 exact_members ps = search (rules, All-from_recursion, members_told, members_tell, recursion_from_All)

@@ -20,40 +20,23 @@ module _ {K V : Type 0} (order : K → K → Ordering) where
   -- a key that ties with none is put behind all pairs, and one that ties in the place of the first such pair
   pub put_last : (ps : List (K × V)) (k : K) (v : V) → value_at order ps k ≡ None → put order ps k v ≡ ps ++ ((k, v) ∷ [])
   put_last [] k v none = refl
-  put_last (p ∷ ps) k v none =
-      elim (eq_by_cmp order k p.0) as (λ b. cond b (Some p.1) (value_at order ps k) ≡ None
-      → (if b then (p.0, v) ∷ ps else p ∷ put order ps k v) ≡ p ∷ (ps ++ ((k, v) ∷ []))) [
-        | true ↦ λ n. absurd (none-some p.1 (sym n))
-        | false ↦ λ n. ap (λ qs. p ∷ qs) (put_last ps k v n)
-      ] none
+  put_last (p ∷ ps) k v none = search (rules, none-some, (put_last ps k v))
 
   pub put_in_place : (ps : List (K × V)) (q : K × V) (qs : List (K × V)) (k : K) (v : V) → value_at order ps k ≡ None → eq_by_cmp order k q.0 ≡ true
       → put order (ps ++ q ∷ qs) k v ≡ ps ++ (q.0, v) ∷ qs
   put_in_place [] q qs k v none tie = ap (λ (b : Bool). if b then (q.0, v) ∷ qs else q ∷ put order qs k v) tie
-  put_in_place (p ∷ ps) q qs k v none tie =
-      elim (eq_by_cmp order k p.0) as (λ b. cond b (Some p.1) (value_at order ps k) ≡ None
-      → (if b then (p.0, v) ∷ (ps ++ q ∷ qs) else p ∷ put order (ps ++ q ∷ qs) k v) ≡ p ∷ (ps ++ (q.0, v) ∷ qs)) [
-        | true ↦ λ n. absurd (none-some p.1 (sym n))
-        | false ↦ λ n. ap (λ rs. p ∷ rs) (put_in_place ps q qs k v n tie)
-      ] none
+  put_in_place (p ∷ ps) q qs k v none tie = search (rules, none-some, (put_in_place ps q qs k v))
 
   -- there is one pair more where the key was not there
   pub length_put : (ps : List (K × V)) (k : K) (v : V)
       → length (put order ps k v) ≡ cond (is_some (value_at order ps k)) (length ps) (suc (length ps))
   length_put [] k v = refl
-  length_put (p ∷ ps) k v =
-      elim (eq_by_cmp order k p.0) as (λ b. length (if b then (p.0, v) ∷ ps else p ∷ put order ps k v)
-      ≡ cond (is_some (cond b (Some p.1) (value_at order ps k))) (suc (length ps)) (suc (suc (length ps)))) [
-        | true ↦ refl
-        | false ↦ ap suc (length_put ps k v) ∙ longer (is_some (value_at order ps k)) ps
-      ]
+  length_put (p ∷ ps) k v = search (rules, longer, (length_put ps k v))
 
   apart_put : (l : K) (ps : List (K × V)) (k : K) (v : V) → eq_by_cmp order l k ≡ false → AllByRecursion (λ y. eq_by_cmp order l y ≡ false) (keys_of ps)
       → AllByRecursion (λ y. eq_by_cmp order l y ≡ false) (keys_of (put order ps k v))
   apart_put l [] k v n h = (n, tt)
-  apart_put l (p ∷ ps) k v n h =
-      elim (eq_by_cmp order k p.0) as (λ b. AllByRecursion (λ y. eq_by_cmp order l y ≡ false) (keys_of (if b then (p.0, v) ∷ ps else p ∷ put order ps k v)))
-      [ true ↦ h | false ↦ (h.0, apart_put l ps k v n h.1) ]
+  apart_put l (p ∷ ps) k v n h = search (rules, (apart_put l ps k v n h.1))
 
   module _ (total : IsTotalOrder order) where
     -- keys stay distinct
@@ -74,15 +57,7 @@ module _ {K V : Type 0} (order : K → K → Ordering) where
     pub found_put : (ps : List (K × V)) (k : K) (v : V) (q : K)
         → value_at order (put order ps k v) q ≡ cond (eq_by_cmp order q k) (Some v) (value_at order ps q)
     found_put [] k v q = refl
-    found_put (p ∷ ps) k v q =
-        elim (eq_by_cmp order k p.0) as (λ b. eq_by_cmp order k p.0 ≡ b → value_at order (if b then (p.0, v) ∷ ps else p ∷ put order ps k v) q
-        ≡ cond (eq_by_cmp order q k) (Some v) (value_at order (p ∷ ps) q)) [
-          | true ↦ λ e. shadowed (eq_by_cmp order q p.0) (Some v) (Some p.1) (value_at order ps q)
-              ∙ ap (λ r. cond (is_eq r) (Some v) (value_at order (p ∷ ps) q)) (sym (alike_right total k p.0 q ((Equal-is (order k p.0)).0 e)))
-          | false ↦ λ e. ap (cond (eq_by_cmp order q p.0) (Some p.1)) (found_put ps k v q)
-              ∙ swapped (eq_by_cmp order q p.0) (eq_by_cmp order q k) (Some p.1) (Some v) (value_at order ps q)
-              (λ a b. true≢false (sym ((Equal-is (order k p.0)).1 (joined order total q k p.0 b a)) ∙ e))
-        ] refl
+    found_put (p ∷ ps) k v q = search (rules, shadowed, alike_right, Equal-is, swapped, true≢false, joined, (found_put ps k v q))
 
     -- ---- the rising list of what was put
 
@@ -95,14 +70,7 @@ module _ {K V : Type 0} (order : K → K → Ordering) where
     insert_tied : (k l : K) (u v : V) → order k l ≡ Equal → (es : List (K × V))
         → insert_entry order (insert_entry order es l u) k v ≡ insert_entry order es l v
     insert_tied k l u v tie [] = taken k v (l, u) [] Equal tie
-    insert_tied k l u v tie (e ∷ es) =
-        elim (order l e.0) as (λ r. order l e.0 ≡ r
-        → insert_entry order (match_ordering r ((l, u) ∷ e ∷ es) ((e.0, u) ∷ es) (e ∷ insert_entry order es l u)) k v
-        ≡ match_ordering r ((l, v) ∷ e ∷ es) ((e.0, v) ∷ es) (e ∷ insert_entry order es l v)) [
-          | Less ↦ λ is. taken k v (l, u) (e ∷ es) Equal tie
-          | Equal ↦ λ is. taken k v (e.0, u) es Equal (total.congr k l e.0 tie ∙ is)
-          | Greater ↦ λ is. taken k v e (insert_entry order es l u) Greater (total.congr k l e.0 tie ∙ is) ∙ ap (λ ys. e ∷ ys) (insert_tied k l u v tie es)
-        ] refl
+    insert_tied k l u v tie (e ∷ es) = search (rules, taken, (insert_tied k l u v tie es))
 
     -- entries of two keys take their places in either order
     module _ (k l : K) (u v : V) (less : order k l ≡ Less) where
@@ -153,12 +121,7 @@ module _ {J K U V : Type 0} (f : J → K) (g : U → V) (order : K → K → Ord
   pub put_read : (ps : List (J × U)) (k : J) (v : U)
       → map (λ p. (f p.0, g p.1)) (put (on f order) ps k v) ≡ put order (map (λ p. (f p.0, g p.1)) ps) (f k) (g v)
   put_read [] k v = refl
-  put_read (p ∷ ps) k v =
-      elim (eq_by_cmp order (f k) (f p.0)) as (λ b. map (λ p. (f p.0, g p.1)) (if b then (p.0, v) ∷ ps else p ∷ put (on f order) ps k v)
-      ≡ if b then (f p.0, g v) ∷ map (λ p. (f p.0, g p.1)) ps else (f p.0, g p.1) ∷ put order (map (λ p. (f p.0, g p.1)) ps) (f k) (g v)) [
-        | true ↦ refl
-        | false ↦ ap (λ qs. (f p.0, g p.1) ∷ qs) (put_read ps k v)
-      ]
+  put_read (p ∷ ps) k v = search (rules, (put_read ps k v))
 
   apart_read : (k : J) (ps : List (J × U)) → AllByRecursion (λ y. eq_by_cmp (on f order) k y ≡ false) (keys_of ps)
       → AllByRecursion (λ y. eq_by_cmp order (f k) y ≡ false) (keys_of (map (λ p. (f p.0, g p.1)) ps))

@@ -1,6 +1,6 @@
 -- The outcomes of runs, in which some steps may want memory.
 use Rattle.std.specs.Prelude.{◌≡◌, ◌≢◌, ℕ, Bool, true, false, List, [], ◌∷◌, ◌++◌, length, Option, Ok, refl}
-use Rattle.std.proofs.Common.{sym, ◌∙◌, ap, subst, inl, inr, arith, rules}
+use Rattle.std.proofs.Common.{sym, ◌∙◌, ap, subst, inl, arith, rules}
 use Rattle.tera_report.specs.Escaping.{escaped}
 use Rattle.tera_report.proofs.EscapeLaws.{Spells-escaped}
 use Rattle.tera_meaning.specs.Answer
@@ -37,8 +37,7 @@ some_outcome state v into = (_, refl)
 -- and to one alone, where what is printed is exact
 one_answer : (question : Question) (held : Option Form) (o p : Outcome) → IsFixedAnswer question (layout (read held))
     → IsAnswered question held o → IsAnswered question held p → o ≡ p
-one_answer Question.print held o p f (t, prints, e) (u, also, d) =
-    e ∙ ap (λ s. Ok (Answer.text s)) (prints f ∙ sym (also f)) ∙ sym d
+one_answer Question.print held o p f (t, prints, e) (u, also, d) = search rules
 one_answer Question.escape held o p f (t, v, prints, spells, e) (u, w, also, spelled, d) =
     e ∙ ap (λ s. Ok (Answer.text s)) (word_alike v w t u (prints f ∙ sym (also f)) spells spelled) ∙ sym d
 one_answer question held o p f e d = e ∙ sym d
@@ -58,13 +57,9 @@ some_outcomes state (command ∷ commands) =
 
 pub one_outcomes : (state : State) (commands : List Command) (os ps : List Outcome) → AreFixed state commands
     → AreOutcomes state commands os → AreOutcomes state commands ps → os ≡ ps
-one_outcomes state [] [] [] f e d = refl
 one_outcomes state (command ∷ commands) (o ∷ os) (p ∷ ps) f e d =
-    λ i. one_outcome state command.request command.into o p f.0 e.0 d.0 i ∷ one_outcomes (state_after state command) commands os ps f.1 e.1 d.1 i
-one_outcomes state [] (o ∷ os) ps f e d = absurd e
-one_outcomes state [] [] (p ∷ ps) f e d = absurd d
-one_outcomes state (command ∷ commands) [] ps f e d = absurd e
-one_outcomes state (command ∷ commands) (o ∷ os) [] f e d = absurd d
+    search (rules, one_outcome, (one_outcomes (state_after state command) commands os ps f.1 e.1 d.1))
+one_outcomes state x1 x2 ps f e d = search rules
 
 -- what a step that wants memory leaves, and any other is the command's outcome
 pub left_in_want : (old : State) (command : Command) (new : State) → IsStep old command out_of_memory new
@@ -107,11 +102,7 @@ done_in_want old mid v next others new left run = (next, others, (refl, refl), s
 done_first : (old : State) (command : Command) (commands : List Command) (outcome : Outcome) (outcomes : List Outcome)
     (mid new : State) (b : Bool) → is_want outcome ≡ b → IsStep old command outcome mid
     → DoneRun mid commands outcomes new → DoneRun old (command ∷ commands) (outcome ∷ outcomes) new
-done_first old command commands outcome outcomes mid new true h step (next, others, are, run) =
-    let want : outcome ≡ out_of_memory = is_out_of_memory outcome h in
-    let left : LeavesInWant old command.request mid = left_in_want old command mid (subst (λ o. IsStep old command o mid) want step) in
-    let first = done_in_want old mid command.request next others new left run in
-    (first.0, first.1, (next, others, inr (want, first.2), are), first.3)
+done_first old command commands outcome outcomes mid new true h step (next, others, are, run) = search (rules, is_out_of_memory, left_in_want, done_in_want)
 done_first old command commands outcome outcomes mid new false h step (next, others, are, run) =
     let found : outcome ≢ out_of_memory = no_want outcome h in
     (command ∷ next, outcome ∷ others, (next, others, inl (found, refl, refl), are), ((mid, step, run.0), (found, run.1)))
@@ -126,36 +117,27 @@ done_of_run old commands outcomes new run = absurd run
 -- a run in which no step wants memory gives outcomes of its commands, and the state that they leave
 pub ample_outcomes : (old : State) (commands : List Command) (outcomes : List Outcome) (new : State)
     → IsAmpleRun old commands outcomes new → AreOutcomes old commands outcomes
-ample_outcomes old [] [] new ample = tt
 ample_outcomes old (command ∷ commands) (outcome ∷ outcomes) new ((mid, step, run), none) =
-    let given = given_step old command outcome mid step none.0 in
-    (given.0, subst (λ state. AreOutcomes state commands outcomes) given.1 (ample_outcomes mid commands outcomes new (run, none.1)))
-ample_outcomes old commands outcomes new ample = absurd ample.0
+    search (rules, given_step, (ample_outcomes mid commands outcomes new (run, none.1)))
+ample_outcomes old commands outcomes new ample = search rules
 
 pub ample_state : (old : State) (commands : List Command) (outcomes : List Outcome) (new : State)
     → IsAmpleRun old commands outcomes new → new ≡ state_after_all old commands
-ample_state old [] [] new ample = ample.0
 ample_state old (command ∷ commands) (outcome ∷ outcomes) new ((mid, step, run), none) =
-    let given = given_step old command outcome mid step none.0 in
-    ample_state mid commands outcomes new (run, none.1) ∙ ap (λ state. state_after_all state commands) given.1
-ample_state old commands outcomes new ample = absurd ample.0
+    search (rules, given_step, (ample_state mid commands outcomes new (run, none.1)))
+ample_state old commands outcomes new ample = search rules
 
 outcomes_run : (old : State) (commands : List Command) (outcomes : List Outcome) → AreOutcomes old commands outcomes
     → IsRun old commands outcomes (state_after_all old commands)
-outcomes_run old [] [] are = refl
 outcomes_run old (command ∷ commands) (outcome ∷ outcomes) are =
     (state_after old command, inl (are.0, refl), outcomes_run (state_after old command) commands outcomes are.1)
-outcomes_run old commands outcomes are = absurd are
+outcomes_run old commands outcomes are = search rules
 
 outcomes_given : (old : State) (commands : List Command) (outcomes : List Outcome) → AreOutcomes old commands outcomes
     → NoneWantsMemory outcomes
-outcomes_given old [] [] are = tt
-outcomes_given old (command ∷ commands) (outcome ∷ outcomes) are = (
-  (λ e. never_wanted old command.request command.into (subst (IsOutcome old command) e are.0)),
-  outcomes_given (state_after old command) commands outcomes
-      are.1,
-)
-outcomes_given old commands outcomes are = absurd are
+outcomes_given old (command ∷ commands) (outcome ∷ outcomes) are =
+    search (rules, never_wanted, (outcomes_given (state_after old command) commands outcomes are.1))
+outcomes_given old commands outcomes are = search rules
 
 -- and each list of outcomes is that of such a run
 pub ample_from_outcomes : (old : State) (commands : List Command) (outcomes : List Outcome)

@@ -52,8 +52,7 @@ module _ {X : Type 0} where
       → place_behind step (length xs) from ≡ start → place_behind step (length xs) until ≡ end
       → IsStrided (directed step xs) from until (suc (pause step)) ys → IsSliceFrom xs start end step ys
   strided_is_slice xs ys start end (pos zero) from until nonzero within s e h = absurd (nonzero refl)
-  strided_is_slice xs ys start end (pos (suc n)) from until nonzero within s e h =
-      subst (λ z. IsSliceFrom xs z end (pos (suc n)) ys) s (subst (λ z. IsSliceFrom xs (pos from) z (pos (suc n)) ys) e (forward xs ys from until n h))
+  strided_is_slice xs ys start end (pos (suc n)) from until nonzero within s e h = search (rules, forward)
   strided_is_slice xs ys start end (negsuc n) from until nonzero within s e h =
       subst (λ z. IsSliceFrom xs z end (negsuc n) ys) s
       (subst (λ z. IsSliceFrom xs (pos (length xs) -ℤ pos (suc from)) z (negsuc n) ys) e (backward xs ys from until n within h))
@@ -70,16 +69,6 @@ module _ {X : Type 0} where
   -- a walk takes each by-th of the items
   pub walked_strides : (p waits until : ℕ) (xs : List X)
       → IsStrided xs waits (min until (length xs)) (suc p) (walked p waits (take until xs))
-  walked_strides p waits zero xs = record {
-    reached = omega arith;
-    before = λ k b. absurd (omega arith);
-    taken = λ k b. absurd (omega arith);
-  }
-  walked_strides p waits (suc until) [] = record {
-    reached = omega arith;
-    before = λ k b. absurd (omega arith);
-    taken = λ k b. absurd (omega arith);
-  }
   walked_strides p zero (suc until) (x ∷ xs) =
       let ys = walked p p (take until xs) in
       let h = walked_strides p p until xs in
@@ -89,16 +78,8 @@ module _ {X : Type 0} where
         before = λ k b. let e = first_before p (min until (length xs)) xs ys k b h in omega arith;
         taken = λ k b. first_taken p (min until (length xs)) x xs ys k b h;
       }
-  walked_strides p (suc waits) (suc until) (x ∷ xs) =
-      let h = walked_strides p waits until xs in
-      let reached = h.reached in
-      record {
-        reached = omega arith;
-        before = λ k b. let e = h.before k b in omega arith;
-        taken = λ k b.
-            let e : suc (waits + k * suc p) ≡ suc waits + k * suc p = omega arith in
-            h.taken k b ∙ ap (slice_get (x ∷ xs)) e;
-      }
+  walked_strides p (suc waits) (suc until) (x ∷ xs) = search (rules, (walked_strides p waits until xs))
+  walked_strides p waits x2 xs = search rules
 
   pub length_directed : (step : ℤ) (xs : List X) → length (directed step xs) ≡ length xs
   length_directed x0 xs = search (rules, length-reverse)

@@ -6,8 +6,7 @@ use Rattle.std.proofs.lemmas.Option.{none-some}
 use Rattle.std.specs.BTreeMap.{insert_entry}
 use Rattle.std.specs.List.{AllByRecursion, IsDistinct}
 use Rattle.std.specs.Map.{keys_of}
-use Rattle.std.specs.Ordering.{eq_by_cmp, is_eq, match_ordering}
-use Rattle.std.specs.declared.cmp.Ordering.TheVariants.{Less, Equal, Greater}
+use Rattle.std.specs.Ordering.{eq_by_cmp}
 use Rattle.tera_meaning.specs.KeyMeaning.{KeyMeaning, key_order}
 use Rattle.tera_meaning.specs.Meaning.{Layout, Meaning, sorted, sorted_items, sorted_pairs}
 use Rattle.tera_meaning.specs.Pairs.{HasDistinctKeys, Rises, rising, value_at}
@@ -21,13 +20,7 @@ use Rattle.tera_meaning.proofs.TreeLaws.{list_of_members, members_of_list}
 insert_well : (k : KeyMeaning) (x : Meaning) (ps : List (KeyMeaning × Meaning)) → IsWellMadeKeyMeaning k → IsWellMadeMeaning x
     → ArePairsOf (Rises key_order) (members ps) → ArePairsOf (Rises key_order) (members (insert_entry key_order ps k x))
 insert_well k x [] h g rest = (h, g, tt)
-insert_well k x (p ∷ ps) h g rest =
-    elim (key_order k p.0) as (λ r.
-    ArePairsOf (Rises key_order) (members (match_ordering r ((k, x) ∷ p ∷ ps) ((p.0, x) ∷ ps) (p ∷ insert_entry key_order ps k x)))) [
-      | Less ↦ (h, g, rest)
-      | Equal ↦ (rest.0, g, rest.2)
-      | Greater ↦ (rest.0, rest.1, insert_well k x ps h g rest.2)
-    ]
+insert_well k x (p ∷ ps) h g rest = search (rules, (insert_well k x ps h g rest.2))
 
 mutual
   pub sorted_well : (x : Layout) → IsWellMadeLayout x → IsWellMadeMeaning (sorted x)
@@ -97,15 +90,7 @@ both_pairs x0 b c d e = search rules
 exact_inserted : (k : KeyMeaning) (x : Meaning) (ps : List (KeyMeaning × Meaning)) → value_at key_order ps k ≡ None
     → are_exact_members (members (insert_entry key_order ps k x)) ≡ (is_exact_key k && (is_exact_inside x && are_exact_members (members ps)))
 exact_inserted k x [] none = refl
-exact_inserted k x (p ∷ ps) none =
-    elim (key_order k p.0) as (λ r. cond (is_eq r) (Some p.1) (value_at key_order ps k) ≡ None
-    → are_exact_members (members (match_ordering r ((k, x) ∷ p ∷ ps) ((p.0, x) ∷ ps) (p ∷ insert_entry key_order ps k x)))
-    ≡ (is_exact_key k && (is_exact_inside x && are_exact_members (members (p ∷ ps))))) [
-      | Less ↦ λ n. refl
-      | Equal ↦ λ n. absurd (none-some p.1 (sym n))
-      | Greater ↦ λ n. ap (λ b. is_exact_key p.0 && (is_exact_inside p.1 && b)) (exact_inserted k x ps n)
-          ∙ both_pairs (is_exact_key k) (is_exact_inside x) (is_exact_key p.0) (is_exact_inside p.1) (are_exact_members (members ps))
-    ] none
+exact_inserted k x (p ∷ ps) none = search (rules, none-some, both_pairs, (exact_inserted k x ps))
 
 not_there : (k : KeyMeaning) (ps : Members ℤ (List ℕ) KeyMeaning) → AllByRecursion (λ l. eq_by_cmp key_order k l ≡ false) (keys_of (members_list ps))
     → value_at key_order (sorted_pairs ps) k ≡ None

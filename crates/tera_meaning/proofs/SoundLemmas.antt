@@ -3,7 +3,7 @@ use Rattle.std.proofs.Common.{refl, ap₂, rules}
 use Rattle.std.proofs.lemmas.Bool.{and_parts}
 use Rattle.std.specs.List.{AllByRecursion}
 use Rattle.std.specs.Ordering.{eq_by_cmp}
-use Rattle.std.specs.Prelude.{◌≡◌, ℕ, zero, suc, Bool, true, List, [], Option, Some, refl, cond, ◌∷◌, slice_get, IfSome, ◌&&◌, reverse}
+use Rattle.std.specs.Prelude.{◌≡◌, ℕ, suc, Bool, true, List, [], Option, Some, refl, cond, ◌∷◌, slice_get, IfSome, ◌&&◌, reverse}
 use Rattle.std.specs.Str.{encode_utf8_all, IsUtf8}
 use Rattle.tera_meaning.specs.Form.{Form, MarkedText}
 use Rattle.tera_meaning.specs.Integer.{Integer}
@@ -25,9 +25,8 @@ sound_pair no_members k h = tt
 sound_pair (member l x ps) k h = sound_pick (eq_by_cmp key_form_order k l) x _ h.1 (sound_pair ps k h.2)
 
 pub sound_place : (xs : Items Integer MarkedText KeyForm) (n : ℕ) → AreWellMade xs → Sound (slice_get (items_list xs) n)
-sound_place no_items n h = tt
-sound_place (item x xs) zero h = h.0
-sound_place (item x xs) (suc n) h = sound_place xs n h.1
+sound_place (item x xs) (suc n) h = search (rules, (sound_place xs n h.1))
+sound_place x0 n h = search rules
 
 -- ---- lists of parts
 

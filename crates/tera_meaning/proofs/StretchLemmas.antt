@@ -1,5 +1,5 @@
 -- A slice by a step of 1 is the items from one bound to the other.
-use Rattle.std.specs.Prelude.{◌≡◌, ◌≤◌, min, ℕ, zero, suc, ℤ, pos, nat_abs, List, [], ◌∷◌, drop, length, take, Option, None, Some, Result, Ok, refl}
+use Rattle.std.specs.Prelude.{◌≡◌, ◌≤◌, min, ℕ, zero, suc, ℤ, pos, nat_abs, List, ◌∷◌, drop, length, take, Option, None, Some, Result, Ok}
 use Rattle.std.proofs.Common.{ap, ◌∙◌, arith, rules}
 use Rattle.std.proofs.lemmas.Bool.{cases_lt}
 use Rattle.std.proofs.lemmas.Int.{ints, clamps}
@@ -21,10 +21,9 @@ at_front n bound = omega (arith, ints, clamps)
 module _ {X : Type 0} where
   -- a walk that does not pause takes what is behind those that it passes over
   walked_on : (waits : ℕ) (xs : List X) → walked 0 waits xs ≡ drop waits xs
-  walked_on zero [] = refl
-  walked_on (suc waits) [] = refl
-  walked_on zero (x ∷ xs) = ap (λ ys. x ∷ ys) (walked_on zero xs)
-  walked_on (suc waits) (x ∷ xs) = walked_on waits xs
+  walked_on zero (x ∷ xs) = search (rules, (walked_on zero xs))
+  walked_on (suc waits) (x ∷ xs) = search (rules, (walked_on waits xs))
+  walked_on x0 x1 = search rules
 
   drop_at_most : (bound n : ℕ) (xs : List X) → length xs ≤ n → drop (min bound n) xs ≡ drop bound xs
   drop_at_most bound n xs within = search (rules, cases_lt, drop_all)

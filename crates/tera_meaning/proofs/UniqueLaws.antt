@@ -64,20 +64,13 @@ module _ {K V : Type 0} (order : K → K → Ordering) (total : IsTotalOrder ord
 
   insert_longer : (k : K) (v : V) (es : List (K × V)) → value_at order es k ≡ None → length (insert_entry order es k v) ≡ suc (length es)
   insert_longer k v [] none = refl
-  insert_longer k v (e ∷ es) none =
-      elim (order k e.0) as (λ r. cond (is_eq r) (Some e.1) (value_at order es k) ≡ None
-      → length (match_ordering r ((k, v) ∷ e ∷ es) ((e.0, v) ∷ es) (e ∷ insert_entry order es k v)) ≡ suc (suc (length es))) [
-        | Less ↦ λ n. refl
-        | Equal ↦ λ n. absurd (none-some e.1 (sym n))
-        | Greater ↦ λ n. ap suc (insert_longer k v es n)
-      ] none
+  insert_longer k v (e ∷ es) none = search (rules, none-some, (insert_longer k v es))
 
   -- a pair list is as long as its entries are many
   pub rising_length : (es : List (K × V)) → HasDistinctKeys order es → length (rising order es) ≡ length es
   unfolding IsDistinct
   rising_length [] h = refl
-  rising_length (e ∷ es) h =
-      insert_longer e.0 e.1 (rising order es) (found_rising order total es e.0 ∙ none_tied e.0 es h.0) ∙ ap suc (rising_length es h.1)
+  rising_length (e ∷ es) h = search (rules, insert_longer, found_rising, none_tied, (rising_length es h.1))
 
   pub rising_permutes : (es : List (K × V)) → HasDistinctKeys order es → IsPermutation es (rising order es)
   unfolding IsDistinct

@@ -22,7 +22,7 @@ use Rattle.tera_meaning.proofs.SortedLemmas.{sorted_well, exact_together}
 use Rattle.tera_meaning.proofs.StateLaws.{held_empty, name_exact}
 use Rattle.tera_meaning.specs.Search.{Found, found_at}
 use Rattle.tera_meaning.proofs.Owed.{IsHeldWell, form_at_well}
-use Rattle.tera_meaning.proofs.found.{owed}
+use Rattle.tera_meaning.proofs.found.{found_well}
 use Rattle.tera_meaning.proofs.ExtendLaws.{get_extended, beginning_held}
 use Rattle.tera_meaning.specs.Request.{Command, Request, set, extend, remove, mark_safe, find}
 use Rattle.tera_meaning.specs.Step.{keeping, marking_into, leaves, LeavesInWant, IsStep, state_after}
@@ -71,7 +71,7 @@ module _ (state : State) (h : IsWellMadeState state) where
   left_well (extend source) into well utf8 = extended_well source well
   left_well (remove name) into well utf8 = removed_well name
   left_well (mark_safe name) into well utf8 = marked_into_well name into utf8
-  left_well (find search) into well utf8 = kept_well into (found_at state search) utf8 ((owed search).well_made state h)
+  left_well (find search) into well utf8 = kept_well into (found_at state search) utf8 (found_well search state h)
   left_well v into well utf8 = h
 
 pub all_left_well : (state : State) (commands : List Command) → IsWellMadeState state → AllBringWellMade commands
@@ -101,10 +101,9 @@ step_well old command outcome new h brings utf8 x7 = search (rules, left_well, w
 
 pub run_well : (old : State) (commands : List Command) (outcomes : List Outcome) (new : State) → IsWellMadeState old
     → AllBringWellMade commands → IsRun old commands outcomes new → IsWellMadeState new
-run_well old [] [] new h brought run = subst IsWellMadeState (sym run) h
 run_well old (command ∷ commands) (outcome ∷ outcomes) new h brought (mid, step, run) =
-    run_well mid commands outcomes new (step_well old command outcome mid h brought.0.0 brought.0.1 step) brought.1 run
-run_well old commands outcomes new h brought run = absurd run
+    search (rules, step_well, (run_well mid commands outcomes new (step_well old command outcome mid h brought.0.0 brought.0.1 step) brought.1 run))
+run_well old commands outcomes new h brought run = search rules
 
 -- ---- what well-made forms mean
 

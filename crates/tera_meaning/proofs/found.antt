@@ -1,36 +1,57 @@
--- What each call that finds something owes: one row a call, by the laws in the file of its name.
+-- What is found in states of one meaning is the same up to meaning, and is well made where the states are.
+use Rattle.std.proofs.Common.{rules}
+use Rattle.std.specs.Prelude.{◌≡◌, Result, IfOk, IfSome}
+use Rattle.tera_report.specs.Refusal.{Refusal, Operator}
 use Rattle.tera_meaning.specs.Arithmetic.{calculated, negated}
-use Rattle.tera_meaning.specs.Conversion.{read_as}
-use Rattle.tera_meaning.specs.Lookup.{attr, item}
-use Rattle.tera_meaning.specs.Path.{path}
+use Rattle.tera_meaning.specs.Conversion.{IntegerType, read_as}
+use Rattle.tera_meaning.specs.Form.{Form}
+use Rattle.tera_meaning.specs.Alike.{MeanTheSame}
 use Rattle.tera_meaning.specs.Search
-use Rattle.tera_meaning.specs.Search.{Search, found_at}
-use Rattle.tera_meaning.specs.SliceRule.{reversed}
-use Rattle.tera_meaning.specs.Slice.{sliced}
-use Rattle.tera_meaning.proofs.Owed.{Owes, held_owes, finds, makes, makes_of_two}
+use Rattle.tera_meaning.specs.Search.{Search, found_at, one_found}
+use Rattle.tera_meaning.specs.State.{State, form_at}
+use Rattle.tera_meaning.specs.WellMade.{IsWellMade, IsWellMadeState}
+use Rattle.tera_meaning.proofs.Owed.{found_shape, meaning_alike, form_at_well}
 use Rattle.tera_meaning.proofs.ContainsLemmas.{holds_by_meaning}
 use Rattle.tera_meaning.proofs.ReadLemmas.{fields_by_meaning}
 pub mod Attr
-pub mod Calculate
 pub mod Item
-pub mod Negate
 pub mod Path
-pub mod Read
 pub mod Reverse
 pub mod Slice
 
-pub owed : (search : Search) → Owes (λ state. found_at state search)
-owed (Search.get name) = held_owes name
-owed (Search.path name p) = finds name (λ v. path v p) (Path.by_meaning p) (Path.well_made p)
-owed (Search.attr name t) = finds name (λ v. attr v t) (Attr.by_meaning t) (Attr.well_made t)
-owed (Search.item name i) = makes_of_two name i item Item.by_meaning Item.no_want Item.well_made
-owed (Search.slice name start end step) =
-    makes name (λ v. sliced v start end step) (Slice.by_meaning start end step) (Slice.no_want start end step) (Slice.well_made start end step)
-owed (Search.reverse name) = makes name reversed Reverse.by_meaning Reverse.no_want Reverse.well_made
-owed (Search.calculate operator left right) =
-    makes_of_two left right (calculated operator) (Calculate.by_meaning operator) (Calculate.no_want operator) (λ v w h. Calculate.well_made operator v w)
-owed (Search.negate name) = makes name negated Negate.by_meaning Negate.no_want (λ v h. Negate.well_made v)
-owed (Search.read type name) = makes name (read_as type) (Read.by_meaning type) (Read.no_want type) (λ v h. Read.well_made type v)
+pub found_alike : (call : Search) (f g : State) → MeanTheSame f g → found_shape (found_at f call) ≡ found_shape (found_at g call)
+found_alike (Search.path name p) f g h = search (rules, meaning_alike, Path.by_meaning)
+found_alike (Search.attr name t) f g h = search (rules, meaning_alike, Attr.by_meaning)
+found_alike (Search.item name i) f g h =
+    search (rules, (Item.by_meaning (form_at f name) (form_at f i) (form_at g name) (form_at g i) (meaning_alike f g h name) (meaning_alike f g h i)))
+found_alike (Search.slice name start end step) f g h =
+    search (rules, (Slice.by_meaning start end step (form_at f name) (form_at g name) (meaning_alike f g h name)))
+found_alike (Search.reverse name) f g h = search (rules, (Reverse.by_meaning (form_at f name) (form_at g name) (meaning_alike f g h name)))
+found_alike call f g h = search (rules, meaning_alike)
+
+some_well : (made : Result Form Refusal) → IfOk made IsWellMade → IfOk (one_found made) (λ o. IfSome o IsWellMade)
+some_well made h = search rules
+
+calculated_well : (operator : Operator) (v w : Form) → IfOk (calculated operator v w) IsWellMade
+calculated_well operator v w = search rules
+
+negated_well : (v : Form) → IfOk (negated v) IsWellMade
+negated_well v = search rules
+
+read_well : (type : IntegerType) (v : Form) → IfOk (read_as type v) IsWellMade
+read_well type v = search rules
+
+pub found_well : (call : Search) (state : State) → IsWellMadeState state → IfOk (found_at state call) (λ o. IfSome o IsWellMade)
+found_well (Search.path name p) state h = search (rules, form_at_well, Path.well_made)
+found_well (Search.attr name t) state h = search (rules, form_at_well, Attr.well_made)
+found_well (Search.item name i) state h = search (rules, (Item.well_made (form_at state name) (form_at state i) (form_at_well state h name)))
+found_well (Search.slice name start end step) state h =
+    search (rules, (Slice.well_made start end step (form_at state name) (form_at_well state h name)))
+found_well (Search.reverse name) state h = search (rules, (Reverse.well_made (form_at state name) (form_at_well state h name)))
+found_well (Search.calculate operator left right) state h = some_well _ (calculated_well operator (form_at state left) (form_at state right))
+found_well (Search.negate name) state h = some_well _ (negated_well (form_at state name))
+found_well (Search.read type name) state h = some_well _ (read_well type (form_at state name))
+found_well call state h = search (rules, form_at_well)
 
 pub ruleset by_meaning = (Attr.by_meaning, Path.by_meaning, Item.by_meaning, Slice.sliced_alike, Reverse.by_meaning, holds_by_meaning, fields_by_meaning)
 

@@ -1,12 +1,11 @@
--- An item is found by meaning, is no want of memory, and is well made.
+-- An item is found by meaning, and is well made.
 use Rattle.std.proofs.Common.{refl, ap, ◌∙◌, rules}
 use Rattle.std.proofs.lemmas.Bool.{and_parts}
 use Rattle.std.proofs.lemmas.Option.{slice_get-map}
 use Rattle.std.proofs.lemmas.Str.{scalars-chars, IsUtf8-encode}
 use Rattle.std.specs.Char.{encode_utf8}
 use Rattle.std.specs.Option.{option_map, option_and_then, ok_or, unwrap_or}
-use Rattle.std.specs.Prelude.{◌≡◌, ℕ, zero, suc, ℤ, true, List, [], Option, Some, None, Result, Ok, Err, IfOk, IfErr, refl, ◌∷◌, map, slice_get, length}
-use Rattle.std.specs.Prelude.{unwrap_or, IfSome}
+use Rattle.std.specs.Prelude.{◌≡◌, ℕ, suc, ℤ, true, List, [], Option, Some, None, Result, Ok, Err, IfOk, refl, ◌∷◌, map, slice_get, length, unwrap_or, IfSome}
 use Rattle.std.specs.Str.{chars, IsUtf8}
 use Rattle.tera_meaning.specs.Form.{Form, MarkedText}
 use Rattle.tera_meaning.specs.Integer.{Integer}
@@ -23,7 +22,6 @@ use lib.Utf8.{scalars}
 use Rattle.tera_meaning.proofs.MeaningLaws.{meant_items, items_meant, found_pair}
 use Rattle.tera_meaning.proofs.ReadLemmas.{meant_members, key_meant, key_as_meant, number_meant}
 use Rattle.tera_meaning.proofs.SoundLemmas.{Sound, sound_pair, sound_place}
-use Rattle.tera_meaning.proofs.ArithmeticLemmas.{IsNoWant}
 use Rattle.std.proofs.lemmas.List.{length-map}
 
 got_at : {X Y : Type 0} (f : X → Y) (xs : List X) (o : Option ℕ) → option_map f (option_and_then (slice_get xs) o) ≡ option_and_then (slice_get (map f xs)) o
@@ -80,20 +78,14 @@ item_as_meant v i = search (rules, indexed_as_meant, char_as_meant, meant_items,
 pub by_meaning : (v i w j : Form) → meaning v ≡ meaning w → meaning i ≡ meaning j → seen_by meaning (item v i) ≡ seen_by meaning (item w j)
 by_meaning v i w j same index = search (rules, item_as_meant, item_meant, number_meant, key_as_meant, key_meant)
 
--- ---- no want of memory
-
-pub no_want : (v i : Form) → IfErr (item v i) IsNoWant
-no_want v i = search rules
-
 -- ---- well made
 
 sound_part : (xs : Items Integer MarkedText KeyForm) (o : Option ℕ) → AreWellMade xs → Sound (option_and_then (slice_get (items_list xs)) o)
 sound_part xs x1 h = search (rules, sound_place)
 
 sound_char : (cs : List ℕ) (n : ℕ) → scalars cs ≡ true → IfSome (slice_get cs n) (λ c. IsUtf8 (encode_utf8 c))
-sound_char [] n h = tt
-sound_char (c ∷ cs) zero h = IsUtf8-encode c (and_parts _ _ h).0
-sound_char (c ∷ cs) (suc n) h = sound_char cs n (and_parts _ _ h).1
+sound_char (c ∷ cs) (suc n) h = search (rules, and_parts, (sound_char cs n))
+sound_char x0 n h = search (rules, IsUtf8-encode, and_parts)
 
 sound_char_at : (cs : List ℕ) (o : Option ℕ) → scalars cs ≡ true → IfSome (option_and_then (slice_get cs) o) (λ c. IsUtf8 (encode_utf8 c))
 sound_char_at cs x1 h = search (rules, sound_char)
@@ -116,8 +108,7 @@ sound_key ps i h = by (key_in i)
     by (Some k) = sound_or (value_at key_form_order (members_list ps) k) (sound_pair ps k h)
 
 pub well_made : (v i : Form) → IsWellMade v → IfOk (item v i) IsWellMade
-well_made (text t) i h = sound_index in_text i _ (λ z. sound_text t (part_at (chars t.spelled) z)
-    (sound_char_at (chars t.spelled) (place_of (length (chars t.spelled)) z) (scalars-chars t.spelled h)))
+well_made (text t) i h = search (rules, sound_index, sound_text, sound_char_at, scalars-chars)
 well_made (array xs) i h = sound_index in_array i _ (λ z. sound_part xs (place_of (length (items_list xs)) z) h)
 well_made (object ps) i h = sound_key ps i h.1
 well_made v i h = tt

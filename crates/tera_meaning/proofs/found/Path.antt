@@ -33,9 +33,7 @@ and_then x0 x1 k e h = search rules
 
 followed_by_meaning : (es : List (List ℕ)) (v w : Form) → meaning v ≡ meaning w → option_map meaning (followed v es) ≡ option_map meaning (followed w es)
 followed_by_meaning [] v w same = ap Some same
-followed_by_meaning (e ∷ es) v w same =
-    and_then (reached v e (place e)) (reached w e (place e)) (λ part. followed part es) (reached_by_meaning v w e (place e) same)
-    (λ x y h. followed_by_meaning es x y h)
+followed_by_meaning (e ∷ es) v w same = search (rules, and_then, reached_by_meaning, (followed_by_meaning es))
 
 -- undefined leads nowhere, none to itself, and all else to what is followed
 led : {X : Type 0} → Meaning → X → Option X → Option X

@@ -1,7 +1,7 @@
--- A reversed value is found by meaning, is no want of memory, and is well made.
+-- A reversed value is found by meaning, and is well made.
 use Rattle.std.proofs.Common.{refl, rules}
 use Rattle.std.proofs.lemmas.Str.{scalars-chars}
-use Rattle.std.specs.Prelude.{◌≡◌, List, [], Result, Ok, Err, IfOk, IfErr, refl, ◌∷◌, map, reverse}
+use Rattle.std.specs.Prelude.{◌≡◌, List, [], Result, Ok, Err, IfOk, refl, ◌∷◌, map, reverse}
 use Rattle.std.specs.Str.{chars, encode_utf8_all}
 use Rattle.tera_meaning.specs.Form.{Form}
 use Rattle.tera_meaning.specs.Meaning.{meaning, Meaning}
@@ -13,7 +13,6 @@ use mathlib.Core.List.{reverse_aux}
 use Rattle.tera_meaning.proofs.MeaningLaws.{items_meant}
 use Rattle.tera_meaning.proofs.ReadLemmas.{array_shape}
 use Rattle.tera_meaning.proofs.SoundLemmas.{all_reversed, listed_well, items_well, each_scalar, spelled_well}
-use Rattle.tera_meaning.proofs.ArithmeticLemmas.{IsNoWant}
 
 module _ {X Y : Type 0} (f : X → Y) where
   map_onto : (xs ys : List X) → map f (reverse_aux xs ys) ≡ reverse_aux (map f xs) (map f ys)
@@ -34,9 +33,6 @@ reversed_means v = search (rules, array_shape, reverse_mapped, items_meant)
 
 pub by_meaning : (v w : Form) → meaning v ≡ meaning w → shape_of (reversed v) ≡ shape_of (reversed w)
 by_meaning v w e = search (rules, reversed_means)
-
-pub no_want : (v : Form) → IfErr (reversed v) IsNoWant
-no_want v = search rules
 
 pub well_made : (v : Form) → IsWellMade v → IfOk (reversed v) IsWellMade
 well_made v h = search (rules, spelled_well, all_reversed, each_scalar, scalars-chars, items_well, listed_well)

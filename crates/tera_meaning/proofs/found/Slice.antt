@@ -1,10 +1,10 @@
--- A slice is found by meaning, is no want of memory, and is well made.
+-- A slice is found by meaning, and is well made.
 use Rattle.std.proofs.Common.{sym, subst, rules}
 use Rattle.std.proofs.lemmas.Option.{slice_get-map}
 use Rattle.std.proofs.lemmas.Str.{scalars-chars}
 use Rattle.std.specs.List.{AllByRecursion}
 use Rattle.std.specs.Option.{unwrap_or}
-use Rattle.std.specs.Prelude.{◌≡◌, ℕ, zero, suc, ℤ, pos, negsuc, List, [], Option, Result, Ok, Err, IfOk, IfErr, ◌∷◌, map, unwrap_or, ◌≢◌, take}
+use Rattle.std.specs.Prelude.{◌≡◌, ℕ, zero, suc, ℤ, pos, negsuc, List, [], Option, Result, Ok, Err, IfOk, ◌∷◌, map, unwrap_or, ◌≢◌, take}
 use Rattle.std.specs.Str.{chars, encode_utf8_all}
 use Rattle.tera_meaning.proofs.SliceLaws.{slice_of_is, slices_same, sliced_only}
 use Rattle.tera_meaning.specs.Form.{Form}
@@ -17,7 +17,6 @@ use Rattle.tera_report.specs.Refusal.{Refusal, step_of_zero, not_sliceable}
 use Rattle.tera_meaning.proofs.MeaningLaws.{items_meant}
 use Rattle.tera_meaning.proofs.ReadLemmas.{array_shape}
 use Rattle.tera_meaning.proofs.SoundLemmas.{all_reversed, listed_well, items_well, each_scalar, spelled_well}
-use Rattle.tera_meaning.proofs.ArithmeticLemmas.{IsNoWant}
 use Rattle.std.proofs.lemmas.List.{length-map}
 use Rattle.std.proofs.lemmas.Grind.{common_steps}
 
@@ -60,11 +59,6 @@ by_meaning start end step v w e = search (rules, cut_by_means)
 pub sliced_alike : (v w : Form) (start end step : Option ℤ) (outcome other : Result Form Refusal) → meaning v ≡ meaning w
     → IsSliced v start end step outcome → IsSliced w start end step other → shape_of outcome ≡ shape_of other
 sliced_alike v w start end step outcome other e h i = search (rules, sliced_only, by_meaning)
-
--- ---- no want of memory
-
-pub no_want : (start end step : Option ℤ) (v : Form) → IfErr (sliced v start end step) IsNoWant
-no_want start end step v = search rules
 
 -- ---- well made
 
