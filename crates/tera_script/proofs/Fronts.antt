@@ -13,6 +13,14 @@ use Rattle.std.proofs.lemmas.Bool.Decides.{nat_tests, Decides-eqb}
 use Rattle.tera_script.specs.Word.{is_blank}
 use Rattle.tera_script.specs.Readers.{Stops, front, past, is_word_byte, behind}
 
+abbrev pub head : List ℕ → ℕ
+head [] = 0
+head (b ∷ xs) = b
+
+abbrev pub tail : List ℕ → List ℕ
+tail [] = []
+tail (b ∷ xs) = xs
+
 module _ (p : ℕ → Bool) where
   pub front-past : (xs : List ℕ) → front p xs ++ past p xs ≡ xs
   front-past [] = refl

@@ -16,11 +16,15 @@ use Rattle.tera_script.specs.Word.{is_blank, AreBlanks, is_name_byte, IsName}
 use Rattle.tera_script.specs.Readers.{is_word_byte}
 use Rattle.std.proofs.lemmas.Bool.{and_parts}
 
+-- the byte behind a front
+pub byte_at : (xs zs : List ℕ) (b : ℕ) → get_or (xs ++ (b ∷ zs)) (length xs) 0 ≡ b
+byte_at xs zs b = ap (λ n. get_or (xs ++ (b ∷ zs)) n 0) (sym (add-zero (length xs))) ∙ get_or-append-add xs (b ∷ zs) 0 0
+
 -- UTF-8 may be cut before and after an ASCII byte
 pub around_byte : (xs zs : List ℕ) (b : ℕ) → b < 128 → IsUtf8 (xs ++ (b ∷ zs)) → IsUtf8 xs × IsUtf8 zs
 around_byte xs zs b ascii u =
     let inside : length xs < length (xs ++ (b ∷ zs)) = grind (arith, common_steps) in
-    let small : get_or (xs ++ (b ∷ zs)) (length xs) 0 < 128 = rw (← add-zero (length xs), get_or-append-add xs (b ∷ zs) 0 0) ascii in
+    let small : get_or (xs ++ (b ∷ zs)) (length xs) 0 < 128 = rw (byte_at xs zs b) ascii in
     let front = IsUtf8-take (xs ++ (b ∷ zs)) (length xs) u (IsCharBoundary-before_ascii (xs ++ (b ∷ zs)) (length xs) inside small) in
     let back = IsUtf8-drop (xs ++ (b ∷ zs)) (length xs + 1) u (IsCharBoundary-after_ascii (xs ++ (b ∷ zs)) (length xs) u inside small) in
     let cut : drop (length xs + 1) (xs ++ (b ∷ zs)) ≡ zs = ap (drop (length xs + 1)) (sym (append_assoc xs (b ∷ []) zs)) ∙ drop_at (xs ++ (b ∷ [])) zs
