@@ -32,10 +32,7 @@ pub(crate) fn take_key(
 }
 
 // The key that the text at the front is, behind its opening quote, and how many bytes it takes.
-fn take_text_key(
-    alloc: Global,
-    bytes: &[u8],
-) -> Result<Option<(Key<'static>, usize)>, AllocError>
+fn take_text_key(alloc: Global, bytes: &[u8]) -> Result<Option<(Key<'static>, usize)>, AllocError>
     ensures { IfOk result (λ answer. MatchOption answer
         ((text : List ℕ) (used : ℕ) → IsUtf8 text → BeginsWithText bytes.now text used → ⊥)
         (λ found. (text : List ℕ) × BeginsWithText bytes.now text found.1
