@@ -6,7 +6,7 @@ use Rattle.tera_script.proofs.look_up.name_and_text.Goals as goal
 
 pub returns-in_err-name : goal.returns-in_err-name
 returns-in_err-name c = rw (c.from_residual.ensures)
-    (none_whole (both_parts short_parts) c.args.bytes.now (no_name short_parts c.args.bytes.now c.in_err-name.ensures.operand))
+    (none_whole (both_parts short_parts) c.args.bytes.now (no_name short_parts c.in_err-name.ensures.operand))
 
 pub returns-in_err-text : goal.returns-in_err-text
 returns-in_err-text c = rw (c.from_residual-in_err-text.ensures)
