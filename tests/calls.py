@@ -46,7 +46,7 @@ def debug(value):
     elif isinstance(value, Number):
         inner = f"{value.kind.upper()}({value.number})"
     elif isinstance(value, Text):
-        inner = f"String({quoted(value.text)}, {second.truth(value.safe)})"
+        inner = f"String({second.truth(value.safe)}, {quoted(value.text)})"
     elif isinstance(value, bytes):
         inner = f"Bytes({list(value)})"
     else:

@@ -11,8 +11,8 @@ use tera_values::{Key, Value};
 fn lists_are_arrays(rt: HostRuntime) {
     let alloc = rt.alloc();
     let bytes = "Array([Value { inner: U64(1) }, Value { inner: U64(255) }])";
-    let texts = "Array([Value { inner: String(\"b\", false) }])";
-    let values = "Array([Value { inner: String(\"<\", true) }])";
+    let texts = "Array([Value { inner: String(false, \"b\") }])";
+    let values = "Array([Value { inner: String(true, \"<\") }])";
     hold(
         &rt,
         &[
@@ -28,7 +28,7 @@ fn lists_are_arrays(rt: HostRuntime) {
 fn sets_are_arrays_that_rise(rt: HostRuntime) {
     let alloc = rt.alloc();
     let numbers = "Array([Value { inner: I64(-2) }, Value { inner: I64(7) }])";
-    let one = "Array([Value { inner: String(\"a\", false) }])";
+    let one = "Array([Value { inner: String(false, \"a\") }])";
     hold(
         &rt,
         &[
@@ -42,7 +42,7 @@ fn sets_are_arrays_that_rise(rt: HostRuntime) {
 fn slices_are_arrays_or_bytes(rt: HostRuntime) {
     let alloc = rt.alloc();
     let values = two_of(alloc, safe(alloc, "<"), Value::from(7u128));
-    let array = "Array([Value { inner: String(\"<\", true) }, Value { inner: U128(7) }])";
+    let array = "Array([Value { inner: String(true, \"<\") }, Value { inner: U128(7) }])";
     let no_values: &[Value] = &[];
     let no_bytes: &[u8] = &[];
     hold(
@@ -78,7 +78,7 @@ fn hashed_maps_are_maps(rt: HostRuntime) {
 fn maps_in_order_are_maps(rt: HostRuntime) {
     let alloc = rt.alloc();
     let truth = "Map({Bool(true): Value { inner: I64(-7) }})";
-    let kept = "Map({String(\"é\"): Value { inner: String(\"a\", false) }})";
+    let kept = "Map({String(\"é\"): Value { inner: String(false, \"a\") }})";
     let number = "Map({I128(-7): Value { inner: I128(7) }})";
     hold(
         &rt,

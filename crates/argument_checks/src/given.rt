@@ -86,7 +86,7 @@ fn truth_and_nothing(rt: HostRuntime) {
             gives(alloc, None::<u8>, "None"),
             gives(alloc, Some(7u8), "U64(7)"),
             gives(alloc, Some(None::<bool>), "None"),
-            gives(alloc, Some("a"), "String(\"a\", false)"),
+            gives(alloc, Some("a"), "String(false, \"a\")"),
         ],
     );
 }
@@ -97,11 +97,11 @@ fn characters_are_texts(rt: HostRuntime) {
     hold(
         &rt,
         &[
-            gives(alloc, 'a', "String(\"a\", false)"),
-            gives(alloc, 'é', "String(\"é\", false)"),
-            gives(alloc, '€', "String(\"€\", false)"),
-            gives(alloc, '😀', "String(\"😀\", false)"),
-            gives(alloc, '<', "String(\"<\", false)"),
+            gives(alloc, 'a', "String(false, \"a\")"),
+            gives(alloc, 'é', "String(false, \"é\")"),
+            gives(alloc, '€', "String(false, \"€\")"),
+            gives(alloc, '😀', "String(false, \"😀\")"),
+            gives(alloc, '<', "String(false, \"<\")"),
         ],
     );
 }
@@ -112,16 +112,16 @@ fn texts_are_not_safe(rt: HostRuntime) {
     hold(
         &rt,
         &[
-            gives(alloc, "é<", "String(\"é<\", false)"),
-            gives(alloc, owned(alloc, "é<"), "String(\"é<\", false)"),
-            gives(alloc, CowStr::Borrowed("é<"), "String(\"é<\", false)"),
+            gives(alloc, "é<", "String(false, \"é<\")"),
+            gives(alloc, owned(alloc, "é<"), "String(false, \"é<\")"),
+            gives(alloc, CowStr::Borrowed("é<"), "String(false, \"é<\")"),
             gives(
                 alloc,
                 CowStr::Owned(owned(alloc, "é<")),
-                "String(\"é<\", false)",
+                "String(false, \"é<\")",
             ),
-            gives(alloc, "", "String(\"\", false)"),
-            gives(alloc, String::new(alloc), "String(\"\", false)"),
+            gives(alloc, "", "String(false, \"\")"),
+            gives(alloc, String::new(alloc), "String(false, \"\")"),
         ],
     );
 }
@@ -139,11 +139,11 @@ fn values_are_given_as_they_are(rt: HostRuntime) {
     hold(
         &rt,
         &[
-            gives(alloc, safe(alloc, "<"), "String(\"<\", true)"),
-            gives(alloc, text(alloc, "<"), "String(\"<\", false)"),
+            gives(alloc, safe(alloc, "<"), "String(true, \"<\")"),
+            gives(alloc, text(alloc, "<"), "String(false, \"<\")"),
             gives(alloc, Value::from(7u128), "U128(7)"),
             gives(alloc, Value::undefined(), "Undefined"),
-            gives_as_lent(alloc, safe(alloc, "<"), "String(\"<\", true)"),
+            gives_as_lent(alloc, safe(alloc, "<"), "String(true, \"<\")"),
             gives_as_lent(alloc, Value::from(7i128), "I128(7)"),
         ],
     );
@@ -168,8 +168,8 @@ fn keys_keep_their_width(rt: HostRuntime) {
             gives(alloc, Key::I64(-7), "I64(-7)"),
             gives(alloc, Key::U128(7), "U128(7)"),
             gives(alloc, Key::I128(7), "I128(7)"),
-            gives(alloc, Key::Str("é"), "String(\"é\", false)"),
-            gives(alloc, text_key(alloc, "é"), "String(\"é\", false)"),
+            gives(alloc, Key::Str("é"), "String(false, \"é\")"),
+            gives(alloc, text_key(alloc, "é"), "String(false, \"é\")"),
         ],
     );
 }
@@ -181,9 +181,9 @@ fn what_is_lent_gives_the_same(rt: HostRuntime) {
         &rt,
         &[
             gives(alloc, &true, "Bool(true)"),
-            gives(alloc, &'é', "String(\"é\", false)"),
-            gives(alloc, &owned(alloc, "é"), "String(\"é\", false)"),
-            gives(alloc, &"é", "String(\"é\", false)"),
+            gives(alloc, &'é', "String(false, \"é\")"),
+            gives(alloc, &owned(alloc, "é"), "String(false, \"é\")"),
+            gives(alloc, &"é", "String(false, \"é\")"),
         ],
     );
 }

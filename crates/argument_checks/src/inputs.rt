@@ -124,8 +124,8 @@ fn keeps_flag(alloc: Global, value: Value, copy: &str, other: &str) -> bool {
 fn flags_are_kept(rt: HostRuntime) {
     let alloc = rt.alloc();
     let (marked, plain) = (safe(alloc, "<"), text(alloc, "<"));
-    let (copy, other) = ("String(\"<\", true)", "String(\"é\", true)");
-    let (plain_copy, plain_other) = ("String(\"<\", false)", "String(\"é\", false)");
+    let (copy, other) = ("String(true, \"<\")", "String(true, \"é\")");
+    let (plain_copy, plain_other) = ("String(false, \"<\")", "String(false, \"é\")");
     hold(
         &rt,
         &[

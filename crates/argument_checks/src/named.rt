@@ -286,7 +286,7 @@ fn copies_keep_kinds_and_flags(rt: HostRuntime) {
     let wide = one_argument(alloc, "n", Value::from(7u128));
     let none = Kwargs::new(Map::new(alloc));
     let shown = "KwargsOf { values: Value { inner: \
-        Map({Str(\"é\"): Value { inner: String(\"é<\", true) }}) } }";
+        Map({Str(\"é\"): Value { inner: String(true, \"é<\") }}) } }";
     let told = "KwargsOf { values: Value { inner: \
         Map({Str(\"n\"): Value { inner: U128(7) }}) } }";
     let empty = "KwargsOf { values: Value { inner: Map({}) } }";

@@ -21,14 +21,14 @@ fn single_values_are_answered(rt: HostRuntime) {
         &rt,
         &[
             answers(alloc, true, "Bool(true)"),
-            answers(alloc, 'é', "String(\"é\", false)"),
+            answers(alloc, 'é', "String(false, \"é\")"),
             answers(alloc, (), "None"),
             answers(alloc, 7u8, "U64(7)"),
             answers(alloc, -7isize, "I64(-7)"),
             answers(alloc, 7u128, "U128(7)"),
             answers(alloc, Number::Integer(7), "I128(7)"),
             answers(alloc, Key::U64(7), "U64(7)"),
-            answers(alloc, safe(alloc, "<"), "String(\"<\", true)"),
+            answers(alloc, safe(alloc, "<"), "String(true, \"<\")"),
             answers(alloc, None::<u8>, "None"),
             answers(alloc, Some(7u8), "U64(7)"),
         ],
@@ -41,13 +41,13 @@ fn texts_are_answered(rt: HostRuntime) {
     hold(
         &rt,
         &[
-            answers(alloc, "é", "String(\"é\", false)"),
-            answers(alloc, owned(alloc, "é"), "String(\"é\", false)"),
-            answers(alloc, CowStr::Borrowed("é"), "String(\"é\", false)"),
+            answers(alloc, "é", "String(false, \"é\")"),
+            answers(alloc, owned(alloc, "é"), "String(false, \"é\")"),
+            answers(alloc, CowStr::Borrowed("é"), "String(false, \"é\")"),
             answers(
                 alloc,
                 CowStr::Owned(owned(alloc, "é")),
-                "String(\"é\", false)",
+                "String(false, \"é\")",
             ),
         ],
     );
@@ -90,7 +90,7 @@ fn what_succeeds_is_answered(rt: HostRuntime) {
         &[
             answers(alloc, number, "U64(7)"),
             answers(alloc, list, "Array([Value { inner: U64(1) }])"),
-            answers(alloc, value, "String(\"<\", true)"),
+            answers(alloc, value, "String(true, \"<\")"),
         ],
     );
 }

@@ -222,8 +222,8 @@ fn lends(alloc: Global, value: Value, wanted: &str) -> bool {
 #[test]
 fn values_are_copied_or_lent(rt: HostRuntime) {
     let alloc = rt.alloc();
-    let safe_text = "String(\"<\", true)";
-    let array = "Array([Value { inner: String(\"<\", true) }])";
+    let safe_text = "String(true, \"<\")";
+    let array = "Array([Value { inner: String(true, \"<\") }])";
     hold(
         &rt,
         &[

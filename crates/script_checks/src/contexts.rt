@@ -58,7 +58,7 @@ fn has_entries(alloc: Global, context: &Context) -> bool {
         && shows(
             alloc,
             &context.get("foo"),
-            "Some(Value { inner: String(\"Bar\", false) })",
+            "Some(Value { inner: String(false, \"Bar\") })",
         )
         && shows(alloc, &context.get("con"), "Some(Value { inner: I64(69) })")
 }
@@ -170,7 +170,7 @@ fn contexts_are_equal_by_meaning(rt: HostRuntime) {
 // The copy is marked and equal, and no longer equal once it is given another number.
 fn goes_its_own_way(alloc: Global, first: Context) -> bool {
     let copy = or_empty(alloc, first.clone());
-    let text = "Some(Value { inner: String(\"<\", true) })";
+    let text = "Some(Value { inner: String(true, \"<\") })";
     let is_copied = shows(alloc, &copy.get("t"), text) && first == copy;
     !are_equal(first, renumbered(copy)) && is_copied
 }
@@ -247,8 +247,8 @@ const SAID: [(&str, &str, &str); 14] = [
     ("-7i64", "I64(-7)", "I64"),
     ("7u128", "U128(7)", "U128"),
     ("-7i128", "I128(-7)", "I128"),
-    ("\"a\"", "String(\"a\", false)", "String"),
-    ("s\"a\"", "String(\"a\", true)", "String"),
+    ("\"a\"", "String(false, \"a\")", "String"),
+    ("s\"a\"", "String(true, \"a\")", "String"),
     ("x\"61ff\"", "Bytes([97, 255])", "Bytes"),
     ("[]", "Array([])", "Array"),
     ("[none]", "Array([Value { inner: None }])", "Array"),

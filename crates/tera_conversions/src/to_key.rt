@@ -8,7 +8,7 @@ ghost use Rattle.tera_meaning.specs.Integer.{u128, i128};
 ghost use Rattle.tera_meaning.specs.KeyMeaning.{KeyForm, key_meaning, text_key, borrowed, owned};
 ghost use Rattle.tera_report.specs.Errors.{IsOutOfMemory};
 ghost use Rattle.tera_report.specs.declared.errors.Error.{Error};
-ghost use Rattle.tera_values.specs.Key.{key_form, integer_key};
+ghost use Rattle.tera_values.specs.Key.{key_form, integer_key, FitsInline};
 
 use std::alloc::Global;
 use std::borrow::CowStr;
@@ -63,12 +63,12 @@ impl ToKey for &'static str {
     ghost apart = { Prim.search rules };
 }
 
-/// A text that the key owns. Takes memory where it has more than 16 bytes; the only refusal is want
-/// of it, `Out of memory`.
+/// A text that the key owns. Takes memory only where it has more than 16 bytes; the only refusal is
+/// want of it, `Out of memory`.
 impl ToKey for String {
     ghost gives_key = { λ t k. k ≡ text_key (owned (string_bytes t)) };
 
-    ghost refuses_key = { λ _ e. IsOutOfMemory e };
+    ghost refuses_key = { λ t e. ¬ FitsInline (string_bytes t) × IsOutOfMemory e };
 
     fn to_key(self, _alloc: Global) -> TeraResult<Key<'static>> {
         Ok(Key::of_string(self)?)
@@ -77,12 +77,12 @@ impl ToKey for String {
     ghost apart = { Prim.search rules };
 }
 
-/// A text that the key owns. Takes memory where it has more than 16 bytes; the only refusal is want
-/// of it, `Out of memory`.
+/// A text that the key owns. Takes memory only where it has more than 16 bytes; the only refusal is
+/// want of it, `Out of memory`.
 impl ToKey for CowStr<'_> {
     ghost gives_key = { λ t k. k ≡ text_key (owned (cow_str_bytes t)) };
 
-    ghost refuses_key = { λ _ e. IsOutOfMemory e };
+    ghost refuses_key = { λ t e. ¬ FitsInline (cow_str_bytes t) × IsOutOfMemory e };
 
     fn to_key(self, alloc: Global) -> TeraResult<Key<'static>> {
         match self {

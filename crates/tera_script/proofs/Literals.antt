@@ -11,7 +11,7 @@ use Rattle.tera_meaning.specs.KeyMeaning.{KeyForm, truth_key, number_key, text_k
 use Rattle.tera_meaning.specs.Tree.{Items, Members, truth, number, text, bytes, array, object, no_items, item, no_members, member, items, items_list, members}
 use Rattle.tera_meaning.specs.Tree.{members_list, depth}
 use Rattle.tera_meaning.proofs.TreeLaws.{items_of_list, members_of_list}
-use Rattle.tera_script.specs.Text.{BeginsWithText}
+use Rattle.tera_script.specs.Text.{BeginsWithText, BeginsWithNoText}
 use Rattle.tera_script.specs.Word.{is_blank}
 use Rattle.tera_script.specs.Literal.{mark_of, SpellsKey, SpellsTree, SpellsLiteral, tree_value}
 use Rattle.tera_script.specs.Readers.{Stops, front, past, is_word_byte, value_in, plain_at, hex_at, bytes_read, BeginsWithLiteral, BeginsWithKey}
@@ -200,7 +200,7 @@ plain_found levels xs answer normal safe digits array_opens map_opens e = litera
     by (brace ys) i = absurd (map_opens ys i)
 
 -- from what the reader of texts says
-pub quoted_none : (safe : Bool) (xs : List ℕ) → ((t : List ℕ) (used : ℕ) → IsUtf8 t → BeginsWithText xs t used → ⊥) → IsQuotedAt safe xs None
+pub quoted_none : (safe : Bool) (xs : List ℕ) → BeginsWithNoText xs → IsQuotedAt safe xs None
 quoted_none safe xs h = λ t inner rest u s e. h t (length inner + 1) (text_is_utf8 inner t s u) (inner, rest, s, e, refl)
 
 pub quoted_some : (safe : Bool) (xs t rest : List ℕ) (used : ℕ) (value : Form) → BeginsWithText xs t used → value ≡ marked t safe → rest ≡ drop used xs

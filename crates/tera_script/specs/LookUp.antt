@@ -1,12 +1,14 @@
 -- What a line says where it says a look-up plainly.
-use Rattle.std.specs.Prelude.{◌≡◌, ◌≤◌, ℕ, List, [], ◌∷◌, ◌++◌, length, codes}
+use Rattle.std.specs.Prelude.{◌≡◌, ◌≤◌, ℕ, List, [], ◌∷◌, ◌++◌, length}
 use Rattle.std.specs.List.{AllByRecursion}
 use Rattle.std.specs.Str.{IsUtf8}
 use Rattle.tera_context.specs.declared.lends.LookUp.{LookUp}
 use Rattle.tera_context.specs.declared.lends.LookUp.TheVariants as look_up
 use Rattle.tera_script.specs.Line.{SpellsOperand, SpellsBoth}
 use Rattle.tera_script.specs.TextParts.{IsPlain}
+use Rattle.tera_script.specs.Verb.{word_of}
 use Rattle.tera_script.specs.Word.{AreBlanks, IsGap}
+use Rattle.tera_script.specs.declared.verb.Verb.TheVariants as verb
 
 -- no quote and no backslash stands in the text, and it has at most 31 bytes
 abbrev pub IsShort : List ℕ → Type 0
@@ -17,12 +19,13 @@ abbrev pub SpellsShort : List ℕ → List ℕ → Type 0
 SpellsShort bytes t =
     (gap : List ℕ) × IsGap gap × IsShort t × (bytes ≡ gap ++ 34 ∷ (t ++ 34 ∷ []))
 
+-- the word of the call that asks for the same
 abbrev pub word_of_look_up : LookUp → List ℕ
-word_of_look_up (look_up.Get name) = codes "get"
-word_of_look_up (look_up.Path name p) = codes "path"
-word_of_look_up (look_up.Attr name t) = codes "attr"
-word_of_look_up (look_up.Item name i) = codes "item"
-word_of_look_up (look_up.Print name) = codes "print"
+word_of_look_up (look_up.Get name) = word_of verb.Get
+word_of_look_up (look_up.Path name p) = word_of verb.Path
+word_of_look_up (look_up.Attr name t) = word_of verb.Attr
+word_of_look_up (look_up.Item name i) = word_of verb.Item
+word_of_look_up (look_up.Print name) = word_of verb.Print
 
 -- the operands of a look-up: a name, two names, or a name and a short text
 abbrev pub SpellsPlainly : List ℕ → LookUp → Type 0

@@ -3,6 +3,7 @@ use Rattle.std.specs.Prelude.{◌≡◌, ◌≢◌, ℕ, ◌+◌, ◌<◌, ◌�
 use Rattle.std.specs.Prelude.{encode_utf8, codes}
 use Rattle.std.specs.Char.{IsScalar}
 use Rattle.std.specs.List.{AllByRecursion}
+use Rattle.std.specs.Str.{IsUtf8}
 use Rattle.std.specs.Str.Parse.{AllDigits, digits_value}
 
 -- A byte that stands for itself, or an escape
@@ -54,3 +55,7 @@ SpellsText inner text = (tokens : List Token) × AllByRecursion IsToken tokens
 abbrev pub BeginsWithText : List ℕ → List ℕ → ℕ → Type 0
 BeginsWithText bytes text used = (inner rest : List ℕ) × SpellsText inner text
     × (bytes ≡ inner ++ 34 ∷ rest) × (used ≡ length inner + 1)
+
+-- no first bytes are a spelling of a text in UTF-8 and the quote that closes it
+abbrev pub BeginsWithNoText : List ℕ → Type 0
+BeginsWithNoText bytes = (text : List ℕ) (used : ℕ) → IsUtf8 text → ¬ BeginsWithText bytes text used

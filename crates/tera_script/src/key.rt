@@ -1,9 +1,9 @@
 //! Keys of a map literal: how a script spells one.
-ghost use Rattle.std.specs.Prelude.{◌≡◌, ℕ, List, IfOk, MatchOption, IsUtf8};
+ghost use Rattle.std.specs.Prelude.{◌≡◌, ℕ, List, IfOk, MatchOption};
 ghost use Rattle.std.specs.Option.{option_map};
 ghost use Rattle.tera_meaning.specs.KeyMeaning.{number_key, text_key, owned};
 ghost use Rattle.tera_script.specs.Readers.{key_in, plain_key_at, key_rest, integer_held, IsKeyAt};
-ghost use Rattle.tera_script.specs.Text.{BeginsWithText};
+ghost use Rattle.tera_script.specs.Text.{BeginsWithText, BeginsWithNoText};
 ghost use Rattle.tera_values.specs.Key.{key_form};
 
 use crate::number::{Integer, number_in};
@@ -34,7 +34,7 @@ pub(crate) fn take_key(
 // The key that the text at the front is, behind its opening quote, and how many bytes it takes.
 fn take_text_key(alloc: Global, bytes: &[u8]) -> Result<Option<(Key<'static>, usize)>, AllocError>
     ensures { IfOk result (λ answer. MatchOption answer
-        ((text : List ℕ) (used : ℕ) → IsUtf8 text → BeginsWithText bytes.now text used → ⊥)
+        (BeginsWithNoText bytes.now)
         (λ found. (text : List ℕ) × BeginsWithText bytes.now text found.1
         × (key_form found.0 ≡ text_key (owned text)))) }
 {

@@ -3,7 +3,7 @@
 ghost use Rattle.std.specs.Prelude.{◌≡◌, ◌≢◌, ℕ, List, ◌∷◌, ◌++◌, IfOk, IfSome, MatchOption, ◌<◌};
 ghost use Rattle.std.specs.Prelude.{◌≤◌, ◌⊎◌, IsUtf8, string_bytes, length, drop, slice_index};
 ghost use Rattle.tera_script.specs.LookUp.{IsShort};
-ghost use Rattle.tera_script.specs.Text.{BeginsWithText};
+ghost use Rattle.tera_script.specs.Text.{BeginsWithText, BeginsWithNoText};
 ghost use Rattle.tera_script.specs.TextParts.{IsPlain, BeginsWithRun};
 
 use crate::escape::take_escape;
@@ -25,7 +25,7 @@ pub struct TakenText {
 /// Takes memory, and fails for want of it alone.
 pub fn take_text(alloc: Global, bytes: &[u8]) -> Result<Option<TakenText>, AllocError>
     ensures { IfOk result (λ answer. MatchOption answer
-        ((text : List ℕ) (used : ℕ) → IsUtf8 text → BeginsWithText bytes.now text used → ⊥)
+        (BeginsWithNoText bytes.now)
         (λ taken. BeginsWithText bytes.now (string_bytes taken.text) taken.used)) }
 {
     if let Some((short, used)) = short_text(bytes) {
@@ -38,7 +38,7 @@ pub fn take_text(alloc: Global, bytes: &[u8]) -> Result<Option<TakenText>, Alloc
 /// What `take_text` answers, of a text that is long or has an escape.
 pub(crate) fn long_text(alloc: Global, bytes: &[u8]) -> Result<Option<TakenText>, AllocError>
     ensures { IfOk result (λ answer. MatchOption answer
-        ((text : List ℕ) (used : ℕ) → IsUtf8 text → BeginsWithText bytes.now text used → ⊥)
+        (BeginsWithNoText bytes.now)
         (λ taken. BeginsWithText bytes.now (string_bytes taken.text) taken.used)) }
 {
     let Some((decoded, used)) = decode_text(alloc, bytes)? else {

@@ -1,6 +1,6 @@
 -- The two columns of a map: its keys, and its values in the same order.
-use Rattle.std.specs.Prelude.{◌≡◌, ◌<◌, ◌≤◌, ◌+◌, ℕ, Bool, zero, suc, true, false, not, cond, ◌||◌, nat_lt, if◌then◌else◌, List, [], ◌∷◌, ◌++◌, length, Some}
-use Rattle.std.specs.Prelude.{None, position, slice_get, refl}
+use Rattle.std.specs.Prelude.{◌≡◌, ◌≢◌, ◌<◌, ◌≤◌, ◌+◌, ℕ, Bool, zero, suc, true, false, not, cond, ◌||◌, nat_lt}
+use Rattle.std.specs.Prelude.{if◌then◌else◌, List, [], ◌∷◌, ◌++◌, length, Some, None, position, slice_get, refl}
 use Rattle.std.proofs.Common.{sym, ◌∙◌, ap, arith, get_or, set}
 use Rattle.std.proofs.lemmas.List.Quantifiers.{position-Some}
 use Rattle.std.proofs.lemmas.Bool.Decides.{nat_tests}
@@ -9,6 +9,7 @@ use Rattle.std.specs.Map.{keys_of}
 use Rattle.std.specs.Ordering.{eq_by_cmp}
 use Rattle.indexmap.specs.IndexSet.{insert_key}
 use Rattle.tera_meaning.specs.Form.{Form}
+use Rattle.tera_meaning.specs.KeyMeaning.{KeyForm}
 use Rattle.tera_meaning.specs.Tree.{items, items_depth, members, members_depth}
 use Rattle.tera_meaning.specs.Pairs.{key_form_order, put, value_at, HasDistinctKeys}
 use Rattle.tera_values.specs.Key.{key_form}
@@ -150,6 +151,15 @@ module _ {V : Type 0} where
         | true ↦ λ no. cc
         | false ↦ λ no. ap (λ l. (key_form x, v) ∷ l) (put_new k ks vs w (omega arith) no)
       ] none
+
+  -- where something is put, there is a pair
+  pub put_some : (ps : List (KeyForm × V)) (k : KeyForm) (v : V) → put key_form_order ps k v ≢ []
+  put_some [] k v = λ e. cc
+  put_some (p ∷ ps) k v =
+      elim (eq_by_cmp key_form_order k p.0) as (λ b. (if b then (p.0, v) ∷ ps else p ∷ put key_form_order ps k v) ≢ []) [
+        | true ↦ λ e. cc
+        | false ↦ λ e. cc
+      ]
 
   -- the keys of pairs are distinct
   differs : (k : Key) (ks : List Key) (vs : List V) → AllByRecursion (λ y. keys_tie k y ≡ false) ks

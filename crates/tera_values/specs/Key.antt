@@ -1,6 +1,6 @@
 -- From the code's keys to how they are held, and what a key prints, feeds to a hasher and is as a
 -- value.
-use Rattle.std.specs.Prelude.{ℕ, pos, negsuc, ℤ, false, List, ◌++◌, Option, Some, None}
+use Rattle.std.specs.Prelude.{ℕ, ◌≤◌, pos, negsuc, ℤ, false, List, ◌++◌, length, Option, Some, None}
 use Rattle.std.specs.Hash as hash
 use Rattle.std.specs.Rc.{rc_str_bytes}
 use Rattle.tera_meaning.specs.Form.{Form}
@@ -11,7 +11,7 @@ pub use Rattle.tera_meaning.specs.Printed.{shown_key}
 use Rattle.tera_meaning.specs.Tree.{truth, number, text}
 use Rattle.tera_values.specs.declared.key.Key.{Key}
 use Rattle.tera_values.specs.declared.key.Key.TheVariants.{Bool, U64, I64, U128, I128, String, Str}
-use Rattle.tera_values.specs.declared.key.Key.TheVariants.{Short}
+use Rattle.tera_values.specs.declared.key.Key.TheVariants.{Inline}
 
 -- a number as a key holds it
 abbrev pub integer_key : IntegerKind → ℤ → KeyForm
@@ -25,7 +25,7 @@ key_form (U128 n) = integer_key u128 (pos n)
 key_form (I128 z) = integer_key i128 z
 key_form (String t) = text_key (owned (rc_str_bytes t))
 key_form (Str t) = text_key (borrowed t.now)
-key_form (Short t) = text_key (owned t.bytes)
+key_form (Inline t) = text_key (owned t.bytes)
 
 abbrev pub meaning_of_key : Key → KeyMeaning
 meaning_of_key k = key_meaning (key_form k)
@@ -39,6 +39,10 @@ text_in_key _ = None
 abbrev pub owned_in_key : KeyForm → Option (List ℕ)
 owned_in_key (text_key (owned t)) = Some t
 owned_in_key _ = None
+
+-- a text of at most 16 bytes, which takes no memory where a key owns it
+abbrev pub FitsInline : List ℕ → Type 0
+FitsInline t = length t ≤ 16
 
 -- the number that it is
 abbrev pub number_in_key : KeyForm → Option ℤ

@@ -1,5 +1,5 @@
 -- From the code's maps to pair lists.
-use Rattle.std.specs.Prelude.{◌≡◌, ℕ, Bool, List, [], ◌∷◌, length, map}
+use Rattle.std.specs.Prelude.{◌≡◌, ℕ, Bool, Box, List, [], ◌∷◌, Option, Some, None, length, map}
 use Rattle.std.specs.Coded.{Coded, coded×, coded_list}
 use Rattle.std.specs.List.{IsDistinct}
 use Rattle.std.specs.Ordering.{on, eq_by_cmp}
@@ -10,7 +10,7 @@ use Rattle.tera_meaning.specs.Stored.{coded_form, coded_integer, coded_key, code
 use Rattle.tera_values.specs.Key.{key_form, meaning_of_key}
 use Rattle.tera_values.specs.declared.key.Key.{Key}
 use Rattle.tera_values.specs.declared.keys.Keys.{Keys}
-use Rattle.tera_values.specs.declared.keys.Keys.TheVariants.{Empty, Few, Many}
+use Rattle.tera_values.specs.declared.keys.Keys.TheVariants.{Few, Many}
 use Rattle.tera_values.specs.declared.keys.OwnKeys.{OwnKeys}
 use Rattle.tera_values.specs.declared.keys.OwnKeys.TheVariants.{Few as FewLeft, Many as ManyLeft}
 
@@ -24,9 +24,8 @@ is_text_key t k = eq_by_cmp key_order (text_key t) (meaning_of_key k)
 
 -- the keys of a list or of a set
 abbrev pub keys_held : Keys → List Key
-keys_held Empty = []
-keys_held (Few few) = few.value.items
-keys_held (Many many) = many.value.keys
+keys_held (Few few) = few.items
+keys_held (Many many) = many.keys
 
 -- the keys that are still to be given away
 abbrev pub keys_left : OwnKeys → List Key
@@ -38,6 +37,11 @@ abbrev pub pairs_held : {V : Type 0} → List Key → List V → List (KeyForm �
 pairs_held [] vs = []
 pairs_held (k ∷ ks) [] = []
 pairs_held (k ∷ ks) (v ∷ vs) = (key_form k, v) ∷ pairs_held ks vs
+
+-- the pairs of a map, which has no lists where it has no pairs
+abbrev pub pairs_in : {A : Type 0} → Option (Box (List (KeyForm × Form)) A) → List (KeyForm × Form)
+pairs_in None = []
+pairs_in (Some columns) = columns.value
 
 -- no two keys are equal, and each has a value
 pub record AreColumns {V : Type 0} (ks : List Key) (vs : List V) : Type 0 where

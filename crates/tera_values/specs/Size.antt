@@ -4,9 +4,13 @@ use Rattle.tera_meaning.specs.Form.{Form}
 use Rattle.tera_meaning.specs.KeyMeaning.{KeyForm}
 use Rattle.tera_meaning.specs.Tree.{members, depth, members_depth}
 
--- a map of pairs is greater than its values, and a value greater than the map that it holds
+-- the lists of a map are greater than its values, a map than its lists, and a value than the map
+-- that it holds
 abbrev pub value_size : Form → ℕ
-value_size v = 2 * depth v
+value_size v = 3 * depth v
 
 abbrev pub pairs_size : List (KeyForm × Form) → ℕ
-pairs_size ps = 2 * members_depth (members ps) + 1
+pairs_size ps = 3 * members_depth (members ps) + 2
+
+abbrev pub columns_size : List (KeyForm × Form) → ℕ
+columns_size ps = 3 * members_depth (members ps) + 1

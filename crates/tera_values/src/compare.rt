@@ -83,7 +83,7 @@ pub(crate) fn order(left: &Value, right: &Value) -> Ordering
         ValueInner::I64(z) => number_order(Whole::Signed(i128::from(*z)), right),
         ValueInner::U128(n) => number_order(Whole::Unsigned(*n), right),
         ValueInner::I128(z) => number_order(Whole::Signed(*z), right),
-        ValueInner::String(text, _) => text_order(text.as_str(), right),
+        ValueInner::String(_, text) => text_order(text.as_str(), right),
         ValueInner::Array(all) => array_order(all.as_slice(), right),
         ValueInner::Bytes(held) => bytes_order(held.as_slice(), right),
         ValueInner::Map(all) => map_order(all, right),

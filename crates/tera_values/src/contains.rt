@@ -29,7 +29,7 @@ impl Value {
         match &self.inner {
             ValueInner::Map(all) => Ok(has_key(all, needle)),
             ValueInner::Array(all) => Ok(has_item(all.as_slice(), needle)),
-            ValueInner::String(text, _) => Ok(has_part(text.as_str(), needle)),
+            ValueInner::String(_, text) => Ok(has_part(text.as_str(), needle)),
             _ => Err(not_a_container(alloc, self)),
         }
     }

@@ -65,8 +65,8 @@ impl Value {
         ensures { IfOk result (λ v. v ≡ self.now) }
     {
         let inner = match &self.inner {
-            ValueInner::String(text, safe) => {
-                ValueInner::String(String::from_str(alloc, text.as_str())?, *safe)
+            ValueInner::String(safe, text) => {
+                ValueInner::String(*safe, String::from_str(alloc, text.as_str())?)
             }
             ValueInner::Array(all) => ValueInner::Array(copies(alloc, all.as_slice())?),
             ValueInner::Bytes(held) => ValueInner::Bytes(held.as_slice().to_vec(alloc)?),

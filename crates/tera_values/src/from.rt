@@ -151,7 +151,7 @@ impl From<String> for Value {
 
     fn from(text: String) -> Value {
         Value {
-            inner: ValueInner::String(text, false),
+            inner: ValueInner::String(false, text),
         }
     }
 }

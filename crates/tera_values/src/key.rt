@@ -1,6 +1,6 @@
 //! The keys of maps: truth values, numbers and texts. Keys of one meaning are one key, whatever
 //! kind of integer or of text holds them.
-ghost use Rattle.std.specs.Prelude.{◌≡◌, pos, Some, None, IfOk, IfErr, IsOk, OnOk, OnErr};
+ghost use Rattle.std.specs.Prelude.{◌≡◌, pos, Some, None, IfSome, IfOk, IfErr, IsOk, OnOk, OnErr};
 ghost use Rattle.std.specs.Prelude.{MatchOption, fold};
 ghost use Rattle.std.specs.Cmp.{on_total, on_equiv, on_per, on_po, partial_equiv_from_equiv};
 ghost use Rattle.std.specs.Io.KnownBytes.{Appends};
@@ -9,7 +9,7 @@ ghost use Rattle.std.specs.Ordering.{on, eq_by_cmp, as_partial_cmp};
 ghost use Rattle.std.specs.Rc.{rc_str_bytes};
 ghost use Rattle.std.proofs.Common.{ap, refl};
 ghost use Rattle.tera_meaning.proofs.KeyLaws.{key_total, key_equivalence, key_partial, key_is};
-ghost use Rattle.tera_meaning.specs.KeyMeaning.{truth_key, number_key, text_key};
+ghost use Rattle.tera_meaning.specs.KeyMeaning.{truth_key, number_key, text_key, owned};
 ghost use Rattle.tera_meaning.specs.KeyMeaning.{key_order, key_rank};
 ghost use Rattle.tera_report.specs.Errors.{IsOutOfMemory};
 ghost use Rattle.tera_report.specs.Room.{IsDecided};
@@ -18,7 +18,7 @@ ghost use Rattle.tera_report.specs.Watch.{WatchedTakes, WatchedFails};
 ghost use Rattle.tera_report.specs.Writer.{Breaks};
 ghost use Rattle.tera_values.specs.Key.{key_form, meaning_of_key, text_in_key};
 ghost use Rattle.tera_values.specs.Key.{owned_in_key, number_in_key, key_value, shown_key};
-ghost use Rattle.tera_values.specs.Key.{fed_number, fed};
+ghost use Rattle.tera_values.specs.Key.{fed_number, fed, FitsInline};
 ghost use Rattle.tera_scalars.specs.Whole.{whole_value};
 
 use crate::Value;
@@ -35,9 +35,9 @@ use tera_report::watch::{Watched, Writer};
 use tera_scalars::{Whole, put_integer};
 
 /// How many bytes a text that a key holds in place has at most.
-pub(crate) const SHORT: usize = 16;
+pub(crate) const INLINE: usize = 16;
 
-/// The key of a pair of a map. Mirrors `tera::value::Key`, which has no `Short`.
+/// The key of a pair of a map. Mirrors `tera::value::Key`, which has no `Inline`.
 #[derive(Drop)]
 #[non_exhaustive]
 pub enum Key<'a> {
@@ -56,7 +56,7 @@ pub enum Key<'a> {
     /// A text that is lent.
     Str(&'a str),
     /// A text of at most 16 bytes that the key owns, held in the key itself.
-    Short(ArrayString<SHORT>),
+    Inline(ArrayString<INLINE>),
 }
 
 impl<'a> Key<'a> {
@@ -68,7 +68,7 @@ impl<'a> Key<'a> {
         match self {
             Key::String(text) => Some(text.as_str()),
             Key::Str(text) => Some(*text),
-            Key::Short(text) => Some(text.as_str()),
+            Key::Inline(text) => Some(text.as_str()),
             _ => None,
         }
     }
@@ -90,20 +90,20 @@ impl<'a> Key<'a> {
             Key::I128(z) => Ok(Value::from(*z)),
             Key::String(text) => Value::normal_string(alloc, text.as_str()),
             Key::Str(text) => Value::normal_string(alloc, *text),
-            Key::Short(text) => Value::normal_string(alloc, text.as_str()),
+            Key::Inline(text) => Value::normal_string(alloc, text.as_str()),
         }
     }
 
     /// A key of the same form: the kind of an integer is kept, and a text that is lent stays lent.
-    /// A `Key::String` shares its text, and a `Key::Short` is copied. Mirrors `Clone` of
+    /// A `Key::String` shares its text, and a `Key::Inline` is copied. Mirrors `Clone` of
     /// `tera::value::Key`.
     ///
-    /// Takes memory where the text of a `Key::String` has a count of owners that is full; the only
-    /// refusal is want of it, `Out of memory`.
+    /// Takes memory only where a `Key::String` has a text of more than 16 bytes whose count of
+    /// owners is full; the only refusal is want of it, `Out of memory`.
     pub fn clone(&self, alloc: Global) -> TeraResult<Key<'a>>
         ensures ok { IfOk result (λ k. key_form k ≡ key_form self.now) }
         ensures err { IfErr result IsOutOfMemory }
-        ensures succeeds { owned_in_key (key_form self.now) ≡ None → IsOk result }
+        ensures succeeds { IfSome (owned_in_key (key_form self.now)) FitsInline → IsOk result }
     {
         Ok(self.copy(alloc)?)
     }
@@ -111,7 +111,7 @@ impl<'a> Key<'a> {
     /// A clone, with an error that says nothing: so what is answered is small.
     pub(crate) fn copy(&self, alloc: Global) -> Result<Key<'a>, AllocError>
         ensures ok { IfOk result (λ k. key_form k ≡ key_form self.now) }
-        ensures succeeds { owned_in_key (key_form self.now) ≡ None → IsOk result }
+        ensures succeeds { IfSome (owned_in_key (key_form self.now)) FitsInline → IsOk result }
     {
         match self {
             Key::Bool(b) => Ok(Key::Bool(*b)),
@@ -119,9 +119,9 @@ impl<'a> Key<'a> {
             Key::I64(z) => Ok(Key::I64(*z)),
             Key::U128(n) => Ok(Key::U128(*n)),
             Key::I128(z) => Ok(Key::I128(*z)),
-            Key::String(text) => Ok(Key::String(shared(alloc, text)?)),
+            Key::String(text) => shared(alloc, text),
             Key::Str(text) => Ok(Key::Str(*text)),
-            Key::Short(text) => Ok(Key::Short(*text)),
+            Key::Inline(text) => Ok(Key::Inline(*text)),
         }
     }
 
@@ -165,7 +165,7 @@ impl<'a> Key<'a> {
             Key::I128(z) => put_integer(*z, out),
             Key::String(text) => out.put(text.as_str()),
             Key::Str(text) => out.put(*text),
-            Key::Short(text) => out.put(text.as_str()),
+            Key::Inline(text) => out.put(text.as_str()),
         }
     }
 
@@ -201,18 +201,20 @@ impl<'a> Key<'a> {
             Key::I128(_) => 1,
             Key::String(_) => 2,
             Key::Str(_) => 2,
-            Key::Short(_) => 2,
+            Key::Inline(_) => 2,
         }
     }
 }
 
-// A text that a key owns, shared: it never changes. Where the count of its owners is full, a copy.
-fn shared(alloc: Global, text: &RcStr) -> Result<RcStr, AllocError>
-    ensures { IfOk result (λ t. rc_str_bytes t ≡ rc_str_bytes text.now) }
+// A key that shares the text, which never changes. Where the count of its owners is full, a key
+// that owns a copy.
+fn shared(alloc: Global, text: &RcStr) -> Result<Key<'static>, AllocError>
+    ensures ok { IfOk result (λ k. key_form k ≡ text_key (owned (rc_str_bytes text.now))) }
+    ensures succeeds { FitsInline (rc_str_bytes text.now) → IsOk result }
 {
     match text.clone() {
-        Ok(same) => Ok(same),
-        Err(_) => RcStr::from_str(alloc, text.as_str()),
+        Ok(same) => Ok(Key::String(same)),
+        Err(_) => Key::of_text(alloc, text.as_str()),
     }
 }
 
@@ -264,7 +266,7 @@ impl Ord for Key<'_> {
             Key::I128(z) => number_order(Whole::Signed(*z), other),
             Key::String(text) => text_order(text.as_str(), other),
             Key::Str(text) => text_order(*text, other),
-            Key::Short(text) => text_order(text.as_str(), other),
+            Key::Inline(text) => text_order(text.as_str(), other),
         }
     }
 }
@@ -316,7 +318,7 @@ impl Hash for Key<'_> {
             Key::I128(z) => feed_integer(*z, state),
             Key::String(text) => text.as_str().hash(state),
             Key::Str(text) => text.hash(state),
-            Key::Short(text) => text.as_str().hash(state),
+            Key::Inline(text) => text.as_str().hash(state),
         }
     }
 }
@@ -341,7 +343,7 @@ fn feed_integer<H: Hasher>(z: i128, state: &mut H)
     }
 }
 
-/// As std shows an enum, but that a `Key::Short` is shown as a `Key::String` is.
+/// As std shows an enum, but that a `Key::Inline` is shown as a `Key::String` is.
 impl fmt::Debug for Key<'_> {
     fn fmt<W: fmt::Write>(&self, f: &mut fmt::Formatter<W>) -> fmt::Result {
         match self {
@@ -352,7 +354,7 @@ impl fmt::Debug for Key<'_> {
             Key::I128(z) => f.debug_tuple("I128").field(z).finish(),
             Key::String(text) => f.debug_tuple("String").field(text).finish(),
             Key::Str(text) => f.debug_tuple("Str").field(text).finish(),
-            Key::Short(text) => f.debug_tuple("String").field(text).finish(),
+            Key::Inline(text) => f.debug_tuple("String").field(text).finish(),
         }
     }
 }

@@ -1,5 +1,4 @@
 //! The keys of a map: a list while they are few, and else a set that knows their order.
-//! Each stands behind a pointer, which the first key makes.
 ghost use Rattle.std.specs.Prelude.{◌≡◌, ◌∷◌, ◌++◌, ◌+◌, ◌≤◌, [], length, position};
 ghost use Rattle.std.specs.Prelude.{IfOk, OnOk, OnErr};
 ghost use Rattle.std.specs.Prelude.{MatchOption, is_some, not, false};
@@ -23,9 +22,8 @@ pub(crate) const FIRST: usize = 2;
 /// The keys of a map, in their order.
 #[derive(Drop)]
 pub(crate) enum Keys {
-    Empty,
-    Few(Box<Vec<Key<'static>>>),
-    Many(Box<IndexSet<Key<'static>>>),
+    Few(Vec<Key<'static>>),
+    Many(IndexSet<Key<'static>>),
 }
 
 /// The place of the key that is equal to this one.
@@ -35,7 +33,6 @@ pub(crate) fn place_of(keys: &Keys, key: &Key<'_>) -> Option<usize>
     ensures found { is_some result ≡ list_any (keys_tie key.now) (keys_held keys.now) }
 {
     match keys {
-        Keys::Empty => None,
         Keys::Few(few) => place_among(few.as_slice(), key),
         Keys::Many(many) => place_in(many, key),
     }
@@ -57,7 +54,7 @@ fn place_among(few: &[Key<'static>], key: &Key<'_>) -> Option<usize>
     match key {
         Key::String(text) => place_of_text(few, text.as_str()),
         Key::Str(text) => place_of_text(few, *text),
-        Key::Short(text) => place_of_text(few, text.as_str()),
+        Key::Inline(text) => place_of_text(few, text.as_str()),
         _ => few.iter().position(|held| key == held),
     }
 }
@@ -77,7 +74,7 @@ fn is_text_key(text: &str, held: &Key<'static>) -> bool
     match held {
         Key::String(other) => is_text(text, other.as_str()),
         Key::Str(other) => is_text(text, *other),
-        Key::Short(other) => is_text(text, other.as_str()),
+        Key::Inline(other) => is_text(text, other.as_str()),
         _ => false,
     }
 }
@@ -116,7 +113,6 @@ pub(crate) fn key_slice(keys: &Keys) -> &[Key<'static>]
     ensures { result.now ≡ keys_held keys.now }
 {
     match keys {
-        Keys::Empty => &[],
         Keys::Few(few) => few.as_slice(),
         Keys::Many(many) => many.as_slice(),
     }
@@ -142,10 +138,6 @@ pub(crate) fn put_key(
         (list_any (keys_tie key.entry) (keys_held keys.old) ≡ false) }
 {
     match keys {
-        Keys::Empty => {
-            *keys = first_key(alloc, key)?;
-            Ok((0, true))
-        }
         Keys::Few(few) => {
             let (place, is_new) = place_for(few.as_slice(), &key);
             if !is_new {
@@ -199,33 +191,18 @@ pub(crate) fn first_key(alloc: Global, key: Key<'static>) -> Result<Keys, AllocE
 {
     let mut few = Vec::with_capacity(alloc, FIRST)?;
     few.push_reserved(key);
-    few_of(alloc, few)
-}
-
-// The keys of a list.
-fn few_of(alloc: Global, few: Vec<Key<'static>>) -> Result<Keys, AllocError>
-    ensures { IfOk result (λ made. keys_held made ≡ few.entry.items) }
-{
-    match Box::new(alloc, few) {
-        Ok(few) => Ok(Keys::Few(few)),
-        Err(_) => Err(AllocError),
-    }
+    Ok(Keys::Few(few))
 }
 
 // The set of the keys of a list, with room for one more, into which they are moved. For want of
 // memory the list stays as it is.
-fn set_of(
-    alloc: Global,
-    few: &mut Vec<Key<'static>>,
-) -> Result<Box<IndexSet<Key<'static>>>, AllocError>
+fn set_of(alloc: Global, few: &mut Vec<Key<'static>>) -> Result<IndexSet<Key<'static>>, AllocError>
     requires { IsDistinct keys_tie few.old.items }
-    ensures keys { IfOk result (λ many. many.value.keys ≡ few.old.items) }
-    ensures room { IfOk result (λ many. 1 ≤ spare many.value) }
+    ensures keys { IfOk result (λ many. many.keys ≡ few.old.items) }
+    ensures room { IfOk result (λ many. 1 ≤ spare many) }
     ensures err { OnErr result (few.new.items ≡ few.old.items) }
 {
-    let Ok(mut many) = Box::new(alloc, IndexSet::with_capacity(alloc, few.len() + FEW)?) else {
-        return Err(AllocError);
-    };
+    let mut many = IndexSet::with_capacity(alloc, few.len() + FEW)?;
     for key in mem::replace(few, Vec::new(alloc)) {
         many.insert(key).unwrap();
     }
@@ -238,8 +215,7 @@ pub(crate) fn copied_keys(alloc: Global, keys: &Keys) -> Result<Keys, AllocError
     ensures { IfOk result (λ made. AreKeysLike (keys_held keys.now) (keys_held made)) }
 {
     match keys {
-        Keys::Empty => Ok(Keys::Empty),
-        Keys::Few(few) => few_of(alloc, copied_list(alloc, few.as_slice())?),
+        Keys::Few(few) => Ok(Keys::Few(copied_list(alloc, few.as_slice())?)),
         Keys::Many(many) => Ok(Keys::Many(copied_set(alloc, many.as_slice())?)),
     }
 }
@@ -257,21 +233,15 @@ fn copied_list(alloc: Global, keys: &[Key<'static>]) -> Result<Vec<Key<'static>>
 }
 
 // A set of copies of distinct keys, in their order.
-fn copied_set(
-    alloc: Global,
-    keys: &[Key<'static>],
-) -> Result<Box<IndexSet<Key<'static>>>, AllocError>
+fn copied_set(alloc: Global, keys: &[Key<'static>]) -> Result<IndexSet<Key<'static>>, AllocError>
     requires { IsDistinct keys_tie keys.now }
-    ensures { IfOk result (λ made. AreKeysLike keys.now made.value.keys) }
+    ensures { IfOk result (λ made. AreKeysLike keys.now made.keys) }
 {
     let mut made = IndexSet::with_capacity(alloc, keys.len())?;
     for key in keys {
         put_in(&mut made, key.copy(alloc)?)?;
     }
-    match Box::new(alloc, made) {
-        Ok(held) => Ok(held),
-        Err(_) => Err(AllocError),
-    }
+    Ok(made)
 }
 
 /// The keys that are left of a walk that gives them away.
@@ -282,13 +252,12 @@ pub(crate) enum OwnKeys {
 }
 
 /// The keys, to be given away in their order.
-pub(crate) fn own_keys(alloc: Global, keys: Keys) -> OwnKeys
+pub(crate) fn own_keys(keys: Keys) -> OwnKeys
     ensures { keys_left result ≡ keys_held keys }
 {
     match keys {
-        Keys::Empty => OwnKeys::Few(Vec::new(alloc).into_iter()),
-        Keys::Few(few) => OwnKeys::Few(Box::into_inner(few).into_iter()),
-        Keys::Many(many) => OwnKeys::Many(Box::into_inner(many).into_iter()),
+        Keys::Few(few) => OwnKeys::Few(few.into_iter()),
+        Keys::Many(many) => OwnKeys::Many(many.into_iter()),
     }
 }
 

@@ -1,6 +1,7 @@
 //! The values that templates compute with: what makes them, compares them and prints them.
 #![tactic(auto)]
 
+mod columns;
 mod compare;
 mod contains;
 mod convert;

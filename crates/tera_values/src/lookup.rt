@@ -1,5 +1,5 @@
 //! What a value has at an attribute or an item, and the key that it is.
-ghost use Rattle.std.specs.Prelude.{◌≡◌, false, None, Ok, IfOk, IfErr, IsOk, is_some, unwrap_or};
+ghost use Rattle.std.specs.Prelude.{◌≡◌, false, Ok, IfSome, IfOk, IfErr, IsOk, is_some, unwrap_or};
 ghost use Rattle.std.specs.Option.{option_copied};
 ghost use Rattle.tera_meaning.specs.Lookup.{attr, as_key, key_in, paired, item, indexed, part_at};
 ghost use Rattle.tera_report.specs.Refusal.{in_array};
@@ -7,7 +7,7 @@ ghost use Rattle.tera_scalars.specs.Whole.{whole_value};
 ghost use Rattle.tera_meaning.specs.Read.{text_in, iterable_in};
 ghost use Rattle.tera_meaning.specs.Tree.{undefined, object, members};
 ghost use Rattle.tera_report.specs.Errors.{Refuses, IsOutOfMemory};
-ghost use Rattle.tera_values.specs.Key.{key_form};
+ghost use Rattle.tera_values.specs.Key.{key_form, FitsInline};
 ghost use Rattle.tera_values.specs.View.{marked};
 
 use crate::refused::{not_a_key, not_a_map_key, not_a_text_index, not_an_array_index};
@@ -33,13 +33,14 @@ impl Value {
     /// The key that it is: a truth value, an integer in its kind, a text of its own. Mirrors
     /// `Value::as_key`.
     ///
-    /// Refuses every other value with `Not a valid key type`. Takes memory for a text of more than
-    /// 16 bytes and for that of the refusal; want of it, `Out of memory`, is answered in the place
-    /// of either.
+    /// Refuses every other value with `Not a valid key type`. Takes memory only for a text of more
+    /// than 16 bytes and for that of the refusal; want of it, `Out of memory`, is answered in the
+    /// place of either.
     pub fn as_key(&self, alloc: Global) -> TeraResult<Key<'static>>
         ensures ok { IfOk result (λ key. as_key self.now ≡ Ok (key_form key)) }
         ensures err { IfErr result (Refuses (as_key self.now)) }
-        ensures succeeds { IsOk (as_key self.now) → text_in self.now ≡ None → IsOk result }
+        ensures succeeds { IsOk (as_key self.now) → IfSome (text_in self.now) FitsInline
+            → IsOk result }
     {
         match &self.inner {
             ValueInner::Bool(b) => Ok(Key::Bool(*b)),
@@ -47,7 +48,7 @@ impl Value {
             ValueInner::I64(z) => Ok(Key::I64(*z)),
             ValueInner::U128(n) => Ok(Key::U128(*n)),
             ValueInner::I128(z) => Ok(Key::I128(*z)),
-            ValueInner::String(text, _) => Ok(Key::of_text(alloc, text.as_str())?),
+            ValueInner::String(_, text) => Ok(Key::of_text(alloc, text.as_str())?),
             _ => Err(not_a_key(alloc)),
         }
     }
@@ -71,7 +72,7 @@ impl Value {
         match &self.inner {
             ValueInner::Map(all) => item_of_map(alloc, all, at),
             ValueInner::Array(all) => item_of_array(alloc, all.as_slice(), at),
-            ValueInner::String(text, safe) => item_of_text(alloc, text.as_str(), *safe, at),
+            ValueInner::String(safe, text) => item_of_text(alloc, text.as_str(), *safe, at),
             _ => Ok(Value::undefined()),
         }
     }
@@ -103,7 +104,7 @@ pub(crate) fn find_value<'a>(all: &'a Map, key: &'a Value) -> Option<&'a Value>
         ValueInner::I64(z) => all.get(&Key::I64(*z)),
         ValueInner::U128(n) => all.get(&Key::U128(*n)),
         ValueInner::I128(z) => all.get(&Key::I128(*z)),
-        ValueInner::String(text, _) => all.get(&Key::Str(text.as_str())),
+        ValueInner::String(_, text) => all.get(&Key::Str(text.as_str())),
         _ => None,
     }
 }
@@ -161,7 +162,7 @@ fn item_of_text(alloc: Global, text: &str, safe: bool, at: &Value) -> TeraResult
             let mut made = String::new(alloc);
             made.push(found)?;
             Ok(Value {
-                inner: ValueInner::String(made, safe),
+                inner: ValueInner::String(safe, made),
             })
         }
         None => Ok(Value::undefined()),

@@ -1,68 +1,63 @@
-//! How a map is kept: a list of values beside its keys, in one order. Nothing outside of this file
-//! and `keys.rt` knows it.
-ghost use Rattle.std.specs.Prelude.{◌≡◌, ◌<◌, [], None, length, IfOk, IfErr, OnOk, OnErr};
-ghost use Rattle.std.specs.Prelude.{slice_get, false};
-ghost use Rattle.std.specs.List.{list_any};
-ghost use Rattle.std.specs.Vec.{vec_len, vec_capacity};
+//! Maps, and walks over their pairs.
+ghost use Rattle.std.specs.Prelude.{◌≡◌, [], None, length, IfOk, IfErr, IsOk, OnOk, OnErr};
+ghost use Rattle.std.specs.Prelude.{slice_get};
 ghost use Rattle.std.specs.Option.{option_copied, option_map};
 ghost use Rattle.tera_meaning.specs.Pairs.{key_form_order, put, value_at, HasDistinctKeys};
-ghost use Rattle.tera_values.specs.Map.{keys_tie, keys_held};
+ghost use Rattle.tera_values.specs.Map.{keys_held, pairs_held, AreColumns};
 ghost use Rattle.tera_report.specs.Errors.{IsOutOfMemory};
 ghost use Rattle.tera_values.specs.Key.{key_form};
 
-use crate::copy::copies;
-use crate::keys::{
-    FEW, FIRST, Keys, OwnKeys, copied_keys, key_slice, next_key, own_keys, place_of, put_key,
-};
+use crate::columns::Columns;
+use crate::keys::{Keys, OwnKeys, next_key, own_keys};
 use crate::{Key, Value};
 use std::alloc::{AllocError, Global};
 use std::marker::Model;
-use std::{fmt, mem, slice, vec};
+use std::{fmt, slice, vec};
 use tera_report::TeraResult;
 
 /// The pairs of a map, in the order in which their keys came. Mirrors `tera::value::Map`.
 ///
-/// The keys stand behind a pointer, which the first key makes, so that values stay small.
+/// They stand behind a pointer, which the first pair makes, so that values stay small.
 #[cycle(value)]
 #[derive(Drop)]
 pub struct Map {
-    keys: Keys,
-    values: Vec<Value>,
+    alloc: Global,
+    columns: Option<Box<Columns>>,
 }
 
 impl Model for Map {
     ghost use Rattle.std.specs.Prelude.{List};
     ghost use Rattle.tera_meaning.specs.Form.{Form};
     ghost use Rattle.tera_meaning.specs.KeyMeaning.{KeyForm};
-    ghost use Rattle.tera_values.specs.Map.{coded_pairs};
+    ghost use Rattle.tera_values.specs.Map.{coded_pairs, pairs_in};
 
     ghost Value = { List (KeyForm × Form) };
 
     ghost coded = { coded_pairs };
 
-    ghost use Rattle.tera_values.specs.Map.{pairs_held, keys_held, AreColumns};
+    ghost use Rattle.std.specs.Prelude.{[], ◌≢◌, IfSome};
+
+    ghost view = { λ m. pairs_in m.columns };
+
+    ghost invariant = { λ m. IfSome m.columns (λ c. c.value ≢ []) };
+
     ghost use Rattle.tera_values.specs.Size.{pairs_size};
-
-    ghost view = { λ m. pairs_held (keys_held m.keys) m.values.items };
-
-    ghost invariant = { λ m. AreColumns (keys_held m.keys) m.values.items };
 
     ghost size = { pairs_size };
 
-    ghost use Rattle.tera_values.specs.Depth.{most_le-pairs_size};
+    ghost use Rattle.tera_values.specs.Depth.{deep_le-pairs_size};
 
-    ghost size_decreases = { λ m h. most_le-pairs_size (keys_held m.keys) m.values.items h };
+    ghost size_decreases = { λ m h. deep_le-pairs_size m };
 }
 
 impl Map {
     /// A map without pairs. Takes no memory.
-    #[tactic(auto, using(crate::proofs::ColumnLemmas::no_columns))]
     pub fn new(alloc: Global) -> Map
         ensures { result ≡ [] }
     {
         Map {
-            keys: Keys::Empty,
-            values: Vec::new(alloc),
+            alloc,
+            columns: None,
         }
     }
 
@@ -72,16 +67,15 @@ impl Map {
         ensures len { result ≡ length self.now }
         ensures distinct { HasDistinctKeys key_form_order self.now }
     {
-        self.values.len()
+        self.lists().1.len()
     }
 
     /// The value at a key, lent; `None` where no key is equal to it. Takes no memory.
-    #[tactic(auto, using(crate::proofs::ColumnLemmas::looked_up))]
     pub fn get(&self, key: &Key<'_>) -> Option<&Value>
         ensures { option_copied result ≡ value_at key_form_order self.now (key_form key.now) }
     {
-        match place_of(&self.keys, key) {
-            Some(place) => Some(&self.values[place]),
+        match &self.columns {
+            Some(columns) => columns.get(key),
             None => None,
         }
     }
@@ -92,9 +86,9 @@ impl Map {
         ensures { option_map (λ p. (key_form p.0.now, p.1.now)) result
             ≡ slice_get self.now index }
     {
-        let keys = key_slice(&self.keys);
+        let (keys, values) = self.lists();
         if index < keys.len() {
-            Some((&keys[index], &self.values[index]))
+            Some((&keys[index], &values[index]))
         } else {
             None
         }
@@ -115,26 +109,13 @@ impl Map {
         ensures absent { OnErr result
             (value_at key_form_order self.old (key_form key.entry) ≡ None) }
     {
-        Ok(self.put(key, value)?)
-    }
-
-    // What `insert` does, with an error that says nothing: so what is answered is small.
-    fn put(&mut self, key: Key<'static>, value: Value) -> Result<Option<Value>, AllocError>
-        ensures ok { OnOk result
-            (self.new ≡ put key_form_order self.old (key_form key.entry) value) }
-        ensures given { IfOk result
-            (λ before. before ≡ value_at key_form_order self.old (key_form key.entry)) }
-        ensures unchanged { OnErr result (self.new ≡ self.old) }
-        ensures absent { OnErr result
-            (value_at key_form_order self.old (key_form key.entry) ≡ None) }
-    {
-        make_room(&self.keys, &mut self.values, &key)?;
-        let (place, is_new) = put_key(*self.values.allocator(), &mut self.keys, key)?;
-        if is_new {
-            self.values.push_reserved(value);
-            return Ok(None);
+        match &mut self.columns {
+            Some(columns) => Ok(columns.put(key, value)?),
+            None => {
+                self.columns = Some(Columns::of_pair(self.alloc, key, value)?);
+                Ok(None)
+            }
         }
-        Ok(Some(mem::replace(&mut self.values[place], value)))
     }
 
     /// The pairs, lent one after another in their order. No two keys are equal. Takes no memory.
@@ -143,9 +124,33 @@ impl Map {
         ensures pairs { result ≡ self.now }
         ensures distinct { HasDistinctKeys key_form_order self.now }
     {
+        let (keys, values) = self.lists();
         Pairs {
-            keys: key_slice(&self.keys).iter(),
-            values: self.values.iter(),
+            keys: keys.iter(),
+            values: values.iter(),
+        }
+    }
+
+    // The keys, and the values in the same order.
+    fn lists(&self) -> (&[Key<'static>], &[Value])
+        ensures pairs { pairs_held result.0.now result.1.now ≡ self.now }
+        ensures columns { AreColumns result.0.now result.1.now }
+    {
+        match &self.columns {
+            Some(columns) => columns.lists(),
+            None => (&[], &[]),
+        }
+    }
+
+    // The keys, and the values in the same order, given away.
+    fn into_lists(self) -> (Keys, Vec<Value>)
+        ensures pairs { pairs_held (keys_held result.0) result.1.items ≡ self }
+        ensures columns { AreColumns (keys_held result.0) result.1.items }
+    {
+        let Map { alloc, columns } = self;
+        match columns {
+            Some(columns) => Box::into_inner(columns).into_lists(),
+            None => (Keys::Few(Vec::new(alloc)), Vec::new(alloc)),
         }
     }
 
@@ -156,6 +161,7 @@ impl Map {
     pub fn clone(&self, alloc: Global) -> TeraResult<Map>
         ensures ok { IfOk result (λ m. m ≡ self.now) }
         ensures err { IfErr result IsOutOfMemory }
+        ensures succeeds { self.now ≡ [] → IsOk result }
     {
         Ok(self.copy(alloc)?)
     }
@@ -163,12 +169,14 @@ impl Map {
     /// A clone, with an error that says nothing: so what is answered is small.
     #[cycle(copy)]
     pub(crate) fn copy(&self, alloc: Global) -> Result<Map, AllocError>
-        ensures { IfOk result (λ m. m ≡ self.now) }
+        ensures ok { IfOk result (λ m. m ≡ self.now) }
+        ensures succeeds { self.now ≡ [] → IsOk result }
     {
-        Ok(Map {
-            keys: copied_keys(alloc, &self.keys)?,
-            values: copies(alloc, self.values.as_slice())?,
-        })
+        let columns = match &self.columns {
+            Some(columns) => Some(columns.copy(alloc)?),
+            None => None,
+        };
+        Ok(Map { alloc, columns })
     }
 }
 
@@ -182,22 +190,6 @@ impl fmt::Debug for Map {
         }
         shown.finish()
     }
-}
-
-// Makes room for the value of a key, where the key is not there.
-fn make_room(keys: &Keys, values: &mut Vec<Value>, key: &Key<'_>) -> Result<(), AllocError>
-    ensures items { values.new.items ≡ values.old.items }
-    ensures room { OnOk result (list_any (keys_tie key.now) (keys_held keys.now) ≡ false
-        → vec_len values.new < vec_capacity values.new) }
-    ensures absent { OnErr result (list_any (keys_tie key.now) (keys_held keys.now) ≡ false) }
-{
-    if values.len() < values.capacity() || place_of(keys, key).is_some() {
-        return Ok(());
-    }
-    if values.is_empty() {
-        return values.reserve_exact(FIRST);
-    }
-    values.reserve(FEW - FIRST)
 }
 
 /// The pairs of a map that are left of a walk.
@@ -252,10 +244,9 @@ impl IntoIterator for Map {
     ghost into_iter_gives = { λ m r. (r ≡ m) × HasDistinctKeys key_form_order m };
 
     fn into_iter(self) -> OwnPairs {
-        let Map { keys, values } = self;
-        let keys = own_keys(*values.allocator(), keys);
+        let (keys, values) = self.into_lists();
         OwnPairs {
-            keys,
+            keys: own_keys(keys),
             values: values.into_iter(),
         }
     }

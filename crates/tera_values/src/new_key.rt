@@ -1,9 +1,9 @@
 //! What makes keys.
-ghost use Rattle.std.specs.Prelude.{◌≡◌, ◌≤◌, length, pos, IfOk, IsOk};
+ghost use Rattle.std.specs.Prelude.{◌≡◌, pos, IfOk, IsOk};
 ghost use Rattle.std.specs.String.{string_bytes};
 ghost use Rattle.tera_meaning.specs.Integer.{u128, i128};
 ghost use Rattle.tera_meaning.specs.KeyMeaning.{text_key, owned, borrowed};
-ghost use Rattle.tera_values.specs.Key.{key_form, integer_key};
+ghost use Rattle.tera_values.specs.Key.{key_form, integer_key, FitsInline};
 
 use crate::Key;
 use arrayvec::ArrayString;
@@ -11,32 +11,32 @@ use std::alloc::{AllocError, Global};
 use std::rc::RcStr;
 
 impl Key<'static> {
-    /// A key that owns the text. At most 16 bytes are held in place, as `Short`; a longer text
+    /// A key that owns the text. At most 16 bytes are held in place, as `Inline`; a longer text
     /// becomes a `Key::String`, which clones share. Stands for `From<Cow<str>>` of
     /// `tera::value::Key`.
     ///
     /// Takes memory for a longer text alone, and fails for want of it alone.
     pub fn of_text(alloc: Global, text: &str) -> Result<Key<'static>, AllocError>
         ensures ok { IfOk result (λ k. key_form k ≡ text_key (owned text.now)) }
-        ensures succeeds { length text.now ≤ 16 → IsOk result }
+        ensures succeeds { FitsInline text.now → IsOk result }
     {
         match ArrayString::from(text) {
-            Ok(short) => Ok(Key::Short(short)),
+            Ok(held) => Ok(Key::Inline(held)),
             Err(_) => Ok(Key::String(RcStr::from_str(alloc, text)?)),
         }
     }
 
-    /// A key that owns the text. At most 16 bytes are held in place, as `Short`; a longer text
+    /// A key that owns the text. At most 16 bytes are held in place, as `Inline`; a longer text
     /// becomes a `Key::String`, without a copy of it. Stands for `From<String>` of
     /// `tera::value::Key`.
     ///
     /// Takes memory for a longer text alone, and fails for want of it alone.
     pub fn of_string(text: String) -> Result<Key<'static>, AllocError>
         ensures ok { IfOk result (λ k. key_form k ≡ text_key (owned (string_bytes text))) }
-        ensures succeeds { length (string_bytes text) ≤ 16 → IsOk result }
+        ensures succeeds { FitsInline (string_bytes text) → IsOk result }
     {
         match ArrayString::from(text.as_str()) {
-            Ok(short) => Ok(Key::Short(short)),
+            Ok(held) => Ok(Key::Inline(held)),
             Err(_) => Ok(Key::String(RcStr::from_string(text)?)),
         }
     }

@@ -141,7 +141,7 @@ fn put_whole<S: Sink>(value: &Value, out: &mut S) -> Result<(), S::Fault>
     match &value.inner {
         ValueInner::Array(_) => put_gathered(value, out),
         ValueInner::Map(_) => put_gathered(value, out),
-        ValueInner::String(text, _) => put_bare(text.as_str(), out),
+        ValueInner::String(_, text) => put_bare(text.as_str(), out),
         _ => put_unquoted(value, out),
     }
 }
@@ -179,7 +179,7 @@ pub(crate) fn put_value<S: Sink>(value: &Value, out: &mut S) -> Result<(), S::Fa
         ValueInner::I64(z) => put_integer(*z, out),
         ValueInner::U128(n) => put_integer(*n, out),
         ValueInner::I128(z) => put_integer(*z, out),
-        ValueInner::String(text, _) => put_bare(text.as_str(), out),
+        ValueInner::String(_, text) => put_bare(text.as_str(), out),
         ValueInner::Array(items) => put_array(items.as_slice(), out),
         ValueInner::Bytes(bytes) => put_lossy(bytes.as_slice(), out),
         ValueInner::Map(all) => put_map(all, out),

@@ -29,7 +29,7 @@ impl Value {
             (λ t. text_in self.now ≡ Some t.now) }
     {
         match &self.inner {
-            ValueInner::String(text, _) => Some(text.as_str()),
+            ValueInner::String(_, text) => Some(text.as_str()),
             _ => None,
         }
     }
@@ -100,7 +100,7 @@ impl Value {
         ensures { result ≡ safe_in self.now }
     {
         match &self.inner {
-            ValueInner::String(_, safe) => *safe,
+            ValueInner::String(safe, _) => *safe,
             ValueInner::Array(_) | ValueInner::Bytes(_) | ValueInner::Map(_) => false,
             _ => true,
         }
@@ -111,7 +111,7 @@ impl Value {
         ensures { result ≡ marked_safe self }
     {
         let inner = match self.into_inner() {
-            ValueInner::String(text, _) => ValueInner::String(text, true),
+            ValueInner::String(_, text) => ValueInner::String(true, text),
             ValueInner::Undefined => ValueInner::Undefined,
             ValueInner::None => ValueInner::None,
             ValueInner::Bool(b) => ValueInner::Bool(b),
@@ -140,7 +140,7 @@ impl Value {
             ValueInner::I64(z) => Whole::Signed(i128::from(*z)).is_nonzero(),
             ValueInner::U128(n) => Whole::Unsigned(*n).is_nonzero(),
             ValueInner::I128(z) => Whole::Signed(*z).is_nonzero(),
-            ValueInner::String(text, _) => is_nonempty(text.as_bytes()),
+            ValueInner::String(_, text) => is_nonempty(text.as_bytes()),
             ValueInner::Array(all) => is_nonempty(all.as_slice()),
             ValueInner::Bytes(held) => is_nonempty(held.as_slice()),
             ValueInner::Map(all) => all.len() != 0,
@@ -153,7 +153,7 @@ impl Value {
         ensures { result ≡ size_in (meaning self.now) }
     {
         match &self.inner {
-            ValueInner::String(text, _) => Some(characters(text.as_str())),
+            ValueInner::String(_, text) => Some(characters(text.as_str())),
             ValueInner::Array(all) => Some(all.len()),
             ValueInner::Bytes(held) => Some(held.len()),
             ValueInner::Map(all) => Some(all.len()),

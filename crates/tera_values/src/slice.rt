@@ -64,8 +64,8 @@ impl Value {
             ValueInner::Array(all) => {
                 Ok(Value::of_array(reversed_items(alloc, all.as_slice())?))
             }
-            ValueInner::String(text, _) => Ok(Value {
-                inner: ValueInner::String(reversed_text(alloc, text.as_str())?, false),
+            ValueInner::String(_, text) => Ok(Value {
+                inner: ValueInner::String(false, reversed_text(alloc, text.as_str())?),
             }),
             ValueInner::Bytes(held) => Ok(Value::bytes(reversed_bytes(alloc, held.as_slice())?)),
             _ => Err(not_reversible(alloc, self)),
@@ -90,10 +90,10 @@ impl Value {
                 let part = sliced_items(alloc, all.as_slice(), start, end, step)?;
                 Ok(Value::of_array(part))
             }
-            ValueInner::String(text, safe) => {
+            ValueInner::String(safe, text) => {
                 let part = sliced_text(alloc, text.as_str(), start, end, step)?;
                 Ok(Value {
-                    inner: ValueInner::String(part, *safe),
+                    inner: ValueInner::String(*safe, part),
                 })
             }
             _ => Err(not_sliceable(alloc, self)),

@@ -27,7 +27,7 @@ pub(crate) enum ValueInner {
     I64(i64),
     U128(u128),
     I128(i128),
-    String(String, bool),
+    String(bool, String),
     Array(Vec<Value>),
     Bytes(Vec<u8>),
     Map(Map),
@@ -115,7 +115,7 @@ impl Value {
         ensures err { IfErr result IsOutOfMemory }
     {
         Ok(Value {
-            inner: ValueInner::String(String::from_str(alloc, text)?, false),
+            inner: ValueInner::String(false, String::from_str(alloc, text)?),
         })
     }
 
@@ -127,7 +127,7 @@ impl Value {
         ensures err { IfErr result IsOutOfMemory }
     {
         Ok(Value {
-            inner: ValueInner::String(String::from_str(alloc, text)?, true),
+            inner: ValueInner::String(true, String::from_str(alloc, text)?),
         })
     }
 

@@ -30,7 +30,7 @@ pub fn is_well_made(value: &Value)
         ValueInner::I128(z) => {
             let _number = *z;
         }
-        ValueInner::String(text, _) => {
+        ValueInner::String(_, text) => {
             let _text = text.as_str();
         }
         ValueInner::Array(all) => items_are_well_made(all.as_slice()),
@@ -84,7 +84,7 @@ fn key_is_well_made(key: &Key<'static>)
         Key::Str(text) => {
             let _text = *text;
         }
-        Key::Short(text) => {
+        Key::Inline(text) => {
             let _text = text.as_str();
         }
     }

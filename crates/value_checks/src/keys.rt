@@ -16,23 +16,23 @@ pub fn owned(alloc: Global, text: &str) -> Key<'static> {
     }
 }
 
-/// A key that owns that text, in place where it is short.
+/// A key that owns that text, in place where it fits.
 pub fn in_place(alloc: Global, text: &str) -> Key<'static> {
     Key::of_text(alloc, text).unwrap_or(Key::Bool(false))
 }
 
 // The key holds its text in place.
 fn is_in_place(key: Key<'static>) -> bool {
-    let is_short = match &key {
-        Key::Short(_) => true,
+    let is_inline = match &key {
+        Key::Inline(_) => true,
         _ => false,
     };
     drop(key);
-    is_short
+    is_inline
 }
 
 #[test]
-fn short_texts_stand_in_place(rt: HostRuntime) {
+fn texts_that_fit_stand_in_place(rt: HostRuntime) {
     let alloc = rt.alloc();
     hold(
         &rt,
@@ -147,7 +147,7 @@ fn has_value(alloc: Global, key: Key<'static>, wanted: &str) -> bool {
 #[test]
 fn values_of_keys(rt: HostRuntime) {
     let alloc = rt.alloc();
-    let text = "Value { inner: String(\"a\", false) }";
+    let text = "Value { inner: String(false, \"a\") }";
     hold(
         &rt,
         &[

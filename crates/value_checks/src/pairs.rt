@@ -166,5 +166,5 @@ fn a_map_without_pairs_has_none(rt: HostRuntime) {
 
 #[test]
 fn a_value_is_small(rt: HostRuntime) {
-    assert!(rt; mem::size_of::<Value>() <= 64);
+    assert!(rt; mem::size_of::<Value>() <= 32);
 }

@@ -1,4 +1,6 @@
-use Rattle.std.proofs.Common.{arith, ap, ◌∙◌}
+use Rattle.std.proofs.Common.{◌≡◌, arith, ap, ◌∙◌, subst, List, IfOk}
+use Rattle.tera_meaning.specs.Form.{Form}
+use Rattle.tera_meaning.specs.KeyMeaning.{KeyForm}
 use Rattle.tera_meaning.specs.Tree.{items, items_depth, members, members_depth}
 use Rattle.tera_values.specs.Map.{keys_held, pairs_held}
 use Rattle.tera_values.proofs.ColumnLemmas.{column_depth}
@@ -14,17 +16,18 @@ copy::copies-push_copy-requires t c =
       omega (arith, c.loop-value.invariant.so_many, c.loop-value.invariant.room, c.loop-value-test.true),
     )
 
-pub map::Map::copy-copies-requires : goal.map::Map::copy-copies-requires
-map::Map::copy-copies-requires t c =
+pub columns::Columns::copy-copies-requires : goal.columns::Columns::copy-copies-requires
+columns::Columns::copy-copies-requires t c =
     let deep = column_depth (keys_held c.self.inside.keys) c.self.inside.values.items c.self.invariant.even in
     let same = ap (λ ps. members_depth (members ps)) c.self.view_is in
     let slice = ap (λ vs. items_depth (items vs)) c.as_slice.ensures.value in
     (omega (arith, deep, same, slice), tt)
 
-pub map::Map::copy-returns : goal.map::Map::copy-returns
-map::Map::copy-returns t c =
-    let made = keys_held c.in_ok-copied_keys.field-0 in
-    let values = c.in_ok-copies.ensures.ok ∙ c.as_slice.ensures.value in
-    ap (pairs_held made) values
-    ∙ same_pairs (keys_held c.self.inside.keys) made c.self.inside.values.items c.in_ok-copied_keys.ensures.forms
-    ∙ c.self.view_is
+pub columns::Columns::copy-returns : goal.columns::Columns::copy-returns
+columns::Columns::copy-returns t c =
+    let made = keys_held c.in_ok-keys.keys in
+    let values = c.in_ok-values.ensures.ok ∙ c.as_slice.ensures.value in
+    let pairs : pairs_held made c.in_ok-values.values.items ≡ c.args.self.now = ap (pairs_held made) values
+    ∙ same_pairs (keys_held c.self.inside.keys) made c.self.inside.values.items c.in_ok-keys.ensures.forms
+    ∙ c.self.view_is in
+    subst (λ (all : List (KeyForm × Form)). IfOk c.boxed.result (λ b. b.value ≡ all)) pairs c.boxed.ensures

@@ -4,7 +4,7 @@ use Rattle.tera_meaning.specs.Tree.{items, members, depth, items_depth, members_
 use Rattle.tera_values.proofs.+copy.Given as goal
 
 abbrev pub decreases-copy::copies : goal.decreases-copy::copies
-decreases-copy::copies l = 4 * items_depth (items l.all.now) + 2
+decreases-copy::copies l = 5 * items_depth (items l.all.now) + 2
 
 -- those so far are copied, and there is room for the others
 abbrev pub invariant-copy::copies-loop-value : goal.invariant-copy::copies-loop-value
@@ -15,11 +15,14 @@ invariant-copy::copies-loop-value l =
       room : length l.all ≤ vec_capacity l.made;
     }
 
+abbrev pub decreases-columns::Columns::copy : goal.decreases-columns::Columns::copy
+decreases-columns::Columns::copy l = 5 * members_depth (members l.self.now) + 3
+
 abbrev pub decreases-map::Map::copy : goal.decreases-map::Map::copy
-decreases-map::Map::copy l = 4 * members_depth (members l.self.now) + 3
+decreases-map::Map::copy l = 5 * members_depth (members l.self.now) + 4
 
 abbrev pub decreases-copy::push_copy : goal.decreases-copy::push_copy
-decreases-copy::push_copy l = 4 * depth l.value.now + 1
+decreases-copy::push_copy l = 5 * depth l.value.now + 1
 
 abbrev pub decreases-value::Value::owner_copy : goal.decreases-value::Value::owner_copy
-decreases-value::Value::owner_copy l = 4 * depth l.self.now
+decreases-value::Value::owner_copy l = 5 * depth l.self.now

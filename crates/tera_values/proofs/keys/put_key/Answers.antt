@@ -2,17 +2,13 @@ use Rattle.std.proofs.Common.{◌≡◌, ◌∷◌, [], ◌++◌, ap, sym, ◌�
 use Rattle.std.proofs.lemmas.Grind.{common_steps}
 use Rattle.std.specs.List.{IsDistinct, list_any}
 use Rattle.tera_values.specs.Map.{keys_tie, keys_held}
-use Rattle.tera_values.proofs.KeyLemmas.{one_key_distinct, one_more_distinct}
+use Rattle.tera_values.proofs.KeyLemmas.{one_more_distinct}
 use Rattle.tera_values.proofs.keys.put_key.Goals as goal
-
-pub returns-in_ok-keys-in-Empty-clause-distinct : goal.returns-in_ok-keys-in-Empty-clause-distinct
-returns-in_ok-keys-in-Empty-clause-distinct c = subst (IsDistinct keys_tie) (sym c.in_ok-keys-in-Empty.ensures) (one_key_distinct c.args.key)
 
 pub returns-then-place-lt-FEW-clause-distinct : goal.returns-then-place-lt-FEW-clause-distinct
 returns-then-place-lt-FEW-clause-distinct c =
     let ks = keys_held c.args.keys.now in
-    let is : ks ≡ c.in-Few.few.value.items = ap keys_held c.in-Few.is in
+    let is : ks ≡ c.in-Few.few.items = ap keys_held c.in-Few.is in
     let none : list_any (keys_tie c.args.key) ks ≡ false = grind (arith, common_steps) in
-    let was : c.deref_mut.result.now.items ≡ ks = (λ j. (c.deref_mut.ensures.value j).items) ∙ sym is in
-    let items : c.push_key.new.few.items ≡ ks ++ c.args.key ∷ [] = c.in_ok-push_key-in-Few.ensures.ok ∙ (λ j. was j ++ c.args.key ∷ []) in
+    let items : c.push_key.new.few.items ≡ ks ++ c.args.key ∷ [] = c.in_ok-push_key-in-Few.ensures.ok ∙ (λ j. sym is j ++ c.args.key ∷ []) in
     subst (IsDistinct keys_tie) (sym items) (one_more_distinct ks c.args.key c.requires none)

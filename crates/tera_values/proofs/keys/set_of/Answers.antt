@@ -1,7 +1,7 @@
 use Rattle.std.proofs.Common.{◌≡◌, ◌∷◌, [], ◌++◌, ap, sym, ◌∙◌, subst, arith, append_assoc, length}
 use Rattle.std.specs.List.{IsDistinct}
 use Rattle.std.specs.Vec.Iter.{into_iter_items}
-use Rattle.indexmap.specs.IndexSet.{insert_key, spare}
+use Rattle.indexmap.specs.IndexSet.{spare}
 use Rattle.tera_values.specs.Map.{keys_tie}
 use Rattle.tera_values.proofs.ColumnLemmas.{new_key}
 use Rattle.tera_values.proofs.KeyLemmas.{none_in_front}
@@ -9,18 +9,17 @@ use Rattle.tera_values.proofs.keys.set_of.Goals as goal
 
 pub loop-key-preserved : goal.loop-key-preserved
 loop-key-preserved c =
-    let made = c.loop-key.many.value.keys in
+    let made = c.loop-key.many.keys in
     let rest = into_iter_items c.next.new.self in
     let k = c.in-Some.key in
     let step = c.in-Some.ensures.steps.0 in
     let all : made ++ k ∷ rest ≡ c.args.few.now.items = (λ j. made ++ sym step j) ∙ c.loop-key.invariant.keys in
     let none = none_in_front made k rest (subst (IsDistinct keys_tie) (sym all) c.requires) in
-    let was = c.deref_mut.ensures.value in
     let put = rw c.unwrap.ensures at c.insert.ensures.keys in
-    let pushed : c.insert.new.self.keys ≡ made ++ k ∷ [] = put ∙ (λ j. insert_key keys_tie (was j).keys k) ∙ new_key made k none in
+    let pushed : c.insert.new.self.keys ≡ made ++ k ∷ [] = put ∙ new_key made k none in
     record {
       ready = tt;
       finite = tt;
       keys = (λ j. pushed j ++ rest) ∙ append_assoc made (k ∷ []) rest ∙ all;
-      room = omega (arith, ap length step, c.insert.ensures.spare, c.loop-key.invariant.room, ap spare was);
+      room = omega (arith, ap length step, c.insert.ensures.spare, c.loop-key.invariant.room);
     }

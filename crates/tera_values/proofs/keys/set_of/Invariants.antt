@@ -9,6 +9,6 @@ invariant-loop-key l =
     record {
       ready : (goal.iterator-loop-key).can_next l.key-iterator;
       finite : (goal.iterator-loop-key).is_finite l.key-iterator;
-      keys : l.many.value.keys ++ into_iter_items l.key-iterator ≡ l.fn.few.items;
-      room : length (into_iter_items l.key-iterator) + 1 ≤ spare l.many.value;
+      keys : l.many.keys ++ into_iter_items l.key-iterator ≡ l.fn.few.items;
+      room : length (into_iter_items l.key-iterator) + 1 ≤ spare l.many;
     }
