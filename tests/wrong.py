@@ -349,9 +349,9 @@ def left_out(text, goals):
 
 def flags_of(edits):
     """The flags of a check of the edits' functions, or of the whole crate where an edit stands in none. A second job would take a
-    third more processor time."""
+    third more processor time, and goals that are printed whole a tenth more."""
     only = [f"--only={it.only}" for it in edits if it.only]
-    return ["--jobs", "1", *(dict.fromkeys(only) if len(only) == len(edits) else [])]
+    return ["--jobs", "1", "--short-goals", *(dict.fromkeys(only) if len(only) == len(edits) else [])]
 
 
 class Ask:
@@ -417,12 +417,13 @@ class Shared:
         return [it for place, it in self.standing.items() if place not in places]
 
     def take(self, batch, lines):
-        """Takes what a check of these asks said. Yields each edit that is judged by that, with the goals that it is refused by: none
-        where it is to be tried alone."""
-        saids = {it: Said(it.edit, lines) for it in batch}
+        """Takes what a check of these asks said, and what it told of edits that stand beside them, where a function of the batch calls
+        theirs. Yields each edit that is judged by that, with the goals that it is refused by: none where it is to be tried alone."""
+        saids = {it: Said(it.edit, lines) for it in [*batch, *self.beside(batch)]}
         waiting = [it for it in batch if is_to_come(it, saids[it])]
         is_stuck = len(waiting) == len(batch) and not self.beside(batch)
-        for ask in batch:
+        told = [it for it in self.beside(batch) if self.asks.get(it.edit) is it and saids[it].refused_by()]
+        for ask in [*batch, *told]:
             del self.asks[ask.edit]
             if ask in waiting and not is_stuck:
                 self.later[ask.edit] = ask

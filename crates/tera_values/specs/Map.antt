@@ -48,6 +48,11 @@ pub record AreColumns {V : Type 0} (ks : List Key) (vs : List V) : Type 0 where
   pub even : length ks ≡ length vs
   pub distinct : IsDistinct keys_tie ks
 
+-- distinct keys, and the values beside them, that make these pairs
+pub record AreListsOf (ps : List (KeyForm × Form)) (ks : List Key) (vs : List Form) : Type 0 where
+  pub pairs : pairs_held ks vs ≡ ps
+  pub columns : AreColumns ks vs
+
 -- keys of the same forms in the same order, no two of them equal
 pub record AreKeysLike (ks made : List Key) : Type 0 where
   pub forms : map key_form made ≡ map key_form ks

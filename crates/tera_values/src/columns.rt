@@ -6,7 +6,7 @@ ghost use Rattle.std.specs.Option.{option_copied};
 ghost use Rattle.std.specs.Vec.{vec_len, vec_capacity};
 ghost use Rattle.tera_meaning.specs.Pairs.{key_form_order, put, value_at};
 ghost use Rattle.tera_values.specs.Key.{key_form};
-ghost use Rattle.tera_values.specs.Map.{keys_tie, keys_held, pairs_held, AreColumns};
+ghost use Rattle.tera_values.specs.Map.{keys_tie, keys_held, AreListsOf};
 
 use crate::copy::copies;
 use crate::keys::{FEW, FIRST, Keys, copied_keys, first_key, key_slice, place_of, put_key};
@@ -64,8 +64,7 @@ impl Columns {
 
     /// The keys, and the values in the same order.
     pub(crate) fn lists(&self) -> (&[Key<'static>], &[Value])
-        ensures pairs { pairs_held result.0.now result.1.now ≡ self.now }
-        ensures columns { AreColumns result.0.now result.1.now }
+        ensures { AreListsOf self.now result.0.now result.1.now }
     {
         (key_slice(&self.keys), self.values.as_slice())
     }
@@ -117,8 +116,7 @@ impl Columns {
 
     /// The keys, and the values in the same order, given away.
     pub(crate) fn into_lists(self) -> (Keys, Vec<Value>)
-        ensures pairs { pairs_held (keys_held result.0) result.1.items ≡ self }
-        ensures columns { AreColumns (keys_held result.0) result.1.items }
+        ensures { AreListsOf self (keys_held result.0) result.1.items }
     {
         let Columns { keys, values } = self;
         (keys, values)

@@ -3,7 +3,7 @@ ghost use Rattle.std.specs.Prelude.{◌≡◌, [], None, length, IfOk, IfErr, Is
 ghost use Rattle.std.specs.Prelude.{slice_get};
 ghost use Rattle.std.specs.Option.{option_copied, option_map};
 ghost use Rattle.tera_meaning.specs.Pairs.{key_form_order, put, value_at, HasDistinctKeys};
-ghost use Rattle.tera_values.specs.Map.{keys_held, pairs_held, AreColumns};
+ghost use Rattle.tera_values.specs.Map.{keys_held, AreListsOf};
 ghost use Rattle.tera_report.specs.Errors.{IsOutOfMemory};
 ghost use Rattle.tera_values.specs.Key.{key_form};
 
@@ -133,8 +133,7 @@ impl Map {
 
     // The keys, and the values in the same order.
     fn lists(&self) -> (&[Key<'static>], &[Value])
-        ensures pairs { pairs_held result.0.now result.1.now ≡ self.now }
-        ensures columns { AreColumns result.0.now result.1.now }
+        ensures { AreListsOf self.now result.0.now result.1.now }
     {
         match &self.columns {
             Some(columns) => columns.lists(),
@@ -144,8 +143,7 @@ impl Map {
 
     // The keys, and the values in the same order, given away.
     fn into_lists(self) -> (Keys, Vec<Value>)
-        ensures pairs { pairs_held (keys_held result.0) result.1.items ≡ self }
-        ensures columns { AreColumns (keys_held result.0) result.1.items }
+        ensures { AreListsOf self (keys_held result.0) result.1.items }
     {
         let Map { alloc, columns } = self;
         match columns {

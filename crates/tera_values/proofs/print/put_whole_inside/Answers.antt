@@ -1,5 +1,4 @@
 -- Inside an array or a map a text is quoted, and all else prints as by itself.
-use Rattle.std.proofs.Common.{rules}
 use Rattle.std.proofs.lemmas.Result.{MatchResult-weaker}
 use Rattle.tera_values.proofs.PrintLemmas.{text_inside, other_inside}
 use Rattle.tera_values.proofs.print.put_whole_inside.Goals as goal

@@ -1,4 +1,4 @@
-use Rattle.std.proofs.Common.{◌≡◌, ◌<◌, ◌≤◌, ap, ◌∙◌, arith, get_or, length}
+use Rattle.std.proofs.Common.{◌<◌, ◌≤◌, ap, ◌∙◌, arith, length}
 use Rattle.std.specs.Prelude.{slice_get}
 use Rattle.tera_values.proofs.ColumnLemmas.{pair_at, no_pair_at}
 use Rattle.tera_values.proofs.map.Map.get_index.Goals as goal

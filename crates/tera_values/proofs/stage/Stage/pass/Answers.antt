@@ -1,5 +1,5 @@
 -- What was kept back and then the text were put, and nothing is kept back.
-use Rattle.std.proofs.Common.{rules, ◌≡◌, ◌++◌, ◌∙◌, ap, append-nil}
+use Rattle.std.proofs.Common.{◌++◌, ◌∙◌, ap, append-nil}
 use Rattle.std.proofs.lemmas.Result.{MatchResult-weaker}
 use Rattle.tera_values.specs.inner.Stage.{kept_bytes}
 use Rattle.tera_values.proofs.stage.Stage.pass.Goals as goal
