@@ -49,7 +49,7 @@ pub fn tell_maps(rt: &(impl Print + AllocGlobal), made: &Made) -> TeraResult<()>
     let alloc = rt.alloc();
     tell(rt, "Map::new", Ok(Value::of_map(Map::new(alloc))));
     let mut held = map(alloc, made.count)?;
-    tell(rt, "Map::clone", as_value(held.clone(alloc)));
+    tell(rt, "Map::clone", as_value(held.clone()));
     let key = RcStr::from_str(alloc, "new")?;
     let answer = inserted(&mut held, Key::String(key));
     tell_change(rt, "Map::insert", answer, Value::of_map(held));

@@ -80,6 +80,7 @@ fn reports_of_lines(rt: HostRuntime) {
     let empty = "error: bad\n --> a.html:1:1\n  |\n1 | \n  | ^";
     let last = "error: bad\n --> a.html:2:1\n  |\n2 | \n  | ^";
     let returned = "error: bad\n --> a.html:2:1\n  |\n2 | bar\r\n  | ^^^";
+    let third = "error: bad\n --> a.html:3:1\n  |\n3 | \n  | ^";
     let fourth = "error: bad\n --> a.html:4:3\n  |\n4 | baz\n  |   ^";
     let twelfth = "error: bad\n  --> a.html:12:1\n   |\n12 | end\n   | ^^^";
     hold(
@@ -88,6 +89,7 @@ fn reports_of_lines(rt: HostRuntime) {
             says(alloc, "", on(1, 0, 1), empty),
             says(alloc, "x\n", on(2, 0, 0), last),
             says(alloc, FOUR_LINES, on(2, 0, 3), returned),
+            says(alloc, FOUR_LINES, on(3, 0, 1), third),
             says(alloc, FOUR_LINES, on(4, 2, 3), fourth),
             says(alloc, "\n\n\n\n\n\n\n\n\n\n\nend", on(12, 0, 3), twelfth),
         ],

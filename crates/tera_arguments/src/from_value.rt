@@ -167,7 +167,7 @@ impl<'k> ArgFromValue<'k, Value> for Map {
 
     fn from_value(alloc: Global, value: &'k Value) -> TeraResult<Map> {
         match value.as_map() {
-            Some(map) => map.clone(alloc),
+            Some(map) => map.clone(),
             None => Err(Error::invalid_arg_type(alloc, "Map", value.name())),
         }
     }

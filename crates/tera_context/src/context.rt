@@ -153,8 +153,8 @@ impl Context {
     /// `Context::extend`. The source is consumed.
     ///
     /// The only error is `Out of memory`. Then some first names of the source, in the order of
-    /// their bytes, were taken over, and nothing else has changed. Takes memory, but for a source
-    /// of no names.
+    /// their bytes, may have been taken over, and nothing else has changed. Takes memory, but for a
+    /// source of no names.
     pub fn extend(&mut self, source: Context) -> TeraResult<()>
         ensures ok { OnOk result (self.new ≡ extended self.old source) }
         ensures err { IfErr result IsOutOfMemory }

@@ -22,8 +22,8 @@ use tera_report::TeraResult;
 use tera_values::Value;
 
 /// One step: its answer, with what it changes of the context; or its refusal, and then nothing has
-/// changed. Only `Extend` that finds no memory has taken over some first names of its source, in
-/// the order of their bytes, and nothing else.
+/// changed. Only `Extend` that finds no memory may have taken over some first names of its source,
+/// in the order of their bytes, and nothing else.
 ///
 /// `Out of memory` may be answered by `Set` and `Extend`, by `MarkSafe` where `into` is given, by
 /// `Print`, `Escape`, `Fields` and `Walk`, and by `Get` and the calls that answer as it does. Of

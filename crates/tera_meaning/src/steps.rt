@@ -160,7 +160,7 @@ pub fn what_is_marked_is_kept()
 {}
 
 /// Only a command that may want memory comes to want of it. This changes nothing; but of `extend`
-/// some first names of its source are taken over, fewer than all.
+/// some first names of its source, fewer than all, may be taken over.
 pub fn wants_of_memory_change_nothing()
     ensures { (old new : State) (command : Command) → IsStep old command out_of_memory new
         → MayWantMemory old command × LeavesInWant old command.request new }

@@ -156,12 +156,12 @@ impl Map {
     /// deep.
     ///
     /// Takes memory where there are pairs; the only refusal is want of it, `Out of memory`.
-    pub fn clone(&self, alloc: Global) -> TeraResult<Map>
+    pub fn clone(&self) -> TeraResult<Map>
         ensures ok { IfOk result (λ m. m ≡ self.now) }
         ensures err { IfErr result IsOutOfMemory }
         ensures succeeds { self.now ≡ [] → IsOk result }
     {
-        Ok(self.copy(alloc)?)
+        Ok(self.copy(self.alloc)?)
     }
 
     /// A clone, with an error that says nothing: so what is answered is small.

@@ -143,7 +143,7 @@ fn are_alike(left: Pairs<'_>, right: Pairs<'_>) -> bool {
 #[test]
 fn copies_keep_the_order(rt: HostRuntime) {
     let map = filled(rt.alloc());
-    let copy = map.clone(rt.alloc()).unwrap_or(Map::new(rt.alloc()));
+    let copy = map.clone().unwrap_or(Map::new(rt.alloc()));
     assert!(rt; copy.len() == 2 && are_alike(map.iter(), copy.iter()));
     drop(copy);
     drop(map);

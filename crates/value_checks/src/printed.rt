@@ -1,9 +1,9 @@
-//! What values print where a width and a fill are asked for.
+//! What values print: to a text, to a writer, and where a width and a fill are asked for.
 use crate::held::hold;
-use made_values::{at_texts, no_pairs, safe, two_items};
+use made_values::{at_texts, no_pairs, one_item, printed, safe, two_items, with, with_item};
 use std::alloc::Global;
 use std::fmt::Display;
-use tera_values::Value;
+use tera_values::{Key, Map, Value};
 
 /// Whether `{}` makes that of it, whatever width and fill it has.
 pub fn displays<D: Display>(alloc: Global, it: &D, wanted: &str) -> bool {
@@ -32,6 +32,35 @@ fn a_width_changes_nothing(rt: HostRuntime) {
             prints(alloc, numbers, "[1, ]"),
             prints(alloc, no_pairs(alloc), "{}"),
             prints(alloc, twice, "{\"b\": 3, \"a\": 2}"),
+        ],
+    );
+}
+
+// It writes that to a text and to a writer, and is let go.
+fn writes(alloc: Global, value: Value, wanted: &str) -> bool {
+    let text = printed(alloc, &value);
+    let mut out = Vec::new(alloc);
+    let is_out = value.format(&mut out).is_ok() && out.as_slice() == wanted.as_bytes();
+    drop(value);
+    is_out && text.as_str() == wanted
+}
+
+#[test]
+fn parts_are_printed_in_their_order(rt: HostRuntime) {
+    let alloc = rt.alloc();
+    let ends = two_items(alloc, Value::from(1u8), Value::none());
+    let items = with_item(Vec::new(alloc), Value::from(1u8));
+    let items = with_item(with_item(items, Value::none()), Value::from(2u8));
+    let pairs = with(Map::new(alloc), Key::Str("1"), Value::from(3u8));
+    let pairs = with(pairs, Key::U64(1), Value::from(2u8));
+    let pairs = with(pairs, Key::Bool(true), Value::from(1u8));
+    hold(
+        &rt,
+        &[
+            writes(alloc, one_item(alloc, Value::none()), "[]"),
+            writes(alloc, ends, "[1, ]"),
+            writes(alloc, Value::of_array(items), "[1, , 2]"),
+            writes(alloc, Value::of_map(pairs), "{\"1\": 3, 1: 2, true: 1}"),
         ],
     );
 }

@@ -37,8 +37,8 @@ impl Error {
         }
     }
 
-    /// Kind `Msg` with that text and that cause. `Out of memory`, without the cause, where the text
-    /// finds none. Mirrors `Error::chain`.
+    /// Kind `Msg` with that text and that cause, whose own text `anyhow` cuts at 120 bytes. `Out of
+    /// memory`, without the cause, where the text finds none. Mirrors `Error::chain`.
     pub fn chain(alloc: Global, text: &str, source: anyhow::Error) -> Error
         ensures { States (message text.now) (Some source) result ⊎ IsOutOfMemory result }
     {
