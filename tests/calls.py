@@ -99,7 +99,7 @@ def ok(shown):
 
 def errors(count, text, names):
     yield Row("Error::message", f"error: {text}")
-    yield Row("Error::message_of", f"error: {text}{text}")
+    yield Row("Error::message_of", f"error: {'é<' * count}")
     yield Row("Error::chain", ok(f"Error {{ kind: Msg({quoted(text)}), source: Some(a cause) }}"))
     yield Row("Error::invalid_arg_type", refused(text, text))
     yield Row("Error::out_of_range_arg", outside(text, text))

@@ -44,7 +44,7 @@ def files():
     if os.path.isdir(".git") or os.path.isfile(".git"):
         found = subprocess.run(words, capture_output=True, text=True, check=True).stdout.split("\n")
     else:
-        found = [os.path.relpath(f"{at}/{it}", ".") for at, _, names in os.walk(".") for it in names if "/out" not in at]
+        found = [os.path.relpath(f"{at}/{it}", ".") for at, _, names in os.walk(".") for it in names if "out" not in at.split("/")]
     return sorted(it for it in found if it and os.path.isfile(it))
 
 

@@ -191,6 +191,14 @@ fn arguments_may_have_no_pair(rt: HostRuntime) {
     assert!(rt; is_of_no_pair(alloc, made));
 }
 
+#[test]
+fn arguments_may_have_one_pair(rt: HostRuntime) {
+    let alloc = rt.alloc();
+    let made = or_none(alloc, Kwargs::from_pairs(alloc, [("n", Value::from(1u8))]));
+    let shown = "KwargsOf { values: Value { inner: Map({Str(\"n\"): Value { inner: U64(1) }}) } }";
+    assert!(rt; is_shown(alloc, made, shown));
+}
+
 // Arguments were made, and there is none.
 fn is_of_no_pair(alloc: Global, made: TeraResult<Kwargs>) -> bool {
     let is_made = made.is_ok();

@@ -5,14 +5,10 @@ use std::alloc::Global;
 use tera_report::{Error, ErrorKind, TeraResult, escape_text};
 
 /// Refusals of values and arguments.
-pub fn tell_refusals(rt: &(impl Print + AllocGlobal), made: &Made) {
+pub fn tell_refusals(rt: &(impl Print + AllocGlobal), made: &Made) -> TeraResult<()> {
     let (alloc, text) = (rt.alloc(), made.text.as_str());
     tell_error(rt, "Error::message", Error::message(alloc, text));
-    tell_error(
-        rt,
-        "Error::message_of",
-        Error::message_of(alloc, &[text, text]),
-    );
+    tell_error(rt, "Error::message_of", pieced(alloc, made.count)?);
     let cause = anyhow::Error::msg("a cause");
     tell(rt, "Error::chain", caused(Error::chain(alloc, text, cause)));
     tell_error(
@@ -27,6 +23,16 @@ pub fn tell_refusals(rt: &(impl Print + AllocGlobal), made: &Made) {
     );
     tell_error(rt, "Error::missing_arg", Error::missing_arg(alloc, text));
     tell(rt, "escape_text", escape_text(alloc, text));
+    Ok(())
+}
+
+// An error of so many pieces.
+fn pieced(alloc: Global, count: usize) -> TeraResult<Error> {
+    let mut pieces = Vec::new(alloc);
+    for _ in 0..count {
+        pieces.push("é<")?;
+    }
+    Ok(Error::message_of(alloc, pieces.as_slice()))
 }
 
 // The error itself, where there was no memory for it.

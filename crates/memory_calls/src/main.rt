@@ -68,7 +68,7 @@ fn tell_calls(rt: &HostRuntime, count: usize) -> TeraResult<()> {
 
 fn tell_each(rt: &HostRuntime, made: &mut Made) -> TeraResult<()> {
     made.fill(rt.alloc())?;
-    errors::tell_refusals(rt, made);
+    errors::tell_refusals(rt, made)?;
     errors::tell_templates(rt, made)?;
     errors::tell_copies(rt, made)?;
     reports::tell_reports(rt, made)?;

@@ -1,6 +1,8 @@
 //! What values print: to a text, to a writer, and where a width and a fill are asked for.
 use crate::held::hold;
-use made_values::{at_texts, no_pairs, one_item, printed, safe, two_items, with, with_item};
+use made_values::{
+    at_texts, bytes, no_items, no_pairs, one_item, printed, safe, text, two_items, with, with_item,
+};
 use std::alloc::Global;
 use std::fmt::Display;
 use tera_values::{Key, Map, Value};
@@ -46,20 +48,46 @@ fn writes(alloc: Global, value: Value, wanted: &str) -> bool {
 }
 
 #[test]
-fn parts_are_printed_in_their_order(rt: HostRuntime) {
+fn items_are_printed_in_their_order(rt: HostRuntime) {
     let alloc = rt.alloc();
-    let ends = two_items(alloc, Value::from(1u8), Value::none());
     let items = with_item(Vec::new(alloc), Value::from(1u8));
     let items = with_item(with_item(items, Value::none()), Value::from(2u8));
+    let kinds = with_item(Vec::new(alloc), safe(alloc, "a"));
+    let kinds = with_item(with_item(kinds, bytes(alloc, b"hi")), no_items(alloc));
+    let quoted = text(alloc, "a\"\u{1f}\u{7f}'");
+    let cut = bytes(alloc, b"\xe2\x82A\xf0\x80\x80");
+    hold(
+        &rt,
+        &[
+            writes(alloc, one_item(alloc, Value::none()), "[]"),
+            writes(alloc, Value::of_array(items), "[1, , 2]"),
+            writes(alloc, Value::of_array(kinds), "[\"a\", hi, []]"),
+            writes(alloc, one_item(alloc, quoted), "[\"a\\\"\\u{1f}\\u{7f}'\"]"),
+            writes(
+                alloc,
+                one_item(alloc, cut),
+                "[\u{fffd}A\u{fffd}\u{fffd}\u{fffd}]",
+            ),
+        ],
+    );
+}
+
+#[test]
+fn pairs_are_printed_in_their_order(rt: HostRuntime) {
+    let alloc = rt.alloc();
+    let named = with(Map::new(alloc), Key::Str("other"), Value::from(2u8));
+    let named = with(named, Key::Str("hello"), text(alloc, "world"));
     let pairs = with(Map::new(alloc), Key::Str("1"), Value::from(3u8));
     let pairs = with(pairs, Key::U64(1), Value::from(2u8));
     let pairs = with(pairs, Key::Bool(true), Value::from(1u8));
     hold(
         &rt,
         &[
-            writes(alloc, one_item(alloc, Value::none()), "[]"),
-            writes(alloc, ends, "[1, ]"),
-            writes(alloc, Value::of_array(items), "[1, , 2]"),
+            writes(
+                alloc,
+                Value::of_map(named),
+                "{\"other\": 2, \"hello\": \"world\"}",
+            ),
             writes(alloc, Value::of_map(pairs), "{\"1\": 3, 1: 2, true: 1}"),
         ],
     );
