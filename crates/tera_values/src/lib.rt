@@ -28,7 +28,7 @@ mod unlike;
 mod value;
 mod well_made;
 
-pub use convert::ConversionRefused;
+pub use convert::{ConversionRefused, what_is_told_is_the_refusal};
 pub use integers::IntType;
 pub use key::Key;
 pub use kind::{ValueKind, kinds_equal_where_the_same};
