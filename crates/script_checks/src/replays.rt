@@ -4,20 +4,24 @@ use std::io::{BufWriter, Error, ErrorKind, Read, Result, Write};
 use tera_replies::{InputPieces, replay, replay_from};
 use tera_report::sink::Growing;
 
-// Gives these bytes, at most `size` at a read, and then ends or is interrupted.
+// Gives these bytes, at most `size` at a read, and then ends. Where there are later bytes, one read
+// between these and those is interrupted.
 #[derive(Drop)]
 struct Slow<'a> {
     bytes: &'a [u8],
     size: usize,
-    fails: bool,
+    later: Option<&'a [u8]>,
 }
 
 impl Read for Slow<'_> {
     fn read(&mut self, buf: &mut [u8]) -> Result<usize> {
-        let count = self.size.min(self.bytes.len()).min(buf.len());
-        if count == 0 && self.fails {
-            return Err(Error::from(ErrorKind::Interrupted));
+        if self.bytes.is_empty() {
+            if let Some(later) = self.later.take() {
+                self.bytes = later;
+                return Err(Error::from(ErrorKind::Interrupted));
+            }
         }
+        let count = self.size.min(self.bytes.len()).min(buf.len());
         let (front, rest) = self.bytes.split_at(count);
         buf[..count].copy_from_slice(front);
         self.bytes = rest;
@@ -65,16 +69,16 @@ fn in_pieces(bytes: &[u8], size: usize) -> Slow<'_> {
     Slow {
         bytes,
         size,
-        fails: false,
+        later: None,
     }
 }
 
-// Gives these bytes, as many at a read, and then is interrupted.
+// Gives these bytes, as many at a read, is interrupted once, and would then give a line.
 fn interrupted(bytes: &[u8], size: usize) -> Slow<'_> {
     Slow {
         bytes,
         size,
-        fails: true,
+        later: Some(b"\nhas a\n"),
     }
 }
 

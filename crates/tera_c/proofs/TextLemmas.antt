@@ -53,12 +53,12 @@ abbrev Any : List ℕ → Type 0
 Any given = Unit {0}
 
 -- what a replay to two texts says, in words of what they hold
-pub comes_where : (script bytes : List ℕ) (fails : Bool) (InGave InFailed OutGets OutBroke ErrGets : List ℕ → Type 0) (answers report : List ℕ)
+pub comes_where : (script bytes : List ℕ) (fails : Bool) (InGave InEnded InFailed OutGets OutBroke ErrGets : List ℕ → Type 0) (answers report : List ℕ)
     (status : ℕ) → bytes ≡ script → fails ≡ false → ((text : List ℕ) → OutGets text → answers ≡ text) → ((text : List ℕ) → OutBroke text → Begins answers text)
-    → ((text : List ℕ) → ErrGets text → Begins report text) → Replays bytes (Some fails) InGave InFailed OutGets OutBroke ErrGets status
+    → ((text : List ℕ) → ErrGets text → Begins report text) → Replays bytes (Some fails) InGave InEnded InFailed OutGets OutBroke ErrGets status
     → Comes script answers report status
-comes_where script bytes fails InGave InFailed OutGets OutBroke ErrGets answers report status is ends out broke err h =
+comes_where script bytes fails InGave InEnded InFailed OutGets OutBroke ErrGets answers report status is ends out broke err h =
     subst (λ (b : List ℕ). Comes b answers report status) is
-    (subst (λ (f : Bool). Replays bytes (Some f) Any Any (λ text. answers ≡ text) (λ text. Begins answers text) (λ text. Begins report text) status) ends
-    (replays_weaker (Some bytes) (Some fails) InGave InFailed Any Any OutGets (λ text. answers ≡ text) OutBroke (λ text. Begins answers text)
-    ErrGets (λ text. Begins report text) status (λ given reads. tt) (λ given failed. tt) out broke err h))
+    (subst (λ (f : Bool). Replays bytes (Some f) Any Any Any (λ text. answers ≡ text) (λ text. Begins answers text) (λ text. Begins report text) status) ends
+    (replays_weaker (Some bytes) (Some fails) InGave InEnded InFailed Any Any Any OutGets (λ text. answers ≡ text) OutBroke (λ text. Begins answers text)
+    ErrGets (λ text. Begins report text) status (λ given reads. tt) (λ given ends. tt) (λ given failed. tt) out broke err h))

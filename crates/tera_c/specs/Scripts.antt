@@ -13,7 +13,7 @@ Begins bytes whole = (rest : List ℕ) × (bytes ++ rest ≡ whole)
 -- answers is there; and so for the report.
 abbrev pub Comes : List ℕ → List ℕ → List ℕ → ℕ → Type 0
 Comes script answers report status =
-    Replays script (Some false) (λ given. Unit {0}) (λ given. Unit {0})
+    Replays script (Some false) (λ given. Unit {0}) (λ given. Unit {0}) (λ given. Unit {0})
     (λ text. answers ≡ text) (λ text. Begins answers text) (λ text. Begins report text) status
 
 -- it came to these, and they stand in the rooms with that status; or one room is too small for its

@@ -10,10 +10,11 @@ use Rattle.tera_replies.specs.Replay.{Replays}
 use Rattle.tera_replies.specs.Script.{HasNoLineFeed, line_feed}
 
 -- the first of no lines are answered, and this is told
-pub nothing_read : (first : Option (List ℕ)) (fails : Option Bool) (InGave InFailed OutGets OutBroke ErrGets : List ℕ → Type 0)
-    → InGave [] → OutGets [] → ErrGets (codes "error: Out of memory\n") → IfSome first (λ bytes. Replays bytes fails InGave InFailed OutGets OutBroke ErrGets 1)
-nothing_read None fails InGave InFailed OutGets OutBroke ErrGets gave none told = tt
-nothing_read (Some bytes) fails InGave InFailed OutGets OutBroke ErrGets gave none told = inl (
+pub nothing_read : (first : Option (List ℕ)) (fails : Option Bool) (InGave InEnded InFailed OutGets OutBroke ErrGets : List ℕ → Type 0)
+    → InGave [] → OutGets [] → ErrGets (codes "error: Out of memory\n")
+    → IfSome first (λ bytes. Replays bytes fails InGave InEnded InFailed OutGets OutBroke ErrGets 1)
+nothing_read None fails InGave InEnded InFailed OutGets OutBroke ErrGets gave none told = tt
+nothing_read (Some bytes) fails InGave InEnded InFailed OutGets OutBroke ErrGets gave none told = inl (
   [],
   codes "error: Out of memory\n",
   inr (inr (record {
@@ -25,7 +26,7 @@ nothing_read (Some bytes) fails InGave InFailed OutGets OutBroke ErrGets gave no
     later = [];
     outcomes = [];
     front = refl;
-    gave = gave;
+    gave = inl gave;
     split = record { whole = refl; each = All-nil HasNoLineFeed; rest = All-nil (λ byte. byte ≢ line_feed) };
     lines_are = refl;
     answers = record { commands = []; state = empty; script = (refl, refl); run = refl };

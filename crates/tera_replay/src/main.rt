@@ -3,7 +3,7 @@
 
 ghost use Rattle.std.specs.Prelude.{◌≡◌, ◌≤◌, IfSome};
 ghost use Rattle.tera_replay.specs.Buffered.{BufferBroke, BufferGets};
-ghost use Rattle.tera_replies.specs.Output.{Failed, Gave, WriterTakesOrFails};
+ghost use Rattle.tera_replies.specs.Output.{Ended, Failed, Gave, WriterTakesOrFails};
 ghost use Rattle.tera_replies.specs.Replay.{Replays};
 
 use std::alloc::Global;
@@ -29,7 +29,7 @@ fn replay_buffered<S: Source + Drop, B: Writer + Drop, E: Writer>(
     err: &mut E,
 ) -> (u8, Option<B>)
     ensures known { IfSome (S.left input) (λ bytes. Replays bytes (S.fails input)
-        (Gave S.gave input) (Failed S.gave input)
+        (Gave S.gave input) (Ended S.gave input) (Failed S.gave input)
         (BufferGets B.contents B.wrote B.flushed out result.1)
         (BufferBroke B.wrote B.flushed out result.1)
         (λ text. WriterTakesOrFails E.contents E.wrote err.old text err.new) result.0) }

@@ -1,6 +1,7 @@
 -- What a stretch from the start on says of the whole input, which is read piece by piece.
-use Rattle.std.proofs.Common.{◌≡◌, ℕ, ◌+◌, ◌-◌, ◌^◌, ◌≤◌, Bool, true, false, ◌||◌, ◌⊎◌, inr, List, [], ◌∷◌, ◌++◌, length, map, codes, Option, None, Some, cond}
-use Rattle.std.proofs.Common.{Result, Ok, Err, IfOk, IfErr, sym, ◌∙◌, ap, subst, refl, append_assoc, append-nil, arith, IfSome}
+use Rattle.std.proofs.Common.{◌≡◌, ℕ, ◌+◌, ◌-◌, ◌^◌, ◌<◌, ◌≤◌, Bool, true, false, ◌||◌, ◌⊎◌, inl, inr, List, [], ◌∷◌, ◌++◌, length}
+use Rattle.std.proofs.Common.{map, codes, Option, None, Some, cond, Result, Ok, Err, IfOk, IfErr, sym, ◌∙◌, ap, subst, refl, append_assoc, append-nil}
+use Rattle.std.proofs.Common.{arith, IfSome, length-append, take}
 use Rattle.std.proofs.{lemmas.List.length-map, lemmas.List.map-append, lemmas.List.Concat.flat_map-append}
 use Rattle.std.specs.{Io.KnownBytes.Consumes, List.flat_map}
 use Rattle.tera_meaning.specs.{Outcome.Outcome, State.State}
@@ -9,9 +10,9 @@ use Rattle.tera_report.specs.{Report.Report, Report.report_text, inner.WriterLaw
 use Rattle.tera_report.proofs.SentLaws.{sends_joined}
 use Rattle.tera_replies.specs.declared.fault.Fault.TheVariants.{BadLine, ReadFailed, WriteFailed, OutOfMemory}
 use Rattle.tera_replies.specs.Stretch.{bad_at, Runs, Place, Goes, StopsAtBad, Begins, LineStops, Ends, Stops, start}
-use Rattle.tera_replies.specs.Replay.{lines_given, AllAnswered, ReadingFailed, MemoryFailed, WritingFailed, AreAnswered, report}
+use Rattle.tera_replies.specs.Replay.{lines_given, AllAnswered, IsWholeIn, ReadEnough, ReadingFailed, MemoryFailed, WritingFailed, AreAnswered, report}
 use Rattle.tera_replies.specs.{Script.Splits, Script.without_return, Script.last_line, Script.ended, Script.line_feed, Reply.AreReplies, Source.EndIsTold}
-use Rattle.tera_replies.specs.{Source.MayErr, Source.Attempt, Source.bytes_given, Source.given_by, Source.Reads, declared.fault.Fault.Fault}
+use Rattle.tera_replies.specs.{Source.MayErr, Source.Giving, Source.given_by, Source.Reads, declared.fault.Fault.Fault}
 use Rattle.tera_replies.specs.{declared.source.ReadError.ReadError, Output.BrokeOn}
 use Rattle.tera_replies.proofs.StretchLemmas.{Runs-append, Script-append, Begins-all, Went, sent_still, Splits-more, splits, split_line}
 use Rattle.tera_replies.proofs.ReplyLemmas.{broke_on_later}
@@ -48,7 +49,8 @@ among_given bytes given rest out fails lines first later part outcomes front spl
     }
 
 -- the replies that were due are, however the input ended, those to the first of the lines
-pub broke_at_end : {bytes out err : List ℕ} {fails : Option Bool} {status : ℕ} → AllAnswered bytes fails out err status → WritingFailed bytes fails out
+pub broke_at_end : {bytes out err : List ℕ} {fails : Option Bool} {InGave InEnded : List ℕ → Type 0} {status : ℕ}
+    → AllAnswered bytes fails InGave InEnded out err status → WritingFailed bytes fails out
 broke_at_end {fails} h = record {
   lines = h.lines;
   part = h.part;
@@ -68,8 +70,8 @@ broke_at_failure {bytes} {out} {fails} h =
     among_given bytes h.given h.rest out fails h.lines (map without_return h.lines) [] h.part h.outcomes h.front h.split
     (sym (append-nil (map without_return h.lines))) h.answers h.replied
 
-pub broke_at_memory : {bytes out err : List ℕ} {InGave : List ℕ → Type 0} {status : ℕ} (fails : Option Bool) → MemoryFailed bytes InGave out err status
-    → WritingFailed bytes fails out
+pub broke_at_memory : {bytes out err : List ℕ} {InGave InEnded : List ℕ → Type 0} {status : ℕ} (fails : Option Bool)
+    → MemoryFailed bytes InGave InEnded out err status → WritingFailed bytes fails out
 broke_at_memory {bytes} {out} fails h =
     among_given bytes h.given h.rest out fails h.lines h.first h.later h.part h.outcomes h.front h.split h.lines_are h.answers h.replied
 
@@ -91,9 +93,10 @@ regrouped : {bytes read text : List ℕ} {p : Place} (more : List ℕ) (g : Goes
 regrouped {p} more g e = e ∙ ap (λ (zs : List ℕ). zs ++ more) g.split ∙ append_assoc (flat_map ended g.lines) p.part more
 
 -- the input ended
-at_end : {bytes text more : List ℕ} {p : Place} {v : Bool} {new : State} (fails : Option Bool) → EndIsTold fails → Goes start bytes text p
-    → Runs p.number p.state (last_line p.part) more v new → AllAnswered bytes fails (text ++ more) [] (cond (p.wanted || v) 1 0)
-at_end {p} {v} {new} fails told g h =
+at_end : {bytes text more : List ℕ} {p : Place} {v : Bool} {new : State} (fails : Option Bool) (InGave InEnded : List ℕ → Type 0) → InEnded bytes
+    → EndIsTold fails → Goes start bytes text p → Runs p.number p.state (last_line p.part) more v new
+    → AllAnswered bytes fails InGave InEnded (text ++ more) [] (cond (p.wanted || v) 1 0)
+at_end {p} {v} {new} fails InGave InEnded end told g h =
     let all = Runs-append g.runs (counted g) h in
     record {
       lines = g.lines;
@@ -103,16 +106,19 @@ at_end {p} {v} {new} fails told g h =
       split = record { whole = g.split; each = g.each; rest = g.rest };
       answers = record { commands = all.commands; state = new; script = rw (all_given fails g.lines p.part told) all.script; run = all.run };
       ended = λ is. absurd (subst EndIsTold is told);
+      read = inl end;
       replied = all.replied;
       err_is = refl;
       status_is = ap (λ (w : Bool). cond (w || v) 1 0) g.wanted_is ∙ ap (λ (w : Bool). cond w 1 0) all.wanted_is;
     }
 
 -- a line behind the whole ones is bad
-bad_answered : {bytes read text : List ℕ} {p : Place} (fails : Option Bool) (g : Goes start read text p) (line : List ℕ) (lines more : List (List ℕ))
-    (part : List ℕ) → Splits bytes lines part → lines_given fails lines part ≡ map without_return g.lines ++ line ∷ more → IsBad line
-    → AllAnswered bytes fails text (report (Some (bad_at p.number line))) 2
-bad_answered {p} fails g line lines more part split given bad =
+bad_answered : {bytes read text : List ℕ} {p : Place} (fails : Option Bool) (InGave InEnded : List ℕ → Type 0) (g : Goes start read text p)
+    (line : List ℕ) (lines more : List (List ℕ)) (part : List ℕ) → Splits bytes lines part
+    → lines_given fails lines part ≡ map without_return g.lines ++ line ∷ more → IsBad line
+    → ReadEnough bytes (Some (bad_at p.number line)) InGave InEnded
+    → AllAnswered bytes fails InGave InEnded text (report (Some (bad_at p.number line))) 2
+bad_answered {p} fails InGave InEnded g line lines more part split given bad enough =
     let script = rw (append-nil g.runs.commands) at (Script-append 1 (map without_return g.lines) (line ∷ more) g.runs.commands []
     (Some (bad_at p.number line)) g.runs.script p.number (counted g) (inr (inr (bad, refl, refl)))) in
     record {
@@ -123,34 +129,50 @@ bad_answered {p} fails g line lines more part split given bad =
       split = split;
       answers = record { commands = g.runs.commands; state = p.state; script = rw given script; run = g.runs.run };
       ended = λ is. refl;
+      read = enough;
       replied = g.runs.replied;
       err_is = refl;
       status_is = refl;
     }
 
+-- a bad line stands whole in what was read
+whole_in : {given text : List ℕ} {r : Report} (s : StopsAtBad start given r text)
+    → IsWholeIn given (Some (bad_at s.place.number (without_return s.place.part)))
+whole_in s =
+    let g = s.goes in
+    let part = s.place.part in
+    let (later, end, split) = split_line part s.unread g.rest in (
+      g.lines ++ part ∷ later,
+      end,
+      Splits-more g.lines (part ∷ later) g.each split (regrouped (line_feed ∷ s.unread) g s.bytes_are),
+      omega (arith, counted g, length-map g.lines without_return, length-append g.lines (part ∷ later)),
+    )
+
 -- a line that ends with a line feed is bad
-at_bad : {bytes given text : List ℕ} {r : Report} (rest : List ℕ) (fails : Option Bool) → bytes ≡ given ++ rest → StopsAtBad start given r text
-    → AllAnswered bytes fails text (ended (report_text r)) 2
-at_bad {bytes} rest fails e s =
+at_bad : {bytes given text : List ℕ} {r : Report} (rest : List ℕ) (fails : Option Bool) (InGave InEnded : List ℕ → Type 0) → InGave given
+    → bytes ≡ given ++ rest → StopsAtBad start given r text → AllAnswered bytes fails InGave InEnded text (ended (report_text r)) 2
+at_bad {bytes} {given} rest fails InGave InEnded gave e s =
     let part = s.place.part in
     let (later, end, split) = split_line part (s.unread ++ rest) s.goes.rest in
-    let (more, given) = first_given fails s.goes.lines (part ∷ later) end in
+    let (more, among) = first_given fails s.goes.lines (part ∷ later) end in
     let whole : bytes ≡ s.read ++ line_feed ∷ (s.unread ++ rest) =
     e ∙ ap (λ (zs : List ℕ). zs ++ rest) s.bytes_are ∙ append_assoc s.read (line_feed ∷ s.unread) rest in
-    rw s.report_is (bad_answered fails s.goes (without_return part) (s.goes.lines ++ part ∷ later) (map without_return later ++ more) end
-    (Splits-more s.goes.lines (part ∷ later) s.goes.each split (regrouped (line_feed ∷ s.unread ++ rest) s.goes whole)) given s.bad)
+    rw s.report_is (bad_answered fails InGave InEnded s.goes (without_return part) (s.goes.lines ++ part ∷ later) (map without_return later ++ more) end
+    (Splits-more s.goes.lines (part ∷ later) s.goes.each split (regrouped (line_feed ∷ s.unread ++ rest) s.goes whole)) among s.bad
+    (inr (given, rest, e, gave, whole_in s)))
 
 -- what follows the last line feed is bad
-at_bad_end : {bytes text : List ℕ} {p : Place} (fails : Option Bool) → EndIsTold fails → Goes start bytes text p → last_line p.part ≡ p.part ∷ []
-    → IsBad p.part → AllAnswered bytes fails text (report (Some (bad_at p.number p.part))) 2
-at_bad_end {p} fails told g whole bad =
-    bad_answered fails g p.part g.lines [] p.part (record { whole = g.split; each = g.each; rest = g.rest })
-    (all_given fails g.lines p.part told ∙ ap (λ (zs : List (List ℕ)). map without_return g.lines ++ zs) whole) bad
+at_bad_end : {bytes text : List ℕ} {p : Place} (fails : Option Bool) (InGave InEnded : List ℕ → Type 0) → InEnded bytes → EndIsTold fails
+    → Goes start bytes text p → last_line p.part ≡ p.part ∷ [] → IsBad p.part
+    → AllAnswered bytes fails InGave InEnded text (report (Some (bad_at p.number p.part))) 2
+at_bad_end {p} fails InGave InEnded end told g whole bad =
+    bad_answered fails InGave InEnded g p.part g.lines [] p.part (record { whole = g.split; each = g.each; rest = g.rest })
+    (all_given fails g.lines p.part told ∙ ap (λ (zs : List (List ℕ)). map without_return g.lines ++ zs) whole) bad (inl end)
 
 -- no memory was found
-at_memory : {bytes given text : List ℕ} (rest : List ℕ) (InGave : List ℕ → Type 0) → bytes ≡ given ++ rest → InGave given → Begins start given text
-    → MemoryFailed bytes InGave text (codes "error: Out of memory\n") 1
-at_memory {given} rest InGave e gave s =
+at_memory : {bytes given text : List ℕ} (rest : List ℕ) (InGave InEnded : List ℕ → Type 0) → bytes ≡ given ++ rest → InGave given ⊎ InEnded given
+    → Begins start given text → MemoryFailed bytes InGave InEnded text (codes "error: Out of memory\n") 1
+at_memory {given} rest InGave InEnded e gave s =
     let g = s.goes in
     let (later, end, split) = splits (s.place.part ++ s.unread) in
     record {
@@ -174,7 +196,7 @@ at_memory {given} rest InGave e gave s =
 -- a write of a reply to the first lines failed
 pub at_write : {bytes given text : List ℕ} (rest : List ℕ) (fails : Option Bool) → bytes ≡ given ++ rest → Begins start given text
     → WritingFailed bytes fails text
-at_write rest fails e s = broke_at_memory fails (at_memory rest (λ zs. Unit {0}) e tt s)
+at_write rest fails e s = broke_at_memory fails (at_memory rest (λ zs. Unit {0}) (λ zs. Unit {0}) e (inl tt) s)
 
 -- reading failed
 pub at_failure : {bytes given text : List ℕ} {fails : Option Bool} {InGave InFailed : List ℕ → Type 0} {p : Place} (rest : List ℕ) → bytes ≡ given ++ rest
@@ -196,33 +218,36 @@ at_failure {given} {p} rest e cause g = record {
 }
 
 -- a fault in a stretch from the start on ended the whole
-pub Ends-stops : {bytes given : List ℕ} (rest : List ℕ) (fails : Option Bool) (InGave InFailed OutGets OutBroke : List ℕ → Type 0) (fault : Fault)
-    → bytes ≡ given ++ rest → InGave given → Stops start given OutGets OutBroke fault → Ends bytes fails InGave InFailed OutGets OutBroke (Err fault)
-Ends-stops rest fails InGave InFailed OutGets OutBroke (BadLine r) e gave (text, s, gets) = (text, at_bad rest fails e s, gets)
-Ends-stops rest fails InGave InFailed OutGets OutBroke ReadFailed e gave stops = absurd stops
-Ends-stops rest fails InGave InFailed OutGets OutBroke WriteFailed e gave (text, s, broke) = (text, at_write rest fails e s, broke)
-Ends-stops rest fails InGave InFailed OutGets OutBroke OutOfMemory e gave (text, s, gets) = (text, at_memory rest InGave e gave s, gets)
+pub Ends-stops : {bytes given : List ℕ} (rest : List ℕ) (fails : Option Bool) (InGave InEnded InFailed OutGets OutBroke : List ℕ → Type 0)
+    (fault : Fault) → bytes ≡ given ++ rest → InGave given → Stops start given OutGets OutBroke fault
+    → Ends bytes fails InGave InEnded InFailed OutGets OutBroke (Err fault)
+Ends-stops rest fails InGave InEnded InFailed OutGets OutBroke (BadLine r) e gave (text, s, gets) =
+    (text, at_bad rest fails InGave InEnded gave e s, gets)
+Ends-stops rest fails InGave InEnded InFailed OutGets OutBroke ReadFailed e gave stops = absurd stops
+Ends-stops rest fails InGave InEnded InFailed OutGets OutBroke WriteFailed e gave (text, s, broke) = (text, at_write rest fails e s, broke)
+Ends-stops rest fails InGave InEnded InFailed OutGets OutBroke OutOfMemory e gave (text, s, gets) =
+    (text, at_memory rest InGave InEnded e (inl gave) s, gets)
 
 module _ {S : Type 0} (takes fails_on : S → List ℕ → S → Type 0) (flushes flush_fails : S → S → Type 0) where
   -- all of the input was read, and what follows the last line feed was answered, or a fault ended it
-  pub Ends-all : {bytes : List ℕ} {now : Place} {before mid : S} (fails : Option Bool) (InGave InFailed : List ℕ → Type 0) (new : State) (after : S)
-      (result : Result Bool Fault) → Went takes flushes start bytes now before mid → InGave bytes → EndIsTold fails
+  pub Ends-all : {bytes : List ℕ} {now : Place} {before mid : S} (fails : Option Bool) (InGave InEnded InFailed : List ℕ → Type 0) (new : State)
+      (after : S) (result : Result Bool Fault) → Went takes flushes start bytes now before mid → InEnded bytes → EndIsTold fails
       → IfOk result (λ wanted. (text : List ℕ) × (last : Bool) × Runs now.number now.state (last_line now.part) text last new
       × (wanted ≡ (now.wanted || last)) × Sends takes flushes mid text after)
       → IfErr result (λ fault. (last_line now.part ≡ now.part ∷ []) × LineStops now.number now.state now.part (Sends takes flushes mid [] after)
       (λ text. BrokeOn takes fails_on flushes flush_fails mid text after) fault)
-      → Ends bytes fails InGave InFailed (λ text. Sends takes flushes before text after)
+      → Ends bytes fails InGave InEnded InFailed (λ text. Sends takes flushes before text after)
       (λ text. BrokeOn takes fails_on flushes flush_fails before text after) result
-  Ends-all fails InGave InFailed new after (Ok wanted) (front, goes, passed) gave told (text, last, runs, is, sent) err =
-      (front ++ text, rw is (at_end fails told goes runs), sends_joined takes flushes _ _ _ _ _ passed sent)
-  Ends-all {bytes} fails InGave InFailed new after (Err (BadLine r)) (front, goes, passed) gave told ok (whole, (is, bad, sent)) =
-      let P : Report → Type 0 = λ said. AllAnswered bytes fails front (ended (report_text said)) 2 in
-      (front, subst P (sym is) (at_bad_end fails told goes whole bad), sent_still passed sent)
-  Ends-all fails InGave InFailed new after (Err ReadFailed) p gave told ok (whole, stops) = absurd stops
-  Ends-all fails InGave InFailed new after (Err WriteFailed) (front, goes, passed) gave told ok (whole, (text, wanted, state, runs, broke)) =
-      (front ++ text, broke_at_end (at_end {v = wanted} {new = state} fails told goes (rw whole runs)), broke_on_later passed broke)
-  Ends-all {bytes} fails InGave InFailed new after (Err OutOfMemory) (front, goes, passed) gave told ok (whole, sent) =
-      (front, at_memory [] InGave (sym (append-nil bytes)) gave (Begins-all goes), sent_still passed sent)
+  Ends-all fails InGave InEnded InFailed new after (Ok wanted) (front, goes, passed) end told (text, last, runs, is, sent) err =
+      (front ++ text, rw is (at_end fails InGave InEnded end told goes runs), sends_joined takes flushes _ _ _ _ _ passed sent)
+  Ends-all {bytes} fails InGave InEnded InFailed new after (Err (BadLine r)) (front, goes, passed) end told ok (whole, (is, bad, sent)) =
+      let P : Report → Type 0 = λ said. AllAnswered bytes fails InGave InEnded front (ended (report_text said)) 2 in
+      (front, subst P (sym is) (at_bad_end fails InGave InEnded end told goes whole bad), sent_still passed sent)
+  Ends-all fails InGave InEnded InFailed new after (Err ReadFailed) p end told ok (whole, stops) = absurd stops
+  Ends-all fails InGave InEnded InFailed new after (Err WriteFailed) (front, goes, passed) end told ok (whole, (text, wanted, state, runs, broke)) =
+      (front ++ text, broke_at_end (at_end {v = wanted} {new = state} fails InGave InEnded end told goes (rw whole runs)), broke_on_later passed broke)
+  Ends-all {bytes} fails InGave InEnded InFailed new after (Err OutOfMemory) (front, goes, passed) end told ok (whole, sent) =
+      (front, at_memory [] InGave InEnded (sym (append-nil bytes)) (inr end) (Begins-all goes), sent_still passed sent)
 
 pub Consumes-none : (known : Option (List ℕ)) → Consumes known known []
 Consumes-none None = tt
@@ -246,12 +271,12 @@ pub reads_nothing : {R : Type 0} (gave : R → List ℕ → Result ℕ ReadError
 reads_nothing gave s = record { attempts = []; calls = refl; whole = refl }
 
 -- one read more
-pub reads_more : {R : Type 0} (gave : R → List ℕ → Result ℕ ReadError → R → Type 0) {s t : R} {bytes : List ℕ} (piece : List ℕ) (answer : Result ℕ ReadError)
-    (u : R) → Reads gave s bytes t → gave t piece answer u → Reads gave s (bytes ++ bytes_given answer piece) u
-reads_more gave {s} {t} piece answer u f one =
-    let a : Attempt = record { piece = piece; answer = answer } in
+pub reads_more : {R : Type 0} (gave : R → List ℕ → Result ℕ ReadError → R → Type 0) {s t : R} {bytes : List ℕ} (piece : List ℕ) (count : ℕ)
+    (u : R) → 0 < count → Reads gave s bytes t → gave t piece (Ok count) u → Reads gave s (bytes ++ take count piece) u
+reads_more gave {s} {t} piece count u some f one =
+    let a : Giving = record { piece = piece; count = count; some = some } in
     record {
       attempts = f.attempts ++ a ∷ [];
-      calls = folds_joined (λ x b y. gave x b.piece b.answer y) s f.attempts t (a ∷ []) u f.calls (u, one, refl);
-      whole = flat_map-append given_by f.attempts (a ∷ []) ∙ (λ i. f.whole i ++ append-nil (bytes_given answer piece) i);
+      calls = folds_joined (λ x b y. gave x b.piece (Ok b.count) y) s f.attempts t (a ∷ []) u f.calls (u, one, refl);
+      whole = flat_map-append given_by f.attempts (a ∷ []) ∙ (λ i. f.whole i ++ append-nil (take count piece) i);
     }

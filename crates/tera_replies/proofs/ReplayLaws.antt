@@ -6,7 +6,8 @@ use Rattle.tera_report.specs.{Sink.Use, Sink.put, Sink.flush, Sink.Uses, Sink.Se
 use Rattle.tera_report.proofs.SentLaws.{watched_sends}
 use Rattle.tera_replies.specs.declared.fault.Fault.TheVariants.{BadLine, ReadFailed, WriteFailed, OutOfMemory}
 use Rattle.tera_replies.specs.{Output.BrokeOn, Output.TakesOrFails, Output.WriterBroke, Output.WriterTakesOrFails, declared.fault.Fault.Fault, Stretch.Ends}
-use Rattle.tera_replies.specs.{Stretch.EndsFlushed, Stretch.told, Stretch.status_at, Replay.Replays, Replay.Writes, Replay.WritingFailed}
+use Rattle.tera_replies.specs.{Stretch.EndsFlushed, Stretch.told, Stretch.status_at, Replay.Replays, Replay.ReadEnough, Replay.Writes}
+use Rattle.tera_replies.specs.{Replay.WritingFailed, Script.BadLine as Bad}
 use Rattle.tera_replies.proofs.{InputLaws.broke_at_end, InputLaws.broke_at_failure, InputLaws.broke_at_memory, ReplyLemmas.broke_on_flush}
 
 -- what was told was put, or putting it failed
@@ -15,18 +16,18 @@ pub told_comes : {S E : Type 0} (takes fails : S → List ℕ → S → Type 0) 
 told_comes takes fails (Ok done) text old new h = inl h
 told_comes takes fails (Err fault) text old new h = inr h
 
-module _ (bytes : List ℕ) (fails : Option Bool) (InGave InFailed : List ℕ → Type 0) where
+module _ (bytes : List ℕ) (fails : Option Bool) (InGave InEnded InFailed : List ℕ → Type 0) where
   -- what is due where no write failed
   ends_write : (OutGets OutBroke : List ℕ → Type 0) (ending : Result Bool Fault) → ending ≢ Err WriteFailed
-      → Ends bytes fails InGave InFailed OutGets OutBroke ending
-      → (out : List ℕ) × Writes bytes fails InGave InFailed out (told ending) (status_at ending) × OutGets out
+      → Ends bytes fails InGave InEnded InFailed OutGets OutBroke ending
+      → (out : List ℕ) × Writes bytes fails InGave InEnded InFailed out (told ending) (status_at ending) × OutGets out
   ends_write OutGets OutBroke (Ok wanted) other (out, h, gets) = (out, inl h, gets)
   ends_write OutGets OutBroke (Err (BadLine report)) other (out, h, gets) = (out, inl h, gets)
   ends_write OutGets OutBroke (Err ReadFailed) other (out, h, gets) = (out, inr (inl h), gets)
   ends_write OutGets OutBroke (Err WriteFailed) other h = absurd (other refl)
   ends_write OutGets OutBroke (Err OutOfMemory) other (out, h, gets) = (out, inr (inr h), gets)
 
-  due : (out err : List ℕ) (status : ℕ) → Writes bytes fails InGave InFailed out err status → WritingFailed bytes fails out
+  due : (out err : List ℕ) (status : ℕ) → Writes bytes fails InGave InEnded InFailed out err status → WritingFailed bytes fails out
   due out err status (inl h) = broke_at_end h
   due out err status (inr (inl h)) = broke_at_failure h
   due out err status (inr (inr h)) = broke_at_memory fails h
@@ -34,9 +35,9 @@ module _ (bytes : List ℕ) (fails : Option Bool) (InGave InFailed : List ℕ �
   -- what was answered and what a last flush made of it is the theorem, where it is told
   pub ends_replay : {S : Type 0} (takes fails_on : S → List ℕ → S → Type 0) (flushes flush_fails : S → S → Type 0) (ErrGets : List ℕ → Type 0)
       (old mid new : S) (ending result : Result Bool Fault) → EndsFlushed flushes flush_fails ending result mid new → ErrGets (told result)
-      → Ends bytes fails InGave InFailed (λ text. Sends takes flushes old text mid)
+      → Ends bytes fails InGave InEnded InFailed (λ text. Sends takes flushes old text mid)
       (λ text. BrokeOn takes fails_on flushes flush_fails old text mid) ending
-      → Replays bytes fails InGave InFailed (λ text. Delivers takes flushes old text new)
+      → Replays bytes fails InGave InEnded InFailed (λ text. Delivers takes flushes old text new)
       (λ text. BrokeOn takes fails_on flushes flush_fails old text new) ErrGets (status_at result)
   ends_replay takes fails_on flushes flush_fails ErrGets old mid new ending result (inl (is, was, same)) tells h =
       let (out, failed, broke) = rw was at h in
@@ -48,11 +49,29 @@ module _ (bytes : List ℕ) (fails : Option Bool) (InGave InFailed : List ℕ �
       let (out, writes, sent) = ends_write _ _ ending other h in
       rw is (inr (out, due out (told ending) (status_at ending) writes, broke_on_flush sent failed, refl, rw is at tells))
 
-writes_weaker : (bytes : List ℕ) (fails : Option Bool) (InGave InFailed InHad InFaulty : List ℕ → Type 0) (out err : List ℕ) (status : ℕ)
-    → ((given : List ℕ) → InGave given → InHad given) → ((given : List ℕ) → InFailed given → InFaulty given)
-    → Writes bytes fails InGave InFailed out err status → Writes bytes fails InHad InFaulty out err status
-writes_weaker bytes fails InGave InFailed InHad InFaulty out err status had faulty (inl h) = inl h
-writes_weaker bytes fails InGave InFailed InHad InFaulty out err status had faulty (inr (inl h)) = inr (inl (record {
+read_weaker : (bytes : List ℕ) (bad : Option Bad) (InGave InEnded InHad InDone : List ℕ → Type 0) → ((given : List ℕ) → InGave given → InHad given)
+    → ((given : List ℕ) → InEnded given → InDone given) → ReadEnough bytes bad InGave InEnded → ReadEnough bytes bad InHad InDone
+read_weaker bytes bad InGave InEnded InHad InDone had done (inl end) = inl (done bytes end)
+read_weaker bytes bad InGave InEnded InHad InDone had done (inr (given, rest, front, gave, whole)) = inr (given, rest, front, had given gave, whole)
+
+writes_weaker : (bytes : List ℕ) (fails : Option Bool) (InGave InEnded InFailed InHad InDone InFaulty : List ℕ → Type 0) (out err : List ℕ) (status : ℕ)
+    → ((given : List ℕ) → InGave given → InHad given) → ((given : List ℕ) → InEnded given → InDone given)
+    → ((given : List ℕ) → InFailed given → InFaulty given)
+    → Writes bytes fails InGave InEnded InFailed out err status → Writes bytes fails InHad InDone InFaulty out err status
+writes_weaker bytes fails InGave InEnded InFailed InHad InDone InFaulty out err status had done faulty (inl h) = inl (record {
+  lines = h.lines;
+  part = h.part;
+  bad = h.bad;
+  outcomes = h.outcomes;
+  split = h.split;
+  answers = h.answers;
+  ended = h.ended;
+  read = read_weaker bytes h.bad InGave InEnded InHad InDone had done h.read;
+  replied = h.replied;
+  err_is = h.err_is;
+  status_is = h.status_is;
+})
+writes_weaker bytes fails InGave InEnded InFailed InHad InDone InFaulty out err status had done faulty (inr (inl h)) = inr (inl (record {
   given = h.given;
   rest = h.rest;
   lines = h.lines;
@@ -66,7 +85,7 @@ writes_weaker bytes fails InGave InFailed InHad InFaulty out err status had faul
   err_is = h.err_is;
   status_is = h.status_is;
 }))
-writes_weaker bytes fails InGave InFailed InHad InFaulty out err status had faulty (inr (inr h)) = inr (inr (record {
+writes_weaker bytes fails InGave InEnded InFailed InHad InDone InFaulty out err status had done faulty (inr (inr h)) = inr (inr (record {
   given = h.given;
   rest = h.rest;
   lines = h.lines;
@@ -75,7 +94,7 @@ writes_weaker bytes fails InGave InFailed InHad InFaulty out err status had faul
   later = h.later;
   outcomes = h.outcomes;
   front = h.front;
-  gave = had h.given h.gave;
+  gave = elim h.gave [ inl gave ↦ inl (had h.given gave) | inr end ↦ inr (done h.given end) ];
   split = h.split;
   lines_are = h.lines_are;
   answers = h.answers;
@@ -86,17 +105,24 @@ writes_weaker bytes fails InGave InFailed InHad InFaulty out err status had faul
 
 -- the theorem of what stands behind others
 pub replays_weaker : (first : Option (List ℕ)) (fails : Option Bool)
-    (InGave InFailed InHad InFaulty OutGets OutHas OutBroke OutFaulty ErrGets ErrHas : List ℕ → Type 0) (status : ℕ)
-    → ((given : List ℕ) → InGave given → InHad given) → ((given : List ℕ) → InFailed given → InFaulty given)
+    (InGave InEnded InFailed InHad InDone InFaulty OutGets OutHas OutBroke OutFaulty ErrGets ErrHas : List ℕ → Type 0) (status : ℕ)
+    → ((given : List ℕ) → InGave given → InHad given) → ((given : List ℕ) → InEnded given → InDone given)
+    → ((given : List ℕ) → InFailed given → InFaulty given)
     → ((text : List ℕ) → OutGets text → OutHas text) → ((text : List ℕ) → OutBroke text → OutFaulty text) → ((text : List ℕ) → ErrGets text → ErrHas text)
-    → IfSome first (λ bytes. Replays bytes fails InGave InFailed OutGets OutBroke ErrGets status)
-    → IfSome first (λ bytes. Replays bytes fails InHad InFaulty OutHas OutFaulty ErrHas status)
-replays_weaker None fails InGave InFailed InHad InFaulty OutGets OutHas OutBroke OutFaulty ErrGets ErrHas status had faulty out broke err h = tt
-replays_weaker (Some bytes) fails InGave InFailed InHad InFaulty OutGets OutHas OutBroke OutFaulty ErrGets ErrHas status had faulty out broke err
-    (inl (answers, report, writes, gets, told)) =
-    inl (answers, report, writes_weaker bytes fails InGave InFailed InHad InFaulty answers report status had faulty writes, out answers gets, err report told)
-replays_weaker (Some bytes) fails InGave InFailed InHad InFaulty OutGets OutHas OutBroke OutFaulty ErrGets ErrHas status had faulty out broke err
-    (inr (due, failed, is_broken, is, told)) = inr (due, failed, broke due is_broken, is, err _ told)
+    → IfSome first (λ bytes. Replays bytes fails InGave InEnded InFailed OutGets OutBroke ErrGets status)
+    → IfSome first (λ bytes. Replays bytes fails InHad InDone InFaulty OutHas OutFaulty ErrHas status)
+replays_weaker None fails InGave InEnded InFailed InHad InDone InFaulty OutGets OutHas OutBroke OutFaulty ErrGets ErrHas status had done faulty out broke err
+    h = tt
+replays_weaker (Some bytes) fails InGave InEnded InFailed InHad InDone InFaulty OutGets OutHas OutBroke OutFaulty ErrGets ErrHas status had done faulty out
+    broke err (inl (answers, report, writes, gets, told)) = inl (
+      answers,
+      report,
+      writes_weaker bytes fails InGave InEnded InFailed InHad InDone InFaulty answers report status had done faulty writes,
+      out answers gets,
+      err report told,
+    )
+replays_weaker (Some bytes) fails InGave InEnded InFailed InHad InDone InFaulty OutGets OutHas OutBroke OutFaulty ErrGets ErrHas status had done faulty out
+    broke err (inr (due, failed, is_broken, is, told)) = inr (due, failed, broke due is_broken, is, err _ told)
 
 -- ---- watched writers
 

@@ -5,14 +5,19 @@ use Rattle.std.specs.Io.KnownBytes.{Appends}
 use Rattle.tera_report.specs.Sink.{Delivers, Sends}
 use Rattle.tera_report.specs.Writer.{Passes, Breaks, Flushes, FlushFails}
 use Rattle.tera_replies.specs.declared.source.ReadError.{ReadError}
-use Rattle.tera_replies.specs.Source.{Reads, ReadFails}
+use Rattle.tera_replies.specs.Source.{Reads, ReadEnds, ReadFails}
 
 -- reads of a source from this state on, which is then dropped, gave just these bytes
 abbrev pub Gave : {S : Type 0} → (S → List ℕ → Result ℕ ReadError → S → Type 0)
     → S → List ℕ → Type 0
 Gave {S} gave old bytes = (new : S) × Reads gave old bytes new
 
--- and then a read of it answered an error
+-- and then a read of it told the end
+abbrev pub Ended : {S : Type 0} → (S → List ℕ → Result ℕ ReadError → S → Type 0)
+    → S → List ℕ → Type 0
+Ended {S} gave old bytes = (new : S) × ReadEnds gave old bytes new
+
+-- or answered an error
 abbrev pub Failed : {S : Type 0} → (S → List ℕ → Result ℕ ReadError → S → Type 0)
     → S → List ℕ → Type 0
 Failed {S} gave old bytes = (new : S) × ReadFails gave old bytes new

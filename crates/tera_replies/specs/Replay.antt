@@ -69,9 +69,24 @@ lines_given (Some true) lines part = map without_return lines
 lines_given (Some false) lines part = map without_return lines ++ last_line part
 lines_given None lines part = map without_return lines ++ last_line part
 
+-- the bad line is among those that these bytes hold whole
+abbrev pub IsWholeIn : List ℕ → Option BadLine → Type 0
+IsWholeIn given None = ⊥
+IsWholeIn given (Some bad) =
+    (lines : List (List ℕ)) × (part : List ℕ) × Splits given lines part
+    × (bad.number ≤ length lines)
+
+-- Reads gave all of the bytes and then the end; or they gave some, among these the bad line whole.
+-- No other read was made.
+abbrev pub ReadEnough : List ℕ → Option BadLine → (List ℕ → Type 0) → (List ℕ → Type 0) → Type 0
+ReadEnough bytes bad InGave InEnded =
+    InEnded bytes
+    ⊎ ((given : List ℕ) × (rest : List ℕ) × (bytes ≡ given ++ rest) × InGave given
+    × IsWholeIn given bad)
+
 -- The input ended, or a line that was given whole is bad: each line up to there is answered.
-pub record AllAnswered (bytes : List ℕ) (fails : Option Bool) (out err : List ℕ) (status : ℕ)
-    : Type 0 where
+pub record AllAnswered (bytes : List ℕ) (fails : Option Bool) (InGave InEnded : List ℕ → Type 0)
+    (out err : List ℕ) (status : ℕ) : Type 0 where
   pub lines : List (List ℕ)
   pub part : List ℕ
   pub bad : Option BadLine
@@ -79,6 +94,7 @@ pub record AllAnswered (bytes : List ℕ) (fails : Option Bool) (out err : List 
   pub split : Splits bytes lines part
   pub answers : AreAnswered (lines_given fails lines part) bad outcomes
   pub ended : fails ≡ Some true → IsSome bad
+  pub read : ReadEnough bytes bad InGave InEnded
   pub replied : AreReplies outcomes out
   pub err_is : err ≡ report bad
   pub status_is : status ≡ status_of bad outcomes
@@ -101,10 +117,10 @@ pub record ReadingFailed (bytes : List ℕ) (fails : Option Bool) (InGave InFail
   pub err_is : err ≡ codes "error: reading failed\n"
   pub status_is : status ≡ 1
 
--- Reads gave some of the bytes, and the program itself found no memory: the first of the lines that
--- were given whole are answered.
-pub record MemoryFailed (bytes : List ℕ) (InGave : List ℕ → Type 0) (out err : List ℕ) (status : ℕ)
-    : Type 0 where
+-- Reads gave some of the bytes, or all and the end, and the program itself found no memory: the
+-- first of the lines that were given whole are answered.
+pub record MemoryFailed (bytes : List ℕ) (InGave InEnded : List ℕ → Type 0) (out err : List ℕ)
+    (status : ℕ) : Type 0 where
   pub given : List ℕ
   pub rest : List ℕ
   pub lines : List (List ℕ)
@@ -113,7 +129,7 @@ pub record MemoryFailed (bytes : List ℕ) (InGave : List ℕ → Type 0) (out e
   pub later : List (List ℕ)
   pub outcomes : List Outcome
   pub front : bytes ≡ given ++ rest
-  pub gave : InGave given
+  pub gave : InGave given ⊎ InEnded given
   pub split : Splits given lines part
   pub lines_are : map without_return lines ≡ first ++ later
   pub answers : AreAnswered first None outcomes
@@ -135,21 +151,21 @@ pub record WritingFailed (bytes : List ℕ) (fails : Option Bool) (out : List �
   pub replied : AreReplies outcomes out
 
 -- From a source with these bytes, which then fails or ends (or that isn't known), the program
--- writes out and err. What its reads gave is named where it did not come to the end, and that a
--- read failed where it says so.
+-- writes out and err. What its reads gave is named, that they came to the end, and that one failed
+-- where it says so.
 abbrev pub Writes : List ℕ → Option Bool → (List ℕ → Type 0) → (List ℕ → Type 0)
-    → List ℕ → List ℕ → ℕ → Type 0
-Writes bytes fails InGave InFailed out err status =
-    AllAnswered bytes fails out err status
+    → (List ℕ → Type 0) → List ℕ → List ℕ → ℕ → Type 0
+Writes bytes fails InGave InEnded InFailed out err status =
+    AllAnswered bytes fails InGave InEnded out err status
     ⊎ (ReadingFailed bytes fails InGave InFailed out err status
-    ⊎ MemoryFailed bytes InGave out err status)
+    ⊎ MemoryFailed bytes InGave InEnded out err status)
 
 -- The program is done with such a source: `out` got what it writes there and `err` its own; or
 -- `out` broke on what it was to get, and `err` got the text for that.
 abbrev pub Replays : List ℕ → Option Bool → (List ℕ → Type 0) → (List ℕ → Type 0)
-    → (List ℕ → Type 0) → (List ℕ → Type 0) → (List ℕ → Type 0) → ℕ → Type 0
-Replays bytes fails InGave InFailed OutGets OutBroke ErrGets status =
-    ((out : List ℕ) × (err : List ℕ) × Writes bytes fails InGave InFailed out err status
+    → (List ℕ → Type 0) → (List ℕ → Type 0) → (List ℕ → Type 0) → (List ℕ → Type 0) → ℕ → Type 0
+Replays bytes fails InGave InEnded InFailed OutGets OutBroke ErrGets status =
+    ((out : List ℕ) × (err : List ℕ) × Writes bytes fails InGave InEnded InFailed out err status
     × OutGets out × ErrGets err)
     ⊎ ((out : List ℕ) × WritingFailed bytes fails out × OutBroke out × (status ≡ 1)
     × ErrGets (codes "error: writing failed\n"))

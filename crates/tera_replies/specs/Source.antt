@@ -1,6 +1,6 @@
 -- When a source may end, and when it may fail.
-use Rattle.std.specs.Prelude.{◌≡◌, ℕ, Bool, true, false, List, [], ◌∷◌, ◌++◌, take, drop}
-use Rattle.std.specs.Prelude.{Option, None, Some, Result, Ok, Err}
+use Rattle.std.specs.Prelude.{◌≡◌, ℕ, ◌<◌, Bool, true, false, List, [], ◌∷◌, ◌++◌, take, drop}
+use Rattle.std.specs.Prelude.{length, Option, None, Some, Result, Ok, Err}
 use Rattle.std.specs.Borrow.{Bor}
 use Rattle.std.specs.Io.KnownBytes.{IsAtEnd}
 use Rattle.std.specs.List.{FoldsTo, flat_map}
@@ -35,27 +35,31 @@ MayErr (Some true) left = IsAtEnd left
 MayErr (Some false) left = ⊥
 MayErr None left = Unit {0}
 
--- one read: the piece as it left it, and its answer
-pub record Attempt : Type 0 where
+-- a read that gave some bytes: the piece as it left it, and how many
+pub record Giving : Type 0 where
   pub piece : List ℕ
-  pub answer : Result ℕ ReadError
+  pub count : ℕ
+  pub some : 0 < count
 
 -- the bytes that it gave
-abbrev pub bytes_given : Result ℕ ReadError → List ℕ → List ℕ
-bytes_given (Ok count) piece = take count piece
-bytes_given (Err fault) piece = []
+abbrev pub given_by : Giving → List ℕ
+given_by a = take a.count a.piece
 
-abbrev pub given_by : Attempt → List ℕ
-given_by a = bytes_given a.answer a.piece
-
--- the source went from old to new by reads that gave just these bytes
+-- the source went from old to new by reads that gave just these bytes, each of them some
 pub record Reads {S : Type 0} (gave : S → List ℕ → Result ℕ ReadError → S → Type 0) (old : S)
     (bytes : List ℕ) (new : S) : Type 0 where
-  pub attempts : List Attempt
-  pub calls : FoldsTo (λ s a t. gave s a.piece a.answer t) old attempts new
+  pub attempts : List Giving
+  pub calls : FoldsTo (λ s a t. gave s a.piece (Ok a.count) t) old attempts new
   pub whole : flat_map given_by attempts ≡ bytes
 
--- reads of the source gave just these bytes, and then a read of it answered an error
+-- such reads of the source gave just these bytes, and then one that had room told the end
+abbrev pub ReadEnds : {S : Type 0} → (S → List ℕ → Result ℕ ReadError → S → Type 0)
+    → S → List ℕ → S → Type 0
+ReadEnds {S} gave old bytes new =
+    (mid : S) × (piece : List ℕ) × (0 < length piece) × Reads gave old bytes mid
+    × gave mid piece (Ok 0) new
+
+-- such reads of the source gave just these bytes, and then one answered an error
 abbrev pub ReadFails : {S : Type 0} → (S → List ℕ → Result ℕ ReadError → S → Type 0)
     → S → List ℕ → S → Type 0
 ReadFails {S} gave old bytes new =

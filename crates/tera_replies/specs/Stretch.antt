@@ -112,20 +112,22 @@ ReplyStops Replies OutBroke OutOfMemory = ⊥
 
 -- how answering all of the input went: whether memory was wanted by an answer, or a fault
 abbrev pub Ends : List ℕ → Option Bool → (List ℕ → Type 0) → (List ℕ → Type 0)
-    → (List ℕ → Type 0) → (List ℕ → Type 0) → Result Bool Fault → Type 0
-Ends bytes fails InGave InFailed OutGets OutBroke (Ok wanted) =
-    (out : List ℕ) × AllAnswered bytes fails out [] (if wanted then 1 else 0) × OutGets out
-Ends bytes fails InGave InFailed OutGets OutBroke (Err (BadLine report)) =
-    (out : List ℕ) × AllAnswered bytes fails out (ended (report_text (report_of report.value))) 2
+    → (List ℕ → Type 0) → (List ℕ → Type 0) → (List ℕ → Type 0) → Result Bool Fault → Type 0
+Ends bytes fails InGave InEnded InFailed OutGets OutBroke (Ok wanted) =
+    (out : List ℕ) × AllAnswered bytes fails InGave InEnded out [] (if wanted then 1 else 0)
     × OutGets out
-Ends bytes fails InGave InFailed OutGets OutBroke (Err ReadFailed) =
+Ends bytes fails InGave InEnded InFailed OutGets OutBroke (Err (BadLine report)) =
+    (out : List ℕ)
+    × AllAnswered bytes fails InGave InEnded out (ended (report_text (report_of report.value))) 2
+    × OutGets out
+Ends bytes fails InGave InEnded InFailed OutGets OutBroke (Err ReadFailed) =
     (out : List ℕ)
     × ReadingFailed bytes fails InGave InFailed out (codes "error: reading failed\n") 1
     × OutGets out
-Ends bytes fails InGave InFailed OutGets OutBroke (Err WriteFailed) =
+Ends bytes fails InGave InEnded InFailed OutGets OutBroke (Err WriteFailed) =
     (out : List ℕ) × WritingFailed bytes fails out × OutBroke out
-Ends bytes fails InGave InFailed OutGets OutBroke (Err OutOfMemory) =
-    (out : List ℕ) × MemoryFailed bytes InGave out (codes "error: Out of memory\n") 1
+Ends bytes fails InGave InEnded InFailed OutGets OutBroke (Err OutOfMemory) =
+    (out : List ℕ) × MemoryFailed bytes InGave InEnded out (codes "error: Out of memory\n") 1
     × OutGets out
 
 -- a last flush went well and left the ending as it was, or it failed; there is none where writing

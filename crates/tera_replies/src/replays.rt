@@ -2,13 +2,13 @@
 ghost use Rattle.std.specs.Prelude.{◌≡◌, ◌≤◌, IfSome, IfErr, IsOk, OnOk, Some};
 ghost use Rattle.tera_report.specs.Sink.{Delivers, PutsThese, Sends};
 ghost use Rattle.tera_replies.specs.declared.fault.Fault.TheVariants.{WriteFailed};
-ghost use Rattle.tera_replies.specs.Output.{BrokeOn, Failed, Gave, TakesOrFails, WriterBroke};
-ghost use Rattle.tera_replies.specs.Output.{WriterGets, WriterTakesOrFails};
+ghost use Rattle.tera_replies.specs.Output.{BrokeOn, Ended, Failed, Gave, TakesOrFails};
+ghost use Rattle.tera_replies.specs.Output.{WriterBroke, WriterGets, WriterTakesOrFails};
 ghost use Rattle.tera_report.specs.Errors.{report_of};
 ghost use Rattle.tera_report.specs.Report.{report_text};
 ghost use Rattle.tera_replies.specs.Replay.{Replays};
 ghost use Rattle.tera_replies.specs.Script.{ended};
-ghost use Rattle.tera_replies.specs.Source.{ReadFails, Reads};
+ghost use Rattle.tera_replies.specs.Source.{ReadEnds, ReadFails, Reads};
 ghost use Rattle.tera_replies.specs.Stretch.{Ends, EndsFlushed, status_at, told};
 
 use crate::fault::{Fault, WriteError, put, written};
@@ -41,7 +41,7 @@ pub fn replay<S: Source + Drop, W: Writer, E: Writer>(
     err: &mut E,
 ) -> u8
     ensures known { IfSome (S.left input) (λ bytes. Replays bytes (S.fails input)
-        (Gave S.gave input) (Failed S.gave input)
+        (Gave S.gave input) (Ended S.gave input) (Failed S.gave input)
         (λ text. WriterGets W.contents W.wrote W.flushed out.old text out.new)
         (λ text. WriterBroke W.wrote W.flushed out.old text out.new)
         (λ text. WriterTakesOrFails E.contents E.wrote err.old text err.new) result) }
@@ -63,6 +63,7 @@ pub fn replay_from<S: Source, W: Sink, E: Sink>(
 ) -> u8
     ensures known { IfSome (S.left input.old) (λ bytes. Replays bytes (S.fails input.old)
         (λ given. Reads S.gave input.old given input.new)
+        (λ given. ReadEnds S.gave input.old given input.new)
         (λ given. ReadFails S.gave input.old given input.new)
         (λ text. Delivers W.takes W.flushes out.old text out.new)
         (λ text. BrokeOn W.takes W.fails W.flushes W.flush_fails out.old text out.new)
@@ -80,6 +81,7 @@ pub fn replay_from<S: Source, W: Sink, E: Sink>(
 fn answer_all<S: Source, W: Sink>(alloc: Global, input: &mut S, out: &mut W) -> Result<bool, Fault>
     ensures { IfSome (S.left input.old) (λ bytes. Ends bytes (S.fails input.old)
         (λ given. Reads S.gave input.old given input.new)
+        (λ given. ReadEnds S.gave input.old given input.new)
         (λ given. ReadFails S.gave input.old given input.new)
         (λ text. Sends W.takes W.flushes out.old text out.new)
         (λ text. BrokeOn W.takes W.fails W.flushes W.flush_fails out.old text out.new) result) }

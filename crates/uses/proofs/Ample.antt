@@ -1,6 +1,6 @@
 -- A replay of a short script over rooms with place for all that it may write.
-use Rattle.std.proofs.Common.{◌≡◌, ℕ, ◌+◌, ◌*◌, ◌^◌, ◌-◌, ◌<◌, ◌≤◌, ◌⊎◌, inl, inr, Bool, true, false, List, [], ◌∷◌, ◌++◌, length, map}
-use Rattle.std.proofs.Common.{codes, Option, None, Some, Ok, sym, ◌∙◌, ap, subst, refl, append-nil, arith, length-append}
+use Rattle.std.proofs.Common.{◌≡◌, ℕ, ◌+◌, ◌*◌, ◌≤◌, ◌⊎◌, inl, inr, false, List, [], ◌∷◌, ◌++◌, length, map}
+use Rattle.std.proofs.Common.{codes, Option, Some, sym, ◌∙◌, ap, subst, append-nil, arith, length-append}
 use Rattle.std.specs.List.{AllZip, flat_map}
 use Rattle.tera_meaning.specs.Outcome.{Outcome}
 use Rattle.tera_meaning.specs.Request.{Command}
@@ -9,9 +9,9 @@ use Rattle.tera_meaning.specs.State.{State}
 use Rattle.tera_meaning.specs.Step.{IsStep}
 use Rattle.tera_replies.specs.Output.{TakesOrFails}
 use Rattle.tera_replies.specs.Replay.{AllAnswered, Replays, WritingFailed}
-use Rattle.tera_replies.specs.Reply.{IsReply, AreReplies}
+use Rattle.tera_replies.specs.Reply.{IsReply}
 use Rattle.tera_replies.specs.Script.{BadLine, Script, Splits, ended, last_line, line_feed, without_return}
-use Rattle.tera_report.specs.Room.{room_bytes, room_len, HasRoomFor, RoomTakes, RoomFails}
+use Rattle.tera_report.specs.Room.{room_bytes, HasRoomFor, RoomTakes, RoomFails}
 use Rattle.tera_report.specs.declared.room.Room.{Room}
 use Rattle.tera_script.specs.Line.{Says}
 
@@ -69,18 +69,19 @@ due_is_short split bytes lines is same short out h =
     omega (arith, bound, ap length is_text, ap length whole, length-append h.first h.later)
 
 -- of a short script that is read to its end, over an output that does not break: all is answered, or no memory was found
-pub ample : (bytes : List ℕ) (InGave InFailed OutGets OutBroke ErrGets : List ℕ → Type 0) (status : ℕ) → length bytes ≤ 1000
-    → ((out : List ℕ) → WritingFailed bytes (Some false) out → OutBroke out → ⊥) → Replays bytes (Some false) InGave InFailed OutGets OutBroke ErrGets status
-    → ((out err : List ℕ) × AllAnswered bytes (Some false) out err status × OutGets out × ErrGets err)
+pub ample : (bytes : List ℕ) (InGave InEnded InFailed OutGets OutBroke ErrGets : List ℕ → Type 0) (status : ℕ) → length bytes ≤ 1000
+    → ((out : List ℕ) → WritingFailed bytes (Some false) out → OutBroke out → ⊥)
+    → Replays bytes (Some false) InGave InEnded InFailed OutGets OutBroke ErrGets status
+    → ((out err : List ℕ) × AllAnswered bytes (Some false) InGave InEnded out err status × OutGets out × ErrGets err)
     ⊎ ((status ≡ 1) × ErrGets (codes "error: Out of memory\n"))
-ample bytes InGave InFailed OutGets OutBroke ErrGets status small whole (inl (out, err, inl all, gets, told)) = inl (out, err, all, gets, told)
-ample bytes InGave InFailed OutGets OutBroke ErrGets status small whole (inl (out, err, inr (inl failed), gets, told)) = elim failed.cause [
+ample bytes InGave InEnded InFailed OutGets OutBroke ErrGets status small whole (inl (out, err, inl all, gets, told)) = inl (out, err, all, gets, told)
+ample bytes InGave InEnded InFailed OutGets OutBroke ErrGets status small whole (inl (out, err, inr (inl failed), gets, told)) = elim failed.cause [
   | inl (may, read) ↦ absurd may
   | inr (long, read) ↦ absurd (omega (arith, small, long, ap length failed.front, length-append failed.given failed.rest))
 ]
-ample bytes InGave InFailed OutGets OutBroke ErrGets status small whole (inl (out, err, inr (inr failed), gets, told)) =
+ample bytes InGave InEnded InFailed OutGets OutBroke ErrGets status small whole (inl (out, err, inr (inr failed), gets, told)) =
     inr (failed.status_is, subst ErrGets failed.err_is told)
-ample bytes InGave InFailed OutGets OutBroke ErrGets status small whole (inr (out, failed, broke, is, told)) = absurd (whole out failed broke)
+ample bytes InGave InEnded InFailed OutGets OutBroke ErrGets status small whole (inr (out, failed, broke, is, told)) = absurd (whole out failed broke)
 
 -- what a room with place for it was told stands in it
 pub room_told : (old : Room) (text : List ℕ) (new : Room) → HasRoomFor old (length text) → TakesOrFails RoomTakes RoomFails old text new

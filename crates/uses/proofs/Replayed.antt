@@ -1,9 +1,9 @@
 -- What answers short scripts.
-use Rattle.std.proofs.Common.{◌≡◌, ◌≢◌, ℕ, ◌+◌, ◌^◌, ◌-◌, ◌<◌, ◌≤◌, ◌⊎◌, ◌↔◌, IsTrue, rules, inl, inr, Bool, true, false, List, [], ◌∷◌, ◌++◌, All, length, map}
-use Rattle.std.proofs.Common.{codes, Option, None, Some, Ok, sym, ◌∙◌, ap, subst, refl, append-nil, arith, length-append}
+use Rattle.std.proofs.Common.{◌≡◌, ℕ, ◌≤◌, ◌⊎◌, ◌↔◌, IsTrue, rules, inl, inr, Bool, true, false, List, [], ◌∷◌, ◌++◌, length, map}
+use Rattle.std.proofs.Common.{codes, Option, None, Some, Ok, sym, ◌∙◌, ap, subst, refl, arith}
 use Rattle.std.specs.FinMap.{empty, get-empty}
 use Rattle.std.specs.Fmt.{digits}
-use Rattle.std.specs.List.{AllZip, flat_map}
+use Rattle.std.specs.List.{flat_map}
 use Rattle.std.specs.Str.{chars, is_utf8}
 use Rattle.std.specs.declared.cmp.Ordering.{Ordering}
 use Rattle.std.specs.declared.cmp.Ordering.TheVariants.{Less, Equal, Greater}
@@ -18,7 +18,7 @@ use Rattle.tera_meaning.specs.Step.{IsStep}
 use Rattle.tera_meaning.specs.Weighing
 use Rattle.tera_replies.specs.Replay.{AllAnswered, Replays, report, status_of}
 use Rattle.tera_replies.specs.Reply.{IsReply, AreReplies, order_name}
-use Rattle.tera_replies.specs.Script.{BadLine, Script, Splits, HasNoLineFeed, ended, last_line, line_feed, without_return}
+use Rattle.tera_replies.specs.Script.{BadLine, Script, Splits, ended, last_line, without_return}
 use Rattle.tera_script.specs.Line.{Says, IsBad}
 use Rattle.uses.proofs.Ample.{OneSplit, HasShortReply, ample, due_is_short}
 
@@ -73,8 +73,9 @@ two_split : Splits (codes "cmp a b\neq a b\n") two_lines []
 two_split = record { whole = refl; each = search rules; rest = search rules }
 
 -- of two calls that are all answered these are the answers
-pub both_answered : Ties → Alike → OneSplit → OneScript → Says (codes "cmp a b") compared → Says (codes "eq a b") equated → (out err : List ℕ) (status : ℕ)
-    → AllAnswered (codes "cmp a b\neq a b\n") (Some false) out err status → (out ≡ codes "equal\ntrue\n") × (status ≡ 0)
+pub both_answered : {InGave InEnded : List ℕ → Type 0} → Ties → Alike → OneSplit → OneScript → Says (codes "cmp a b") compared
+    → Says (codes "eq a b") equated → (out err : List ℕ) (status : ℕ)
+    → AllAnswered (codes "cmp a b\neq a b\n") (Some false) InGave InEnded out err status → (out ≡ codes "equal\ntrue\n") × (status ≡ 0)
 both_answered ties alike split script first second out err status h =
     let lines = split _ h.part [] h.lines two_lines h.split two_split in
     let said : Script 1 two_lines (compared ∷ equated ∷ []) None =
@@ -122,18 +123,18 @@ equated_is_short one says command said old new outcome step reply is =
 bad_is_short : (line : List ℕ) → IsBad line → HasShortReply line
 bad_is_short line bad command said old new outcome step reply is = absurd (bad.1 command said)
 
-module _ (InGave InFailed OutGets OutBroke ErrGets : List ℕ → Type 0) where
+module _ (InGave InEnded InFailed OutGets OutBroke ErrGets : List ℕ → Type 0) where
   -- of two calls: the status is 0 or 1, at 0 the output got their answers; and where the output does not break on so few bytes, it is 0 or no memory was found
   pub both_status : Ties → Alike → OneSplit → OneScript → OneCommand → Says (codes "cmp a b") compared → Says (codes "eq a b") equated
       → (bytes : List ℕ) (fails : Option Bool) (status : ℕ) → bytes ≡ codes "cmp a b\neq a b\n" → fails ≡ Some false
-      → Replays bytes fails InGave InFailed OutGets OutBroke ErrGets status → (status ≤ 1) × (status ≡ 0 → OutGets (codes "equal\ntrue\n"))
+      → Replays bytes fails InGave InEnded InFailed OutGets OutBroke ErrGets status → (status ≤ 1) × (status ≡ 0 → OutGets (codes "equal\ntrue\n"))
       × (((out : List ℕ) → length out ≤ 42 → OutBroke out → ⊥) → (status ≡ 0) ⊎ ((status ≡ 1) × ErrGets (codes "error: Out of memory\n")))
   both_status ties alike split script one first second bytes fails status is ends h =
-      let known = subst (λ f. Replays (codes "cmp a b\neq a b\n") f InGave InFailed OutGets OutBroke ErrGets status) ends
-      (subst (λ bs. Replays bs fails InGave InFailed OutGets OutBroke ErrGets status) is h) in (
+      let known = subst (λ f. Replays (codes "cmp a b\neq a b\n") f InGave InEnded InFailed OutGets OutBroke ErrGets status) ends
+      (subst (λ bs. Replays bs fails InGave InEnded InFailed OutGets OutBroke ErrGets status) is h) in (
         fst_of known,
         snd_of known,
-        λ whole. elim (ample _ InGave InFailed OutGets OutBroke ErrGets status (omega arith)
+        λ whole. elim (ample _ InGave InEnded InFailed OutGets OutBroke ErrGets status (omega arith)
             (λ out failed broke. whole out (due_is_short split _ two_lines two_split refl
             (compared_is_short one first, (equated_is_short one second, tt)) out failed) broke) known) [
               | inl (out, err, all, gets, told) ↦ inl (both_answered ties alike split script first second out err status all).1
@@ -141,13 +142,13 @@ module _ (InGave InFailed OutGets OutBroke ErrGets : List ℕ → Type 0) where
             ],
       )
     where
-      fst_of : Replays (codes "cmp a b\neq a b\n") (Some false) InGave InFailed OutGets OutBroke ErrGets status → status ≤ 1
+      fst_of : Replays (codes "cmp a b\neq a b\n") (Some false) InGave InEnded InFailed OutGets OutBroke ErrGets status → status ≤ 1
       fst_of (inl (out, err, inl all, gets, told)) = omega (arith, (both_answered ties alike split script first second out err status all).1)
       fst_of (inl (out, err, inr (inl failed), gets, told)) = omega (arith, failed.status_is)
       fst_of (inl (out, err, inr (inr failed), gets, told)) = omega (arith, failed.status_is)
       fst_of (inr (out, failed, broke, is_one, told)) = omega (arith, is_one)
 
-      snd_of : Replays (codes "cmp a b\neq a b\n") (Some false) InGave InFailed OutGets OutBroke ErrGets status → status ≡ 0
+      snd_of : Replays (codes "cmp a b\neq a b\n") (Some false) InGave InEnded InFailed OutGets OutBroke ErrGets status → status ≡ 0
           → OutGets (codes "equal\ntrue\n")
       snd_of (inl (out, err, inl all, gets, told)) zero = subst OutGets (both_answered ties alike split script first second out err status all).0 gets
       snd_of (inl (out, err, inr (inl failed), gets, told)) zero = absurd (omega (arith, zero, failed.status_is))
@@ -176,8 +177,9 @@ unfolding digits chars is_utf8 lib.Utf8.encode
 reported = refl
 
 -- of a script with a bad line this is what is written
-bad_answered : Alike → OneSplit → OneScript → Says (codes "eq a b") equated → IsBad (codes "frob") → (out err : List ℕ) (status : ℕ)
-    → AllAnswered (codes "eq a b\nfrob\neq a b\n") (Some false) out err status
+bad_answered : {InGave InEnded : List ℕ → Type 0} → Alike → OneSplit → OneScript → Says (codes "eq a b") equated → IsBad (codes "frob")
+    → (out err : List ℕ) (status : ℕ)
+    → AllAnswered (codes "eq a b\nfrob\neq a b\n") (Some false) InGave InEnded out err status
     → (out ≡ codes "true\n") × (err ≡ codes "error: bad line\n --> line 2:1:1\n  |\n1 | frob\n  | ^^^^\n") × (status ≡ 2)
 bad_answered alike split script says bad out err status h =
     let lines = split _ h.part [] h.lines bad_lines h.split bad_split in
@@ -192,17 +194,18 @@ bad_answered alike split script says bad out err status h =
       h.status_is ∙ (λ i. status_of (same.1 i) (ran i)),
     )
 
-module _ (InGave InFailed OutGets OutBroke ErrGets : List ℕ → Type 0) where
+module _ (InGave InEnded InFailed OutGets OutBroke ErrGets : List ℕ → Type 0) where
   -- of a script with a bad line: it is reported, or no memory was found, where the output does not break on so few bytes
   pub bad_status : Alike → OneSplit → OneScript → OneCommand → Says (codes "eq a b") equated → IsBad (codes "frob")
       → (bytes : List ℕ) (fails : Option Bool) (status : ℕ) → bytes ≡ codes "eq a b\nfrob\neq a b\n" → fails ≡ Some false
-      → Replays bytes fails InGave InFailed OutGets OutBroke ErrGets status → ((out : List ℕ) → length out ≤ 63 → OutBroke out → ⊥)
+      → Replays bytes fails InGave InEnded InFailed OutGets OutBroke ErrGets status → ((out : List ℕ) → length out ≤ 63 → OutBroke out → ⊥)
       → ((status ≡ 2) × OutGets (codes "true\n") × ErrGets (codes "error: bad line\n --> line 2:1:1\n  |\n1 | frob\n  | ^^^^\n"))
       ⊎ ((status ≡ 1) × ErrGets (codes "error: Out of memory\n"))
   bad_status alike split script one says bad bytes fails status is ends h whole =
-      let known = subst (λ f. Replays (codes "eq a b\nfrob\neq a b\n") f InGave InFailed OutGets OutBroke ErrGets status) ends
-      (subst (λ bs. Replays bs fails InGave InFailed OutGets OutBroke ErrGets status) is h) in
-      elim (ample _ InGave InFailed OutGets OutBroke ErrGets status (omega arith) (λ out failed broke. whole out (due_is_short split _ bad_lines bad_split refl
+      let known = subst (λ f. Replays (codes "eq a b\nfrob\neq a b\n") f InGave InEnded InFailed OutGets OutBroke ErrGets status) ends
+      (subst (λ bs. Replays bs fails InGave InEnded InFailed OutGets OutBroke ErrGets status) is h) in
+      elim (ample _ InGave InEnded InFailed OutGets OutBroke ErrGets status (omega arith)
+      (λ out failed broke. whole out (due_is_short split _ bad_lines bad_split refl
       (equated_is_short one says, (bad_is_short _ bad, (equated_is_short one says, tt))) out failed) broke) known) [
         | inl (out, err, all, gets, told) ↦
             let written = bad_answered alike split script says bad out err status all in

@@ -16,4 +16,4 @@ returns-in-None-clause-known g c =
     let put = took_or_failed err.contents err.wrote c.write_all.result old _ new c.write_all.ensures.told in
     let same = told_same err.contents err.wrote err.flushed old _ new put in
     let told = told_writer err.contents err.wrote err.flushed old _ new put in
-    rw c.in-None.is (nothing_read _ _ _ _ _ _ _ (c.args.input, reads_nothing g.S.Source.gave c.args.input) (refl, refl) (search rules))
+    rw c.in-None.is (nothing_read _ _ _ _ _ _ _ _ (c.args.input, reads_nothing g.S.Source.gave c.args.input) (refl, refl) (search rules))

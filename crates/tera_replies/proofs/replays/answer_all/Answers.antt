@@ -1,7 +1,7 @@
 -- What the source gave so far is answered, also where a fault ends the loop.
-use Rattle.std.proofs.Common.{◌≡◌, ◌<◌, ◌≤◌, ◌++◌, [], Ok, inl, inr, length, length-append, take, ◌∙◌, subst, refl, rules, arith, append-nil}
+use Rattle.std.proofs.Common.{◌≡◌, ◌<◌, ◌≤◌, ◌++◌, [], inl, inr, length, length-append, take, ◌∙◌, subst, refl, rules, arith, append-nil}
 use Rattle.std.proofs.{lemmas.Result.err_from_is_err_and, lemmas.List.length-take-le}
-use Rattle.tera_replies.specs.{Source.EndIsTold, Stretch.start}
+use Rattle.tera_replies.specs.{Source.EndIsTold, Source.ReadEnds, Stretch.start}
 use Rattle.tera_replies.proofs.InputLaws.{Ends-all, Ends-stops, at_failure, at_write, Consumes-none, Consumes-append, reads_nothing, reads_more, where_known}
 use Rattle.tera_replies.proofs.StretchLemmas.{Begins-all, Halts-later, went_flushed, went_nowhere, went_on}
 use Rattle.tera_replies.proofs.ReplyLemmas.{broke_on_flush}
@@ -49,14 +49,14 @@ returns-then-count-eq0 g c =
     let before = c.pieces.invariant in
     let told = subst EndIsTold before.fails (c.in_ok-count.ensures.end none room) in
     let went = went_flushed before.went c.in_ok-flush.ensures.ok in
-    let reads = rw (append-nil before.given) at (reads_more g.S.Source.gave piece (Ok 0) c.read_piece.new.self before.reads
-    (rw none at c.in_ok-count.ensures.told)) in
+    let ends : ReadEnds g.S.Source.gave c.args.input.now before.given c.read_piece.new.self =
+    (c.pieces.input, piece, room, before.reads, rw none at c.in_ok-count.ensures.told) in
     let consumed = rw (append-nil before.given) at (Consumes-append _ _ (g.S.Source.left c.read_piece.new.self) before.given [] before.consumed
     (rw none at c.in_ok-count.ensures.bytes.0)) in
     where_known _ _ _ _ consumed (λ bytes rest left e.
     let ended = rw left at (c.in_ok-count.ensures.bytes.1 none room) in
     let all : bytes ≡ before.given = e ∙ rw (ended, append-nil) in
-    rw all (Ends-all sink.takes sink.fails sink.flushes sink.flush_fails _ _ _ c.finish.new.self.context c.finish.new.out c.finish.result went reads told
+    rw all (Ends-all sink.takes sink.fails sink.flushes sink.flush_fails _ _ _ _ c.finish.new.self.context c.finish.new.out c.finish.result went ends told
     c.finish.ensures.ok c.finish.ensures.err))
 
 pub returns-in_err-take_piece : goal.returns-in_err-take_piece
@@ -66,9 +66,10 @@ returns-in_err-take_piece g c =
     let before = c.pieces.invariant in
     let went = went_flushed before.went c.in_ok-flush.ensures.ok in
     let consumed = Consumes-append _ _ (g.S.Source.left c.read_piece.new.self) before.given _ before.consumed c.in_ok-count.ensures.bytes.0 in
-    let reads = reads_more g.S.Source.gave c.read_piece.new.piece (Ok c.in_ok-count.count) _ before.reads c.in_ok-count.ensures.told in
+    let some : 0 < c.in_ok-count.count = omega (arith, c.if-count-eq0.false) in
+    let reads = reads_more g.S.Source.gave c.read_piece.new.piece c.in_ok-count.count _ some before.reads c.in_ok-count.ensures.told in
     let stops = Halts-later sink.takes sink.fails sink.flushes sink.flush_fails _ _ c.in_err-take_piece.field-0.0 went c.in_err-take_piece.ensures.err in
-    rw (p.1, p.2) (where_known _ _ _ _ consumed (λ bytes rest left e. Ends-stops rest _ _ _ _ _ c.in_err-take_piece.field-0.0 e reads stops))
+    rw (p.1, p.2) (where_known _ _ _ _ consumed (λ bytes rest left e. Ends-stops rest _ _ _ _ _ _ c.in_err-take_piece.field-0.0 e reads stops))
 
 pub pieces-preserved : goal.pieces-preserved
 pieces-preserved g c =
@@ -77,11 +78,12 @@ pieces-preserved g c =
     let piece = take count room in
     let taken : length piece ≡ count = length-take-le count room c.in_ok-count.ensures.bound in
     let bounded : count ≤ 8192 = search rules in
+    let some : 0 < count = omega (arith, c.if-count-eq0.false) in
     let before = c.pieces.invariant in
     record {
       given = before.given ++ piece;
       consumed = Consumes-append _ _ (g.S.Source.left c.read_piece.new.self) before.given piece before.consumed c.in_ok-count.ensures.bytes.0;
-      reads = reads_more g.S.Source.gave room (Ok count) c.read_piece.new.self before.reads c.in_ok-count.ensures.told;
+      reads = reads_more g.S.Source.gave room count c.read_piece.new.self some before.reads c.in_ok-count.ensures.told;
       went = went_on (went_flushed before.went c.in_ok-flush.ensures.ok) c.in_ok-take_piece.ensures.ok;
       turns = omega (arith, before.turns, length-append before.given piece);
       fails = c.read_piece.ensures.stays ∙ before.fails;

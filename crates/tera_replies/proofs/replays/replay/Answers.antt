@@ -12,8 +12,9 @@ returns-clause-known g c =
     let last = c.replay_from.new.out in
     let silent = c.new-watched_err.result in
     let told = c.replay_from.new.err in
-    replays_weaker _ _ _ _ _ _ _ _ _ _ _ _ _
+    replays_weaker _ _ _ _ _ _ _ _ _ _ _ _ _ _ _
     (λ given reads. (c.replay_from.new.input, reads))
+    (λ given ends. (c.replay_from.new.input, ends))
     (λ given failed. (c.replay_from.new.input, failed))
     (λ text gets.
     let same = delivers_same out.contents out.wrote out.flushed first text last gets in
