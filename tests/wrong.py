@@ -70,6 +70,12 @@ def kit():
     return module
 
 
+def say(line):
+    """Prints a line in one piece, whichever crates are tried beside."""
+    sys.stdout.write(f"{line}\n")
+    sys.stdout.flush()
+
+
 def read(path):
     with open(path, encoding="utf-8") as it:
         return it.read()
@@ -472,7 +478,7 @@ class Trial:
     def settle(self, edit, goals, fault):
         self.counts[not goals] += 1
         self.refused += [(edit, goals[0])] if goals else []
-        print(f"pass {edit.name} is refused by {goals[0]}" if goals else f"FAIL {edit.name}: {fault}", flush=True)
+        say(f"pass {edit.name} is refused by {goals[0]}" if goals else f"FAIL {edit.name}: {fault}")
 
     def run(self, edits):
         for edit in edits:
@@ -543,14 +549,14 @@ def tried(rt, edits, given):
         stamp = crate.stamp()
         goals = {it: earlier.goal(it, stamp) for it in some}
         for edit in filter(goals.get, some):
-            print(f"pass {edit.name} is refused by {goals[edit]}, as an earlier run on this machine saw", flush=True)
+            say(f"pass {edit.name} is refused by {goals[edit]}, as an earlier run on this machine saw")
         left = [it for it in some if not goals[it]]
         refused, failed = counted_anew(crate, left, kept, stamp) if left else (0, 0)
         return [len(some) - len(left) + refused, failed]
 
     def counted_anew(crate, some, kept, stamp):
         if given.gate and not gate.proves(crate):
-            print(f"FAIL {crate.name}: it is not proved, so its {len(some)} wrong bodies were not tried", flush=True)
+            say(f"FAIL {crate.name}: it is not proved, so its {len(some)} wrong bodies were not tried")
             return [0, len(some)]
         while not gate.has_ended():
             if gate.lanes.acquire(timeout=2):
@@ -599,7 +605,7 @@ def main():
         if not is_current(low) and low.build_rlib(["--jobs", "1"], anew=False):
             sys.exit(f"{low.name} is not proved")
     counts = tried(rt, edits, given)
-    print("wrong bodies: end")
+    say("wrong bodies: end")
     return 1 if any(failed for _, failed in counts) else 0
 
 
