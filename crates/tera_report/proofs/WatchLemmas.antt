@@ -2,7 +2,6 @@
 use Rattle.std.proofs.Common.{◌≡◌, ◌≢◌, ℕ, ◌+◌, ◌-◌, ◌≤◌, true, ◌||◌, IsTrue, List, [], ◌++◌, length, take, drop, refl, sym, ap, subst, ◌∙◌, append_assoc}
 use Rattle.std.proofs.Common.{append-nil, take-append-drop, arith, length-drop, Option, Result}
 use Rattle.std.proofs.Math.Bool.{or_assoc, or-false}
-use Rattle.std.proofs.lemmas.Bool.{or_left}
 use Rattle.std.proofs.lemmas.List.{take_rest}
 use Rattle.std.proofs.KnownBytes.{Appends-trans}
 use Rattle.std.specs.Io.KnownBytes.{Appends}
@@ -41,8 +40,8 @@ module _ {W : Type 0} (contents : W → Option (List ℕ)) (wrote : W → List �
     tried_takes is = record {
       same = h.same;
       grows = subst (Appends _ _) is h.grows;
-      kept = λ loud. subst IsTrue (sym h.told) (or_left _ _ loud);
       passed = record { attempts = attempts; calls = h.calls; whole = is };
+      told = h.told;
     }
 
     pub tried_fails : IsTrue (has_fault attempts) → (rest : List ℕ) → all_taken attempts ++ rest ≡ buf → WatchedFails contents wrote old buf new

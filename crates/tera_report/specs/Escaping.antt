@@ -4,7 +4,7 @@ use Rattle.std.specs.Prelude.{slice_index, ◌≤◌, ◌<◌, Option, Result, �
 use Rattle.std.specs.List.{flat_map, AllByRecursion}
 use Rattle.std.specs.Io.KnownBytes.{Appends}
 use Rattle.std.specs.declared.io.Error.{Error}
-use Rattle.tera_report.specs.Writer.{Breaks}
+use Rattle.tera_report.specs.Writer.{Passes, Breaks}
 
 -- a byte that stands for itself, or one of the five entities
 pub data Token : Type 0 where
@@ -55,6 +55,11 @@ pub record Spells (bytes text : List ℕ) : Type 0 where
 -- a writer that held old holds old and a spelling of the text, where it tells what it holds
 abbrev pub WritesEscaped : Option (List ℕ) → Option (List ℕ) → List ℕ → Type 0
 WritesEscaped old new text = (bytes : List ℕ) × Spells bytes text × Appends old new bytes
+
+-- a writer took a spelling of the text by its writes
+abbrev pub PassesEscaped : {W : Type 0} → (W → List ℕ → Result ℕ Error → W → Type 0)
+    → W → W → List ℕ → Type 0
+PassesEscaped wrote old new text = (bytes : List ℕ) × Spells bytes text × Passes wrote old bytes new
 
 -- a writer was to be given a spelling of the text: its writes took a beginning of it, and one of
 -- them answered an error or took no byte of some

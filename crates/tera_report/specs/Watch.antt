@@ -1,9 +1,9 @@
 -- What a watched writer remembers, and what a call of it does.
-use Rattle.std.specs.Prelude.{◌≡◌, ℕ, Bool, List, IsTrue, Option, Result, Ok, Err}
+use Rattle.std.specs.Prelude.{◌≡◌, ◌||◌, ℕ, Bool, List, IsTrue, Option, Result, Ok, Err}
 use Rattle.std.specs.Borrow.{GName}
 use Rattle.std.specs.Io.KnownBytes.{Appends, Keeps}
 use Rattle.std.specs.declared.io.Error.{Error}
-use Rattle.tera_report.specs.Writer.{all_taken, Passes, Breaks}
+use Rattle.tera_report.specs.Writer.{all_taken, has_fault, Passes, Breaks}
 use Rattle.tera_report.specs.declared.watch.Watched.{Watched}
 
 -- the writer, as it stands
@@ -30,14 +30,14 @@ abbrev pub HasFailed : {W : Type 0} → Watched W → Type 0
 HasFailed w = IsTrue (has_failed w)
 
 -- a watched writer took the bytes: it passed on just these by its writes, what it holds grew by
--- them, and an earlier failure is not forgotten
+-- them, and it remembers a failure exactly where it did so before or one of these writes was one
 pub record WatchedTakes {W : Type 0} (contents : W → Option (List ℕ))
     (wrote : W → List ℕ → Result ℕ Error → W → Type 0) (old : Watched W) (bytes : List ℕ)
     (new : Watched W) : Type 0 where
   pub same : SameWriter old new
   pub grows : Appends (held contents old) (held contents new) bytes
-  pub kept : HasFailed old → HasFailed new
   pub passed : Passes wrote (watched_writer old) bytes (watched_writer new)
+  pub told : has_failed new ≡ (has_failed old || has_fault passed.attempts)
 
 -- a watched writer failed on the bytes: a write from old to new answered an error or took no byte
 -- of some, and a beginning of the bytes was passed on

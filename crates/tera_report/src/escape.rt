@@ -1,7 +1,8 @@
 //! From a text to HTML: five bytes become entities, every other byte stays.
 ghost use Rattle.std.specs.Prelude.{◌≡◌, ℕ, List, [], IsOk, IfOk, IfErr, OnOk, OnErr, string_bytes};
 ghost use Rattle.tera_report.specs.Errors.{IsOutOfMemory};
-ghost use Rattle.tera_report.specs.Escaping.{Spells, WritesEscaped, BreaksEscaped, escaped};
+ghost use Rattle.tera_report.specs.Escaping.{Spells, escaped};
+ghost use Rattle.tera_report.specs.Escaping.{WritesEscaped, PassesEscaped, BreaksEscaped};
 ghost use Rattle.tera_report.specs.Pieces.{written};
 ghost use Rattle.tera_report.specs.Room.{RoomTakes, RoomFails, IsDecided};
 ghost use Rattle.tera_report.specs.Sink.{Puts, PutsThese};
@@ -18,11 +19,13 @@ use std::alloc::Global;
 use std::io;
 
 /// Writes the text with `&`, `<`, `>`, `"` and `'` as `&amp;`, `&lt;`, `&gt;`, `&quot;` and
-/// `&#39;`. Answers an error only where a write of the writer, during the call, answered one or
-/// took no byte; then a beginning may be written. Takes no memory. Mirrors `tera::escape_html`.
+/// `&#39;`, and does not flush. Answers an error only where a write of the writer, during the call,
+/// answered one or took no byte; then a beginning may be written. Takes no memory. Mirrors
+/// `tera::escape_html`.
 pub fn escape_html<W: Writer>(text: &str, writer: &mut W) -> io::Result<()>
     ensures written { OnOk result
         (WritesEscaped (W.contents writer.old) (W.contents writer.new) text.now) }
+    ensures passed { OnOk result (PassesEscaped W.wrote writer.old writer.new text.now) }
     ensures told { OnErr result (BreaksEscaped W.wrote writer.old writer.new text.now) }
 {
     let mut watched = Watched::new(writer);

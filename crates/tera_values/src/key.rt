@@ -15,7 +15,7 @@ ghost use Rattle.tera_report.specs.Errors.{IsOutOfMemory};
 ghost use Rattle.tera_report.specs.Room.{IsDecided};
 ghost use Rattle.tera_report.specs.Sink.{PutsThese};
 ghost use Rattle.tera_report.specs.Watch.{WatchedTakes, WatchedFails};
-ghost use Rattle.tera_report.specs.Writer.{Breaks};
+ghost use Rattle.tera_report.specs.Writer.{Passes, Breaks};
 ghost use Rattle.tera_values.specs.Key.{key_form, meaning_of_key, text_in_key};
 ghost use Rattle.tera_values.specs.Key.{owned_in_key, number_in_key, key_value, shown_key};
 ghost use Rattle.tera_values.specs.Key.{fed_number, fed, FitsInline};
@@ -125,8 +125,8 @@ impl<'a> Key<'a> {
         }
     }
 
-    /// Writes what it prints: `true` or `false`, a number in decimal, a text as it is. Mirrors
-    /// `Key::format`, which is private there.
+    /// Writes what it prints: `true` or `false`, a number in decimal, a text as it is. It does not
+    /// flush. Mirrors `Key::format`, which is private there.
     ///
     /// Answers an error only where, during the call, a write of the writer answered an error or
     /// took no byte; then a beginning may be written. Takes no memory.
@@ -134,6 +134,8 @@ impl<'a> Key<'a> {
         ensures written { OnOk result
             (Appends (W.contents out.old) (W.contents out.new)
             (shown_key (meaning_of_key self.now))) }
+        ensures passed { OnOk result
+            (Passes W.wrote out.old (shown_key (meaning_of_key self.now)) out.new) }
         ensures told { OnErr result
             (Breaks W.wrote out.old (shown_key (meaning_of_key self.now)) out.new) }
     {

@@ -1,6 +1,7 @@
 -- What is taken in turn is taken together; and what fails on a beginning, or on what comes after
 -- it, fails on the whole.
-use Rattle.std.specs.Prelude.{◌≡◌, ℕ, List, [], ◌++◌, Option, None, Some, Result, Ok, Err, refl}
+use Rattle.std.specs.Prelude.{◌≡◌, ◌||◌, ℕ, List, [], ◌++◌, Option, None, Some, Result, Ok, Err}
+use Rattle.std.specs.Prelude.{refl}
 use Rattle.std.proofs.Common.{◌∙◌, ap, sym, subst, append_assoc, append-nil, arith, length-append}
 use Rattle.std.proofs.lemmas.List.Folds.{concat-append}
 use Rattle.std.specs.declared.fmt.Formatter.{Formatter}
@@ -13,10 +14,11 @@ use Rattle.tera_report.specs.declared.watch.Watched.{Watched}
 use Rattle.tera_report.specs.Growing.{GrowingTakes, GrowingFails}
 use Rattle.tera_report.specs.Room.{RoomTakes, RoomFails, IsDecided}
 use Rattle.tera_report.specs.Sink.{FormatterTakes, Puts}
-use Rattle.tera_report.specs.Watch.{WatchedTakes, WatchedFails}
-use Rattle.tera_report.specs.Writer.{all_taken}
+use Rattle.tera_report.specs.Watch.{has_failed, WatchedTakes, WatchedFails}
+use Rattle.tera_report.specs.Writer.{all_taken, has_fault}
 use Rattle.tera_report.specs.inner.WriterLaws.{folds_joined, passes_nothing, passes_joined}
 use Rattle.tera_report.specs.inner.WriterLaws.{breaks_early, breaks_later, taken_joined}
+use Rattle.tera_report.specs.inner.WriterLaws.{faults_joined, or_assoc, or_false}
 
 pub appends_nothing : (a : Option (List ℕ)) → Appends a a []
 appends_nothing None = tt
@@ -41,9 +43,8 @@ module _ {W : Type 0} (contents : W → Option (List ℕ)) (wrote : W → List �
   watched_nothing s = record {
     same = refl;
     grows = appends_nothing _;
-    kept = λ h. h;
-    passed =
-        passes_nothing wrote _;
+    passed = passes_nothing wrote _;
+    told = sym (or_false (has_failed s));
   }
 
   pub watched_joined : (s : Watched W) (a : List ℕ) (t : Watched W) (b : List ℕ) (u : Watched W)
@@ -52,8 +53,11 @@ module _ {W : Type 0} (contents : W → Option (List ℕ)) (wrote : W → List �
   watched_joined s a t b u p q = record {
     same = q.same ∙ p.same;
     grows = appends_joined _ _ _ a b p.grows q.grows;
-    kept = λ h. q.kept (p.kept h);
     passed = passes_joined wrote _ a _ b _ p.passed q.passed;
+    told = q.told ∙ ap (λ x. x || has_fault q.passed.attempts) p.told
+        ∙ sym (or_assoc (has_failed s) (has_fault p.passed.attempts) (has_fault q.passed.attempts))
+        ∙ ap (λ x. has_failed s || x)
+        (sym (faults_joined p.passed.attempts q.passed.attempts));
   }
 
   pub watched_early : (s : Watched W) (a : List ℕ) (t : Watched W) (b : List ℕ)

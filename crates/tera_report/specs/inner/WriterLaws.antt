@@ -25,11 +25,11 @@ taken_more xs bytes answer =
     taken_joined xs (once bytes answer)
     ∙ ap (λ l. all_taken xs ++ l) (append-nil (bytes_taken answer bytes))
 
-or_assoc : (a b c : Bool) → (a || (b || c)) ≡ ((a || b) || c)
+pub or_assoc : (a b c : Bool) → (a || (b || c)) ≡ ((a || b) || c)
 or_assoc true b c = refl
 or_assoc false b c = refl
 
-or_false : (a : Bool) → (a || false) ≡ a
+pub or_false : (a : Bool) → (a || false) ≡ a
 or_false true = refl
 or_false false = refl
 
@@ -59,10 +59,10 @@ module _ {W : Type 0} (wrote : W → List ℕ → Result ℕ Error → W → Typ
       → Tries wrote w xs v → wrote v bytes answer u → Tries wrote w (xs ++ once bytes answer) u
   tries_more w xs v bytes answer u p q = tries_joined w xs v (once bytes answer) u p (u, q, refl)
 
-  pub passes_nothing : (w : W) → Passes wrote w [] w
+  abbrev pub passes_nothing : (w : W) → Passes wrote w [] w
   passes_nothing w = record { attempts = []; calls = refl; whole = refl }
 
-  pub passes_joined : (w : W) (a : List ℕ) (v : W) (b : List ℕ) (u : W)
+  abbrev pub passes_joined : (w : W) (a : List ℕ) (v : W) (b : List ℕ) (u : W)
       → Passes wrote w a v → Passes wrote v b u → Passes wrote w (a ++ b) u
   passes_joined w a v b u p q = record {
     attempts = p.attempts ++ q.attempts;

@@ -1,7 +1,7 @@
 -- One write took all of the bytes, or failed, or more writes took the rest.
 use Rattle.std.proofs.Common.{◌≡◌, ◌-◌, ◌++◌, [], true, Ok, Err, length, take, drop, ap, sym, ◌∙◌, refl, subst, rules, take-append-drop, append-nil}
 use Rattle.std.proofs.Math.Seq.{take-length}
-use Rattle.std.proofs.lemmas.List.{take_rest}
+use Rattle.std.proofs.lemmas.List.{nil_from_length, take_rest}
 use Rattle.std.specs.declared.io.Error.{Error}
 use Rattle.tera_report.specs.inner.SinkLaws.{keeps_appends, watched_joined, watched_later}
 use Rattle.tera_report.specs.Watch.{WatchedTakes, WatchedFails}
@@ -9,6 +9,11 @@ use Rattle.tera_report.specs.Writer.{is_fault, once}
 use Rattle.tera_report.proofs.PutLaws.{puts_after}
 use Rattle.tera_report.proofs.WatchLemmas.{none_tried, one_more, tried_takes, failed_here}
 use Rattle.tera_report.proofs.watch.WatchedWrite.write_all.Goals as goal
+
+pub returns-then-is_empty-clause-told : goal.returns-then-is_empty-clause-told
+returns-then-is_empty-clause-told g c =
+    let none = nil_from_length c.args.buf.now (search rules) in
+    tried_takes g.W.Writer.contents g.W.Writer.wrote _ _ [] _ (none_tried _ _ _) (sym none)
 
 pub returns-in-Ok-eq0-clause-told : goal.returns-in-Ok-eq0-clause-told
 returns-in-Ok-eq0-clause-told g c =
