@@ -12,8 +12,7 @@ ghost use Rattle.tera_meaning.specs.Read.{iterable_in, text_in};
 ghost use Rattle.tera_scalars.specs.Number.{number_value};
 ghost use Rattle.tera_report.specs.Errors.{IsOutOfMemory, Refuses};
 ghost use Rattle.tera_report.specs.declared.errors.Error.{Error};
-ghost use Rattle.tera_meaning.specs.Printed.{Prints};
-ghost use Rattle.tera_values.specs.Print.{PrintsNothing};
+ghost use Rattle.tera_meaning.specs.Printed.{Prints, PrintsNothing};
 
 use crate::parts::Parts;
 use crate::private::Sealed;

@@ -1,5 +1,5 @@
 -- What results show of the model's outcomes.
-use Rattle.std.specs.Prelude.{◌≡◌, ℕ, List, Bool, true, false, is_ok, Option, Result, Ok, Err, IsErrAnd, IsOk, IsErr, refl}
+use Rattle.std.specs.Prelude.{◌≡◌, ℕ, List, Bool, true, false, is_ok, Option, Result, Ok, Err, IsErrAnd, IsOk, IsErr, IsTrue, refl}
 use Rattle.std.proofs.lemmas.Bool.{false≢true}
 use Rattle.std.proofs.Common.{sym, ◌∙◌, ap, subst, inl, inr}
 use Rattle.tera_report.specs.declared.errors.Error.{Error}
@@ -49,6 +49,16 @@ weighing_refused r e state weighing left right into (Err refusal) passed is (inl
     refusal_shown r e _ passed refusal shows (inl (sym told, refl))
 weighing_refused r e state weighing left right into (Err refusal) passed is (inr want) told =
     want_shown r e _ passed want (inr (subst IsErr (sym told) refl, refl, refl))
+
+-- what is refused did not succeed
+pub not_refused : {X E : Type 0} (r : Result X E) (e : E) → r ≡ Err e → IsOk r → ⊥
+not_refused (Ok x) e is ok = let none : true ≡ false = ap is_ok is in absurd (false≢true (sym none))
+not_refused (Err f) e is ok = absurd (false≢true ok)
+
+-- what takes no memory where this does not hold was refused where it holds
+pub refused_where : {X E : Type 0} (b : Bool) (r : Result X E) (e : E) → r ≡ Err e → (b ≡ false → IsOk r) → IsTrue b
+refused_where true r e is free = refl
+refused_where false r e is free = absurd (not_refused r e is (free refl))
 
 -- an answer that is given where a call succeeds is refused where it does not
 pub not_given : {X : Type 0} (given : Result X Refusal) (r : Result X Error) (e : Error) → r ≡ Err e

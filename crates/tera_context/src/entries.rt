@@ -39,6 +39,13 @@ macro_rules! insert_entry {
     };
 }
 
+// No entries give nothing.
+fn no_entries(alloc: Global) -> crate::Context
+    ensures { result ≡ empty }
+{
+    context! { alloc; }
+}
+
 // What the entries of both forms give.
 fn both_forms(alloc: Global) -> TeraResult<crate::Context>
     ensures ok { IfOk result (λ context. context

@@ -5,7 +5,7 @@ ghost use Rattle.std.specs.Prelude.{◌≡◌, ℕ, List, Option, Ok, Some};
 ghost use Rattle.std.specs.Option.{option_map};
 ghost use Rattle.std.specs.String.{string_bytes};
 ghost use Rattle.tera_meaning.specs.Search;
-ghost use Rattle.tera_meaning.specs.Search.{Search, found_at, IsCopy};
+ghost use Rattle.tera_meaning.specs.Search.{Search, found_at, FoundTakes};
 ghost use Rattle.tera_meaning.specs.State.{State};
 ghost use Rattle.tera_report.specs.Errors.{Refuses};
 ghost use Rattle.tera_context.specs.inner.Finds.{Finds};
@@ -148,8 +148,9 @@ pub(crate) fn keep_or_answer(
 // Answers why nothing is found.
 #[inline(always)]
 fn refused(error: Error) -> TeraResult<Answer>
-    ensures { (state : State) (search : Search) (into : Option (List ℕ)) → IsCopy search
-        → Refuses (found_at state search) error → Finds state search into result state }
+    ensures { (state : State) (search : Search) (into : Option (List ℕ))
+        → FoundTakes search (found_at state search) → Refuses (found_at state search) error
+        → Finds state search into result state }
 {
     Err(error)
 }

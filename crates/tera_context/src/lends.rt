@@ -39,8 +39,8 @@ pub enum LookUp<'a> {
 
 /// What stands for the answer of a step that keeps nothing, lent: what `Get`, `Path` and `Attr`
 /// find, or nothing; what `Item` finds in a map at a text; and what `Print` prints. `None` of each
-/// other step, where there is nothing at that item, and where there is nothing to print: these are
-/// for `step`. Takes no memory.
+/// other step, where there is nothing at that item, and where the name to print is absent: these
+/// are for `step`. Takes no memory.
 pub fn lend<'a>(context: &'a Context, step: &'a Step) -> Option<Lent<'a>>
     ensures lent { option_map lent_form result ≡ lent_at context.now (command_of step.now) }
     ensures step { IfSome result (λ lent. (outcome : Outcome) → StandsFor (lent_form lent) outcome
@@ -50,8 +50,8 @@ pub fn lend<'a>(context: &'a Context, step: &'a Step) -> Option<Lent<'a>>
 }
 
 /// What stands for the answer of a look-up, lent: what is found, or nothing; or what is printed.
-/// `None` where `Item` finds nothing in a map at a text, and where there is nothing to print: these
-/// are for `step`. Takes no memory.
+/// `None` where `Item` finds nothing in a map at a text, and where the name to print is absent:
+/// these are for `step`. Takes no memory.
 pub fn look_up<'a>(context: &'a Context, asked: LookUp<'a>) -> Option<Lent<'a>>
     ensures lent { option_map lent_form result ≡ lent_at context.now (looked_up asked.entry) }
     ensures step { IfSome result (λ lent. (outcome : Outcome) → StandsFor (lent_form lent) outcome

@@ -25,10 +25,12 @@ use tera_values::Value;
 /// changed. Only `Extend` that finds no memory may have taken over some first names of its source,
 /// in the order of their bytes, and nothing else.
 ///
-/// `Out of memory` may be answered by `Set` and `Extend`, by `MarkSafe` where `into` is given, by
-/// `Print`, `Escape`, `Fields` and `Walk`, and by `Get` and the calls that answer as it does. Of
-/// these `Binary`, `Negate` and `Read` take memory only for the text of a refusal and where `into`
-/// is given. `Contains` takes some for such a text alone, and the other calls take none.
+/// Memory is taken, and `Out of memory` may be answered: by `Set` for a name that is new, and by
+/// `Extend`; by `Print`, `Escape`, `Fields` and `Walk` for the texts that they answer, if there are
+/// some; by `Get` and the calls that answer as it does, and by `MarkSafe` with `into`, for a text,
+/// bytes, an array or a map that is copied, for what is kept under a name that is new, and for the
+/// text of a refusal. `Binary`, `Negate`, `Read` and `Contains` copy none of these, and the other
+/// calls take none.
 pub fn step(context: &mut Context, step: Step) -> TeraResult<Answer>
     ensures { ShowsOneOf result (λ outcome.
         IsStep context.old (command_of step) outcome context.new) }
@@ -115,8 +117,9 @@ fn mark_safe(context: &mut Context, name: &str, into: Option<String>) -> TeraRes
 /// to the whole run and nothing was done. A run of no steps takes none. A step that finds no memory
 /// answers so in its place.
 ///
-/// The answers depend on what the names mean: those of `Print`, `Escape` and `Walk` also on the
-/// order of pairs in maps, and those of `Kind` and `IsSafe` on kinds of integers and safe flags.
+/// The shapes of the answers (what is found by its meaning, a refusal without a kind's name) depend
+/// on what the names mean: those of `Print`, `Escape` and `Walk` also on the order of pairs in
+/// maps, and those of `Kind` and `IsSafe` on kinds of integers and safe flags.
 pub fn run(context: &mut Context, steps: Vec<Step>) -> TeraResult<Vec<TeraResult<Answer>>>
     ensures run { IfOk result (λ answers. (outcomes : List Outcome)
         × AllZip ShowsOutcome answers.items outcomes

@@ -1,5 +1,5 @@
 -- States answer alike exactly where they mean the same, and others are told apart.
-use Rattle.std.specs.Prelude.{◌≡◌, ◌≢◌, ◌↔◌, ◌⊎◌, ℕ, suc, length, Bool, true, false, ◌||◌, List, [], ◌∷◌, Option, Some, None, Ok, is_some, IsSome, refl}
+use Rattle.std.specs.Prelude.{◌≡◌, ◌≢◌, ◌↔◌, ◌⊎◌, ℕ, suc, length, Bool, true, ◌||◌, List, [], ◌∷◌, Option, Some, None, Ok, is_some, IsSome, refl}
 use Rattle.std.proofs.Common.{sym, ◌∙◌, ap, arith, inl, inr, rules}
 use Rattle.std.specs.List.{AllByRecursion, list_any}
 use Rattle.std.specs.Option.{option_map, unwrap_or}

@@ -1,5 +1,5 @@
 -- Indices from either end of a list, and the parts of a text.
-use Rattle.std.specs.Prelude.{◌≡◌, ℕ, ◌-◌, ◌⊎◌, ◌||◌, Bool, true, false, ◌++◌, [], ◌∷◌, ◌↔◌, List, refl}
+use Rattle.std.specs.Prelude.{◌≡◌, ℕ, ◌⊎◌, ◌||◌, Bool, true, false, ◌++◌, [], ◌∷◌, ◌↔◌, List, refl}
 use Rattle.std.proofs.Common.{inl, inr, ◌∙◌, ap, rules}
 use Rattle.std.proofs.lemmas.Bool.{and_parts, eq-eqb, eqb-true}
 use Rattle.std.specs.Str.Iter.{HasSubslice}

@@ -20,7 +20,6 @@ use Rattle.tera_meaning.specs.Answer
 use Rattle.tera_meaning.specs.Question
 use Rattle.tera_meaning.specs.Request.{mark_safe, ask, asking, asking_into}
 use Rattle.tera_meaning.specs.Step.{marking, found_or_kept, keeping, ComesOnlyTo, state_after}
-use Rattle.tera_meaning.specs.Weighing
 use Rattle.tera_meaning.specs.Tree.{undefined}
 
 -- what is escaped of a name that holds this form

@@ -117,6 +117,10 @@ Prints x written = IsExact x → written ≡ printed x
 abbrev pub PrintsInside : Layout → List ℕ → Type 0
 PrintsInside x written = IsExactInside x → written ≡ printed_with quoted x
 
+-- it is known that nothing is printed
+abbrev pub PrintsNothing : Layout → Type 0
+PrintsNothing x = IsExact x × (printed x ≡ [])
+
 -- what a page shows of a value: what it prints, as it is where the value is safe, and else escaped
 abbrev pub shown_in_page : Form → List ℕ
 shown_in_page value =

@@ -1,5 +1,5 @@
 -- What is asked of one value.
-use Rattle.std.specs.Prelude.{◌≡◌, ⊤, ℕ, List, Option, Ok, is_some}
+use Rattle.std.specs.Prelude.{◌≡◌, ◌≢◌, ⊤, ℕ, List, [], Option, Ok, is_some}
 use Rattle.tera_report.specs.Escaping.{Spells}
 use Rattle.tera_meaning.specs.Answer
 use Rattle.tera_meaning.specs.Fields
@@ -7,7 +7,7 @@ use Rattle.tera_meaning.specs.Form.{Form}
 use Rattle.tera_meaning.specs.Kind.{kind_in}
 use Rattle.tera_meaning.specs.Meaning.{Layout, layout, meaning}
 use Rattle.tera_meaning.specs.Outcome.{Outcome}
-use Rattle.tera_meaning.specs.Printed.{IsExact, Prints}
+use Rattle.tera_meaning.specs.Printed.{IsExact, Prints, PrintsNothing}
 use Rattle.tera_meaning.specs.Read.{safe_in, size_in, truthy_in}
 use Rattle.tera_meaning.specs.State.{read}
 
@@ -64,14 +64,14 @@ IsSettledAnswer print x y = (x ≡ y) × IsExact x
 IsSettledAnswer escape x y = (x ≡ y) × IsExact x
 IsSettledAnswer fields x y = ⊤
 
--- the questions whose answers take memory
-abbrev pub TakesMemory : Question → Type 0
-TakesMemory has = ⊥
-TakesMemory truthy = ⊥
-TakesMemory is_safe = ⊥
-TakesMemory len = ⊥
-TakesMemory kind = ⊥
-TakesMemory print = ⊤
-TakesMemory escape = ⊤
-TakesMemory fields = ⊤
-TakesMemory walk = ⊤
+-- the answer of a value takes memory: of texts, where there are any
+abbrev pub TakesMemory : Question → Form → Type 0
+TakesMemory has value = ⊥
+TakesMemory truthy value = ⊥
+TakesMemory is_safe value = ⊥
+TakesMemory len value = ⊥
+TakesMemory kind value = ⊥
+TakesMemory print value = ¬ PrintsNothing (layout value)
+TakesMemory escape value = ¬ PrintsNothing (layout value)
+TakesMemory fields value = Fields.fields value ≢ []
+TakesMemory walk value = Fields.shown_in value ≢ []

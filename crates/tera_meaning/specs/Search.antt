@@ -1,5 +1,5 @@
 -- What is found in a state.
-use Rattle.std.specs.Prelude.{⊤, ℕ, ℤ, List, Option, Some, Result, Ok, Err}
+use Rattle.std.specs.Prelude.{⊤, ℕ, ℤ, IsTrue, List, Option, Some, None, Result, Ok, Err}
 use Rattle.std.specs.FinMap.{get as held_at}
 use Rattle.tera_report.specs.Refusal.{Refusal, Operator}
 use Rattle.tera_meaning.specs.Arithmetic.{calculated, negated}
@@ -7,6 +7,7 @@ use Rattle.tera_meaning.specs.Conversion.{IntegerType, read_as}
 use Rattle.tera_meaning.specs.Form.{Form}
 use Rattle.tera_meaning.specs.Lookup
 use Rattle.tera_meaning.specs.Path
+use Rattle.tera_meaning.specs.Read.{iterable_in}
 use Rattle.tera_meaning.specs.SliceRule.{reversed}
 use Rattle.tera_meaning.specs.State.{State, form_at}
 use Rattle.tera_meaning.specs.Slice.{sliced}
@@ -44,9 +45,21 @@ found_at state (calculate operator left right) =
 found_at state (negate name) = one_found (negated (form_at state name))
 found_at state (read type name) = one_found (read_as type (form_at state name))
 
--- what is found is a copy, which takes memory, but for numbers
-abbrev pub IsCopy : Search → Type 0
-IsCopy (calculate operator left right) = ⊥
-IsCopy (negate name) = ⊥
-IsCopy (read type name) = ⊥
-IsCopy search = ⊤
+-- what a search makes takes memory: a slice, a reversal, and the copy of a text, of bytes, of an
+-- array or of a map. A number takes none
+abbrev pub CopyTakes : Search → Form → Type 0
+CopyTakes (get name) value = IsTrue (iterable_in value)
+CopyTakes (path name p) value = IsTrue (iterable_in value)
+CopyTakes (attr name t) value = IsTrue (iterable_in value)
+CopyTakes (item name i) value = IsTrue (iterable_in value)
+CopyTakes (slice name start end step) value = ⊤
+CopyTakes (reverse name) value = ⊤
+CopyTakes (calculate operator left right) value = ⊥
+CopyTakes (negate name) value = ⊥
+CopyTakes (read type name) value = ⊥
+
+-- what a search comes to takes memory: the text of a refusal does, and what is made
+abbrev pub FoundTakes : Search → Found → Type 0
+FoundTakes search (Ok None) = ⊥
+FoundTakes search (Ok (Some value)) = CopyTakes search value
+FoundTakes search (Err refusal) = ⊤

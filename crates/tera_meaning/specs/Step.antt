@@ -1,12 +1,12 @@
 -- One step of the model: what a request comes to, and what it leaves.
-use Rattle.std.specs.Prelude.{◌≡◌, ◌⊎◌, ⊤, ℕ, List, Option, Some, None, Ok, Err, IsSome, IsErr}
+use Rattle.std.specs.Prelude.{◌≡◌, ◌⊎◌, ⊤, ℕ, List, Option, Some, None, Ok, Err, IsErr, IsTrue}
 use Rattle.std.specs.FinMap.{get as held_at, insert, remove as without}
 use Rattle.tera_meaning.specs.Answer
-use Rattle.tera_meaning.specs.Search.{Found, found_at, IsCopy}
+use Rattle.tera_meaning.specs.Search.{Found, found_at, FoundTakes}
 use Rattle.tera_meaning.specs.Form.{Form}
 use Rattle.tera_meaning.specs.Outcome.{Outcome, out_of_memory}
 use Rattle.tera_meaning.specs.Question.{IsAnswered, IsFixedAnswer, TakesMemory}
-use Rattle.tera_meaning.specs.Read.{marked_safe}
+use Rattle.tera_meaning.specs.Read.{iterable_in, marked_safe}
 use Rattle.tera_meaning.specs.Request.{Request, set, extend, remove, mark_safe, ask, weigh, find}
 use Rattle.tera_meaning.specs.Request.{Command, asking}
 use Rattle.tera_meaning.specs.State.{State, form_at, layout_at, extended, IsProperBeginning}
@@ -76,17 +76,29 @@ leaves state (find search) into = keeping state into (found_at state search)
 abbrev pub state_after : State → Command → State
 state_after state command = leaves state command.request command.into
 
--- the requests that may want memory: to keep values or a copy, for an answer that takes memory, and
--- for the text of a refusal
+-- keeping a value takes memory: its name is new
+abbrev pub KeepTakes : State → List ℕ → Type 0
+KeepTakes state name = held_at state name ≡ None
+
+-- and so it is with what is found, which is kept where a name for it is given
+abbrev pub FoundKeepTakes : State → Option (List ℕ) → Found → Type 0
+FoundKeepTakes state (Some into) (Ok (Some value)) = KeepTakes state into
+FoundKeepTakes state into found = ⊥
+
+-- a request may want memory: to keep values or a copy, for an answer that takes memory, and for the
+-- text of a refusal
 abbrev pub MayWant : State → Request → Option (List ℕ) → Type 0
-MayWant state (set name value) into = ⊤
+MayWant state (set name value) into = KeepTakes state name
 MayWant state (extend source) into = ⊤
 MayWant state (remove name) into = ⊥
-MayWant state (mark_safe name) into = IsSome into
-MayWant state (ask question name) into = TakesMemory question
+MayWant state (mark_safe name) None = ⊥
+MayWant state (mark_safe name) (Some into) =
+    IsTrue (iterable_in (form_at state name)) ⊎ KeepTakes state into
+MayWant state (ask question name) into = TakesMemory question (form_at state name)
 MayWant state (weigh weighing left right) into =
     IsErr (weighed weighing (form_at state left) (form_at state right))
-MayWant state (find search) into = IsSome into ⊎ (IsCopy search ⊎ IsErr (found_at state search))
+MayWant state (find search) into =
+    FoundTakes search (found_at state search) ⊎ FoundKeepTakes state into (found_at state search)
 
 abbrev pub MayWantMemory : State → Command → Type 0
 MayWantMemory state command = MayWant state command.request command.into

@@ -181,8 +181,8 @@ pub fn these_requests_never_want_memory()
         (λ old name. Answer.kind (kind_in (form_at old name))) }
     ensures safe { HasOneAnswer (ask Question.is_safe)
         (λ old name. Answer.truth (safe_in (form_at old name))) }
-    ensures ask { (question : Question) → (TakesMemory question → ⊥) → (old new : State)
-        (name : List ℕ) (into : Option (List ℕ)) (outcome : Outcome)
+    ensures ask { (question : Question) (old new : State) (name : List ℕ)
+        (into : Option (List ℕ)) (outcome : Outcome) → ¬ TakesMemory question (form_at old name)
         → IsStep old (record { request = ask question name; into = into }) outcome new
         → IsAnswered question (held_at old name) outcome × (new ≡ old) }
     ensures weigh { (weighing : Weighing) (old new : State) (left right : List ℕ)

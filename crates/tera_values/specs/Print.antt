@@ -1,5 +1,5 @@
 -- What printing a value writes.
-use Rattle.std.specs.Prelude.{◌≡◌, ◌++◌, ℕ, ℤ, List, Option, Some, None, IsTrue, ◌&&◌, [], codes}
+use Rattle.std.specs.Prelude.{◌≡◌, ◌++◌, ℕ, ℤ, List, Option, Some, None, IsTrue, ◌&&◌, codes}
 use Rattle.std.specs.Prelude.{if◌then◌else◌}
 use Rattle.std.specs.Io.KnownBytes.{Appends}
 use Rattle.tera_meaning.specs.Form.{Form}
@@ -50,10 +50,6 @@ WritesPrinted x old new = (written : List ℕ) × Prints x written × Appends ol
 -- texts are quoted
 abbrev pub WritesInside : Layout → Option (List ℕ) → Option (List ℕ) → Type 0
 WritesInside x old new = (written : List ℕ) × PrintsInside x written × Appends old new written
-
--- it is known that nothing is printed
-abbrev pub PrintsNothing : Layout → Type 0
-PrintsNothing x = IsTrue (is_exact x) × (printed x ≡ [])
 
 -- the printed text, where it is known
 abbrev pub printed_if_exact : Layout → Option (List ℕ)

@@ -3,17 +3,17 @@ ghost use Rattle.std.specs.Prelude.{◌≡◌, IsTrue, IsOk, OnOk, OnErr, IfOk, 
 ghost use Rattle.std.specs.String.{string_bytes};
 ghost use Rattle.tera_meaning.specs.Meaning.{layout};
 ghost use Rattle.tera_meaning.specs.Printed.{Prints, PrintsInside, is_exact, printed};
-ghost use Rattle.tera_meaning.specs.Printed.{printed_truth};
+ghost use Rattle.tera_meaning.specs.Printed.{PrintsNothing, printed_truth};
 ghost use Rattle.tera_meaning.specs.Tree.{array, items, members, object};
 ghost use Rattle.tera_report.specs.Errors.{IsOutOfMemory};
 ghost use Rattle.tera_report.specs.Room.{RoomTakes, RoomFails, IsDecided};
 ghost use Rattle.tera_report.specs.Sink.{OfSome, Puts, PutsThese};
 ghost use Rattle.tera_report.specs.Watch.{WatchedTakes, WatchedFails};
-ghost use Rattle.tera_report.specs.Writer.{Breaks};
+ghost use Rattle.tera_report.specs.Writer.{Passes, Breaks};
 ghost use Rattle.tera_values.specs.Key.{key_form, meaning_of_key, shown_key};
 ghost use Rattle.tera_values.specs.Print.{PrintsItems, WritesInside, WritesPrinted};
 ghost use Rattle.tera_values.specs.Print.{printed_if_exact, PrintsPairs, PrintsPair};
-ghost use Rattle.tera_values.specs.Print.{PrintsKey, PrintsNothing};
+ghost use Rattle.tera_values.specs.Print.{PrintsKey};
 
 use crate::stage::Stage;
 use crate::value::ValueInner;
@@ -30,13 +30,15 @@ impl Value {
     /// Writes the printed text. Undefined and none print nothing, and a text prints itself. Bytes
     /// print the text that they are, with U+FFFD for what is no character. An array prints its
     /// items between brackets, and a map its pairs between braces in their order; texts in arrays
-    /// and maps are quoted. Mirrors `Value::format`, which is private there.
+    /// and maps are quoted. It does not flush. Mirrors `Value::format`, which is private there.
     ///
     /// Answers an error only where, during the call, a write of the writer answered an error or
     /// took no byte; then a beginning may be written. Takes no memory.
     pub fn format<W: Writer>(&self, out: &mut W) -> io::Result<()>
         ensures written { OnOk result
             (WritesPrinted (layout self.now) (W.contents out.old) (W.contents out.new)) }
+        ensures passed { OnOk result
+            (OfSome (Passes W.wrote) (Prints (layout self.now)) out.old out.new) }
         ensures told { OnErr result
             (OfSome (Breaks W.wrote) (Prints (layout self.now)) out.old out.new) }
     {
@@ -54,13 +56,15 @@ impl Value {
     }
 
     /// Writes what is printed of the value inside an array or a map: a text in debug form, and
-    /// every other value as `format` does.
+    /// every other value as `format` does. It does not flush.
     ///
     /// Answers an error only where, during the call, a write of the writer answered an error or
     /// took no byte; then a beginning may be written. Takes no memory.
     pub fn format_inside<W: Writer>(&self, out: &mut W) -> io::Result<()>
         ensures written { OnOk result
             (WritesInside (layout self.now) (W.contents out.old) (W.contents out.new)) }
+        ensures passed { OnOk result
+            (OfSome (Passes W.wrote) (PrintsInside (layout self.now)) out.old out.new) }
         ensures told { OnErr result
             (OfSome (Breaks W.wrote) (PrintsInside (layout self.now)) out.old out.new) }
     {

@@ -1,14 +1,33 @@
-use Rattle.std.proofs.Common.{inr, refl}
-use Rattle.tera_context.proofs.ShownLaws.{want_shown}
+use Rattle.std.proofs.Common.{◌≡◌, ◌∙◌, inr, refl, subst, rules}
+use Rattle.std.specs.String.{string_bytes}
+use Rattle.tera_meaning.specs.Meaning.{layout}
+use Rattle.tera_meaning.specs.Printed.{PrintsNothing}
+use Rattle.tera_meaning.specs.State.{form_at}
+use Rattle.tera_context.proofs.ShownLaws.{not_refused, want_shown}
 use Rattle.tera_context.proofs.asks.escape.Goals as goal
 
 pub returns-in_err-text : goal.returns-in_err-text
 returns-in_err-text c =
+    let held : form_at c.args.context.now c.args.name.now ≡ c.value_at.result.now = search rules in
     want_shown c.from_residual.result c.in_err-text.field-0.0 _ c.from_residual.ensures.1 c.in_err-text.ensures.err
-    (inr (tt, refl, refl))
+    (inr (
+      (λ nothing. not_refused c.to_text.result _ c.in_err-text.was
+          (c.to_text.ensures.free (subst (λ v. PrintsNothing (layout v)) held nothing))),
+      refl,
+      refl,
+    ))
 
 pub returns-in_err-escape_text : goal.returns-in_err-escape_text
 returns-in_err-escape_text c =
+    let held : form_at c.args.context.now c.args.name.now ≡ c.value_at.result.now = search rules in
     want_shown c.from_residual-in_err-escape_text.result c.in_err-escape_text.field-0.0 _
     c.from_residual-in_err-escape_text.ensures.1 c.in_err-escape_text.ensures.err
-    (inr (tt, refl, refl))
+    (inr (
+      (λ nothing.
+          let known = subst (λ v. PrintsNothing (layout v)) held nothing in
+          let same : c.deref-2.result.now ≡ string_bytes c.in_ok-text.text = search rules in
+          not_refused c.escape_text.result _ c.in_err-escape_text.was
+          (c.escape_text.ensures.free (same ∙ c.in_ok-text.ensures.ok known.0 ∙ known.1))),
+      refl,
+      refl,
+    ))

@@ -1,4 +1,4 @@
-use Rattle.std.proofs.Common.{inl, inr, refl}
+use Rattle.std.proofs.Common.{inr, refl}
 use Rattle.tera_context.proofs.ShownLaws.{want_passed}
 use Rattle.tera_context.proofs.finds.keep_or_answer.Goals as goal
 
@@ -6,5 +6,5 @@ pub returns-in_err-keep-in-Some : goal.returns-in_err-keep-in-Some
 returns-in_err-keep-in-Some c search found =
     record {
       shown = want_passed c.from_residual.result _ c.from_residual.ensures.1
-          (inr (inl (rw (c.in-Some.is) refl), refl, c.in_err-keep-in-Some.ensures.unchanged));
+          (inr (inr (rw (c.in-Some.is, found) c.in_err-keep-in-Some.ensures.absent), refl, c.in_err-keep-in-Some.ensures.unchanged));
     }

@@ -6,7 +6,7 @@ use Rattle.tera_meaning.specs.Search.{found_at, one_found}
 use Rattle.tera_meaning.specs.State.{form_at}
 use Rattle.tera_meaning.specs.Slice.{sliced}
 use Rattle.tera_meaning.proofs.SliceLaws.{sliced_only}
-use Rattle.tera_context.proofs.Found.{given_refused}
+use Rattle.tera_context.proofs.Found.{given_refused, made_takes}
 use Rattle.tera_context.proofs.finds.slice.Goals as goal
 
 pub returns-in-Err : goal.returns-in-Err
@@ -16,9 +16,10 @@ returns-in-Err c =
     let (outcome, is, refuses) = c.in-Err.ensures.err in
     let only = sliced_only c.value_at-value.result.now c.args.start c.args.end c.args.step outcome is in
     let wanted = Search.slice c.args.of.now c.args.start c.args.end c.args.step in
-    c.refused.ensures state wanted (option_map string_bytes c.args.into) tt
-    (given_refused c.in-Err.error outcome (found_at state wanted) refuses
-    ((λ i. one_found (sliced (value i) c.args.start c.args.end c.args.step)) ∙ ap one_found (sym only)))
+    let found : found_at state wanted ≡ one_found outcome =
+    (λ i. one_found (sliced (value i) c.args.start c.args.end c.args.step)) ∙ ap one_found (sym only) in
+    c.refused.ensures state wanted (option_map string_bytes c.args.into) (made_takes wanted outcome (found_at state wanted) found (λ v. tt))
+    (given_refused c.in-Err.error outcome (found_at state wanted) refuses found)
 
 pub returns-in-Ok : goal.returns-in-Ok
 returns-in-Ok c =

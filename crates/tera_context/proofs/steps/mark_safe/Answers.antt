@@ -1,13 +1,19 @@
-use Rattle.std.proofs.Common.{inr, refl}
-use Rattle.tera_context.proofs.ShownLaws.{want_passed}
+use Rattle.std.proofs.Common.{◌≡◌, inl, inr, refl, subst, sym, rules, IsTrue}
+use Rattle.tera_meaning.specs.Read.{iterable_in}
+use Rattle.tera_meaning.specs.State.{form_at}
+use Rattle.tera_context.proofs.ShownLaws.{refused_where, want_passed}
 use Rattle.tera_context.proofs.steps.mark_safe.Goals as goal
 
 pub returns-in_err-value-in-Some : goal.returns-in_err-value-in-Some
 returns-in_err-value-in-Some c =
-    want_passed c.from_residual.result _ c.from_residual.ensures.1 (inr (rw (c.in-Some.is) refl, refl, refl))
+    let held : form_at c.args.context.now c.args.name.now ≡ c.value_at.result.now = search rules in
+    let parts = refused_where (iterable_in c.value_at.result.now) c.copy.result _ c.in_err-value-in-Some.was
+    c.copy.ensures.succeeds in
+    want_passed c.from_residual.result _ c.from_residual.ensures.1
+    (inr (rw (c.in-Some.is) (inl (subst (λ v. IsTrue (iterable_in v)) (sym held) parts)), refl, refl))
 
 pub returns-in_err-keep-in-Some : goal.returns-in_err-keep-in-Some
 returns-in_err-keep-in-Some c =
     want_passed c.from_residual-in_err-keep-in-Some.result _
     c.from_residual-in_err-keep-in-Some.ensures.1
-    (inr (rw (c.in-Some.is) refl, refl, c.in_err-keep-in-Some.ensures.unchanged))
+    (inr (rw (c.in-Some.is) (inr c.in_err-keep-in-Some.ensures.absent), refl, c.in_err-keep-in-Some.ensures.unchanged))

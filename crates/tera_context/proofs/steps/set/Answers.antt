@@ -5,4 +5,4 @@ use Rattle.tera_context.proofs.steps.set.Goals as goal
 pub returns-in_err-keep : goal.returns-in_err-keep
 returns-in_err-keep c =
     want_passed c.from_residual.result _ c.from_residual.ensures.1
-    (inr (tt, refl, c.in_err-keep.ensures.unchanged))
+    (inr (c.in_err-keep.ensures.absent, refl, c.in_err-keep.ensures.unchanged))
