@@ -61,10 +61,11 @@ module _ {K X : Type 0} (key : K → KeyForm → Type 0) (gives : X → Form →
   GivesRisingMap entries v = (pairs : List (KeyForm × Form)) × PutsRising entries pairs
       × (v ≡ object (members pairs))
 
-module _ {K X : Type 0} (no_key : K → Error → Type 0) (refuses : X → Error → Type 0) where
-  -- what an entry is refused with: its key's error or its value's
+module _ {K X : Type 0} (key : K → KeyForm → Type 0) (no_key : K → Error → Type 0)
+    (refuses : X → Error → Type 0) where
+  -- what an entry is refused with: its key's error or, where its key gives one, its value's
   abbrev pub PairRefuses : K × X → Error → Type 0
-  PairRefuses entry e = no_key entry.0 e ⊎ refuses entry.1 e
+  PairRefuses entry e = no_key entry.0 e ⊎ ((k : KeyForm) × key entry.0 k × refuses entry.1 e)
 
 -- what a result answers: what is given of what it holds, or its own error
 abbrev pub Answers : {X : Type 0} → (X → Form → Type 0) → Result X Error → Form → Type 0

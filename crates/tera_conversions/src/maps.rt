@@ -41,7 +41,7 @@ impl<K: ToKey + Hash + Drop, T: ToValue + Drop> ToValue for IndexMap<K, T> {
     ghost gives = { λ map v. GivesMap K.gives_key T.gives map.entries v };
 
     ghost refuses = { λ map e. PartsRefuse (GivesPair K.gives_key T.gives)
-        (PairRefuses K.refuses_key T.refuses) map.entries e };
+        (PairRefuses K.gives_key K.refuses_key T.refuses) map.entries e };
 
     fn to_value(self, alloc: Global) -> TeraResult<Value> {
         let mut given = Map::new(alloc);
@@ -61,7 +61,7 @@ impl<K: ToKey + Ord + Drop, T: ToValue + Drop> ToValue for BTreeMap<K, T> {
     ghost gives = { λ map v. GivesMap K.gives_key T.gives map.entries v };
 
     ghost refuses = { λ map e. PartsRefuse (GivesPair K.gives_key T.gives)
-        (PairRefuses K.refuses_key T.refuses) map.entries e };
+        (PairRefuses K.gives_key K.refuses_key T.refuses) map.entries e };
 
     fn to_value(self, alloc: Global) -> TeraResult<Value> {
         let mut given = Map::new(alloc);
@@ -80,7 +80,7 @@ impl<K: ToKey + Hash + Drop, T: ToValue + Drop> ToValue for HashMap<K, T> {
     ghost gives = { λ map v. GivesRisingMap K.gives_key T.gives map.entries v };
 
     ghost refuses = { λ map e. PartsRefuse (GivesPair K.gives_key T.gives)
-        (PairRefuses K.refuses_key T.refuses) map.entries e };
+        (PairRefuses K.gives_key K.refuses_key T.refuses) map.entries e };
 
     fn to_value(self, alloc: Global) -> TeraResult<Value> {
         let mut sorted = BTreeMap::new(alloc);
@@ -120,7 +120,7 @@ fn put<K: ToKey, T: ToValue + Drop>(
         × GivesPair K.gives_key T.gives (key, value) pair
         × (given.new ≡ put key_form_order given.old pair.0 pair.1)) }
     ensures err { IfErr result (λ e. IsOutOfMemory e
-        ⊎ PairRefuses K.refuses_key T.refuses (key, value) e) }
+        ⊎ PairRefuses K.gives_key K.refuses_key T.refuses (key, value) e) }
 {
     let key = key.to_key(alloc)?;
     let value = value.to_value(alloc)?;
@@ -140,7 +140,7 @@ fn place<K: ToKey, T: ToValue + Drop>(
         × (forms_of sorted.new.entries
         ≡ insert_entry key_form_order (forms_of sorted.old.entries) pair.0 pair.1)) }
     ensures err { IfErr result (λ e. IsOutOfMemory e
-        ⊎ PairRefuses K.refuses_key T.refuses (key, value) e) }
+        ⊎ PairRefuses K.gives_key K.refuses_key T.refuses (key, value) e) }
 {
     let key = key.to_key(alloc)?;
     let value = value.to_value(alloc)?;

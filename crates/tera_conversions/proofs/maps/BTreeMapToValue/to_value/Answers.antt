@@ -6,7 +6,8 @@ use Rattle.tera_conversions.proofs.maps.BTreeMapToValue.to_value.Goals as goal
 pub returns-in_err-put-clause-err : goal.returns-in_err-put-clause-err
 returns-in_err-put-clause-err g c =
     let whole = ap (λ rest. c.loop-key.yielded ++ rest) (sym c.in-Some.ensures.steps) ∙ c.loop-key.invariant.whole in
-    let refused = parts_refused (GivesPair g.K.ToKey.gives_key g.T.ToValue.gives) (PairRefuses g.K.ToKey.refuses_key g.T.ToValue.refuses) _ _ _ _ _ _ whole
+    let refused = parts_refused (GivesPair g.K.ToKey.gives_key g.T.ToValue.gives) (PairRefuses g.K.ToKey.gives_key g.K.ToKey.refuses_key g.T.ToValue.refuses)
+    _ _ _ _ _ _ whole
     c.loop-key.invariant.so_far.1 c.in_err-put.ensures.err in
     passed_on _ _ _ c.from_residual.ensures.1 refused
 

@@ -7,7 +7,8 @@ use Rattle.tera_conversions.proofs.maps.HashMapToValue.to_value.Goals as goal
 pub returns-in_err-place-clause-err : goal.returns-in_err-place-clause-err
 returns-in_err-place-clause-err g c =
     let whole = ap (λ rest. c.loop-key.yielded ++ rest) (sym c.in-Some.ensures.steps) ∙ c.loop-key.invariant.whole in
-    let refused = parts_refused (GivesPair g.K.ToKey.gives_key g.T.ToValue.gives) (PairRefuses g.K.ToKey.refuses_key g.T.ToValue.refuses) _ _ _ _ _ _ whole
+    let refused = parts_refused (GivesPair g.K.ToKey.gives_key g.T.ToValue.gives) (PairRefuses g.K.ToKey.gives_key g.K.ToKey.refuses_key g.T.ToValue.refuses)
+    _ _ _ _ _ _ whole
     c.loop-key.invariant.so_far.1 c.in_err-place.ensures.err in
     passed_on _ _ _ c.from_residual.ensures.1 refused
 
@@ -20,5 +21,6 @@ loop-key-preserved g c = record {
 
 pub returns-clause-err : goal.returns-clause-err
 returns-clause-err g c =
-    no_memory g.K.ToKey.gives_key g.T.ToValue.gives (PairRefuses g.K.ToKey.refuses_key g.T.ToValue.refuses) c.args.self.entries c.loop-key.yielded
-    c.loop-key.key-iterator c.loop-key.sorted.entries c.in_order.result c.loop-key.invariant.whole c.loop-key.invariant.so_far c.in_order.ensures.err
+    no_memory g.K.ToKey.gives_key g.T.ToValue.gives (PairRefuses g.K.ToKey.gives_key g.K.ToKey.refuses_key g.T.ToValue.refuses) c.args.self.entries
+    c.loop-key.yielded c.loop-key.key-iterator c.loop-key.sorted.entries c.in_order.result c.loop-key.invariant.whole c.loop-key.invariant.so_far
+    c.in_order.ensures.err
