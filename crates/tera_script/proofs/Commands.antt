@@ -120,6 +120,15 @@ module _ {known : Known} {s : Shape} (k : IsOfShape known s) {bytes : List ℕ} 
         let t = subst (λ x. (g : Given x) × IsGivenAt x bytes (Some (g, rest))) (its_shape k) (given, found) in
         no_into (row_of known.verb) bytes t.0 rest t.1 (ap (λ keeps. into_in keeps rest) k.is.1 ∙ sym n)
 
+    pub said_there : {into : Option (List ℕ)} → Some into ≡ into_in known.keeps rest
+        → (command : Command) × AreOperandsOf (row_of known.verb) bytes (Some command)
+    said_there {into} n =
+        let row = row_of known.verb in
+        let t = subst (λ x. (g : Given x) × IsGivenAt x bytes (Some (g, rest))) (its_shape k) (given, found) in (
+          record { request = requested row.making t.0; into = into },
+          answered row bytes t.0 rest t.1 into (ap (λ keeps. into_in keeps rest) k.is.1 ∙ sym n),
+        )
+
     pub step_made : (o : Operands) → given_in s o ≡ Some given → {into : Option (List ℕ)} → Some into ≡ into_in known.keeps rest
         → {E : Type 0} (r : Result (Option Step) E) → IfOk r (λ answer. option_map command_of answer ≡ made (row_of known.verb) o into)
         → IfOk r (λ answer. AreOperandsOf (row_of known.verb) bytes (option_map command_of answer))

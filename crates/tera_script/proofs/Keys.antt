@@ -1,6 +1,6 @@
 -- What the readers of keys answer.
 use Rattle.std.proofs.Common.{◌≡◌, ◌≢◌, ℕ, true, false, List, [], ◌∷◌, ◌++◌, drop, Option, Some, None, refl, ap, sym, ◌∙◌, arith, subst}
-use Rattle.std.specs.Prelude.{codes}
+use Rattle.std.specs.Prelude.{codes, IsSome}
 use Rattle.std.specs.List.{list_all}
 use Rattle.std.specs.Option.{option_map}
 use Rattle.std.proofs.lemmas.Slice.Eq.{bytes_eq-Decides}
@@ -57,6 +57,11 @@ plain_key_found xs answer quote e = rw e (go (key_in (front is_word_byte xs)) re
       stops_end (key_value k) (past is_word_byte xs) (past_stops is_word_byte xs),
     )
     go None h = λ utf8 k rest b stops. no_key_at xs rest h stops b.literal k quote b.spells b.spelled
+
+-- a key in quotes is none without quotes
+pub quote_is_no_word : {xs ys : List ℕ} → xs ≡ (34 ∷ []) ++ ys → IsSome (plain_key_at xs) → ⊥
+unfolding plain_key_at key_in number_in
+quote_is_no_word {xs} {ys} e h = let no : IsSome (plain_key_at (34 ∷ ys)) = subst (λ zs. IsSome (plain_key_at zs)) e h in cc
 
 -- ---- keys in quotes
 

@@ -1,4 +1,5 @@
 mod Arrays
+mod Bare
 mod Bounds
 mod Commands
 mod Fronts
@@ -19,6 +20,7 @@ mod Sources
 mod Texts
 mod Words
 mod Rows
+pub mod SaidLaws
 mod Utf8
 mod Values
 mod Series

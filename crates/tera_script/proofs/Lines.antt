@@ -5,9 +5,10 @@ use Rattle.std.proofs.lemmas.Bool.Decides.{nat_tests}
 use Rattle.tera_meaning.specs.Request.{Command}
 use Rattle.tera_script.specs.Word.{is_blank, AreBlanks, IsName}
 use Rattle.tera_script.specs.Verb.{word_of}
-use Rattle.tera_script.specs.Line.{Says, IsSkipped, IsBad, SpellsCommand}
+use Rattle.tera_script.specs.Line.{Says, IsSkipped, IsBad, IsBare, SpellsCommand}
 use Rattle.tera_script.specs.Readers.{Stops, front, past, is_end_or_comment}
-use Rattle.tera_script.specs.inner.Command.{EndsIn, IsCommandAt}
+use Rattle.tera_script.specs.inner.Command.{EndsIn, IsCommandAt, IsCommandIfBare}
+use Rattle.tera_script.proofs.Bare.{bare_past_blanks}
 use Rattle.tera_script.proofs.Fronts.{front_all, past_is, front_cut}
 use Rattle.tera_script.proofs.Names.{name_is_not_blank}
 use Rattle.tera_script.proofs.Verbs.{word_is_name}
@@ -73,10 +74,11 @@ module _ {line bytes : List ℕ} {ends : Bool} (b : bytes ≡ past is_blank line
   not_skipped : ends ≡ false → ¬ IsSkipped line
   not_skipped h s = let yes = skipped_past line s in cc
 
-  -- a line of UTF-8 whose first byte past the blanks begins no comment is neither skipped nor no UTF-8
-  pub says_something : ends ≡ false → IsUtf8 line → IsSkipped line ⊎ (¬ IsUtf8 line) → ⊥
-  says_something h u (inl skipped) = not_skipped h skipped
-  says_something h u (inr not_utf8) = not_utf8 u
+  -- no memory is wanting at a line that is skipped, is no UTF-8, or is bad and has no quote, bracket or brace
+  pub needs_none : ends ≡ false → IsUtf8 line → IsCommandIfBare bytes → IsSkipped line ⊎ ((¬ IsUtf8 line) ⊎ (IsBad line × IsBare line)) → ⊥
+  needs_none h u said (inl skipped) = not_skipped h skipped
+  needs_none h u said (inr (inl not_utf8)) = not_utf8 u
+  needs_none h u said (inr (inr bad)) = let command = said (bare_past_blanks line b bad.1) in bad.0.1 command.0 (line_says u command.1)
 
   pub bad_utf8 : ends ≡ false → ¬ IsUtf8 line → IsBad line
   bad_utf8 h u = (not_skipped h, λ command s. u s.utf8)

@@ -52,12 +52,12 @@ Stands (bracket ys) xs v rest = (all : Items Integer MarkedText KeyForm) × (v �
 Stands (brace ys) xs v rest = (all : Members Integer MarkedText KeyForm) × (v ≡ object all) × PairsAt ys all rest
 
 -- no word is opened by a quote, a bracket or a brace
-text_front : (safe : Bool) (xs : List ℕ) → value_in (front is_word_byte (mark_of safe ++ (34 ∷ xs))) ≡ None
+pub text_front : (safe : Bool) (xs : List ℕ) → value_in (front is_word_byte (mark_of safe ++ (34 ∷ xs))) ≡ None
 unfolding value_in number_in unsigned_in digits_at
 text_front true xs = refl
 text_front false xs = refl
 
-bytes_front : (xs : List ℕ) → value_in (front is_word_byte (120 ∷ 34 ∷ xs)) ≡ None
+pub bytes_front : (xs : List ℕ) → value_in (front is_word_byte (120 ∷ 34 ∷ xs)) ≡ None
 unfolding value_in number_in unsigned_in digits_at
 bytes_front xs = refl
 

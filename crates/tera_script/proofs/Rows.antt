@@ -1,5 +1,5 @@
 -- Worked lines: each part of a line is what its reader answers, and that is computed.
-use Rattle.std.proofs.Common.{◌≡◌, ◌≢◌, ◌≤◌, ℕ, zero, suc, pos, true, false, cond, eqb, List, [], ◌∷◌, ◌++◌, Option, Some, None, refl, sym, ap, arith}
+use Rattle.std.proofs.Common.{◌≡◌, ◌≢◌, ◌≤◌, ℕ, zero, suc, pos, true, false, cond, eqb, List, [], ◌∷◌, ◌++◌, Option, Some, None, refl, sym, ap, ◌∙◌, arith}
 use Rattle.std.proofs.Common.{append-nil, append_assoc, lit<, lit≤}
 use borrow.Author.Tests.{eqb_apart}
 use Rattle.std.specs.Prelude.{codes}
@@ -7,21 +7,21 @@ use Rattle.tera_meaning.specs.Form.{Form}
 use Rattle.tera_meaning.specs.Integer.{i64, Integer, IntegerKind}
 use Rattle.tera_meaning.specs.KeyMeaning.{KeyForm, truth_key, text_key, owned}
 use Rattle.tera_meaning.specs.Request.{Command, set, asking}
-use Rattle.tera_meaning.specs.Tree.{none, number, object, no_members, member, depth}
+use Rattle.tera_meaning.specs.Tree.{none, number, object, members, no_members, member, depth}
 use Rattle.tera_script.specs.declared.verb.Verb.{Verb}
 use Rattle.tera_script.specs.declared.verb.Verb.TheVariants.{Set}
 use Rattle.tera_script.specs.declared.verb.Shape.TheVariants as shape
-use Rattle.tera_script.specs.Line.{levels, Says, IsBad}
+use Rattle.tera_script.specs.Line.{levels, Says, IsBad, AreNamed}
 use Rattle.tera_script.specs.Literal.{IsPair, SpellsKey, SpellsTree}
 use Rattle.tera_script.specs.Nested.{in_brackets, in_arrays, in_turns, in_both}
 use Rattle.tera_script.specs.Number.{SpellsNumber}
 use Rattle.tera_script.specs.Readers.{past, gap_at, name_at, operand_at, names_at, into_in, BeginsWithKey, BeginsWithPair, BeginsWithLiteral, IsPairAt, Ends}
-use Rattle.tera_script.specs.Readers.{Stops, is_word_byte, IsLiteralAt, IsMapAt, is_end_or_comment}
+use Rattle.tera_script.specs.Readers.{bounds_at, Stops, is_word_byte, IsLiteralAt, IsMapAt, is_end_or_comment}
 use Rattle.tera_script.specs.Text.{itself}
 use Rattle.tera_script.specs.Verb.{Given, Making, of_name, of_names, shape_of, requested, row_of, word_of}
 use Rattle.tera_script.specs.Word.{is_blank, AreBlanks}
 use Rattle.tera_script.proofs.Commands.{no_given, no_into, answered, command_answer}
-use Rattle.tera_script.proofs.Values.{name_part, both_at, value_parts, value_at, names_part}
+use Rattle.tera_script.proofs.Values.{name_part, both_at, value_parts, value_at, names_part, bounds_parts, bounds_part, type_found, source_found}
 use Rattle.tera_script.proofs.Lines.{bad_command, line_says}
 use Rattle.tera_script.proofs.Literals.{IsOpenedAt, literal_found, only_at}
 use Rattle.tera_script.proofs.Maps.{no_pairs_yet, no_more_pair}
@@ -29,6 +29,14 @@ use Rattle.tera_script.proofs.Openings.{opened, stops_end}
 use Rattle.tera_script.proofs.Utf8.{all_ascii, ascii_utf8}
 use Rattle.tera_script.specs.inner.Command.{IsGivenAt, AreOperandsOf}
 use Rattle.std.specs.Option.{option_map}
+use Rattle.std.specs.Cmp.Lexicographic.{slice_cmp, nat_list_cmp_total}
+use Rattle.std.specs.FinMap.{get, insert, empty, get-insert, get-empty}
+use Rattle.std.specs.Ordering.{nat_cmp, eq_by_cmp}
+use Rattle.tera_meaning.specs.Conversion.{IntegerType, type_name}
+use Rattle.tera_meaning.specs.Pairs.{key_form_order}
+use Rattle.tera_meaning.specs.State.{State}
+use Rattle.tera_script.specs.declared.bound.Bounds.{Bounds}
+use Rattle.tera_script.proofs.Sources.{name_ties}
 
 -- a call's word and what stands behind it
 module _ (verb : Verb) {line behind : List ℕ} (n : name_at (past is_blank line) ≡ Some (word_of verb, behind)) where
@@ -60,6 +68,34 @@ module _ (verb : Verb) {line behind rest : List ℕ} {given : Given (shape_of (r
 
     pub bad_into : is_end_or_comment (past is_blank line) ≡ false → into_in (row_of verb).keeps rest ≡ None → IsBad line
     bad_into c i = bad_call verb n c (no_into (row_of verb) behind given rest (names_given (row_of verb).making behind given rest e) i)
+
+-- operands of any shape
+pub says_given : (verb : Verb) {line behind rest : List ℕ} {given : Given (shape_of (row_of verb).making)} {into : Option (List ℕ)}
+    → name_at (past is_blank line) ≡ Some (word_of verb, behind) → IsGivenAt (shape_of (row_of verb).making) behind (Some (given, rest))
+    → all_ascii line ≡ true → into_in (row_of verb).keeps rest ≡ Some into → Says line (record { request = requested (row_of verb).making given; into = into })
+says_given verb {behind = behind} {rest} {given} {into} n found u i = says verb n u (answered (row_of verb) behind given rest found into i)
+
+pub bounds_given : (behind : List ℕ) {name at_bounds rest : List ℕ} {bounds : Bounds} → operand_at behind ≡ Some (name, at_bounds)
+    → bounds_at at_bounds ≡ Some (bounds, rest) → IsGivenAt shape.Bounds behind (Some ((name, bounds), rest))
+bounds_given behind {name} {at_bounds} {rest} {bounds} o b = both_at bounds_parts behind (sym o) (Some (bounds, rest)) (bounds_part at_bounds (sym b))
+
+pub type_given : (behind : List ℕ) (type : IntegerType) {name rest : List ℕ} → names_at behind ≡ Some ((type_name type, name), rest)
+    → IsGivenAt shape.Type behind (Some ((type, name), rest))
+type_given behind type e = type_found (names_part behind (sym e)) type refl
+
+pub source_given : (behind : List ℕ) (pairs : List (KeyForm × Form)) (source : State) {literal rest : List ℕ} → gap_at behind ≡ Some literal
+    → IsLiteralAt levels literal (Some (object (members pairs), rest)) → AreNamed pairs source → IsGivenAt shape.Map behind (Some (source, rest))
+source_given behind pairs source {rest = rest} g h named = source_found (value_at behind g (Some (object (members pairs), rest)) h) (pairs, refl, named)
+
+-- the state of one pair
+pub one_named : (t : List ℕ) (value : Form) → AreNamed ((text_key (owned t), value) ∷ []) (insert empty t value)
+one_named t value = (
+  (refl, tt),
+  λ name.
+      get-insert nat_list_cmp_total empty t value name
+      ∙ ap (λ same. cond same (Some value) (get {R = slice_cmp nat_cmp} empty name)) (name_ties (text_key (owned t)) t name refl)
+      ∙ ap (λ held. cond (eq_by_cmp key_form_order (text_key (owned name)) (text_key (owned t))) (Some value) held) (get-empty _ name),
+)
 
 -- a name and a value
 pub value_given : (behind : List ℕ) {name at_value literal : List ℕ} → operand_at behind ≡ Some (name, at_value) → gap_at at_value ≡ Some literal

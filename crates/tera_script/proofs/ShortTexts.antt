@@ -50,6 +50,11 @@ module _ (run : List ℕ) {bytes behind : List ℕ} (found : BeginsWithRun bytes
       let rest : drop (n + 1) bytes ≡ after = ap (drop (n + 1)) cut ∙ drop_at (run ++ 34 ∷ []) after (n + 1) (omega (arith, length-append run (34 ∷ []))) in
       ((found.0, omega arith), found.1 ∙ ap (λ xs. run ++ xs) (e ∙ ap (λ xs. 34 ∷ xs) (sym rest)))
 
+-- what is found is the text that stands there
+pub short_is : {bytes s : List ℕ} → IsShort s → (more : List ℕ) → bytes ≡ s ++ 34 ∷ more → (t rest : List ℕ) → AllByRecursion IsPlain t
+    → bytes ≡ t ++ 34 ∷ rest → s ≡ t
+short_is {s = s} short more e t rest plain f = (one_run s t (34 ∷ more) rest short.0 (inl refl) plain (sym e ∙ f)).0
+
 -- ---- behind a gap
 
 module _ (bytes t rest : List ℕ) (h : Begins SpellsShort bytes t rest) where

@@ -41,7 +41,7 @@ text_in_middle [] rest e h = h.0
 text_in_middle (y ∷ ys) rest e h = text_in_middle ys rest e h.1
 
 -- whether a name is the text of a key
-name_ties : (k : KeyForm) (t name : List ℕ) → text_in_key k ≡ Some t
+pub name_ties : (k : KeyForm) (t name : List ℕ) → text_in_key k ≡ Some t
     → eq_by_cmp (slice_cmp nat_cmp) name t ≡ eq_by_cmp key_form_order (text_key (owned name)) k
 name_ties k t name e = grind arith
 

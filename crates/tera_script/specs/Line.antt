@@ -1,6 +1,6 @@
 -- What a line of a script says.
-use Rattle.std.specs.Prelude.{◌≡◌, ◌≤◌, ℕ, ℤ, ◌⊎◌, Bool, true, false, List, [], ◌∷◌, ◌++◌, Option}
-use Rattle.std.specs.Prelude.{Some, None, IsSome, codes}
+use Rattle.std.specs.Prelude.{◌≡◌, ◌≢◌, ◌≤◌, ℕ, ℤ, ◌⊎◌, Bool, true, false, List, [], ◌∷◌, ◌++◌}
+use Rattle.std.specs.Prelude.{Option, Some, None, IsSome, codes}
 use Rattle.std.specs.FinMap.{get}
 use Rattle.std.specs.List.{AllByRecursion}
 use Rattle.std.specs.Str.{IsUtf8}
@@ -122,6 +122,11 @@ abbrev pub SpellsCommand : List ℕ → Command → Type 0
 SpellsCommand bytes command =
     (verb : Verb) × (operands : List ℕ) × SpellsOperands (row_of verb) operands command
     × (bytes ≡ word_of verb ++ operands)
+
+-- no text, byte string, array or map begins in it: no quote (34), bracket (91) or brace (123)
+-- stands there
+abbrev pub IsBare : List ℕ → Type 0
+IsBare line = AllByRecursion (λ b. (b ≢ 34) × (b ≢ 91) × (b ≢ 123)) line
 
 -- a command with blanks before and after it, or with none, all of it UTF-8
 pub record Says (line : List ℕ) (command : Command) : Type 0 where

@@ -7,6 +7,8 @@ use Rattle.std.specs.Borrow.{Bor}
 use Rattle.std.specs.Char.{digit_value}
 use Rattle.std.specs.List.{AllByRecursion}
 use Rattle.std.specs.Option.{option_map}
+use Rattle.std.specs.Str.{IsUtf8}
+use Rattle.tera_values.specs.Key.{FitsInline}
 use Rattle.tera_script.specs.Readers.{behind}
 use Rattle.tera_script.specs.Text.{Token, quote, backslash, line_feed, carriage_return, tab, null}
 use Rattle.tera_script.specs.Text.{decoding}
@@ -14,6 +16,11 @@ use Rattle.tera_script.specs.Text.{decoding}
 -- a byte that stands for itself
 abbrev pub IsPlain : ℕ → Type 0
 IsPlain byte = (byte ≢ 34) × (byte ≢ 92)
+
+-- a short text that stands for itself before a quote: a key holds it in its own place
+abbrev pub BeginsWithInline : List ℕ → Type 0
+BeginsWithInline bytes = (t : List ℕ) × (rest : List ℕ) × IsUtf8 t × AllByRecursion IsPlain t
+    × FitsInline t × (bytes ≡ t ++ 34 ∷ rest)
 
 -- no byte that stands for itself is the first
 abbrev pub IsNoRun : List ℕ → Type 0

@@ -1,9 +1,10 @@
 //! Commands: a word, its operands, and the name for what is found.
-ghost use Rattle.std.specs.Prelude.{IfOk};
+ghost use Rattle.std.specs.Prelude.{IfOk, IfErr};
 ghost use Rattle.std.specs.Option.{option_map};
 ghost use Rattle.tera_context.specs.Call.{command_of};
 ghost use Rattle.tera_script.specs.inner.Call.{IsKnown};
 ghost use Rattle.tera_script.specs.inner.Command.{AreOperandsOf, IsCommandAt};
+ghost use Rattle.tera_script.specs.inner.Command.{AreOperandsIfBare, IsCommandIfBare};
 ghost use Rattle.tera_script.specs.Verb.{row_of};
 
 use crate::shape::{
@@ -17,7 +18,8 @@ use tera_context::Step;
 /// The step that the bytes say, up to blanks at their end. `None` where they say none. Takes memory
 /// for names, texts, byte strings, arrays and maps, and fails for want of it alone.
 pub(crate) fn read_step(alloc: Global, bytes: &[u8]) -> Result<Option<Step>, AllocError>
-    ensures { IfOk result (λ answer. IsCommandAt bytes.now (option_map command_of answer)) }
+    ensures command { IfOk result (λ answer. IsCommandAt bytes.now (option_map command_of answer)) }
+    ensures free { IfErr result (λ error. IsCommandIfBare bytes.now) }
 {
     let Some((word, operands)) = take_name(bytes) else {
         return Ok(None);
@@ -31,8 +33,9 @@ pub(crate) fn read_step(alloc: Global, bytes: &[u8]) -> Result<Option<Step>, All
 // What stands behind the word of a call.
 fn read_operands(alloc: Global, known: Known, bytes: &[u8]) -> Result<Option<Step>, AllocError>
     requires { IsKnown known }
-    ensures { IfOk result (λ answer.
+    ensures operands { IfOk result (λ answer.
         AreOperandsOf (row_of known.verb) bytes.now (option_map command_of answer)) }
+    ensures free { IfErr result (λ error. AreOperandsIfBare (row_of known.verb) bytes.now) }
 {
     match known.shape {
         Shape::Name => read_name(alloc, known, bytes),

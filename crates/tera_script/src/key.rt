@@ -1,9 +1,10 @@
 //! Keys of a map literal: how a script spells one.
-ghost use Rattle.std.specs.Prelude.{◌≡◌, ℕ, List, IfOk, MatchOption};
+ghost use Rattle.std.specs.Prelude.{◌≡◌, ℕ, List, ◌∷◌, IfOk, IsOk, IsSome, MatchOption};
 ghost use Rattle.std.specs.Option.{option_map};
 ghost use Rattle.tera_meaning.specs.KeyMeaning.{number_key, text_key, owned};
 ghost use Rattle.tera_script.specs.Readers.{key_in, plain_key_at, key_rest, integer_held, IsKeyAt};
 ghost use Rattle.tera_script.specs.Text.{BeginsWithText, BeginsWithNoText};
+ghost use Rattle.tera_script.specs.TextParts.{BeginsWithInline};
 ghost use Rattle.tera_values.specs.Key.{key_form};
 
 use crate::number::{Integer, number_in};
@@ -13,13 +14,17 @@ use std::alloc::{AllocError, Global};
 use tera_values::Key;
 
 /// The key at the front of the bytes, and the bytes behind it: a truth value, a number or a text
-/// that is not marked safe. `None` where there is none that ends as a word does. Takes memory for a
-/// text that has an escape or more than 16 bytes, and fails for want of it alone.
+/// that is not marked safe. `None` where there is none, or a byte of a word follows one without
+/// quotes. Takes memory for a text that has an escape or more than 16 bytes, or that no quote
+/// closes, and fails for want of it alone.
 pub(crate) fn take_key(
     alloc: Global,
     bytes: &[u8],
 ) -> Result<Option<(Key<'static>, &[u8])>, AllocError>
-    ensures { IfOk result (λ answer. IsKeyAt bytes.now (option_map key_rest answer)) }
+    ensures key { IfOk result (λ answer. IsKeyAt bytes.now (option_map key_rest answer)) }
+    ensures free { IsSome (plain_key_at bytes.now) → IsOk result }
+    ensures short { (behind : List ℕ) → bytes.now ≡ 34 ∷ behind → BeginsWithInline behind
+        → IsOk result }
 {
     let Some(behind) = bytes.strip_prefix(b"\"".as_slice()) else {
         return Ok(take_plain_key(bytes));
@@ -33,10 +38,11 @@ pub(crate) fn take_key(
 
 // The key that the text at the front is, behind its opening quote, and how many bytes it takes.
 fn take_text_key(alloc: Global, bytes: &[u8]) -> Result<Option<(Key<'static>, usize)>, AllocError>
-    ensures { IfOk result (λ answer. MatchOption answer
+    ensures text { IfOk result (λ answer. MatchOption answer
         (BeginsWithNoText bytes.now)
         (λ found. (text : List ℕ) × BeginsWithText bytes.now text found.1
         × (key_form found.0 ≡ text_key (owned text)))) }
+    ensures free { BeginsWithInline bytes.now → IsOk result }
 {
     if let Some((short, used)) = short_text(bytes) {
         return Ok(Some((Key::of_text(alloc, short)?, used)));

@@ -1,7 +1,7 @@
 //! Whole lines.
 ghost use Rattle.std.specs.Prelude.{◌≡◌, ◌⊎◌, IfOk, IsOk, IsUtf8};
 ghost use Rattle.std.specs.Bool.{MatchBool};
-ghost use Rattle.tera_script.specs.Line.{IsSkipped};
+ghost use Rattle.tera_script.specs.Line.{IsSkipped, IsBad, IsBare};
 ghost use Rattle.tera_script.specs.Readers.{is_end_or_comment};
 ghost use Rattle.tera_script.specs.Said.{IsReadingOf};
 
@@ -25,10 +25,11 @@ pub enum Reading {
 /// What a line says. The line comes without its end of line.
 ///
 /// Takes memory for names, texts, bytes, arrays and maps; the only refusal is want of it. A line
-/// that is skipped or is no UTF-8 takes none.
+/// that is skipped or is no UTF-8 takes none, nor does a bad one with no quote, bracket or brace.
 pub fn read_line(alloc: Global, line: &[u8]) -> Result<Reading, AllocError>
     ensures reading { IfOk result (IsReadingOf line.now) }
-    ensures free { IsSkipped line.now ⊎ (¬ IsUtf8 line.now) → IsOk result }
+    ensures free { IsSkipped line.now ⊎ ((¬ IsUtf8 line.now) ⊎ (IsBad line.now × IsBare line.now))
+        → IsOk result }
 {
     let bytes = past_blanks(line);
     if is_end_or_comment(bytes) {

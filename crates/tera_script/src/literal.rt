@@ -1,6 +1,7 @@
 //! Literals: how a script spells a value.
-ghost use Rattle.std.specs.Prelude.{◌≡◌, ℕ, List, IfOk};
+ghost use Rattle.std.specs.Prelude.{◌≡◌, ◌⊎◌, ℕ, List, IfOk, IsOk, IsSome};
 ghost use Rattle.std.specs.Option.{option_map};
+ghost use Rattle.tera_script.specs.Line.{IsBare};
 ghost use Rattle.tera_script.specs.Readers.{value_in, plain_at};
 ghost use Rattle.tera_script.specs.Readers.{hex_at, bytes_read, with_rest, pair_rest};
 ghost use Rattle.tera_script.specs.Readers.{IsQuotedAt, IsLiteralAt, IsArrayAt, IsMapAt, IsPairAt};
@@ -17,15 +18,18 @@ use tera_values::{Key, Map, Value};
 pub(crate) const LEVELS: usize = 64;
 
 /// The literal at the front of the bytes, in which arrays and maps nest at most `levels` deep, and
-/// the bytes behind it. `None` where there is none that ends as a word does. Takes memory for
-/// texts, byte strings, arrays and maps, and fails for want of it alone.
+/// the bytes behind it. `None` where there is none, or a byte of a word follows one without quotes,
+/// brackets and braces. Takes memory for texts, byte strings, arrays and maps, and fails for want
+/// of it alone.
 #[cycle(literal)]
 pub(crate) fn take_literal(
     alloc: Global,
     bytes: &[u8],
     levels: usize,
 ) -> Result<Option<(Value, &[u8])>, AllocError>
-    ensures { IfOk result (λ answer. IsLiteralAt levels bytes.now (option_map with_rest answer)) }
+    ensures literal { IfOk result (λ answer.
+        IsLiteralAt levels bytes.now (option_map with_rest answer)) }
+    ensures free { IsBare bytes.now ⊎ IsSome (plain_at bytes.now) → IsOk result }
 {
     if let Some(text) = bytes.strip_prefix(b"\"".as_slice()) {
         take_quoted(alloc, text, false)

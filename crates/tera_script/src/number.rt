@@ -1,6 +1,6 @@
 //! Numbers: an optional minus, digits and an optional suffix that names a kind.
 ghost use Rattle.std.specs.Prelude.{◌≡◌, ℕ, List, Option, Some, None, SomeIff, MatchOption, IsTrue};
-ghost use Rattle.std.specs.Prelude.{cond, [], false, IfSome, ◌+◌, ◌*◌, ◌^◌, ◌<◌};
+ghost use Rattle.std.specs.Prelude.{cond, [], false, IfSome, ◌⊎◌, ◌+◌, ◌*◌, ◌^◌, ◌<◌, ◌≤◌};
 ghost use Rattle.std.specs.Char.{digit_value, is_ascii_digit};
 ghost use Rattle.std.specs.Option.{option_map};
 ghost use Rattle.tera_meaning.specs.Integer.{i128 as kind_i128};
@@ -83,7 +83,8 @@ pub(crate) fn take_short(bytes: &[u8]) -> Option<(Integer, &[u8])>
     }
 }
 
-// The number of these digits, with a minus before them or none, and the bytes behind it.
+// The number of the digits that are the whole word at the front, with a minus before them or none,
+// and the bytes behind it. `None` says no more than that one pass was not enough.
 fn short_number(minus: bool, bytes: &[u8]) -> Option<(Integer, &[u8])>
     ensures number { IfSome result (λ found.
         unsigned_in minus (front is_word_byte bytes.now) ≡ Some (integer_held found.0)) }
@@ -96,7 +97,8 @@ fn short_number(minus: bool, bytes: &[u8]) -> Option<(Integer, &[u8])>
     Some((number, rest))
 }
 
-// The digits that are the whole word at the front, and the bytes behind them.
+// The number of the digits that are the whole word at the front, and the bytes behind them. `None`
+// says no more than that one pass was not enough.
 fn short_digits(bytes: &[u8]) -> Option<(u64, &[u8])>
     ensures digits { IfSome result (λ found.
         digits_at (front is_word_byte bytes.now) ≡ Some (found.0, [])) }
@@ -136,10 +138,11 @@ pub(crate) fn take_digits(bytes: &[u8]) -> Option<(u128, &[u8])>
     Some((magnitude, rest))
 }
 
-// The number of the first digits at the front, of which 64 bits hold the sums, and the bytes behind
-// them.
+// The number of the first digits at the front, and the bytes behind them: of all, or of as many as
+// make a number of 18 digits.
 fn few_digits(bytes: &[u8]) -> (u64, &[u8])
-    ensures { digits_from result.0 result.1.now ≡ digits_from 0 bytes.now }
+    ensures digits { digits_from result.0 result.1.now ≡ digits_from 0 bytes.now }
+    ensures many { Stops is_ascii_digit result.1.now ⊎ (10 ^ 17 ≤ result.0) }
 {
     let mut magnitude: u64 = 0;
     let mut rest = bytes;

@@ -1,7 +1,8 @@
 //! The operands of calls, and the name for what is found.
-ghost use Rattle.std.specs.Prelude.{◌≡◌, IfOk, IfSome};
+ghost use Rattle.std.specs.Prelude.{◌≡◌, IfOk, IfSome, IsOk};
 ghost use Rattle.std.specs.List.{list_all};
 ghost use Rattle.std.specs.Option.{option_map};
+ghost use Rattle.tera_script.specs.Line.{IsBare};
 ghost use Rattle.tera_script.specs.Readers.{one_in, arrow_at, into_in, names_at, names_rest};
 ghost use Rattle.tera_script.specs.Readers.{with_rest};
 ghost use Rattle.tera_script.specs.Word.{is_blank, IsName};
@@ -30,7 +31,8 @@ pub(crate) fn take_text_operand(
     alloc: Global,
     bytes: &[u8],
 ) -> Result<Option<(String, &[u8])>, AllocError>
-    ensures { IfOk result (λ answer. IsTextAt bytes.now (option_map text_rest answer)) }
+    ensures text { IfOk result (λ answer. IsTextAt bytes.now (option_map text_rest answer)) }
+    ensures free { IsBare bytes.now → IsOk result }
 {
     let Some(literal) = past_gap(bytes) else {
         return Ok(None);
@@ -47,7 +49,8 @@ pub(crate) fn take_text_operand(
 
 /// The value behind a gap, and the bytes behind it.
 pub(crate) fn take_value(alloc: Global, bytes: &[u8]) -> Result<Option<(Value, &[u8])>, AllocError>
-    ensures { IfOk result (λ answer. IsValueAt bytes.now (option_map with_rest answer)) }
+    ensures value { IfOk result (λ answer. IsValueAt bytes.now (option_map with_rest answer)) }
+    ensures free { IsBare bytes.now → IsOk result }
 {
     let Some(literal) = past_gap(bytes) else {
         return Ok(None);

@@ -1,11 +1,11 @@
 //! Operands of each shape, and the step that a verb makes of them. A reader takes all operands,
 //! names as slices, and makes the call last: a call is large, and each layer that it goes through
 //! moves it.
-ghost use Rattle.std.specs.Prelude.{◌≡◌, IfOk, IfSome};
+ghost use Rattle.std.specs.Prelude.{◌≡◌, IfOk, IfErr, IfSome};
 ghost use Rattle.std.specs.Option.{option_map};
 ghost use Rattle.tera_context.specs.Call.{command_of};
 ghost use Rattle.tera_script.specs.inner.Call.{IsOfShape, made};
-ghost use Rattle.tera_script.specs.inner.Command.{AreOperandsOf};
+ghost use Rattle.tera_script.specs.inner.Command.{AreOperandsOf, AreOperandsIfBare};
 ghost use Rattle.tera_script.specs.Verb.{row_of};
 ghost use Rattle.tera_script.specs.Word.{IsName};
 ghost use Rattle.tera_script.specs.declared.verb.Shape.TheVariants as shape;
@@ -27,8 +27,9 @@ pub(crate) fn read_name(
     bytes: &[u8],
 ) -> Result<Option<Step>, AllocError>
     requires { IsOfShape known shape.Name }
-    ensures { IfOk result (λ answer.
+    ensures operands { IfOk result (λ answer.
         AreOperandsOf (row_of known.verb) bytes.now (option_map command_of answer)) }
+    ensures free { IfErr result (λ error. AreOperandsIfBare (row_of known.verb) bytes.now) }
 {
     let Some((name, rest)) = take_operand(bytes) else {
         return Ok(None);
@@ -47,8 +48,9 @@ pub(crate) fn read_names(
     bytes: &[u8],
 ) -> Result<Option<Step>, AllocError>
     requires { IsOfShape known shape.Names }
-    ensures { IfOk result (λ answer.
+    ensures operands { IfOk result (λ answer.
         AreOperandsOf (row_of known.verb) bytes.now (option_map command_of answer)) }
+    ensures free { IfErr result (λ error. AreOperandsIfBare (row_of known.verb) bytes.now) }
 {
     let Some(((left, right), rest)) = take_names(bytes) else {
         return Ok(None);
@@ -68,8 +70,9 @@ pub(crate) fn read_text(
     bytes: &[u8],
 ) -> Result<Option<Step>, AllocError>
     requires { IsOfShape known shape.Text }
-    ensures { IfOk result (λ answer.
+    ensures operands { IfOk result (λ answer.
         AreOperandsOf (row_of known.verb) bytes.now (option_map command_of answer)) }
+    ensures free { IfErr result (λ error. AreOperandsIfBare (row_of known.verb) bytes.now) }
 {
     let Some((name, behind)) = take_operand(bytes) else {
         return Ok(None);
@@ -91,8 +94,9 @@ pub(crate) fn read_bounds(
     bytes: &[u8],
 ) -> Result<Option<Step>, AllocError>
     requires { IsOfShape known shape.Bounds }
-    ensures { IfOk result (λ answer.
+    ensures operands { IfOk result (λ answer.
         AreOperandsOf (row_of known.verb) bytes.now (option_map command_of answer)) }
+    ensures free { IfErr result (λ error. AreOperandsIfBare (row_of known.verb) bytes.now) }
 {
     let Some((name, behind)) = take_operand(bytes) else {
         return Ok(None);
@@ -114,8 +118,9 @@ pub(crate) fn read_type(
     bytes: &[u8],
 ) -> Result<Option<Step>, AllocError>
     requires { IsOfShape known shape.Type }
-    ensures { IfOk result (λ answer.
+    ensures operands { IfOk result (λ answer.
         AreOperandsOf (row_of known.verb) bytes.now (option_map command_of answer)) }
+    ensures free { IfErr result (λ error. AreOperandsIfBare (row_of known.verb) bytes.now) }
 {
     let Some(((word, name), rest)) = take_names(bytes) else {
         return Ok(None);
@@ -137,8 +142,9 @@ pub(crate) fn read_literal(
     bytes: &[u8],
 ) -> Result<Option<Step>, AllocError>
     requires { IsOfShape known shape.Literal }
-    ensures { IfOk result (λ answer.
+    ensures operands { IfOk result (λ answer.
         AreOperandsOf (row_of known.verb) bytes.now (option_map command_of answer)) }
+    ensures free { IfErr result (λ error. AreOperandsIfBare (row_of known.verb) bytes.now) }
 {
     let Some((name, behind)) = take_operand(bytes) else {
         return Ok(None);
@@ -160,8 +166,9 @@ pub(crate) fn read_map(
     bytes: &[u8],
 ) -> Result<Option<Step>, AllocError>
     requires { IsOfShape known shape.Map }
-    ensures { IfOk result (λ answer.
+    ensures operands { IfOk result (λ answer.
         AreOperandsOf (row_of known.verb) bytes.now (option_map command_of answer)) }
+    ensures free { IfErr result (λ error. AreOperandsIfBare (row_of known.verb) bytes.now) }
 {
     let Some((value, rest)) = take_value(alloc, bytes)? else {
         return Ok(None);

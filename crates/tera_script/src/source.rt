@@ -1,5 +1,6 @@
 //! What a map holds under the texts of its keys.
-ghost use Rattle.std.specs.Prelude.{IfOk};
+ghost use Rattle.std.specs.Prelude.{◌≡◌, None, IfOk, IsOk};
+ghost use Rattle.tera_meaning.specs.Read.{members_in};
 ghost use Rattle.tera_script.specs.inner.Command.{IsSourceOf};
 
 use std::alloc::{AllocError, Global};
@@ -9,7 +10,8 @@ use tera_values::Value;
 /// The context that holds what a map has at each key under the text of the key. `None` where the
 /// value is no map, or a key is no text. Takes memory, and fails for want of it alone.
 pub(crate) fn source_of(alloc: Global, value: Value) -> Result<Option<Context>, AllocError>
-    ensures { IfOk result (λ answer. IsSourceOf value answer) }
+    ensures source { IfOk result (λ answer. IsSourceOf value answer) }
+    ensures free { members_in value ≡ None → IsOk result }
 {
     let Some(map) = value.into_map() else {
         return Ok(None);

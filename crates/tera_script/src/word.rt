@@ -1,5 +1,6 @@
 //! Blanks, names and operands: the parts of a line that stand one behind another.
-ghost use Rattle.std.specs.Prelude.{◌≡◌, ℕ, List, IfSome, IsTrue};
+ghost use Rattle.std.specs.Prelude.{◌≡◌, ℕ, List, IfSome};
+ghost use Rattle.std.specs.Bool.{MatchBool};
 ghost use Rattle.std.specs.List.{list_all};
 ghost use Rattle.std.specs.Option.{option_map};
 ghost use Rattle.tera_script.specs.Word.{is_blank, is_name_start, is_name_byte, IsName};
@@ -32,7 +33,7 @@ fn is_word_byte(byte: u8) -> bool
 
 /// Whether a literal without quotes ends before these bytes.
 pub(crate) fn ends_word(bytes: &[u8]) -> bool
-    ensures { IsTrue result → Stops is_word_byte bytes.now }
+    ensures { MatchBool result (Stops is_word_byte bytes.now) (¬ Stops is_word_byte bytes.now) }
 {
     match bytes {
         [byte, ..] => !is_word_byte(*byte),

@@ -1,9 +1,11 @@
 //! Worked lines. Each function does nothing, and its contract says what some lines say.
-ghost use Rattle.std.specs.Prelude.{[], ◌∷◌, ◌++◌, Some, None, true, codes, pos};
+ghost use Rattle.std.specs.Prelude.{[], ◌∷◌, ◌++◌, Some, None, true, codes, pos, negsuc};
+ghost use Rattle.std.specs.FinMap.{insert, empty};
+ghost use Rattle.tera_meaning.specs.Conversion.{u8};
 ghost use Rattle.tera_meaning.specs.Integer.{i64 as kind_i64, u64 as kind_u64};
 ghost use Rattle.tera_meaning.specs.Question;
-ghost use Rattle.tera_meaning.specs.Request.{set, remove, mark_safe, ask, weigh, find, asking};
-ghost use Rattle.tera_meaning.specs.Request.{asking_into};
+ghost use Rattle.tera_meaning.specs.Request.{set, extend, remove, mark_safe, ask, weigh, find};
+ghost use Rattle.tera_meaning.specs.Request.{asking, asking_into};
 ghost use Rattle.tera_meaning.specs.Search;
 ghost use Rattle.tera_meaning.specs.KeyMeaning.{truth_key, number_key, text_key, owned};
 ghost use Rattle.tera_meaning.specs.Tree.{none, truth, number, text, bytes, array, items};
@@ -29,6 +31,12 @@ pub fn worked_calls()
     ensures mark_safe { Says (codes "mark_safe a") (asking (mark_safe (codes "a"))) }
     ensures escape { Says (codes "escape a") (asking (ask Question.escape (codes "a"))) }
     ensures walk { Says (codes "walk a") (asking (ask Question.walk (codes "a"))) }
+    ensures slice { Says (codes "slice a 1 _ -1")
+        (asking (find (Search.slice (codes "a") (Some (pos 1)) None (Some (negsuc 0))))) }
+    ensures read { Says (codes "read u8 a") (asking (find (Search.read u8 (codes "a")))) }
+    ensures extend { Says (codes "extend {\"b\": 1}")
+        (asking (extend (insert empty (codes "b")
+        (number (record { kind = kind_i64; value = pos 1 }))))) }
 {}
 
 /// Lines that name where what is found is to be kept.

@@ -12,7 +12,7 @@ use Rattle.tera_meaning.specs.Tree.{object, members}
 use Rattle.tera_values.specs.Converted.{integer_type}
 use Rattle.tera_values.specs.declared.integers.IntType.{IntType}
 use Rattle.tera_script.specs.Line.{SpellsQuoted, SpellsValue, AreNamed, SpellsGiven}
-use Rattle.tera_script.specs.Line.{SpellsOperands, SpellsCommand}
+use Rattle.tera_script.specs.Line.{SpellsOperands, SpellsCommand, IsBare}
 use Rattle.tera_script.specs.Readers.{Stops, is_word_byte, Ends}
 use Rattle.tera_script.specs.Verb.{Given, Row}
 use Rattle.tera_script.specs.Word.{is_name_byte, AreBlanks}
@@ -110,3 +110,12 @@ AreOperandsOf row bytes answer = IsOneOf (SpellsOperands row) bytes answer
 -- a call and its operands
 abbrev pub IsCommandAt : List ℕ → Option Command → Type 0
 IsCommandAt bytes answer = IsOneOf SpellsCommand bytes answer
+
+-- where no quote, bracket or brace stands in the bytes, they are the operands of a call before
+-- blanks; and a call with its operands
+abbrev pub AreOperandsIfBare : Row → List ℕ → Type 0
+AreOperandsIfBare row bytes =
+    IsBare bytes → (command : Command) × AreOperandsOf row bytes (Some command)
+
+abbrev pub IsCommandIfBare : List ℕ → Type 0
+IsCommandIfBare bytes = IsBare bytes → (command : Command) × IsCommandAt bytes (Some command)

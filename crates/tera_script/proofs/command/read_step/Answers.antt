@@ -1,17 +1,23 @@
 use Rattle.std.proofs.Common.{sym}
 use Rattle.std.specs.Option.{option_map}
-use Rattle.std.proofs.lemmas.Result.{IfOk-weaker}
+use Rattle.std.proofs.lemmas.Result.{IfOk-weaker, IfErr-weaker}
 use Rattle.tera_context.specs.Call.{command_of}
+use Rattle.tera_script.proofs.Bare.{command_if_bare}
 use Rattle.tera_script.proofs.Commands.{command_none_name, command_none_verb, command_answer}
 use Rattle.tera_script.proofs.command.read_step.Goals as goal
 
-pub returns-in_default : goal.returns-in_default
-returns-in_default c = command_none_name (sym c.in_default.ensures)
+pub returns-in_default-clause-command : goal.returns-in_default-clause-command
+returns-in_default-clause-command c = command_none_name (sym c.in_default.ensures)
 
-pub returns-in_default-verb_in : goal.returns-in_default-verb_in
-returns-in_default-verb_in c = command_none_verb c.args.bytes.now (sym c.in-Some.ensures) c.in_default-verb_in.ensures
+pub returns-in_default-verb_in-clause-command : goal.returns-in_default-verb_in-clause-command
+returns-in_default-verb_in-clause-command c = command_none_verb c.args.bytes.now (sym c.in-Some.ensures) c.in_default-verb_in.ensures
 
-pub returns : goal.returns
-returns c =
+pub returns-clause-command : goal.returns-clause-command
+returns-clause-command c =
     let at = command_answer c.args.bytes.now (sym c.in-Some.ensures) c.in-Some-verb_in.known.verb c.in-Some-verb_in.ensures.0 in
-    IfOk-weaker c.read_operands.result _ _ (λ answer. at (option_map command_of answer)) c.read_operands.ensures
+    IfOk-weaker c.read_operands.result _ _ (λ answer. at (option_map command_of answer)) c.read_operands.ensures.operands
+
+pub returns-clause-free : goal.returns-clause-free
+returns-clause-free c =
+    let at = command_if_bare c.args.bytes.now (sym c.in-Some.ensures) c.in-Some-verb_in.known.verb c.in-Some-verb_in.ensures.0 in
+    IfErr-weaker c.read_operands.result _ _ (λ error. at) c.read_operands.ensures.free

@@ -2,6 +2,7 @@ use Rattle.std.proofs.Common.{◌∷◌, length, None, ap, sym, ◌∙◌, arith
 use Rattle.std.proofs.lemmas.Result.{IfOk-weaker}
 use Rattle.tera_script.specs.Readers.{IsLiteralAt}
 use Rattle.tera_script.proofs.Arrays.{no_items_yet, no_item, no_item_mark, no_item_end, last_item, next_item}
+use Rattle.tera_script.proofs.Bare.{quote_opens, safe_opens, hex_opens, bracket_opens, brace_opens}
 use Rattle.tera_script.proofs.Fronts.{no_prefix, behind_prefix}
 use Rattle.tera_script.proofs.Literals.{literal_found, plain_found, other_byte}
 use Rattle.tera_script.proofs.Maps.{no_pairs_yet, no_more_pair, no_pair_mark, no_pair_end, last_pair, next_pair, no_pair_key, no_colon, no_pair_value}
@@ -15,69 +16,69 @@ take_array-loop-items-init t c =
 
 pub take_array-returns-in_default-2 : goal.take_array-returns-in_default-2
 take_array-returns-in_default-2 t c =
-    no_item c.loop-items.invariant (omega (arith, c.if-levels-eq0.false)) (rw (c.in_default-2.is) at c.in_ok-item.ensures)
+    no_item c.loop-items.invariant (omega (arith, c.if-levels-eq0.false)) (rw (c.in_default-2.is) at c.in_ok-item.ensures.literal)
 
 pub take_array-returns-in_default-split_first : goal.take_array-returns-in_default-split_first
 take_array-returns-in_default-split_first t c =
-    no_item_end c.loop-items.invariant (omega (arith, c.if-levels-eq0.false)) (rw (c.in-Some-2.is) at c.in_ok-item.ensures)
+    no_item_end c.loop-items.invariant (omega (arith, c.if-levels-eq0.false)) (rw (c.in-Some-2.is) at c.in_ok-item.ensures.literal)
     (sym (ap length c.past_blanks.ensures) ∙ c.in_default-split_first.ensures.cases)
 
 pub take_array-returns-then-mark-eq93 : goal.take_array-returns-then-mark-eq93
 take_array-returns-then-mark-eq93 t c =
-    last_item c.loop-items.invariant (omega (arith, c.if-levels-eq0.false)) (rw (c.in-Some-2.is) at c.in_ok-item.ensures) c.in_ok-push.ensures.items
+    last_item c.loop-items.invariant (omega (arith, c.if-levels-eq0.false)) (rw (c.in-Some-2.is) at c.in_ok-item.ensures.literal) c.in_ok-push.ensures.items
     c.of_array-then-mark-eq93.ensures
     (sym c.past_blanks.ensures ∙ c.in-Some-split_first.ensures.cases.0 ∙ ap (λ b. b ∷ c.in-Some-split_first.next.now) c.if-mark-eq93.true)
 
 pub take_array-returns-then-mark-ne44 : goal.take_array-returns-then-mark-ne44
 take_array-returns-then-mark-ne44 t c =
     let spelled = sym c.past_blanks.ensures ∙ c.in-Some-split_first.ensures.cases.0 in
-    no_item_mark c.loop-items.invariant (omega (arith, c.if-levels-eq0.false)) (rw (c.in-Some-2.is) at c.in_ok-item.ensures)
+    no_item_mark c.loop-items.invariant (omega (arith, c.if-levels-eq0.false)) (rw (c.in-Some-2.is) at c.in_ok-item.ensures.literal)
     (λ end e. other_byte c.in-Some-split_first.mark.now 93 c.in-Some-split_first.next.now end c.if-mark-eq93.false (sym spelled ∙ e))
     (λ end e. other_byte c.in-Some-split_first.mark.now 44 c.in-Some-split_first.next.now end c.if-mark-ne44.true (sym spelled ∙ e))
 
 pub take_array-loop-items-smaller : goal.take_array-loop-items-smaller
 take_array-loop-items-smaller t c =
-    let found = rw (c.in-Some-2.is) at c.in_ok-item.ensures in
+    let found = rw (c.in-Some-2.is) at c.in_ok-item.ensures.literal in
     shorter_rest _ _ (literal_length found.2) (sym c.past_blanks.ensures ∙ c.in-Some-split_first.ensures.cases.0) c.past_blanks-rest-in-loop-items.ensures
 
 pub take_array-loop-items-preserved : goal.take_array-loop-items-preserved
 take_array-loop-items-preserved t c =
-    next_item c.loop-items.invariant {levels = c.args.levels} (omega (arith, c.if-levels-eq0.false)) (rw (c.in-Some-2.is) at c.in_ok-item.ensures)
+    next_item c.loop-items.invariant {levels = c.args.levels} (omega (arith, c.if-levels-eq0.false)) (rw (c.in-Some-2.is) at c.in_ok-item.ensures.literal)
     c.in_ok-push.ensures.items
     (sym c.past_blanks.ensures ∙ c.in-Some-split_first.ensures.cases.0 ∙ ap (λ b. b ∷ c.in-Some-split_first.next.now) c.if-mark-ne44.false)
     c.past_blanks-rest-in-loop-items.ensures
 
-pub take_literal-returns-in-Some : goal.take_literal-returns-in-Some
-take_literal-returns-in-Some t c =
+pub take_literal-returns-in-Some-clause-literal : goal.take_literal-returns-in-Some-clause-literal
+take_literal-returns-in-Some-clause-literal t c =
     let opens = behind_prefix c.args.bytes.now c.strip_prefix.ensures.cases c.as_slice.ensures c.in-Some.is in
     IfOk-weaker c.take_quoted.result _ _ (λ answer h. literal_found c.args.levels c.args.bytes.now _ (rw opens h)) c.take_quoted.ensures
 
-pub take_literal-returns-in-Some-strip_prefix : goal.take_literal-returns-in-Some-strip_prefix
-take_literal-returns-in-Some-strip_prefix t c =
+pub take_literal-returns-in-Some-strip_prefix-clause-literal : goal.take_literal-returns-in-Some-strip_prefix-clause-literal
+take_literal-returns-in-Some-strip_prefix-clause-literal t c =
     let opens = behind_prefix c.args.bytes.now c.strip_prefix-in_default.ensures.cases c.as_slice-in_default.ensures c.in-Some-strip_prefix.is in
     IfOk-weaker c.take_quoted-in-Some-strip_prefix.result _ _ (λ answer h. literal_found c.args.levels c.args.bytes.now _ (rw opens h))
     c.take_quoted-in-Some-strip_prefix.ensures
 
-pub take_literal-returns-in-Some-strip_prefix-2 : goal.take_literal-returns-in-Some-strip_prefix-2
-take_literal-returns-in-Some-strip_prefix-2 t c =
+pub take_literal-returns-in-Some-strip_prefix-2-clause-literal : goal.take_literal-returns-in-Some-strip_prefix-2-clause-literal
+take_literal-returns-in-Some-strip_prefix-2-clause-literal t c =
     let opens = behind_prefix c.args.bytes.now c.strip_prefix-in_default-strip_prefix.ensures.cases c.as_slice-in_default-strip_prefix.ensures
     c.in-Some-strip_prefix-2.is in
     IfOk-weaker c.take_bytes.result _ _ (λ answer h. literal_found c.args.levels c.args.bytes.now _ (rw opens h)) c.take_bytes.ensures
 
-pub take_literal-returns-in-Some-strip_prefix-3 : goal.take_literal-returns-in-Some-strip_prefix-3
-take_literal-returns-in-Some-strip_prefix-3 t c =
+pub take_literal-returns-in-Some-strip_prefix-3-clause-literal : goal.take_literal-returns-in-Some-strip_prefix-3-clause-literal
+take_literal-returns-in-Some-strip_prefix-3-clause-literal t c =
     let opens = behind_prefix c.args.bytes.now c.strip_prefix-in_default-strip_prefix-2.ensures.cases c.as_slice-in_default-strip_prefix-2.ensures
     c.in-Some-strip_prefix-3.is in
     IfOk-weaker c.take_array.result _ _ (λ answer h. literal_found c.args.levels c.args.bytes.now _ (rw opens h)) c.take_array.ensures
 
-pub take_literal-returns-in-Some-strip_prefix-4 : goal.take_literal-returns-in-Some-strip_prefix-4
-take_literal-returns-in-Some-strip_prefix-4 t c =
+pub take_literal-returns-in-Some-strip_prefix-4-clause-literal : goal.take_literal-returns-in-Some-strip_prefix-4-clause-literal
+take_literal-returns-in-Some-strip_prefix-4-clause-literal t c =
     let opens = behind_prefix c.args.bytes.now c.strip_prefix-in_default-strip_prefix-3.ensures.cases c.as_slice-in_default-strip_prefix-3.ensures
     c.in-Some-strip_prefix-4.is in
     IfOk-weaker c.take_map.result _ _ (λ answer h. literal_found c.args.levels c.args.bytes.now _ (rw opens h)) c.take_map.ensures
 
-pub take_literal-returns-in_default-strip_prefix-4 : goal.take_literal-returns-in_default-strip_prefix-4
-take_literal-returns-in_default-strip_prefix-4 t c = plain_found c.args.levels c.args.bytes.now _
+pub take_literal-returns-in_default-strip_prefix-4-clause-literal : goal.take_literal-returns-in_default-strip_prefix-4-clause-literal
+take_literal-returns-in_default-strip_prefix-4-clause-literal t c = plain_found c.args.levels c.args.bytes.now _
     (no_prefix c.args.bytes.now c.strip_prefix.ensures.cases c.as_slice.ensures c.in_default.is)
     (no_prefix c.args.bytes.now c.strip_prefix-in_default.ensures.cases c.as_slice-in_default.ensures c.in_default-strip_prefix.is)
     (no_prefix c.args.bytes.now c.strip_prefix-in_default-strip_prefix.ensures.cases c.as_slice-in_default-strip_prefix.ensures c.in_default-strip_prefix-2.is)
@@ -127,14 +128,40 @@ take_map-loop-pairs-preserved t c =
     c.past_blanks-rest-in-loop-pairs.ensures
 
 pub take_pair-returns-in_default : goal.take_pair-returns-in_default
-take_pair-returns-in_default t c = no_pair_key (rw (c.in_default.is) at c.in_ok-key.ensures)
+take_pair-returns-in_default t c = no_pair_key (rw (c.in_default.is) at c.in_ok-key.ensures.key)
 
 pub take_pair-returns-in_default-strip_prefix : goal.take_pair-returns-in_default-strip_prefix
-take_pair-returns-in_default-strip_prefix t c = no_colon (rw (c.in-Some.is) at c.in_ok-key.ensures) (λ next e.
+take_pair-returns-in_default-strip_prefix t c = no_colon (rw (c.in-Some.is) at c.in_ok-key.ensures.key) (λ next e.
     no_prefix c.past_blanks.result.now c.strip_prefix.ensures.cases c.as_slice.ensures c.in_default-strip_prefix.is next (c.past_blanks.ensures ∙ e))
 
 pub take_pair-returns-in_default-2 : goal.take_pair-returns-in_default-2
 take_pair-returns-in_default-2 t c =
     let stripped = behind_prefix c.past_blanks.result.now c.strip_prefix.ensures.cases c.as_slice.ensures c.in-Some-strip_prefix.is in
-    no_pair_value (rw (c.in-Some.is) at c.in_ok-key.ensures) (sym c.past_blanks.ensures ∙ stripped)
-    (subst (λ ys. IsLiteralAt c.args.levels ys None) c.past_blanks-2.ensures (rw (c.in_default-2.is) at c.in_ok-value.ensures))
+    no_pair_value (rw (c.in-Some.is) at c.in_ok-key.ensures.key) (sym c.past_blanks.ensures ∙ stripped)
+    (subst (λ ys. IsLiteralAt c.args.levels ys None) c.past_blanks-2.ensures (rw (c.in_default-2.is) at c.in_ok-value.ensures.literal))
+
+pub take_literal-returns-in-Some-clause-free : goal.take_literal-returns-in-Some-clause-free
+take_literal-returns-in-Some-clause-free t c = λ h. absurd
+    (quote_opens (behind_prefix c.args.bytes.now c.strip_prefix.ensures.cases c.as_slice.ensures c.in-Some.is) h)
+
+pub take_literal-returns-in-Some-strip_prefix-clause-free : goal.take_literal-returns-in-Some-strip_prefix-clause-free
+take_literal-returns-in-Some-strip_prefix-clause-free t c = λ h. absurd
+    (safe_opens (behind_prefix c.args.bytes.now c.strip_prefix-in_default.ensures.cases c.as_slice-in_default.ensures c.in-Some-strip_prefix.is) h)
+
+pub take_literal-returns-in-Some-strip_prefix-2-clause-free : goal.take_literal-returns-in-Some-strip_prefix-2-clause-free
+take_literal-returns-in-Some-strip_prefix-2-clause-free t c = λ h.
+    let opens = behind_prefix c.args.bytes.now c.strip_prefix-in_default-strip_prefix.ensures.cases c.as_slice-in_default-strip_prefix.ensures
+    c.in-Some-strip_prefix-2.is in
+    absurd (hex_opens opens h)
+
+pub take_literal-returns-in-Some-strip_prefix-3-clause-free : goal.take_literal-returns-in-Some-strip_prefix-3-clause-free
+take_literal-returns-in-Some-strip_prefix-3-clause-free t c = λ h.
+    let opens = behind_prefix c.args.bytes.now c.strip_prefix-in_default-strip_prefix-2.ensures.cases c.as_slice-in_default-strip_prefix-2.ensures
+    c.in-Some-strip_prefix-3.is in
+    absurd (bracket_opens opens h)
+
+pub take_literal-returns-in-Some-strip_prefix-4-clause-free : goal.take_literal-returns-in-Some-strip_prefix-4-clause-free
+take_literal-returns-in-Some-strip_prefix-4-clause-free t c = λ h.
+    let opens = behind_prefix c.args.bytes.now c.strip_prefix-in_default-strip_prefix-3.ensures.cases c.as_slice-in_default-strip_prefix-3.ensures
+    c.in-Some-strip_prefix-4.is in
+    absurd (brace_opens opens h)

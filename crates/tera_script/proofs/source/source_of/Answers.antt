@@ -14,8 +14,8 @@ loop-key-init c = record {
       c.into_iter-key-iterator.ensures.into_iter_gives.1;
 }
 
-pub returns-in_default-as_str : goal.returns-in_default-as_str
-returns-in_default-as_str c = none_named c.loop-key.invariant c.in-Some-2.ensures.steps c.in_default-as_str.ensures
+pub returns-in_default-as_str-clause-source : goal.returns-in_default-as_str-clause-source
+returns-in_default-as_str-clause-source c = none_named c.loop-key.invariant c.in-Some-2.ensures.steps c.in_default-as_str.ensures
 
 pub loop-key-preserved-in-Ok : goal.loop-key-preserved-in-Ok
 loop-key-preserved-in-Ok c = one_more c.loop-key.invariant c.in-Some-2.ensures.steps c.in-Some-as_str.ensures c.in-Ok.ensures.ok
@@ -23,5 +23,5 @@ loop-key-preserved-in-Ok c = one_more c.loop-key.invariant c.in-Some-2.ensures.s
 pub loop-key-preserved : goal.loop-key-preserved
 loop-key-preserved c = one_more c.loop-key.invariant c.in-Some-2.ensures.steps c.in-Some-as_str.ensures c.in-Ok.ensures.ok
 
-pub returns : goal.returns
-returns c = all_named c.loop-key.invariant c.in-None.ensures.steps.0
+pub returns-clause-source : goal.returns-clause-source
+returns-clause-source c = all_named c.loop-key.invariant c.in-None.ensures.steps.0
