@@ -9,12 +9,14 @@ use Rattle.tera_script.specs.Line.{IsBad}
 use Rattle.tera_report.specs.{Report.Report, Report.report_text, inner.WriterLaws.folds_joined, Sink.Sends}
 use Rattle.tera_report.proofs.SentLaws.{sends_joined}
 use Rattle.tera_replies.specs.declared.fault.Fault.TheVariants.{BadLine, ReadFailed, WriteFailed, OutOfMemory}
-use Rattle.tera_replies.specs.Stretch.{bad_at, Runs, Place, Goes, StopsAtBad, Begins, LineStops, Ends, Stops, start}
-use Rattle.tera_replies.specs.Replay.{lines_given, AllAnswered, IsWholeIn, ReadEnough, ReadingFailed, MemoryFailed, WritingFailed, AreAnswered, report}
+use Rattle.tera_replies.specs.Stretch.{bad_at, Runs, Place, Goes, StopsAtBad, Begins, LineStops, Ends, start}
+use Rattle.tera_replies.specs.Replay.{lines_given, AllAnswered, HoldFewer, IsBehind, IsWholeIn, ReadEnough, ReadingFailed, MemoryFailed}
+use Rattle.tera_replies.specs.Replay.{WritingFailed, AreAnswered, report}
 use Rattle.tera_replies.specs.{Script.Splits, Script.without_return, Script.last_line, Script.ended, Script.line_feed, Reply.AreReplies, Source.EndIsTold}
-use Rattle.tera_replies.specs.{Source.MayErr, Source.Giving, Source.given_by, Source.Reads, declared.fault.Fault.Fault}
+use Rattle.tera_replies.specs.{Source.MayErr, Source.Giving, Source.given_by, Source.Reads, Source.ReadsTo, declared.fault.Fault.Fault}
 use Rattle.tera_replies.specs.{declared.source.ReadError.ReadError, Output.BrokeOn}
-use Rattle.tera_replies.proofs.StretchLemmas.{Runs-append, Script-append, Begins-all, Went, sent_still, Splits-more, splits, split_line}
+use Rattle.tera_replies.proofs.StretchLemmas.{Runs-append, Script-append, Begins-later, stops_later, Halts, Went, sent_still, Splits-more}
+use Rattle.tera_replies.proofs.StretchLemmas.{Splits-same, splits, split_line}
 use Rattle.tera_replies.proofs.ReplyLemmas.{broke_on_later}
 
 -- ---- what an output that broke was to get
@@ -26,54 +28,113 @@ first_given (Some true) xs ys part = ([], simp (map-append, append-nil))
 first_given (Some false) xs ys part = (last_line part, simp (map-append, append_assoc))
 first_given None xs ys part = (last_line part, simp (map-append, append_assoc))
 
--- replies to the first lines of a beginning of the bytes
-among_given : (bytes given rest out : List ℕ) (fails : Option Bool) (lines first later : List (List ℕ)) (part : List ℕ) (outcomes : List Outcome)
-    → bytes ≡ given ++ rest → Splits given lines part → map without_return lines ≡ first ++ later → AreAnswered first None outcomes → AreReplies outcomes out
-    → WritingFailed bytes fails out
-among_given bytes given rest out fails lines first later part outcomes front split are answers replied =
-    let (others, end, s) = splits (part ++ rest) in
-    let (more, among) = first_given fails lines others end in
-    record {
-      lines = lines ++ others;
-      part = end;
-      first = first;
-      later = later ++ (map without_return others ++ more);
-      bad = None;
-      outcomes = outcomes;
-      split = Splits-more lines others split.each s
-          (front ∙ ap (λ (zs : List ℕ). zs ++ rest) split.whole ∙ append_assoc (flat_map ended lines) part rest);
-      lines_are = among ∙ ap (λ (zs : List (List ℕ)). zs ++ (map without_return others ++ more)) are
-          ∙ append_assoc first later (map without_return others ++ more);
-      answers = answers;
-      replied = replied;
-    }
+-- a beginning of some bytes holds no more whole lines than these
+pub fewer_in_front : {bytes before : List ℕ} {lines : List (List ℕ)} {part : List ℕ} (more : List ℕ) → Splits bytes lines part
+    → bytes ≡ before ++ more → HoldFewer before (1 + length lines)
+fewer_in_front {bytes} {before} {lines} {part} more split front =
+    let (ls, p, s) = splits before in
+    let (ms, q, t) = splits (p ++ more) in
+    let all = Splits-more ls ms s.each t (front ∙ ap (λ (zs : List ℕ). zs ++ more) s.whole ∙ append_assoc (flat_map ended ls) p more) in
+    let same = Splits-same bytes part q lines (ls ++ ms) split all in
+    (ls, p, s, omega (arith, ap length same.0, length-append ls ms))
 
--- the replies that were due are, however the input ended, those to the first of the lines
-pub broke_at_end : {bytes out err : List ℕ} {fails : Option Bool} {InGave InEnded : List ℕ → Type 0} {status : ℕ}
-    → AllAnswered bytes fails InGave InEnded out err status → WritingFailed bytes fails out
-broke_at_end {fails} h = record {
-  lines = h.lines;
-  part = h.part;
-  first = lines_given fails h.lines h.part;
-  later = [];
-  bad = h.bad;
-  outcomes = h.outcomes;
-  split = h.split;
-  lines_are = sym (append-nil (lines_given fails h.lines h.part));
-  answers = h.answers;
-  replied = h.replied;
-}
+pub fewer_yet : {bytes : List ℕ} {n m : ℕ} → n ≤ m → HoldFewer bytes n → HoldFewer bytes m
+fewer_yet most (lines, part, split, few) = (lines, part, split, omega (arith, most, few))
 
-pub broke_at_failure : {bytes out err : List ℕ} {fails : Option Bool} {InGave InFailed : List ℕ → Type 0} {status : ℕ}
-    → ReadingFailed bytes fails InGave InFailed out err status → WritingFailed bytes fails out
-broke_at_failure {bytes} {out} {fails} h =
-    among_given bytes h.given h.rest out fails h.lines (map without_return h.lines) [] h.part h.outcomes h.front h.split
-    (sym (append-nil (map without_return h.lines))) h.answers h.replied
+-- each whole line is given
+whole_given : (fails : Option Bool) (lines : List (List ℕ)) (part : List ℕ) → length lines ≤ length (lines_given fails lines part)
+whole_given (Some true) lines part = omega (arith, length-map lines without_return)
+whole_given (Some false) lines part =
+    omega (arith, length-map lines without_return, length-append (map without_return lines) (last_line part))
+whole_given None lines part = omega (arith, length-map lines without_return, length-append (map without_return lines) (last_line part))
 
-pub broke_at_memory : {bytes out err : List ℕ} {InGave InEnded : List ℕ → Type 0} {status : ℕ} (fails : Option Bool)
-    → MemoryFailed bytes InGave InEnded out err status → WritingFailed bytes fails out
-broke_at_memory {bytes} {out} fails h =
-    among_given bytes h.given h.rest out fails h.lines h.first h.later h.part h.outcomes h.front h.split h.lines_are h.answers h.replied
+abbrev WasRead : (List ℕ → List ℕ → Type 0) → (List ℕ → Type 0) → (List ℕ → Type 0) → List ℕ → List ℕ → Type 0
+WasRead InGave InEnded InFailed before last = InGave before last ⊎ ((last ≡ []) × (InEnded before ⊎ InFailed before))
+
+module _ {InGave : List ℕ → List ℕ → Type 0} {InEnded InFailed : List ℕ → Type 0} where
+  -- replies to the first lines of a beginning of the bytes
+  among_given : (bytes given rest out : List ℕ) (fails : Option Bool) (lines first later : List (List ℕ)) (part : List ℕ) (outcomes : List Outcome)
+      (before last : List ℕ) → bytes ≡ given ++ rest → given ≡ before ++ last → WasRead InGave InEnded InFailed before last
+      → HoldFewer before (1 + length first) → Splits given lines part → map without_return lines ≡ first ++ later
+      → AreAnswered first None outcomes → AreReplies outcomes out
+      → WritingFailed bytes fails InGave InEnded InFailed out
+  among_given bytes given rest out fails lines first later part outcomes before last front are_read read prompt split are answers replied =
+      let (others, end, s) = splits (part ++ rest) in
+      let (more, among) = first_given fails lines others end in
+      record {
+        before = before;
+        last = last;
+        rest = rest;
+        lines = lines ++ others;
+        part = end;
+        first = first;
+        later = later ++ (map without_return others ++ more);
+        bad = None;
+        outcomes = outcomes;
+        front = front ∙ ap (λ (zs : List ℕ). zs ++ rest) are_read;
+        read = read;
+        split = Splits-more lines others split.each s
+            (front ∙ ap (λ (zs : List ℕ). zs ++ rest) split.whole ∙ append_assoc (flat_map ended lines) part rest);
+        lines_are = among ∙ ap (λ (zs : List (List ℕ)). zs ++ (map without_return others ++ more)) are
+            ∙ append_assoc first later (map without_return others ++ more);
+        prompt = prompt;
+        fresh = tt;
+        answers = answers;
+        replied = replied;
+      }
+
+  -- replies to all lines up to the first bad one
+  broke_whole : {bytes out err : List ℕ} {fails : Option Bool} {status : ℕ} (h : AllAnswered bytes fails InGave InEnded out err status)
+      (before last rest : List ℕ) → bytes ≡ (before ++ last) ++ rest → WasRead InGave InEnded InFailed before last
+      → HoldFewer before (1 + length h.lines) → IsBehind before h.bad → WritingFailed bytes fails InGave InEnded InFailed out
+  broke_whole {bytes} {out} {err} {fails} h before last rest front read prompt fresh = record {
+    before = before;
+    last = last;
+    rest = rest;
+    lines = h.lines;
+    part = h.part;
+    first = lines_given fails h.lines h.part;
+    later = [];
+    bad = h.bad;
+    outcomes = h.outcomes;
+    front = front;
+    read = read;
+    split = h.split;
+    lines_are = sym (append-nil (lines_given fails h.lines h.part));
+    prompt = fewer_yet (omega (arith, whole_given fails h.lines h.part)) prompt;
+    fresh = fresh;
+    answers = h.answers;
+    replied = h.replied;
+  }
+
+  -- the replies that were due are, however the input ended, those to the first of the lines
+  pub broke_at_end : {bytes out err : List ℕ} {fails : Option Bool} {status : ℕ} → AllAnswered bytes fails InGave InEnded out err status
+      → WritingFailed bytes fails InGave InEnded InFailed out
+  broke_at_end {bytes} h = elim h.read [
+    | inl (end, behind) ↦
+        broke_whole h bytes [] [] (sym (append-nil (bytes ++ []) ∙ append-nil bytes)) (inr (refl, inl end)) (h.lines, h.part, h.split, omega arith) behind
+    | inr (before, last, rest, front, gave, behind, whole) ↦
+        broke_whole h before last rest front (inl gave) (fewer_in_front (last ++ rest) h.split (front ∙ append_assoc before last rest)) behind
+  ]
+
+  pub broke_at_failure : {bytes out err : List ℕ} {fails : Option Bool} {status : ℕ} → ReadingFailed bytes fails InGave InFailed out err status
+      → WritingFailed bytes fails InGave InEnded InFailed out
+  broke_at_failure {bytes} {out} {err} {fails} h =
+      let all = map without_return h.lines in
+      let many = length-map h.lines without_return in
+      let broke = λ (before last : List ℕ) (are : h.given ≡ before ++ last) (read : WasRead InGave InEnded InFailed before last).
+      among_given bytes h.given h.rest out fails h.lines all [] h.part h.outcomes before last h.front are read
+      (fewer_yet (omega (arith, many)) (fewer_in_front last h.split are)) h.split (sym (append-nil all)) h.answers h.replied in
+      elim h.cause [
+        | inl (may, failed) ↦ broke h.given [] (sym (append-nil h.given)) (inr (refl, inr failed))
+        | inr (long, (before, last, are, gave)) ↦ broke before last are (inl gave)
+      ]
+
+  pub broke_at_memory : {bytes out err : List ℕ} {status : ℕ} (fails : Option Bool) → MemoryFailed bytes InGave InEnded out err status
+      → WritingFailed bytes fails InGave InEnded InFailed out
+  broke_at_memory {bytes} {out} fails h =
+      among_given bytes (h.before ++ h.last) h.rest out fails h.lines h.first h.later h.part h.outcomes h.before h.last h.front refl
+      (elim h.read [ inl gave ↦ inl gave | inr (none, end) ↦ inr (none, inl end) ]) h.prompt h.split h.lines_are h.answers h.replied
 
 -- ---- how the input ended
 
@@ -92,9 +153,17 @@ regrouped : {bytes read text : List ℕ} {p : Place} (more : List ℕ) (g : Goes
     → bytes ≡ flat_map ended g.lines ++ (p.part ++ more)
 regrouped {p} more g e = e ∙ ap (λ (zs : List ℕ). zs ++ more) g.split ∙ append_assoc (flat_map ended g.lines) p.part more
 
+whole_lines : {read text : List ℕ} {p : Place} (g : Goes start read text p) → Splits read g.lines p.part
+whole_lines g = record { whole = g.split; each = g.each; rest = g.rest }
+
+-- a beginning of what was answered holds no more whole lines than were answered
+ahead : {before read text : List ℕ} {p : Place} (more : List ℕ) (g : Goes start read text p) → read ≡ before ++ more
+    → HoldFewer before (1 + length (map without_return g.lines))
+ahead more g e = fewer_yet (omega (arith, length-map g.lines without_return)) (fewer_in_front more (whole_lines g) e)
+
 -- the input ended
-at_end : {bytes text more : List ℕ} {p : Place} {v : Bool} {new : State} (fails : Option Bool) (InGave InEnded : List ℕ → Type 0) → InEnded bytes
-    → EndIsTold fails → Goes start bytes text p → Runs p.number p.state (last_line p.part) more v new
+at_end : {bytes text more : List ℕ} {p : Place} {v : Bool} {new : State} (fails : Option Bool) (InGave : List ℕ → List ℕ → Type 0)
+    (InEnded : List ℕ → Type 0) → InEnded bytes → EndIsTold fails → Goes start bytes text p → Runs p.number p.state (last_line p.part) more v new
     → AllAnswered bytes fails InGave InEnded (text ++ more) [] (cond (p.wanted || v) 1 0)
 at_end {p} {v} {new} fails InGave InEnded end told g h =
     let all = Runs-append g.runs (counted g) h in
@@ -103,18 +172,18 @@ at_end {p} {v} {new} fails InGave InEnded end told g h =
       part = p.part;
       bad = None;
       outcomes = all.outcomes;
-      split = record { whole = g.split; each = g.each; rest = g.rest };
+      split = whole_lines g;
       answers = record { commands = all.commands; state = new; script = rw (all_given fails g.lines p.part told) all.script; run = all.run };
       ended = λ is. absurd (subst EndIsTold is told);
-      read = inl end;
+      read = inl (end, tt);
       replied = all.replied;
       err_is = refl;
       status_is = ap (λ (w : Bool). cond (w || v) 1 0) g.wanted_is ∙ ap (λ (w : Bool). cond w 1 0) all.wanted_is;
     }
 
 -- a line behind the whole ones is bad
-bad_answered : {bytes read text : List ℕ} {p : Place} (fails : Option Bool) (InGave InEnded : List ℕ → Type 0) (g : Goes start read text p)
-    (line : List ℕ) (lines more : List (List ℕ)) (part : List ℕ) → Splits bytes lines part
+bad_answered : {bytes read text : List ℕ} {p : Place} (fails : Option Bool) (InGave : List ℕ → List ℕ → Type 0) (InEnded : List ℕ → Type 0)
+    (g : Goes start read text p) (line : List ℕ) (lines more : List (List ℕ)) (part : List ℕ) → Splits bytes lines part
     → lines_given fails lines part ≡ map without_return g.lines ++ line ∷ more → IsBad line
     → ReadEnough bytes (Some (bad_at p.number line)) InGave InEnded
     → AllAnswered bytes fails InGave InEnded text (report (Some (bad_at p.number line))) 2
@@ -149,9 +218,10 @@ whole_in s =
     )
 
 -- a line that ends with a line feed is bad
-at_bad : {bytes given text : List ℕ} {r : Report} (rest : List ℕ) (fails : Option Bool) (InGave InEnded : List ℕ → Type 0) → InGave given
-    → bytes ≡ given ++ rest → StopsAtBad start given r text → AllAnswered bytes fails InGave InEnded text (ended (report_text r)) 2
-at_bad {bytes} {given} rest fails InGave InEnded gave e s =
+at_bad : {bytes before last text : List ℕ} {r : Report} (rest beyond : List ℕ) (fails : Option Bool) (InGave : List ℕ → List ℕ → Type 0)
+    (InEnded : List ℕ → Type 0) → InGave before last → bytes ≡ (before ++ last) ++ rest → (s : StopsAtBad start (before ++ last) r text)
+    → s.read ≡ before ++ beyond → AllAnswered bytes fails InGave InEnded text (ended (report_text r)) 2
+at_bad {bytes} {before} {last} rest beyond fails InGave InEnded gave e s front =
     let part = s.place.part in
     let (later, end, split) = split_line part (s.unread ++ rest) s.goes.rest in
     let (more, among) = first_given fails s.goes.lines (part ∷ later) end in
@@ -159,27 +229,31 @@ at_bad {bytes} {given} rest fails InGave InEnded gave e s =
     e ∙ ap (λ (zs : List ℕ). zs ++ rest) s.bytes_are ∙ append_assoc s.read (line_feed ∷ s.unread) rest in
     rw s.report_is (bad_answered fails InGave InEnded s.goes (without_return part) (s.goes.lines ++ part ∷ later) (map without_return later ++ more) end
     (Splits-more s.goes.lines (part ∷ later) s.goes.each split (regrouped (line_feed ∷ s.unread ++ rest) s.goes whole)) among s.bad
-    (inr (given, rest, e, gave, whole_in s)))
+    (inr (before, last, rest, e, gave, fewer_yet (omega (arith, counted s.goes)) (ahead beyond s.goes front), whole_in s)))
 
 -- what follows the last line feed is bad
-at_bad_end : {bytes text : List ℕ} {p : Place} (fails : Option Bool) (InGave InEnded : List ℕ → Type 0) → InEnded bytes → EndIsTold fails
-    → Goes start bytes text p → last_line p.part ≡ p.part ∷ [] → IsBad p.part
+at_bad_end : {bytes text : List ℕ} {p : Place} (fails : Option Bool) (InGave : List ℕ → List ℕ → Type 0) (InEnded : List ℕ → Type 0)
+    → InEnded bytes → EndIsTold fails → Goes start bytes text p → last_line p.part ≡ p.part ∷ [] → IsBad p.part
     → AllAnswered bytes fails InGave InEnded text (report (Some (bad_at p.number p.part))) 2
 at_bad_end {p} fails InGave InEnded end told g whole bad =
-    bad_answered fails InGave InEnded g p.part g.lines [] p.part (record { whole = g.split; each = g.each; rest = g.rest })
-    (all_given fails g.lines p.part told ∙ ap (λ (zs : List (List ℕ)). map without_return g.lines ++ zs) whole) bad (inl end)
+    bad_answered fails InGave InEnded g p.part g.lines [] p.part (whole_lines g)
+    (all_given fails g.lines p.part told ∙ ap (λ (zs : List (List ℕ)). map without_return g.lines ++ zs) whole) bad
+    (inl (end, (g.lines, p.part, whole_lines g, omega (arith, counted g, length-map g.lines without_return))))
 
 -- no memory was found
-at_memory : {bytes given text : List ℕ} (rest : List ℕ) (InGave InEnded : List ℕ → Type 0) → bytes ≡ given ++ rest → InGave given ⊎ InEnded given
-    → Begins start given text → MemoryFailed bytes InGave InEnded text (codes "error: Out of memory\n") 1
-at_memory {given} rest InGave InEnded e gave s =
+at_memory : {bytes before last text : List ℕ} (rest more : List ℕ) (InGave : List ℕ → List ℕ → Type 0) (InEnded : List ℕ → Type 0)
+    → bytes ≡ (before ++ last) ++ rest → InGave before last ⊎ ((last ≡ []) × InEnded before) → (s : Begins start (before ++ last) text)
+    → s.read ≡ before ++ more → MemoryFailed bytes InGave InEnded text (codes "error: Out of memory\n") 1
+at_memory {bytes} {before} {last} rest more InGave InEnded e read s begins =
     let g = s.goes in
     let (later, end, split) = splits (s.place.part ++ s.unread) in
     record {
-      given = given;
+      before = before;
+      last = last;
       rest = rest;
       front = e;
-      gave = gave;
+      read = read;
+      prompt = ahead more g begins;
       lines = g.lines ++ later;
       part = end;
       first = map without_return g.lines;
@@ -194,13 +268,16 @@ at_memory {given} rest InGave InEnded e gave s =
     }
 
 -- a write of a reply to the first lines failed
-pub at_write : {bytes given text : List ℕ} (rest : List ℕ) (fails : Option Bool) → bytes ≡ given ++ rest → Begins start given text
-    → WritingFailed bytes fails text
-at_write rest fails e s = broke_at_memory fails (at_memory rest (λ zs. Unit {0}) (λ zs. Unit {0}) e (inl tt) s)
+pub at_write : {bytes before last text : List ℕ} (rest more : List ℕ) (fails : Option Bool) (InGave : List ℕ → List ℕ → Type 0)
+    (InEnded InFailed : List ℕ → Type 0) → bytes ≡ (before ++ last) ++ rest → InGave before last → (s : Begins start (before ++ last) text)
+    → s.read ≡ before ++ more → WritingFailed bytes fails InGave InEnded InFailed text
+at_write rest more fails InGave InEnded InFailed e gave s begins = broke_at_memory fails (at_memory rest more InGave InEnded e (inl gave) s begins)
 
 -- reading failed
-pub at_failure : {bytes given text : List ℕ} {fails : Option Bool} {InGave InFailed : List ℕ → Type 0} {p : Place} (rest : List ℕ) → bytes ≡ given ++ rest
-    → (MayErr fails (Some rest) × InFailed given) ⊎ ((2 ^ 64 - 1 ≤ length given) × InGave given) → Goes start given text p
+pub at_failure : {bytes given text : List ℕ} {fails : Option Bool} {InGave : List ℕ → List ℕ → Type 0} {InFailed : List ℕ → Type 0} {p : Place}
+    (rest : List ℕ) → bytes ≡ given ++ rest
+    → (MayErr fails (Some rest) × InFailed given)
+    ⊎ ((2 ^ 64 - 1 ≤ length given) × ((before : List ℕ) × (last : List ℕ) × (given ≡ before ++ last) × InGave before last)) → Goes start given text p
     → ReadingFailed bytes fails InGave InFailed text (codes "error: reading failed\n") 1
 at_failure {given} {p} rest e cause g = record {
   given = given;
@@ -210,28 +287,41 @@ at_failure {given} {p} rest e cause g = record {
   outcomes = g.runs.outcomes;
   front = e;
   cause = cause;
-  split = record { whole = g.split; each = g.each; rest = g.rest };
+  split = whole_lines g;
   answers = record { commands = g.runs.commands; state = p.state; script = g.runs.script; run = g.runs.run };
   replied = g.runs.replied;
   err_is = refl;
   status_is = refl;
 }
 
--- a fault in a stretch from the start on ended the whole
-pub Ends-stops : {bytes given : List ℕ} (rest : List ℕ) (fails : Option Bool) (InGave InEnded InFailed OutGets OutBroke : List ℕ → Type 0)
-    (fault : Fault) → bytes ≡ given ++ rest → InGave given → Stops start given OutGets OutBroke fault
-    → Ends bytes fails InGave InEnded InFailed OutGets OutBroke (Err fault)
-Ends-stops rest fails InGave InEnded InFailed OutGets OutBroke (BadLine r) e gave (text, s, gets) =
-    (text, at_bad rest fails InGave InEnded gave e s, gets)
-Ends-stops rest fails InGave InEnded InFailed OutGets OutBroke ReadFailed e gave stops = absurd stops
-Ends-stops rest fails InGave InEnded InFailed OutGets OutBroke WriteFailed e gave (text, s, broke) = (text, at_write rest fails e s, broke)
-Ends-stops rest fails InGave InEnded InFailed OutGets OutBroke OutOfMemory e gave (text, s, gets) =
-    (text, at_memory rest InGave InEnded e (inl gave) s, gets)
-
 module _ {S : Type 0} (takes fails_on : S → List ℕ → S → Type 0) (flushes flush_fails : S → S → Type 0) where
+  -- a fault in what the last read gave ended the whole
+  pub Ends-stops : {bytes given : List ℕ} {now : Place} {before mid : S} (last rest : List ℕ) (fails : Option Bool)
+      (InGave : List ℕ → List ℕ → Type 0) (InEnded InFailed : List ℕ → Type 0) (after : S) (fault : Fault) → bytes ≡ (given ++ last) ++ rest
+      → InGave given last → Went takes flushes start given now before mid → Halts takes fails_on flushes flush_fails now last mid after fault
+      → Ends bytes fails InGave InEnded InFailed (λ text. Sends takes flushes before text after)
+      (λ text. BrokeOn takes fails_on flushes flush_fails before text after) (Err fault)
+  Ends-stops last rest fails InGave InEnded InFailed after (BadLine r) e gave (front, goes, passed) (text, s, sent) = (
+    front ++ text,
+    at_bad rest s.read fails InGave InEnded gave e (stops_later goes s) refl,
+    sends_joined takes flushes _ _ _ _ _ passed sent,
+  )
+  Ends-stops last rest fails InGave InEnded InFailed after ReadFailed e gave went stops = absurd stops
+  Ends-stops last rest fails InGave InEnded InFailed after WriteFailed e gave (front, goes, passed) (text, s, broke) = (
+    front ++ text,
+    at_write rest s.read fails InGave InEnded InFailed e gave (Begins-later goes s) refl,
+    broke_on_later passed broke,
+  )
+  Ends-stops last rest fails InGave InEnded InFailed after OutOfMemory e gave (front, goes, passed) (text, s, sent) = (
+    front ++ text,
+    at_memory rest s.read InGave InEnded e (inl gave) (Begins-later goes s) refl,
+    sends_joined takes flushes _ _ _ _ _ passed sent,
+  )
+
   -- all of the input was read, and what follows the last line feed was answered, or a fault ended it
-  pub Ends-all : {bytes : List ℕ} {now : Place} {before mid : S} (fails : Option Bool) (InGave InEnded InFailed : List ℕ → Type 0) (new : State)
-      (after : S) (result : Result Bool Fault) → Went takes flushes start bytes now before mid → InEnded bytes → EndIsTold fails
+  pub Ends-all : {bytes : List ℕ} {now : Place} {before mid : S} (fails : Option Bool) (InGave : List ℕ → List ℕ → Type 0)
+      (InEnded InFailed : List ℕ → Type 0) (new : State) (after : S) (result : Result Bool Fault) → Went takes flushes start bytes now before mid
+      → InEnded bytes → EndIsTold fails
       → IfOk result (λ wanted. (text : List ℕ) × (last : Bool) × Runs now.number now.state (last_line now.part) text last new
       × (wanted ≡ (now.wanted || last)) × Sends takes flushes mid text after)
       → IfErr result (λ fault. (last_line now.part ≡ now.part ∷ []) × LineStops now.number now.state now.part (Sends takes flushes mid [] after)
@@ -246,8 +336,11 @@ module _ {S : Type 0} (takes fails_on : S → List ℕ → S → Type 0) (flushe
   Ends-all fails InGave InEnded InFailed new after (Err ReadFailed) p end told ok (whole, stops) = absurd stops
   Ends-all fails InGave InEnded InFailed new after (Err WriteFailed) (front, goes, passed) end told ok (whole, (text, wanted, state, runs, broke)) =
       (front ++ text, broke_at_end (at_end {v = wanted} {new = state} fails InGave InEnded end told goes (rw whole runs)), broke_on_later passed broke)
-  Ends-all {bytes} fails InGave InEnded InFailed new after (Err OutOfMemory) (front, goes, passed) end told ok (whole, sent) =
-      (front, at_memory [] InGave InEnded (sym (append-nil bytes)) (inr end) (Begins-all goes), sent_still passed sent)
+  Ends-all {bytes} {now} fails InGave InEnded InFailed new after (Err OutOfMemory) (front, goes, passed) end told ok (whole, sent) =
+      let all : bytes ≡ (bytes ++ []) ++ [] = sym (append-nil (bytes ++ []) ∙ append-nil bytes) in
+      let begins : Begins start (bytes ++ []) front =
+      record { read = bytes; unread = []; place = now; bytes_are = refl; goes = goes } in
+      (front, at_memory [] [] InGave InEnded all (inr (refl, end)) begins (sym (append-nil bytes)), sent_still passed sent)
 
 pub Consumes-none : (known : Option (List ℕ)) → Consumes known known []
 Consumes-none None = tt
@@ -280,3 +373,9 @@ reads_more gave {s} {t} piece count u some f one =
       calls = folds_joined (λ x b y. gave x b.piece (Ok b.count) y) s f.attempts t (a ∷ []) u f.calls (u, one, refl);
       whole = flat_map-append given_by f.attempts (a ∷ []) ∙ (λ i. f.whole i ++ append-nil (take count piece) i);
     }
+
+-- what all reads gave
+pub reads_all : {R : Type 0} (gave : R → List ℕ → Result ℕ ReadError → R → Type 0) {s t : R} {before last : List ℕ}
+    → ReadsTo gave s before last t → Reads gave s (before ++ last) t
+reads_all gave {s} (inl (none, also, same)) = rw (none, also, same) (reads_nothing gave s)
+reads_all gave {s} {t} (inr (mid, one, reads, told, is)) = rw is (reads_more gave one.piece one.count t one.some reads told)

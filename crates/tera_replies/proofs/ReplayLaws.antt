@@ -16,7 +16,7 @@ pub told_comes : {S E : Type 0} (takes fails : S → List ℕ → S → Type 0) 
 told_comes takes fails (Ok done) text old new h = inl h
 told_comes takes fails (Err fault) text old new h = inr h
 
-module _ (bytes : List ℕ) (fails : Option Bool) (InGave InEnded InFailed : List ℕ → Type 0) where
+module _ (bytes : List ℕ) (fails : Option Bool) (InGave : List ℕ → List ℕ → Type 0) (InEnded InFailed : List ℕ → Type 0) where
   -- what is due where no write failed
   ends_write : (OutGets OutBroke : List ℕ → Type 0) (ending : Result Bool Fault) → ending ≢ Err WriteFailed
       → Ends bytes fails InGave InEnded InFailed OutGets OutBroke ending
@@ -27,7 +27,8 @@ module _ (bytes : List ℕ) (fails : Option Bool) (InGave InEnded InFailed : Lis
   ends_write OutGets OutBroke (Err WriteFailed) other h = absurd (other refl)
   ends_write OutGets OutBroke (Err OutOfMemory) other (out, h, gets) = (out, inr (inr h), gets)
 
-  due : (out err : List ℕ) (status : ℕ) → Writes bytes fails InGave InEnded InFailed out err status → WritingFailed bytes fails out
+  due : (out err : List ℕ) (status : ℕ) → Writes bytes fails InGave InEnded InFailed out err status
+      → WritingFailed bytes fails InGave InEnded InFailed out
   due out err status (inl h) = broke_at_end h
   due out err status (inr (inl h)) = broke_at_failure h
   due out err status (inr (inr h)) = broke_at_memory fails h
@@ -49,80 +50,108 @@ module _ (bytes : List ℕ) (fails : Option Bool) (InGave InEnded InFailed : Lis
       let (out, writes, sent) = ends_write _ _ ending other h in
       rw is (inr (out, due out (told ending) (status_at ending) writes, broke_on_flush sent failed, refl, rw is at tells))
 
-read_weaker : (bytes : List ℕ) (bad : Option Bad) (InGave InEnded InHad InDone : List ℕ → Type 0) → ((given : List ℕ) → InGave given → InHad given)
-    → ((given : List ℕ) → InEnded given → InDone given) → ReadEnough bytes bad InGave InEnded → ReadEnough bytes bad InHad InDone
-read_weaker bytes bad InGave InEnded InHad InDone had done (inl end) = inl (done bytes end)
-read_weaker bytes bad InGave InEnded InHad InDone had done (inr (given, rest, front, gave, whole)) = inr (given, rest, front, had given gave, whole)
+-- what stands behind others
+module _ {InGave InHad : List ℕ → List ℕ → Type 0} {InEnded InFailed InDone InFaulty : List ℕ → Type 0}
+    (had : (before last : List ℕ) → InGave before last → InHad before last) (done : (given : List ℕ) → InEnded given → InDone given)
+    (faulty : (given : List ℕ) → InFailed given → InFaulty given) where
+  read_weaker : (bytes : List ℕ) (bad : Option Bad) → ReadEnough bytes bad InGave InEnded → ReadEnough bytes bad InHad InDone
+  read_weaker bytes bad (inl (end, behind)) = inl (done bytes end, behind)
+  read_weaker bytes bad (inr (before, last, rest, front, gave, behind, whole)) =
+      inr (before, last, rest, front, had before last gave, behind, whole)
 
-writes_weaker : (bytes : List ℕ) (fails : Option Bool) (InGave InEnded InFailed InHad InDone InFaulty : List ℕ → Type 0) (out err : List ℕ) (status : ℕ)
-    → ((given : List ℕ) → InGave given → InHad given) → ((given : List ℕ) → InEnded given → InDone given)
-    → ((given : List ℕ) → InFailed given → InFaulty given)
-    → Writes bytes fails InGave InEnded InFailed out err status → Writes bytes fails InHad InDone InFaulty out err status
-writes_weaker bytes fails InGave InEnded InFailed InHad InDone InFaulty out err status had done faulty (inl h) = inl (record {
-  lines = h.lines;
-  part = h.part;
-  bad = h.bad;
-  outcomes = h.outcomes;
-  split = h.split;
-  answers = h.answers;
-  ended = h.ended;
-  read = read_weaker bytes h.bad InGave InEnded InHad InDone had done h.read;
-  replied = h.replied;
-  err_is = h.err_is;
-  status_is = h.status_is;
-})
-writes_weaker bytes fails InGave InEnded InFailed InHad InDone InFaulty out err status had done faulty (inr (inl h)) = inr (inl (record {
-  given = h.given;
-  rest = h.rest;
-  lines = h.lines;
-  part = h.part;
-  outcomes = h.outcomes;
-  front = h.front;
-  cause = elim h.cause [ inl (may, failed) ↦ inl (may, faulty h.given failed) | inr (long, gave) ↦ inr (long, had h.given gave) ];
-  split = h.split;
-  answers = h.answers;
-  replied = h.replied;
-  err_is = h.err_is;
-  status_is = h.status_is;
-}))
-writes_weaker bytes fails InGave InEnded InFailed InHad InDone InFaulty out err status had done faulty (inr (inr h)) = inr (inr (record {
-  given = h.given;
-  rest = h.rest;
-  lines = h.lines;
-  part = h.part;
-  first = h.first;
-  later = h.later;
-  outcomes = h.outcomes;
-  front = h.front;
-  gave = elim h.gave [ inl gave ↦ inl (had h.given gave) | inr end ↦ inr (done h.given end) ];
-  split = h.split;
-  lines_are = h.lines_are;
-  answers = h.answers;
-  replied = h.replied;
-  err_is = h.err_is;
-  status_is = h.status_is;
-}))
+  pub writes_weaker : {bytes : List ℕ} {fails : Option Bool} {out err : List ℕ} {status : ℕ} → Writes bytes fails InGave InEnded InFailed out err status
+      → Writes bytes fails InHad InDone InFaulty out err status
+  writes_weaker {bytes} (inl h) = inl (record {
+    lines = h.lines;
+    part = h.part;
+    bad = h.bad;
+    outcomes = h.outcomes;
+    split = h.split;
+    answers = h.answers;
+    ended = h.ended;
+    read = read_weaker bytes h.bad h.read;
+    replied = h.replied;
+    err_is = h.err_is;
+    status_is = h.status_is;
+  })
+  writes_weaker (inr (inl h)) = inr (inl (record {
+    given = h.given;
+    rest = h.rest;
+    lines = h.lines;
+    part = h.part;
+    outcomes = h.outcomes;
+    front = h.front;
+    cause = elim h.cause [
+      | inl (may, failed) ↦ inl (may, faulty h.given failed)
+      | inr (long, (before, last, are, gave)) ↦ inr (long, (before, last, are, had before last gave))
+    ];
+    split = h.split;
+    answers = h.answers;
+    replied = h.replied;
+    err_is = h.err_is;
+    status_is = h.status_is;
+  }))
+  writes_weaker (inr (inr h)) = inr (inr (record {
+    before = h.before;
+    last = h.last;
+    rest = h.rest;
+    lines = h.lines;
+    part = h.part;
+    first = h.first;
+    later = h.later;
+    outcomes = h.outcomes;
+    front = h.front;
+    read = elim h.read [ inl gave ↦ inl (had h.before h.last gave) | inr (none, end) ↦ inr (none, done h.before end) ];
+    split = h.split;
+    lines_are = h.lines_are;
+    prompt = h.prompt;
+    answers = h.answers;
+    replied = h.replied;
+    err_is = h.err_is;
+    status_is = h.status_is;
+  }))
+
+  pub broke_weaker : {bytes : List ℕ} {fails : Option Bool} {out : List ℕ} → WritingFailed bytes fails InGave InEnded InFailed out
+      → WritingFailed bytes fails InHad InDone InFaulty out
+  broke_weaker h = record {
+    before = h.before;
+    last = h.last;
+    rest = h.rest;
+    lines = h.lines;
+    part = h.part;
+    first = h.first;
+    later = h.later;
+    bad = h.bad;
+    outcomes = h.outcomes;
+    front = h.front;
+    read = elim h.read [
+      | inl gave ↦ inl (had h.before h.last gave)
+      | inr (none, inl end) ↦ inr (none, inl (done h.before end))
+      | inr (none, inr failed) ↦ inr (none, inr (faulty h.before failed))
+    ];
+    split = h.split;
+    lines_are = h.lines_are;
+    prompt = h.prompt;
+    fresh = h.fresh;
+    answers = h.answers;
+    replied = h.replied;
+  }
 
 -- the theorem of what stands behind others
-pub replays_weaker : (first : Option (List ℕ)) (fails : Option Bool)
-    (InGave InEnded InFailed InHad InDone InFaulty OutGets OutHas OutBroke OutFaulty ErrGets ErrHas : List ℕ → Type 0) (status : ℕ)
-    → ((given : List ℕ) → InGave given → InHad given) → ((given : List ℕ) → InEnded given → InDone given)
+pub replays_weaker : (first : Option (List ℕ)) (fails : Option Bool) (InGave InHad : List ℕ → List ℕ → Type 0)
+    (InEnded InFailed InDone InFaulty OutGets OutHas OutBroke OutFaulty ErrGets ErrHas : List ℕ → Type 0) (status : ℕ)
+    → ((before last : List ℕ) → InGave before last → InHad before last) → ((given : List ℕ) → InEnded given → InDone given)
     → ((given : List ℕ) → InFailed given → InFaulty given)
     → ((text : List ℕ) → OutGets text → OutHas text) → ((text : List ℕ) → OutBroke text → OutFaulty text) → ((text : List ℕ) → ErrGets text → ErrHas text)
     → IfSome first (λ bytes. Replays bytes fails InGave InEnded InFailed OutGets OutBroke ErrGets status)
     → IfSome first (λ bytes. Replays bytes fails InHad InDone InFaulty OutHas OutFaulty ErrHas status)
-replays_weaker None fails InGave InEnded InFailed InHad InDone InFaulty OutGets OutHas OutBroke OutFaulty ErrGets ErrHas status had done faulty out broke err
+replays_weaker None fails InGave InHad InEnded InFailed InDone InFaulty OutGets OutHas OutBroke OutFaulty ErrGets ErrHas status had done faulty out broke err
     h = tt
-replays_weaker (Some bytes) fails InGave InEnded InFailed InHad InDone InFaulty OutGets OutHas OutBroke OutFaulty ErrGets ErrHas status had done faulty out
-    broke err (inl (answers, report, writes, gets, told)) = inl (
-      answers,
-      report,
-      writes_weaker bytes fails InGave InEnded InFailed InHad InDone InFaulty answers report status had done faulty writes,
-      out answers gets,
-      err report told,
-    )
-replays_weaker (Some bytes) fails InGave InEnded InFailed InHad InDone InFaulty OutGets OutHas OutBroke OutFaulty ErrGets ErrHas status had done faulty out
-    broke err (inr (due, failed, is_broken, is, told)) = inr (due, failed, broke due is_broken, is, err _ told)
+replays_weaker (Some bytes) fails InGave InHad InEnded InFailed InDone InFaulty OutGets OutHas OutBroke OutFaulty ErrGets ErrHas status had done faulty out
+    broke err (inl (answers, report, writes, gets, told)) =
+    inl (answers, report, writes_weaker had done faulty writes, out answers gets, err report told)
+replays_weaker (Some bytes) fails InGave InHad InEnded InFailed InDone InFaulty OutGets OutHas OutBroke OutFaulty ErrGets ErrHas status had done faulty out
+    broke err (inr (due, failed, is_broken, is, told)) = inr (due, broke_weaker had done faulty failed, broke due is_broken, is, err _ told)
 
 -- ---- watched writers
 

@@ -42,16 +42,17 @@ pub line_answered : (result : Result Bool Fault) (Replies OutGets OutBroke : Lis
     → record {
       ok : IfOk result (λ wanted. (text : List ℕ) × Runs n old (line ∷ []) text wanted new × OutGets text);
       err : IfErr result (LineStops n old line OutStays OutBroke);
+      only : IfErr result (λ fault. fault ≡ WriteFailed);
       unchanged : IfErr result (λ fault. fault ≢ WriteFailed → Same);
       ran : IfErr result (IfWriteFailed ((text : List ℕ) × (wanted : Bool) × Runs n old (line ∷ []) text wanted new));
     }
 line_answered (Ok wanted) Replies OutGets OutBroke OutStays Same n old new line w then (reply, is, gets, same) err =
-    record { ok = (reply, rw same (then reply is), gets); err = tt; unchanged = tt; ran = tt }
+    record { ok = (reply, rw same (then reply is), gets); err = tt; only = tt; unchanged = tt; ran = tt }
 line_answered (Err (BadLine report)) Replies OutGets OutBroke OutStays Same n old new line w then ok err = absurd err
 line_answered (Err ReadFailed) Replies OutGets OutBroke OutStays Same n old new line w then ok err = absurd err
 line_answered (Err WriteFailed) Replies OutGets OutBroke OutStays Same n old new line w then ok (reply, is, broke) =
     let ran = then reply is in
-    record { ok = tt; err = (reply, w, new, ran, broke); unchanged = λ other. absurd (other refl); ran = (reply, w, ran) }
+    record { ok = tt; err = (reply, w, new, ran, broke); only = refl; unchanged = λ other. absurd (other refl); ran = (reply, w, ran) }
 line_answered (Err OutOfMemory) Replies OutGets OutBroke OutStays Same n old new line w then ok err = absurd err
 
 -- a reply was put, or a write failed

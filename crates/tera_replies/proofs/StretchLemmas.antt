@@ -9,9 +9,9 @@ use Rattle.tera_meaning.specs.{Outcome.Outcome, Outcome.is_want, Request.Command
 use Rattle.tera_script.specs.Line.{Says, IsSkipped}
 use Rattle.tera_replies.specs.Script.{BadLine as Bad, Script, Splits, HasNoLineFeed, ended, line_feed, without_return}
 use Rattle.tera_replies.specs.declared.fault.Fault.TheVariants.{BadLine, ReadFailed, WriteFailed, OutOfMemory}
-use Rattle.tera_replies.specs.{Stretch.Runs, Stretch.Place, Stretch.Goes, Stretch.Begins, Stretch.Stops, Stretch.LineStops, Reply.IsReply, Reply.AreReplies}
-use Rattle.tera_replies.specs.{declared.fault.Fault.Fault, Output.BrokeOn}
-use Rattle.tera_report.specs.Sink.{Sends}
+use Rattle.tera_replies.specs.{Stretch.Runs, Stretch.Place, Stretch.Goes, Stretch.Begins, Stretch.StopsAtBad, Stretch.Stops, Stretch.LineStops}
+use Rattle.tera_replies.specs.{Reply.IsReply, Reply.AreReplies, declared.fault.Fault.Fault, Output.BrokeOn}
+use Rattle.tera_report.specs.{Report.Report, Sink.Sends}
 use Rattle.tera_report.proofs.SentLaws.{sends_nothing, sends_flush, sends_joined}
 use Rattle.tera_replies.proofs.ReplyLemmas.{broke_on_later}
 
@@ -248,16 +248,29 @@ pub Begins-none : (a : Place) (bytes : List ℕ) → HasNoLineFeed a.part → Be
 Begins-none a bytes part_in = record { read = []; unread = bytes; place = a; bytes_are = refl; goes = Goes-none a part_in }
 
 -- all of some bytes are a beginning of them
-pub Begins-all : {a b : Place} {bytes text : List ℕ} → Goes a bytes text b → Begins a bytes text
+abbrev pub Begins-all : {a b : Place} {bytes text : List ℕ} → Goes a bytes text b → Begins a bytes text
 Begins-all {b} {bytes} goes = record { read = bytes; unread = []; place = b; bytes_are = sym (append-nil bytes); goes = goes }
 
-Begins-later : {a b : Place} {read bytes text more : List ℕ} → Goes a read text b → Begins b bytes more → Begins a (read ++ bytes) (text ++ more)
+abbrev pub Begins-later : {a b : Place} {read bytes text more : List ℕ} → Goes a read text b → Begins b bytes more → Begins a (read ++ bytes) (text ++ more)
 Begins-later {read} goes s = record {
   read = read ++ s.read;
   unread = s.unread;
   place = s.place;
   bytes_are = ap (λ (zs : List ℕ). read ++ zs) s.bytes_are ∙ sym (append_assoc read s.read s.unread);
   goes = Goes-append goes s.goes;
+}
+
+-- a bad line behind a stretch
+abbrev pub stops_later : {a b : Place} {read bytes text more : List ℕ} {report : Report} → Goes a read text b → StopsAtBad b bytes report more
+    → StopsAtBad a (read ++ bytes) report (text ++ more)
+stops_later {read} goes s = record {
+  read = read ++ s.read;
+  unread = s.unread;
+  place = s.place;
+  bytes_are = ap (λ (zs : List ℕ). read ++ zs) s.bytes_are ∙ sym (append_assoc read s.read (line_feed ∷ s.unread));
+  goes = Goes-append goes s.goes;
+  bad = s.bad;
+  report_is = s.report_is;
 }
 
 module _ {S : Type 0} (takes fails : S → List ℕ → S → Type 0) (flushes flush_fails : S → S → Type 0) where
@@ -269,19 +282,8 @@ module _ {S : Type 0} (takes fails : S → List ℕ → S → Type 0) (flushes f
   -- a fault behind a stretch is one of the whole
   pub Halts-later : {old now : Place} {read : List ℕ} {before mid : S} (bytes : List ℕ) (after : S) (fault : Fault)
       → Went takes flushes old read now before mid → Halts now bytes mid after fault → Halts old (read ++ bytes) before after fault
-  Halts-later {read} bytes after (BadLine report) (front, goes, passed) (text, s, sent) = (
-    front ++ text,
-    record {
-      read = read ++ s.read;
-      unread = s.unread;
-      place = s.place;
-      bytes_are = ap (λ (zs : List ℕ). read ++ zs) s.bytes_are ∙ sym (append_assoc read s.read (line_feed ∷ s.unread));
-      goes = Goes-append goes s.goes;
-      bad = s.bad;
-      report_is = s.report_is;
-    },
-    sends_joined takes flushes _ _ _ _ _ passed sent,
-  )
+  Halts-later bytes after (BadLine report) (front, goes, passed) (text, s, sent) =
+      (front ++ text, stops_later goes s, sends_joined takes flushes _ _ _ _ _ passed sent)
   Halts-later bytes after ReadFailed p stops = absurd stops
   Halts-later bytes after WriteFailed (front, goes, passed) (text, s, broke) = (front ++ text, Begins-later goes s, broke_on_later passed broke)
   Halts-later bytes after OutOfMemory (front, goes, passed) (text, s, sent) =

@@ -5,14 +5,15 @@ use Rattle.std.specs.Io.KnownBytes.{Appends}
 use Rattle.tera_report.specs.Sink.{Delivers, Sends}
 use Rattle.tera_report.specs.Writer.{Passes, Breaks, Flushes, FlushFails}
 use Rattle.tera_replies.specs.declared.source.ReadError.{ReadError}
-use Rattle.tera_replies.specs.Source.{Reads, ReadEnds, ReadFails}
+use Rattle.tera_replies.specs.Source.{ReadsTo, ReadEnds, ReadFails}
 
--- reads of a source from this state on, which is then dropped, gave just these bytes
+-- reads of a source from this state on, which is then dropped, gave just these bytes, and one more
+-- the last ones; or none was made
 abbrev pub Gave : {S : Type 0} → (S → List ℕ → Result ℕ ReadError → S → Type 0)
-    → S → List ℕ → Type 0
-Gave {S} gave old bytes = (new : S) × Reads gave old bytes new
+    → S → List ℕ → List ℕ → Type 0
+Gave {S} gave old before last = (new : S) × ReadsTo gave old before last new
 
--- and then a read of it told the end
+-- reads of it gave just these bytes, and then one told the end
 abbrev pub Ended : {S : Type 0} → (S → List ℕ → Result ℕ ReadError → S → Type 0)
     → S → List ℕ → Type 0
 Ended {S} gave old bytes = (new : S) × ReadEnds gave old bytes new

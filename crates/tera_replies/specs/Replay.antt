@@ -1,6 +1,6 @@
 -- What a replay writes, and the status with which it ends.
-use Rattle.std.specs.Prelude.{◌≡◌, ℕ, ◌-◌, ◌^◌, ◌≤◌, ◌⊎◌, Bool, true, false, List, [], ◌++◌, map}
-use Rattle.std.specs.Prelude.{length, codes, decimal, Option, None, Some, IsSome}
+use Rattle.std.specs.Prelude.{◌≡◌, ℕ, ◌+◌, ◌-◌, ◌^◌, ◌≤◌, ◌<◌, ◌⊎◌, Bool, true, false, List, []}
+use Rattle.std.specs.Prelude.{◌++◌, map, length, codes, decimal, Option, None, Some, IsSome}
 use Rattle.std.specs.Prelude.{if◌then◌else◌}
 use Rattle.std.specs.List.{list_any}
 use Rattle.std.specs.FinMap.{empty}
@@ -69,6 +69,11 @@ lines_given (Some true) lines part = map without_return lines
 lines_given (Some false) lines part = map without_return lines ++ last_line part
 lines_given None lines part = map without_return lines ++ last_line part
 
+-- the bytes hold fewer whole lines than n
+abbrev pub HoldFewer : List ℕ → ℕ → Type 0
+HoldFewer bytes n =
+    (lines : List (List ℕ)) × (part : List ℕ) × Splits bytes lines part × (length lines < n)
+
 -- the bad line is among those that these bytes hold whole
 abbrev pub IsWholeIn : List ℕ → Option BadLine → Type 0
 IsWholeIn given None = ⊥
@@ -76,17 +81,23 @@ IsWholeIn given (Some bad) =
     (lines : List (List ℕ)) × (part : List ℕ) × Splits given lines part
     × (bad.number ≤ length lines)
 
--- Reads gave all of the bytes and then the end; or they gave some, among these the bad line whole.
--- No other read was made.
-abbrev pub ReadEnough : List ℕ → Option BadLine → (List ℕ → Type 0) → (List ℕ → Type 0) → Type 0
+-- the bad line, if there is one, is not among these
+abbrev pub IsBehind : List ℕ → Option BadLine → Type 0
+IsBehind given None = Unit {0}
+IsBehind given (Some bad) = HoldFewer given bad.number
+
+-- Reads gave all of the bytes and then the end, and no line that has a line feed is bad; or they
+-- gave some, and the last of them made the bad line whole. No other read was made.
+abbrev pub ReadEnough : List ℕ → Option BadLine → (List ℕ → List ℕ → Type 0)
+    → (List ℕ → Type 0) → Type 0
 ReadEnough bytes bad InGave InEnded =
-    InEnded bytes
-    ⊎ ((given : List ℕ) × (rest : List ℕ) × (bytes ≡ given ++ rest) × InGave given
-    × IsWholeIn given bad)
+    (InEnded bytes × IsBehind bytes bad)
+    ⊎ ((before : List ℕ) × (last : List ℕ) × (rest : List ℕ) × (bytes ≡ (before ++ last) ++ rest)
+    × InGave before last × IsBehind before bad × IsWholeIn (before ++ last) bad)
 
 -- The input ended, or a line that was given whole is bad: each line up to there is answered.
-pub record AllAnswered (bytes : List ℕ) (fails : Option Bool) (InGave InEnded : List ℕ → Type 0)
-    (out err : List ℕ) (status : ℕ) : Type 0 where
+pub record AllAnswered (bytes : List ℕ) (fails : Option Bool) (InGave : List ℕ → List ℕ → Type 0)
+    (InEnded : List ℕ → Type 0) (out err : List ℕ) (status : ℕ) : Type 0 where
   pub lines : List (List ℕ)
   pub part : List ℕ
   pub bad : Option BadLine
@@ -101,8 +112,9 @@ pub record AllAnswered (bytes : List ℕ) (fails : Option Bool) (InGave InEnded 
 
 -- Reads gave some of the bytes, and then one failed, or they went on past their bound: each line
 -- that was given whole is answered.
-pub record ReadingFailed (bytes : List ℕ) (fails : Option Bool) (InGave InFailed : List ℕ → Type 0)
-    (out err : List ℕ) (status : ℕ) : Type 0 where
+pub record ReadingFailed (bytes : List ℕ) (fails : Option Bool)
+    (InGave : List ℕ → List ℕ → Type 0) (InFailed : List ℕ → Type 0) (out err : List ℕ)
+    (status : ℕ) : Type 0 where
   pub given : List ℕ
   pub rest : List ℕ
   pub lines : List (List ℕ)
@@ -110,7 +122,8 @@ pub record ReadingFailed (bytes : List ℕ) (fails : Option Bool) (InGave InFail
   pub outcomes : List Outcome
   pub front : bytes ≡ given ++ rest
   pub cause : (MayErr fails (Some rest) × InFailed given)
-      ⊎ ((2 ^ 64 - 1 ≤ length given) × InGave given)
+      ⊎ ((2 ^ 64 - 1 ≤ length given)
+      × ((before : List ℕ) × (last : List ℕ) × (given ≡ before ++ last) × InGave before last))
   pub split : Splits given lines part
   pub answers : AreAnswered (map without_return lines) None outcomes
   pub replied : AreReplies outcomes out
@@ -118,42 +131,55 @@ pub record ReadingFailed (bytes : List ℕ) (fails : Option Bool) (InGave InFail
   pub status_is : status ≡ 1
 
 -- Reads gave some of the bytes, or all and the end, and the program itself found no memory: the
--- first of the lines that were given whole are answered.
-pub record MemoryFailed (bytes : List ℕ) (InGave InEnded : List ℕ → Type 0) (out err : List ℕ)
-    (status : ℕ) : Type 0 where
-  pub given : List ℕ
+-- first of the lines that were given whole are answered, among them each that was whole before the
+-- last read.
+pub record MemoryFailed (bytes : List ℕ) (InGave : List ℕ → List ℕ → Type 0)
+    (InEnded : List ℕ → Type 0) (out err : List ℕ) (status : ℕ) : Type 0 where
+  pub before : List ℕ
+  pub last : List ℕ
   pub rest : List ℕ
   pub lines : List (List ℕ)
   pub part : List ℕ
   pub first : List (List ℕ)
   pub later : List (List ℕ)
   pub outcomes : List Outcome
-  pub front : bytes ≡ given ++ rest
-  pub gave : InGave given ⊎ InEnded given
-  pub split : Splits given lines part
+  pub front : bytes ≡ (before ++ last) ++ rest
+  pub read : InGave before last ⊎ ((last ≡ []) × InEnded before)
+  pub split : Splits (before ++ last) lines part
   pub lines_are : map without_return lines ≡ first ++ later
+  pub prompt : HoldFewer before (1 + length first)
   pub answers : AreAnswered first None outcomes
   pub replied : AreReplies outcomes out
   pub err_is : err ≡ codes "error: Out of memory\n"
   pub status_is : status ≡ 1
 
--- The output was to get these replies, to the first of the lines, and broke.
-pub record WritingFailed (bytes : List ℕ) (fails : Option Bool) (out : List ℕ) : Type 0 where
+-- The output was to get these replies, to the first of the lines, and broke. Each line that was
+-- whole before the last read is among these, and was not bad.
+pub record WritingFailed (bytes : List ℕ) (fails : Option Bool)
+    (InGave : List ℕ → List ℕ → Type 0) (InEnded InFailed : List ℕ → Type 0) (out : List ℕ)
+    : Type 0 where
+  pub before : List ℕ
+  pub last : List ℕ
+  pub rest : List ℕ
   pub lines : List (List ℕ)
   pub part : List ℕ
   pub first : List (List ℕ)
   pub later : List (List ℕ)
   pub bad : Option BadLine
   pub outcomes : List Outcome
+  pub front : bytes ≡ (before ++ last) ++ rest
+  pub read : InGave before last ⊎ ((last ≡ []) × (InEnded before ⊎ InFailed before))
   pub split : Splits bytes lines part
   pub lines_are : lines_given fails lines part ≡ first ++ later
+  pub prompt : HoldFewer before (1 + length first)
+  pub fresh : IsBehind before bad
   pub answers : AreAnswered first bad outcomes
   pub replied : AreReplies outcomes out
 
 -- From a source with these bytes, which then fails or ends (or that isn't known), the program
--- writes out and err. What its reads gave is named, that they came to the end, and that one failed
--- where it says so.
-abbrev pub Writes : List ℕ → Option Bool → (List ℕ → Type 0) → (List ℕ → Type 0)
+-- writes out and err. What its reads gave is named, and what the last of them gave; that they came
+-- to the end, and that one failed where it says so.
+abbrev pub Writes : List ℕ → Option Bool → (List ℕ → List ℕ → Type 0) → (List ℕ → Type 0)
     → (List ℕ → Type 0) → List ℕ → List ℕ → ℕ → Type 0
 Writes bytes fails InGave InEnded InFailed out err status =
     AllAnswered bytes fails InGave InEnded out err status
@@ -162,10 +188,10 @@ Writes bytes fails InGave InEnded InFailed out err status =
 
 -- The program is done with such a source: `out` got what it writes there and `err` its own; or
 -- `out` broke on what it was to get, and `err` got the text for that.
-abbrev pub Replays : List ℕ → Option Bool → (List ℕ → Type 0) → (List ℕ → Type 0)
+abbrev pub Replays : List ℕ → Option Bool → (List ℕ → List ℕ → Type 0) → (List ℕ → Type 0)
     → (List ℕ → Type 0) → (List ℕ → Type 0) → (List ℕ → Type 0) → (List ℕ → Type 0) → ℕ → Type 0
 Replays bytes fails InGave InEnded InFailed OutGets OutBroke ErrGets status =
     ((out : List ℕ) × (err : List ℕ) × Writes bytes fails InGave InEnded InFailed out err status
     × OutGets out × ErrGets err)
-    ⊎ ((out : List ℕ) × WritingFailed bytes fails out × OutBroke out × (status ≡ 1)
-    × ErrGets (codes "error: writing failed\n"))
+    ⊎ ((out : List ℕ) × WritingFailed bytes fails InGave InEnded InFailed out × OutBroke out
+    × (status ≡ 1) × ErrGets (codes "error: writing failed\n"))

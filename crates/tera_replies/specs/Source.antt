@@ -1,6 +1,6 @@
 -- When a source may end, and when it may fail.
-use Rattle.std.specs.Prelude.{◌≡◌, ℕ, ◌<◌, Bool, true, false, List, [], ◌∷◌, ◌++◌, take, drop}
-use Rattle.std.specs.Prelude.{length, Option, None, Some, Result, Ok, Err}
+use Rattle.std.specs.Prelude.{◌≡◌, ℕ, ◌<◌, ◌⊎◌, Bool, true, false, List, [], ◌∷◌, ◌++◌}
+use Rattle.std.specs.Prelude.{take, drop, length, Option, None, Some, Result, Ok, Err}
 use Rattle.std.specs.Borrow.{Bor}
 use Rattle.std.specs.Io.KnownBytes.{IsAtEnd}
 use Rattle.std.specs.List.{FoldsTo, flat_map}
@@ -51,6 +51,15 @@ pub record Reads {S : Type 0} (gave : S → List ℕ → Result ℕ ReadError �
   pub attempts : List Giving
   pub calls : FoldsTo (λ s a t. gave s a.piece (Ok a.count) t) old attempts new
   pub whole : flat_map given_by attempts ≡ bytes
+
+-- such reads of the source gave just these bytes, and one more gave the last ones; or no read was
+-- made
+abbrev pub ReadsTo : {S : Type 0} → (S → List ℕ → Result ℕ ReadError → S → Type 0)
+    → S → List ℕ → List ℕ → S → Type 0
+ReadsTo {S} gave old before last new =
+    ((before ≡ []) × (last ≡ []) × (new ≡ old))
+    ⊎ ((mid : S) × (one : Giving) × Reads gave old before mid
+    × gave mid one.piece (Ok one.count) new × (last ≡ given_by one))
 
 -- such reads of the source gave just these bytes, and then one that had room told the end
 abbrev pub ReadEnds : {S : Type 0} → (S → List ℕ → Result ℕ ReadError → S → Type 0)

@@ -111,7 +111,7 @@ ReplyStops Replies OutBroke WriteFailed = (line : List ℕ) × Replies line × O
 ReplyStops Replies OutBroke OutOfMemory = ⊥
 
 -- how answering all of the input went: whether memory was wanted by an answer, or a fault
-abbrev pub Ends : List ℕ → Option Bool → (List ℕ → Type 0) → (List ℕ → Type 0)
+abbrev pub Ends : List ℕ → Option Bool → (List ℕ → List ℕ → Type 0) → (List ℕ → Type 0)
     → (List ℕ → Type 0) → (List ℕ → Type 0) → (List ℕ → Type 0) → Result Bool Fault → Type 0
 Ends bytes fails InGave InEnded InFailed OutGets OutBroke (Ok wanted) =
     (out : List ℕ) × AllAnswered bytes fails InGave InEnded out [] (if wanted then 1 else 0)
@@ -125,7 +125,7 @@ Ends bytes fails InGave InEnded InFailed OutGets OutBroke (Err ReadFailed) =
     × ReadingFailed bytes fails InGave InFailed out (codes "error: reading failed\n") 1
     × OutGets out
 Ends bytes fails InGave InEnded InFailed OutGets OutBroke (Err WriteFailed) =
-    (out : List ℕ) × WritingFailed bytes fails out × OutBroke out
+    (out : List ℕ) × WritingFailed bytes fails InGave InEnded InFailed out × OutBroke out
 Ends bytes fails InGave InEnded InFailed OutGets OutBroke (Err OutOfMemory) =
     (out : List ℕ) × MemoryFailed bytes InGave InEnded out (codes "error: Out of memory\n") 1
     × OutGets out

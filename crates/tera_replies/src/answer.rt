@@ -31,7 +31,7 @@ use tera_values::Value;
 
 /// Writes the line that answers a call, with its line feed, and says whether the answer is want of
 /// memory. Takes no memory, and fails only where a write does.
-pub fn write_answer<W: Sink>(answer: TeraResult<Answer>, out: &mut W) -> Result<bool, Fault>
+pub(crate) fn write_answer<W: Sink>(answer: TeraResult<Answer>, out: &mut W) -> Result<bool, Fault>
     ensures ok { IfOk result (λ wanted. (line : List ℕ)
         × IsReplyLine (outcome_stated answer) line
         × Sends W.takes W.flushes out.old line out.new

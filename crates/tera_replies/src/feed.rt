@@ -1,14 +1,17 @@
 //! From pieces of a script to its lines, each answered once it is whole.
 ghost use Rattle.std.specs.Prelude.{◌≡◌, ◌≢◌, ◌+◌, ◌^◌, ◌<◌, ◌≤◌, ℕ, Bool, ◌||◌, List, [], ◌∷◌};
 ghost use Rattle.std.specs.Prelude.{◌++◌};
-ghost use Rattle.std.specs.Prelude.{IfOk, OnOk, IfErr, IfSome, IfNone, length};
+ghost use Rattle.std.specs.Prelude.{IfOk, OnOk, IfErr, IfSome, IfNone, IsOk, IsSome, length};
 ghost use Rattle.tera_report.specs.Sink.{Sends};
 ghost use Rattle.tera_report.specs.Errors.{report_of};
 ghost use Rattle.tera_meaning.specs.Outcome.{Outcome};
 ghost use Rattle.tera_meaning.specs.Request.{Command};
 ghost use Rattle.tera_meaning.specs.Step.{IsStep};
-ghost use Rattle.tera_context.specs.Lent.{StandsFor, lent_form};
-ghost use Rattle.tera_script.specs.Line.{Says};
+ghost use Rattle.std.specs.Option.{option_map};
+ghost use Rattle.tera_context.specs.Lent.{StandsFor, lent_at, lent_form, looked_up};
+ghost use Rattle.tera_context.specs.declared.lends.LookUp.{LookUp};
+ghost use Rattle.tera_script.specs.Line.{IsSkipped, Says};
+ghost use Rattle.tera_script.specs.LookUp.{IsPlainLookUp};
 ghost use Rattle.tera_replies.specs.declared.fault.Fault.TheVariants.{OutOfMemory, WriteFailed};
 ghost use Rattle.tera_replies.specs.Output.{BrokeOn};
 ghost use Rattle.tera_replies.specs.Replay.{line_report, source_of, whole_line};
@@ -30,7 +33,7 @@ use tera_script::{Reading, look_up_of, read_line};
 
 /// What a replay keeps between two pieces of its script.
 #[derive(Drop)]
-pub struct Feed {
+pub(crate) struct Feed {
     /// The number of the line at hand.
     number: u128,
     /// What was read of that line.
@@ -165,7 +168,8 @@ impl Feed {
 /// the line was run.
 ///
 /// Takes memory for what the line names and brings, for what its step takes, and for its report. A
-/// look-up that the line says plainly takes none where `look_up` lends what it finds.
+/// line that is skipped takes none, nor does a look-up that the line says plainly, where `look_up`
+/// lends what it finds.
 pub fn answer_line<W: Sink>(
     alloc: Global,
     number: u128,
@@ -179,6 +183,10 @@ pub fn answer_line<W: Sink>(
     ensures err { IfErr result (LineStops number context.old line.now
         (Sends W.takes W.flushes out.old [] out.new)
         (λ text. BrokeOn W.takes W.fails W.flushes W.flush_fails out.old text out.new)) }
+    ensures skipped { IsSkipped line.now → IsOk result }
+    ensures lent { (asked : LookUp) → IsPlainLookUp line.now asked
+        → IsSome (lent_at context.old (looked_up asked))
+        → IfErr result (λ fault. fault ≡ WriteFailed) }
     ensures unchanged { IfErr result (λ fault. fault ≢ WriteFailed → context.new ≡ context.old) }
     ensures ran { IfErr result (IfWriteFailed ((text : List ℕ) × (wanted : Bool)
         × Runs number context.old (line.now ∷ []) text wanted context.new)) }
@@ -198,9 +206,11 @@ pub fn answer_line<W: Sink>(
 
 // What the context lends for a look-up that the line says, which then takes no memory.
 fn lent_for<'a>(context: &'a Context, line: &'a [u8]) -> Option<Lent<'a>>
-    ensures { IfSome result (λ lent. (command : Command) × Says line.now command
+    ensures says { IfSome result (λ lent. (command : Command) × Says line.now command
         × ((outcome : Outcome) → StandsFor (lent_form lent) outcome
         → IsStep context.now command outcome context.now)) }
+    ensures plain { (asked : LookUp) → IsPlainLookUp line.now asked
+        → option_map lent_form result ≡ lent_at context.now (looked_up asked) }
 {
     look_up(context, look_up_of(line)?)
 }

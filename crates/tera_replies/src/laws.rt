@@ -51,8 +51,8 @@ pub fn one_return_is_dropped()
     ensures middle { without_return (codes "a\rb") ≡ codes "a\rb" }
 {}
 
-/// Each outcome has a reply, and one alone, but where a value is found that quotes a text past
-/// ASCII, and where the text of a refusal is not known.
+/// Each outcome has a reply, and one alone, but where a value that is found, or a list of texts,
+/// quotes a text past ASCII, and where the text of a refusal is not known.
 pub fn outcomes_have_one_reply()
     ensures some { (outcome : Outcome) → (line : List ℕ) × IsReply outcome line }
     ensures one { (outcome : Outcome) (line other : List ℕ) → IsFixedReply outcome

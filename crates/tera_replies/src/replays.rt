@@ -8,7 +8,7 @@ ghost use Rattle.tera_report.specs.Errors.{report_of};
 ghost use Rattle.tera_report.specs.Report.{report_text};
 ghost use Rattle.tera_replies.specs.Replay.{Replays};
 ghost use Rattle.tera_replies.specs.Script.{ended};
-ghost use Rattle.tera_replies.specs.Source.{ReadEnds, ReadFails, Reads};
+ghost use Rattle.tera_replies.specs.Source.{ReadEnds, ReadFails, ReadsTo};
 ghost use Rattle.tera_replies.specs.Stretch.{Ends, EndsFlushed, status_at, told};
 
 use crate::fault::{Fault, WriteError, put, written};
@@ -62,7 +62,7 @@ pub fn replay_from<S: Source, W: Sink, E: Sink>(
     err: &mut E,
 ) -> u8
     ensures known { IfSome (S.left input.old) (λ bytes. Replays bytes (S.fails input.old)
-        (λ given. Reads S.gave input.old given input.new)
+        (λ before last. ReadsTo S.gave input.old before last input.new)
         (λ given. ReadEnds S.gave input.old given input.new)
         (λ given. ReadFails S.gave input.old given input.new)
         (λ text. Delivers W.takes W.flushes out.old text out.new)
@@ -80,7 +80,7 @@ pub fn replay_from<S: Source, W: Sink, E: Sink>(
 // Answers line after line, and says whether an answer was want of memory.
 fn answer_all<S: Source, W: Sink>(alloc: Global, input: &mut S, out: &mut W) -> Result<bool, Fault>
     ensures { IfSome (S.left input.old) (λ bytes. Ends bytes (S.fails input.old)
-        (λ given. Reads S.gave input.old given input.new)
+        (λ before last. ReadsTo S.gave input.old before last input.new)
         (λ given. ReadEnds S.gave input.old given input.new)
         (λ given. ReadFails S.gave input.old given input.new)
         (λ text. Sends W.takes W.flushes out.old text out.new)

@@ -57,7 +57,8 @@ OneSplit = (bytes part other : List ℕ) (lines others : List (List ℕ)) → Sp
 
 -- what a broken output was to get is no longer than these at most
 pub due_is_short : OneSplit → (bytes : List ℕ) (lines : List (List ℕ)) → Splits bytes lines [] → map without_return lines ≡ lines → HaveShortReplies lines
-    → (out : List ℕ) → WritingFailed bytes (Some false) out → length out ≤ 21 * length lines
+    → {InGave : List ℕ → List ℕ → Type 0} {InEnded InFailed : List ℕ → Type 0} (out : List ℕ)
+    → WritingFailed bytes (Some false) InGave InEnded InFailed out → length out ≤ 21 * length lines
 due_is_short split bytes lines is same short out h =
     let one = split bytes h.part [] h.lines lines h.split is in
     let given : map without_return h.lines ++ last_line h.part ≡ lines =
@@ -69,8 +70,8 @@ due_is_short split bytes lines is same short out h =
     omega (arith, bound, ap length is_text, ap length whole, length-append h.first h.later)
 
 -- of a short script that is read to its end, over an output that does not break: all is answered, or no memory was found
-pub ample : (bytes : List ℕ) (InGave InEnded InFailed OutGets OutBroke ErrGets : List ℕ → Type 0) (status : ℕ) → length bytes ≤ 1000
-    → ((out : List ℕ) → WritingFailed bytes (Some false) out → OutBroke out → ⊥)
+pub ample : (bytes : List ℕ) (InGave : List ℕ → List ℕ → Type 0) (InEnded InFailed OutGets OutBroke ErrGets : List ℕ → Type 0) (status : ℕ)
+    → length bytes ≤ 1000 → ((out : List ℕ) → WritingFailed bytes (Some false) InGave InEnded InFailed out → OutBroke out → ⊥)
     → Replays bytes (Some false) InGave InEnded InFailed OutGets OutBroke ErrGets status
     → ((out err : List ℕ) × AllAnswered bytes (Some false) InGave InEnded out err status × OutGets out × ErrGets err)
     ⊎ ((status ≡ 1) × ErrGets (codes "error: Out of memory\n"))

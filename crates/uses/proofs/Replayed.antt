@@ -73,7 +73,7 @@ two_split : Splits (codes "cmp a b\neq a b\n") two_lines []
 two_split = record { whole = refl; each = search rules; rest = search rules }
 
 -- of two calls that are all answered these are the answers
-pub both_answered : {InGave InEnded : List ℕ → Type 0} → Ties → Alike → OneSplit → OneScript → Says (codes "cmp a b") compared
+pub both_answered : {InGave : List ℕ → List ℕ → Type 0} {InEnded : List ℕ → Type 0} → Ties → Alike → OneSplit → OneScript → Says (codes "cmp a b") compared
     → Says (codes "eq a b") equated → (out err : List ℕ) (status : ℕ)
     → AllAnswered (codes "cmp a b\neq a b\n") (Some false) InGave InEnded out err status → (out ≡ codes "equal\ntrue\n") × (status ≡ 0)
 both_answered ties alike split script first second out err status h =
@@ -123,7 +123,7 @@ equated_is_short one says command said old new outcome step reply is =
 bad_is_short : (line : List ℕ) → IsBad line → HasShortReply line
 bad_is_short line bad command said old new outcome step reply is = absurd (bad.1 command said)
 
-module _ (InGave InEnded InFailed OutGets OutBroke ErrGets : List ℕ → Type 0) where
+module _ (InGave : List ℕ → List ℕ → Type 0) (InEnded InFailed OutGets OutBroke ErrGets : List ℕ → Type 0) where
   -- of two calls: the status is 0 or 1, at 0 the output got their answers; and where the output does not break on so few bytes, it is 0 or no memory was found
   pub both_status : Ties → Alike → OneSplit → OneScript → OneCommand → Says (codes "cmp a b") compared → Says (codes "eq a b") equated
       → (bytes : List ℕ) (fails : Option Bool) (status : ℕ) → bytes ≡ codes "cmp a b\neq a b\n" → fails ≡ Some false
@@ -177,8 +177,8 @@ unfolding digits chars is_utf8 lib.Utf8.encode
 reported = refl
 
 -- of a script with a bad line this is what is written
-bad_answered : {InGave InEnded : List ℕ → Type 0} → Alike → OneSplit → OneScript → Says (codes "eq a b") equated → IsBad (codes "frob")
-    → (out err : List ℕ) (status : ℕ)
+bad_answered : {InGave : List ℕ → List ℕ → Type 0} {InEnded : List ℕ → Type 0} → Alike → OneSplit → OneScript → Says (codes "eq a b") equated
+    → IsBad (codes "frob") → (out err : List ℕ) (status : ℕ)
     → AllAnswered (codes "eq a b\nfrob\neq a b\n") (Some false) InGave InEnded out err status
     → (out ≡ codes "true\n") × (err ≡ codes "error: bad line\n --> line 2:1:1\n  |\n1 | frob\n  | ^^^^\n") × (status ≡ 2)
 bad_answered alike split script says bad out err status h =
@@ -194,7 +194,7 @@ bad_answered alike split script says bad out err status h =
       h.status_is ∙ (λ i. status_of (same.1 i) (ran i)),
     )
 
-module _ (InGave InEnded InFailed OutGets OutBroke ErrGets : List ℕ → Type 0) where
+module _ (InGave : List ℕ → List ℕ → Type 0) (InEnded InFailed OutGets OutBroke ErrGets : List ℕ → Type 0) where
   -- of a script with a bad line: it is reported, or no memory was found, where the output does not break on so few bytes
   pub bad_status : Alike → OneSplit → OneScript → OneCommand → Says (codes "eq a b") equated → IsBad (codes "frob")
       → (bytes : List ℕ) (fails : Option Bool) (status : ℕ) → bytes ≡ codes "eq a b\nfrob\neq a b\n" → fails ≡ Some false

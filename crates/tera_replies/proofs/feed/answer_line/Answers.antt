@@ -7,6 +7,7 @@ use Rattle.tera_context.proofs.ShownLaws.{shown_outcome}
 use Rattle.tera_report.proofs.SentLaws.{sends_nothing}
 use Rattle.tera_report.specs.declared.errors.Error.{Error}
 use Rattle.tera_script.specs.Line.{Says}
+use Rattle.tera_script.proofs.SaidLaws.{skipped_says_nothing}
 use Rattle.tera_replies.specs.{Reply.IsLentLine, Reply.IsReplyLine, Stated.outcome_stated, Stretch.Runs}
 use Rattle.tera_replies.proofs.{ReplyLemmas.line_answered, ReplyLemmas.reply_shown, ReplyLemmas.want_shown, StretchLemmas.Runs-silent, StretchLemmas.Runs-says}
 use Rattle.tera_replies.proofs.feed.answer_line.Goals as goal
@@ -39,19 +40,44 @@ says_lent n state line command lent says steps reply (outcome, stands, (text, is
 
 pub returns-in-Some : goal.returns-in-Some
 returns-in-Some g c =
-    let (command, says, steps) = c.in-Some.ensures in
+    let (command, says, steps) = c.in-Some.ensures.says in
     let then = says_lent c.args.number _ c.args.line.now command (lent_form c.in-Some.lent) says steps in
-    line_answered c.write_lent.result _ _ _ _ _ _ _ _ _ _ then c.write_lent.ensures.ok c.write_lent.ensures.err
+    let a = line_answered c.write_lent.result _ _ _ _ _ _ _ _ _ _ then c.write_lent.ensures.ok c.write_lent.ensures.err in
+    record {
+      ok = a.ok;
+      err = a.err;
+      skipped = λ skip. absurd (skipped_says_nothing c.args.line.now command skip says);
+      lent = λ asked plain some. a.only;
+      unchanged = a.unchanged;
+      ran = a.ran;
+    }
 
 pub returns-in-Some-lend : goal.returns-in-Some-lend
 returns-in-Some-lend g c =
     let says = rw c.in-Says.is at c.in_ok-read_line.ensures.reading in
     let lent = lent_form c.in-Some-lend.lent in
     let then = says_lent c.args.number _ c.args.line.now (command_of c.in-Says.call) lent says c.in-Some-lend.ensures.step in
-    line_answered c.write_lent-in-Some-lend.result _ _ _ _ _ _ _ _ _ _ then c.write_lent-in-Some-lend.ensures.ok c.write_lent-in-Some-lend.ensures.err
+    let a =
+    line_answered c.write_lent-in-Some-lend.result _ _ _ _ _ _ _ _ _ _ then c.write_lent-in-Some-lend.ensures.ok c.write_lent-in-Some-lend.ensures.err in
+    record {
+      ok = a.ok;
+      err = a.err;
+      skipped = λ skip. absurd (skipped_says_nothing c.args.line.now _ skip says);
+      lent = λ asked plain some. a.only;
+      unchanged = a.unchanged;
+      ran = a.ran;
+    }
 
 pub returns-in-None : goal.returns-in-None
 returns-in-None g c =
     let says = rw c.in-Says.is at c.in_ok-read_line.ensures.reading in
     let then = says_stated c.args.number _ c.step.new.context c.args.line.now (command_of c.in-Says.call) c.step.result says c.step.ensures in
-    line_answered c.write_answer.result _ _ _ _ _ _ _ _ _ _ then c.write_answer.ensures.ok c.write_answer.ensures.err
+    let a = line_answered c.write_answer.result _ _ _ _ _ _ _ _ _ _ then c.write_answer.ensures.ok c.write_answer.ensures.err in
+    record {
+      ok = a.ok;
+      err = a.err;
+      skipped = λ skip. absurd (skipped_says_nothing c.args.line.now _ skip says);
+      lent = λ asked plain some. a.only;
+      unchanged = a.unchanged;
+      ran = a.ran;
+    }

@@ -1,9 +1,9 @@
 -- What the source gave so far is answered, also where a fault ends the loop.
 use Rattle.std.proofs.Common.{◌≡◌, ◌<◌, ◌≤◌, ◌++◌, [], inl, inr, length, length-append, take, ◌∙◌, subst, refl, rules, arith, append-nil}
 use Rattle.std.proofs.{lemmas.Result.err_from_is_err_and, lemmas.List.length-take-le}
-use Rattle.tera_replies.specs.{Source.EndIsTold, Source.ReadEnds, Stretch.start}
-use Rattle.tera_replies.proofs.InputLaws.{Ends-all, Ends-stops, at_failure, at_write, Consumes-none, Consumes-append, reads_nothing, reads_more, where_known}
-use Rattle.tera_replies.proofs.StretchLemmas.{Begins-all, Halts-later, went_flushed, went_nowhere, went_on}
+use Rattle.tera_replies.specs.{Source.EndIsTold, Source.Giving, Source.given_by, Source.ReadEnds, Source.ReadsTo, Stretch.start}
+use Rattle.tera_replies.proofs.InputLaws.{Ends-all, Ends-stops, at_failure, at_write, Consumes-none, Consumes-append, reads_all, where_known}
+use Rattle.tera_replies.proofs.StretchLemmas.{Begins-all, went_flushed, went_nowhere, went_on}
 use Rattle.tera_replies.proofs.ReplyLemmas.{broke_on_flush}
 use Rattle.tera_replies.proofs.replays.answer_all.Goals as goal
 
@@ -11,9 +11,10 @@ pub pieces-init : goal.pieces-init
 pieces-init g c =
     let input = c.args.input.now in
     record {
-      given = [];
+      before = [];
+      last = [];
       consumed = Consumes-none (g.S.Source.left input);
-      reads = reads_nothing g.S.Source.gave input;
+      reads = inl (refl, refl, refl);
       went = rw c.new-feed.ensures (went_nowhere start c.args.out.now (λ k d h. absurd (omega arith)));
       turns = omega arith;
       fails = refl;
@@ -26,17 +27,19 @@ returns-in_err-flush g c =
     let (is, failed) = c.in_err-flush.ensures.err in
     let before = c.pieces.invariant in
     let (text, goes, sent) = before.went in
-    rw (p.1, p.2, is) (where_known _ _ _ _ before.consumed (λ bytes rest left e. (text, at_write rest _ e (Begins-all goes), broke_on_flush sent failed)))
+    rw (p.1, p.2, is) (where_known _ _ _ _ before.consumed (λ bytes rest left e.
+    (text, at_write rest before.last _ _ _ _ e before.reads (Begins-all goes) refl, broke_on_flush sent failed)))
 
 pub returns-in_err-count : goal.returns-in_err-count
 returns-in_err-count g c =
     let p = err_from_is_err_and c.from_residual-in_err-count.result c.from_residual-in_err-count.ensures.1 in
     let before = c.pieces.invariant in
     let (text, goes, sent) = went_flushed before.went c.in_ok-flush.ensures.ok in
+    let reads = reads_all g.S.Source.gave before.reads in
     rw (p.1, p.2) (where_known _ _ _ _ before.consumed (λ bytes rest left e.
     let may = rw (before.fails, left) at c.in_err-count.ensures.err in (
       text,
-      at_failure rest e (inl (may, (c.pieces.input, c.read_piece.new.piece, c.in_err-count.field-0.0, before.reads, c.in_err-count.ensures.told))) goes,
+      at_failure rest e (inl (may, (c.pieces.input, c.read_piece.new.piece, c.in_err-count.field-0.0, reads, c.in_err-count.ensures.told))) goes,
       sent,
     )))
 
@@ -49,13 +52,14 @@ returns-then-count-eq0 g c =
     let before = c.pieces.invariant in
     let told = subst EndIsTold before.fails (c.in_ok-count.ensures.end none room) in
     let went = went_flushed before.went c.in_ok-flush.ensures.ok in
-    let ends : ReadEnds g.S.Source.gave c.args.input.now before.given c.read_piece.new.self =
-    (c.pieces.input, piece, room, before.reads, rw none at c.in_ok-count.ensures.told) in
-    let consumed = rw (append-nil before.given) at (Consumes-append _ _ (g.S.Source.left c.read_piece.new.self) before.given [] before.consumed
+    let given = before.before ++ before.last in
+    let ends : ReadEnds g.S.Source.gave c.args.input.now given c.read_piece.new.self =
+    (c.pieces.input, piece, room, reads_all g.S.Source.gave before.reads, rw none at c.in_ok-count.ensures.told) in
+    let consumed = rw (append-nil given) at (Consumes-append _ _ (g.S.Source.left c.read_piece.new.self) given [] before.consumed
     (rw none at c.in_ok-count.ensures.bytes.0)) in
     where_known _ _ _ _ consumed (λ bytes rest left e.
     let ended = rw left at (c.in_ok-count.ensures.bytes.1 none room) in
-    let all : bytes ≡ before.given = e ∙ rw (ended, append-nil) in
+    let all : bytes ≡ given = e ∙ rw (ended, append-nil) in
     rw all (Ends-all sink.takes sink.fails sink.flushes sink.flush_fails _ _ _ _ c.finish.new.self.context c.finish.new.out c.finish.result went ends told
     c.finish.ensures.ok c.finish.ensures.err))
 
@@ -65,11 +69,14 @@ returns-in_err-take_piece g c =
     let sink = g.W.Sink in
     let before = c.pieces.invariant in
     let went = went_flushed before.went c.in_ok-flush.ensures.ok in
-    let consumed = Consumes-append _ _ (g.S.Source.left c.read_piece.new.self) before.given _ before.consumed c.in_ok-count.ensures.bytes.0 in
+    let given = before.before ++ before.last in
+    let consumed = Consumes-append _ _ (g.S.Source.left c.read_piece.new.self) given _ before.consumed c.in_ok-count.ensures.bytes.0 in
     let some : 0 < c.in_ok-count.count = omega (arith, c.if-count-eq0.false) in
-    let reads = reads_more g.S.Source.gave c.read_piece.new.piece c.in_ok-count.count _ some before.reads c.in_ok-count.ensures.told in
-    let stops = Halts-later sink.takes sink.fails sink.flushes sink.flush_fails _ _ c.in_err-take_piece.field-0.0 went c.in_err-take_piece.ensures.err in
-    rw (p.1, p.2) (where_known _ _ _ _ consumed (λ bytes rest left e. Ends-stops rest _ _ _ _ _ _ c.in_err-take_piece.field-0.0 e reads stops))
+    let one : Giving = record { piece = c.read_piece.new.piece; count = c.in_ok-count.count; some = some } in
+    let reads : ReadsTo g.S.Source.gave c.args.input.now given (given_by one) c.read_piece.new.self =
+    inr (c.pieces.input, one, reads_all g.S.Source.gave before.reads, c.in_ok-count.ensures.told, refl) in
+    rw (p.1, p.2) (where_known _ _ _ _ consumed (λ bytes rest left e. Ends-stops sink.takes sink.fails sink.flushes sink.flush_fails _ rest _ _ _ _ _
+    c.in_err-take_piece.field-0.0 e reads went c.in_err-take_piece.ensures.err))
 
 pub pieces-preserved : goal.pieces-preserved
 pieces-preserved g c =
@@ -80,12 +87,15 @@ pieces-preserved g c =
     let bounded : count ≤ 8192 = search rules in
     let some : 0 < count = omega (arith, c.if-count-eq0.false) in
     let before = c.pieces.invariant in
+    let given = before.before ++ before.last in
+    let one : Giving = record { piece = room; count = count; some = some } in
     record {
-      given = before.given ++ piece;
-      consumed = Consumes-append _ _ (g.S.Source.left c.read_piece.new.self) before.given piece before.consumed c.in_ok-count.ensures.bytes.0;
-      reads = reads_more g.S.Source.gave room count c.read_piece.new.self some before.reads c.in_ok-count.ensures.told;
+      before = given;
+      last = piece;
+      consumed = Consumes-append _ _ (g.S.Source.left c.read_piece.new.self) given piece before.consumed c.in_ok-count.ensures.bytes.0;
+      reads = inr (c.pieces.input, one, reads_all g.S.Source.gave before.reads, c.in_ok-count.ensures.told, refl);
       went = went_on (went_flushed before.went c.in_ok-flush.ensures.ok) c.in_ok-take_piece.ensures.ok;
-      turns = omega (arith, before.turns, length-append before.given piece);
+      turns = omega (arith, before.turns, length-append given piece);
       fails = c.read_piece.ensures.stays ∙ before.fails;
       room = omega (arith, c.in_ok-take_piece.ensures.number);
     }
@@ -94,4 +104,5 @@ pub returns : goal.returns
 returns g c =
     let before = c.pieces.invariant in
     let (text, goes, sent) = before.went in
-    where_known _ _ _ _ before.consumed (λ bytes rest left e. (text, at_failure rest e (inr (omega (arith, before.turns), before.reads)) goes, sent))
+    where_known _ _ _ _ before.consumed (λ bytes rest left e.
+    (text, at_failure rest e (inr (omega (arith, before.turns), (before.before, before.last, refl, before.reads))) goes, sent))

@@ -13,7 +13,7 @@ returns-clause-known g c =
     let silent = c.new-watched_err.result in
     let told = c.replay_from.new.err in
     replays_weaker _ _ _ _ _ _ _ _ _ _ _ _ _ _ _
-    (λ given reads. (c.replay_from.new.input, reads))
+    (λ before last reads. (c.replay_from.new.input, reads))
     (λ given ends. (c.replay_from.new.input, ends))
     (λ given failed. (c.replay_from.new.input, failed))
     (λ text gets.
