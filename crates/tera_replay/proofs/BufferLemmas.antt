@@ -1,5 +1,5 @@
 -- A replay that finds no memory before it reads.
-use Rattle.std.proofs.Common.{◌≢◌, ℕ, Bool, inl, inr, List, [], Option, None, Some, Result, Ok, Err, IfSome, MatchResult, codes, refl}
+use Rattle.std.proofs.Common.{◌≢◌, ℕ, Bool, inl, inr, List, [], Option, None, Some, Result, Ok, Err, IfSome, MatchResult, codes, refl, arith}
 use Rattle.std.specs.FinMap.{empty}
 use Rattle.std.proofs.lemmas.List.Elements.{All-nil}
 use Rattle.std.specs.declared.io.Error.{Error}
@@ -7,18 +7,22 @@ use Rattle.tera_report.specs.declared.watch.Watched.{Watched}
 use Rattle.tera_report.specs.Watch.{WatchedTakes, WatchedFails}
 use Rattle.tera_replies.specs.Output.{TakesOrFails}
 use Rattle.tera_replies.specs.Replay.{Replays}
-use Rattle.tera_replies.specs.Script.{HasNoLineFeed, line_feed}
+use Rattle.tera_replies.specs.Script.{HasNoLineFeed, Splits, line_feed}
+
+no_lines : Splits [] [] []
+no_lines = record { whole = refl; each = All-nil HasNoLineFeed; rest = All-nil (λ byte. byte ≢ line_feed) }
 
 -- the first of no lines are answered, and this is told
-pub nothing_read : (first : Option (List ℕ)) (fails : Option Bool) (InGave InEnded InFailed OutGets OutBroke ErrGets : List ℕ → Type 0)
-    → InGave [] → OutGets [] → ErrGets (codes "error: Out of memory\n")
+pub nothing_read : (first : Option (List ℕ)) (fails : Option Bool) (InGave : List ℕ → List ℕ → Type 0)
+    (InEnded InFailed OutGets OutBroke ErrGets : List ℕ → Type 0) → InGave [] [] → OutGets [] → ErrGets (codes "error: Out of memory\n")
     → IfSome first (λ bytes. Replays bytes fails InGave InEnded InFailed OutGets OutBroke ErrGets 1)
 nothing_read None fails InGave InEnded InFailed OutGets OutBroke ErrGets gave none told = tt
 nothing_read (Some bytes) fails InGave InEnded InFailed OutGets OutBroke ErrGets gave none told = inl (
   [],
   codes "error: Out of memory\n",
   inr (inr (record {
-    given = [];
+    before = [];
+    last = [];
     rest = bytes;
     lines = [];
     part = [];
@@ -26,9 +30,10 @@ nothing_read (Some bytes) fails InGave InEnded InFailed OutGets OutBroke ErrGets
     later = [];
     outcomes = [];
     front = refl;
-    gave = inl gave;
-    split = record { whole = refl; each = All-nil HasNoLineFeed; rest = All-nil (λ byte. byte ≢ line_feed) };
+    read = inl gave;
+    split = no_lines;
     lines_are = refl;
+    prompt = ([], [], no_lines, omega arith);
     answers = record { commands = []; state = empty; script = (refl, refl); run = refl };
     replied = ([], tt, refl);
     err_is = refl;

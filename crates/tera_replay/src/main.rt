@@ -1,7 +1,7 @@
 //! The program: reads a script from standard input, and writes what each of its calls answers.
 #![tactic(auto)]
 
-ghost use Rattle.std.specs.Prelude.{◌≡◌, ◌≤◌, IfSome};
+ghost use Rattle.std.specs.Prelude.{◌≡◌, ◌≤◌, IfSome, IfNone, codes};
 ghost use Rattle.tera_replay.specs.Buffered.{BufferBroke, BufferGets};
 ghost use Rattle.tera_replies.specs.Output.{Ended, Failed, Gave, WriterTakesOrFails};
 ghost use Rattle.tera_replies.specs.Replay.{Replays};
@@ -33,6 +33,8 @@ fn replay_buffered<S: Source + Drop, B: Writer + Drop, E: Writer>(
         (BufferGets B.contents B.wrote B.flushed out result.1)
         (BufferBroke B.wrote B.flushed out result.1)
         (λ text. WriterTakesOrFails E.contents E.wrote err.old text err.new) result.0) }
+    ensures none { IfNone out ((result.0 ≡ 1) × WriterTakesOrFails E.contents E.wrote
+        err.old (codes "error: Out of memory\n") err.new) }
     ensures status { result.0 ≤ 2 }
     ensures silent { result.0 ≡ 0 → err.new ≡ err.old }
 {

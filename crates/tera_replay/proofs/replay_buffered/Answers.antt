@@ -1,7 +1,6 @@
 -- A replay through a buffer, and the text for want of one.
-use Rattle.std.proofs.Common.{refl, rules}
+use Rattle.std.proofs.Common.{inl, refl, rules}
 use Rattle.tera_replay.proofs.BufferLemmas.{nothing_read, took_or_failed}
-use Rattle.tera_replies.proofs.InputLaws.{reads_nothing}
 use Rattle.tera_replies.proofs.ReplayLaws.{told_same, told_writer}
 use Rattle.tera_replay.proofs.replay_buffered.Goals as goal
 
@@ -16,4 +15,4 @@ returns-in-None-clause-known g c =
     let put = took_or_failed err.contents err.wrote c.write_all.result old _ new c.write_all.ensures.told in
     let same = told_same err.contents err.wrote err.flushed old _ new put in
     let told = told_writer err.contents err.wrote err.flushed old _ new put in
-    rw c.in-None.is (nothing_read _ _ _ _ _ _ _ _ (c.args.input, reads_nothing g.S.Source.gave c.args.input) (refl, refl) (search rules))
+    rw c.in-None.is (nothing_read _ _ _ _ _ _ _ _ (c.args.input, inl (refl, refl, refl)) (refl, refl) (search rules))
