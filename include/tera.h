@@ -5,7 +5,11 @@
  *   length, and nothing behind what is written is changed.
  * - No pointer is NULL, also where its length is 0. What a call is to write overlaps nothing else that it is given.
  * - A call keeps no pointer that it was given, once it has returned.
- * - Each call returns, and none ends the process. A caller that breaks a rule of this page is owed nothing.
+ * - `tera_open` takes a `*session` that is NULL, and `tera_line`, `tera_reply` and `tera_close` one that is open, so none is
+ *   closed twice. A call may change the handle `*session`: no copy of it is kept. A session stays on the thread that opened it,
+ *   and takes one call at a time.
+ * - Each call returns, and want of memory ends no process; a value that is nested deeper than the thread's stack holds does.
+ * - A caller that breaks a rule of this page is owed nothing.
  * docs/BORDER.md has more: memory, threads, and what is proved.
  */
 #ifndef TERA_H
@@ -24,7 +28,7 @@ enum tera_status {
     TERA_WANTED = 1,    /* so it did, and an answer is `Out of memory`; of a script also: it found no memory itself */
     TERA_BAD = 2,       /* a line is no call, and its report is given; of `tera_escape`: the text is no UTF-8 */
     TERA_SMALL = 3,     /* a room is too small: nothing is written, and the lengths that are needed are told */
-    TERA_NO_MEMORY = 4, /* the call found no memory, and nothing has changed */
+    TERA_NO_MEMORY = 4, /* the call found no memory: no name has changed, and what it was to deliver is empty */
     TERA_NO_REPLY = 5   /* the line was run, and no memory was found for its reply, which is now empty */
 };
 
@@ -50,8 +54,9 @@ uint8_t tera_reply(tera_session **session, uint8_t *room, size_t room_len, size_
 void tera_close(tera_session **session);
 
 /* Runs a whole script: its answers into one room, and the report of what ended it early into another. `*answers_len` and
- * `*report_len` are their lengths. TERA_DONE, TERA_WANTED and TERA_BAD are the status that the program ends with.
- * TERA_SMALL: one of the two is longer than its room, and neither is written; called again, it runs the script from its start. */
+ * `*report_len` are their lengths. TERA_DONE, TERA_WANTED and TERA_BAD are the status that the program ends with, and both are
+ * whole. TERA_SMALL: one of the two is longer than its room, and neither is written; called again, it runs the script from its
+ * start. TERA_NO_MEMORY: no memory was found for one of the two; both lengths are 0, and nothing is written. */
 uint8_t tera_replay(const uint8_t *script, size_t script_len, uint8_t *answers, size_t answers_room, size_t *answers_len,
                     uint8_t *report, size_t report_room, size_t *report_len);
 

@@ -189,8 +189,8 @@ def escapes(library):
 
 
 def replays(library):
-    """A script whose answers are there; or an answer wants memory; or a beginning of the answers is there, and the report says
-    that no memory was found, for the script or for the answers."""
+    """A script whose answers are all there; or an answer wants memory; or some answers are there, and the report says that the
+    script found no memory; or none was found for the answers or the report, and nothing is told."""
     script, rooms, told = b'set a "no less than twenty bytes"\nget a\n', [], []
     for _ in range(2):
         rooms.append(ctypes.create_string_buffer(4096))
@@ -200,9 +200,11 @@ def replays(library):
     whole, want = second.run(script)[0], refused.WANT.encode() + b"\n"
     holds = status == tera.DONE and (answers, report) == (whole, b"")
     if status == tera.WANTED and report == b"":
-        holds = any(it.startswith(answers) for it in (whole, want + b"nothing\n", b"ok\n" + want))
+        holds = answers in (want + b"nothing\n", b"ok\n" + want, want + want)
     elif status == tera.WANTED:
-        holds = whole.startswith(answers) and report in (want, b"error: writing failed\n")
+        holds = answers in (b"", b"ok\n") and report == want
+    elif status == tera.NO_MEMORY:
+        holds = (answers, report) == (b"", b"") and not any(it.raw.strip(b"\0") for it in rooms)
     return holds and library.blocks() == 0
 
 

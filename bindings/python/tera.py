@@ -90,6 +90,8 @@ def replay(script: bytes) -> Replayed:
         sizes = [it.value for it in lengths]
         rooms = [ctypes.create_string_buffer(size + 1) for size in sizes]
         status = _library.tera_replay(script, len(script), rooms[0], sizes[0], lengths[0], rooms[1], sizes[1], lengths[1])
+        if status == NO_MEMORY:
+            raise MemoryError
         if status != SMALL:
             return Replayed(rooms[0].raw[:lengths[0].value], rooms[1].raw[:lengths[1].value], status)
 

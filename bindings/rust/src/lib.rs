@@ -59,7 +59,7 @@ const NO_REPLY: u8 = 5;
 pub enum Error {
     /// A line says no call, and this is its report. Nothing has changed.
     BadLine(String),
-    /// No memory was found, and nothing has changed.
+    /// No memory was found, and no name has changed.
     NoMemory,
     /// The line was run, and no memory was found for its reply.
     NoReply,
@@ -161,11 +161,12 @@ pub fn escape(text: &str) -> Result<String, Error> {
 /// Runs a whole script, from no names on.
 ///
 /// ```
-/// let replayed = tera_values::replay(b"set a 1u64\neq a a\n");
+/// let replayed = tera_values::replay(b"set a 1u64\neq a a\n")?;
 /// assert_eq!((replayed.answers, replayed.status), (b"ok\ntrue\n".to_vec(), 0));
-/// assert_eq!(tera_values::replay(b"frob").status, 2);
+/// assert_eq!(tera_values::replay(b"frob")?.status, 2);
+/// # Ok::<(), tera_values::Error>(())
 /// ```
-pub fn replay(script: &[u8]) -> Replayed {
+pub fn replay(script: &[u8]) -> Result<Replayed, Error> {
     let (mut answers, mut report) = (vec![0; script.len() + 256], vec![0; 256]);
     loop {
         let (mut answers_len, mut report_len) = (0, 0);
@@ -183,12 +184,16 @@ pub fn replay(script: &[u8]) -> Replayed {
         };
         answers.resize(answers_len, 0);
         report.resize(report_len, 0);
-        if status != SMALL {
-            return Replayed {
-                answers,
-                report,
-                status,
-            };
+        match status {
+            SMALL => {}
+            NO_MEMORY => return Err(Error::NoMemory),
+            _ => {
+                return Ok(Replayed {
+                    answers,
+                    report,
+                    status,
+                })
+            }
         }
     }
 }

@@ -1,8 +1,8 @@
 -- What a session owns behind its pointer.
 use Rattle.std.specs.Prelude.{Option, None, Some}
 use Rattle.std.specs.Global.{Global}
-use base.Fml.{Fml, ftrue}
-use denote.RawPtr.{Ptr}
+use base.Fml.{Fml, feq}
+use denote.RawPtr.{Ptr, null_ptr}
 use Rattle.std.specs.Coded.{Coded, coded_option}
 use Rattle.std_alloc.specs.Box.Ownership.{box_owns}
 use Rattle.std_heap.specs.contracts.GlobalAllocator.TheImpl.{ghosts}
@@ -13,9 +13,10 @@ use Rattle.tera_c.specs.contracts.talk.Talk.{the_row}
 abbrev pub heap : Global
 heap = record { memory = record { seal = tt } }
 
--- nothing where it is closed, and else the block of the heap at the pointer, with what it holds
+-- nothing where it is closed, and then the pointer is null; and else the block of the heap at the
+-- pointer, with what it holds
 abbrev pub held_owns : Ptr → Option Talk → Fml
-held_owns p None = ftrue
+held_owns p None = feq Ptr p null_ptr
 held_owns p (Some talk) = box_owns (ghosts.dealloc_token heap) the_row p talk
 
 -- how the logic stores what a session holds

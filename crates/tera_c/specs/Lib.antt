@@ -3,3 +3,4 @@ pub mod Rooms
 pub mod Held
 pub mod Talks
 pub mod Scripts
+pub mod inner

@@ -1,20 +1,15 @@
 -- What a whole script answers.
-use Rattle.std.specs.Prelude.{◌≡◌, ℕ, ◌<◌, ◌≤◌, ◌⊎◌, false, List, ◌++◌, Some, length}
+use Rattle.std.specs.Prelude.{◌≡◌, ℕ, ◌<◌, ◌≤◌, ◌⊎◌, false, List, Some, length}
 use Rattle.tera_replies.specs.Replay.{Replays}
 use Rattle.tera_c.specs.Rooms.{Holds}
-use Rattle.tera_c.specs.Status.{small}
+use Rattle.tera_c.specs.Status.{small, no_memory}
 
--- the bytes are a beginning of the whole
-abbrev pub Begins : List ℕ → List ℕ → Type 0
-Begins bytes whole = (rest : List ℕ) × (bytes ++ rest ≡ whole)
-
--- A replay of the script, which ends where its bytes do, comes to these answers, this report and
--- this status. Where no memory is found for an answer, writing has failed, and a beginning of the
--- answers is there; and so for the report.
+-- A replay of the script, which ends where its bytes do, comes to just these answers, this report
+-- and this status. Writing them did not fail.
 abbrev pub Comes : List ℕ → List ℕ → List ℕ → ℕ → Type 0
 Comes script answers report status =
-    Replays script (Some false) (λ given. Unit {0}) (λ given. Unit {0}) (λ given. Unit {0})
-    (λ text. answers ≡ text) (λ text. Begins answers text) (λ text. Begins report text) status
+    Replays script (Some false) (λ before last. Unit {0}) (λ given. Unit {0}) (λ given. Unit {0})
+    (λ text. answers ≡ text) (λ text. ⊥) (λ text. report ≡ text) status
 
 -- it came to these, and they stand in the rooms with that status; or one room is too small for its
 -- own, and nothing is written. The lengths are told either way
@@ -30,3 +25,8 @@ pub record IsReplayed (script out out_new err err_new : List ℕ) (out_len err_l
       → (status ≡ ended) × Holds answers out out_new × Holds report err err_new
   pub small : (length out < length answers) ⊎ (length err < length report)
       → (status ≡ small) × (out_new ≡ out) × (err_new ≡ err)
+
+-- no memory was found for the answers or the report: nothing is written, and the lengths are 0
+abbrev pub FoundNoMemory : List ℕ → List ℕ → List ℕ → List ℕ → ℕ → ℕ → ℕ → Type 0
+FoundNoMemory out out_new err err_new out_len err_len status =
+    (status ≡ no_memory) × (out_len ≡ 0) × (err_len ≡ 0) × (out_new ≡ out) × (err_new ≡ err)

@@ -2,13 +2,14 @@
 //! caller gives. include/tera.h says what each export is for, and what C has to uphold.
 #![tactic(auto)]
 
-ghost use Rattle.std.specs.Prelude.{◌≡◌, ◌≢◌, ◌⊎◌, List, ℕ, length, IsSome, None, IsUtf8};
+ghost use Rattle.std.specs.Prelude.{◌≡◌, ◌≢◌, ◌⊎◌, List, ℕ, [], length, IsSome, None, IsUtf8};
 ghost use Rattle.tera_report.specs.Escaping.{Spells};
 ghost use Rattle.tera_c.specs.Rooms.{IsDelivered};
-ghost use Rattle.tera_c.specs.Scripts.{IsReplayed};
+ghost use Rattle.tera_c.specs.Scripts.{FoundNoMemory, IsReplayed};
 ghost use Rattle.tera_c.specs.Status.{bad, done, no_memory};
 ghost use Rattle.tera_c.specs.Talks.{Goes, Has, IsFresh, Takes, reply_of};
 
+mod kept;
 mod parts;
 mod rooms;
 mod script;
@@ -37,6 +38,8 @@ pub extern "C" fn tera_replay(
     report_len: &mut usize,
 ) -> u8
     ensures { IsReplayed script.now answers.old answers.new report.old report.new
+        answers_len.new report_len.new result
+        ⊎ FoundNoMemory answers.old answers.new report.old report.new
         answers_len.new report_len.new result }
 {
     replay_into(alloc, script, answers, answers_len, report, report_len)
@@ -114,10 +117,11 @@ pub extern "C" fn tera_escape(
     escaped: &mut [u8],
     escaped_len: &mut usize,
 ) -> u8
-    ensures { ((bytes : List ℕ) × Spells bytes text.now
-        × IsDelivered bytes escaped.old escaped.new escaped_len.new result)
+    ensures { (IsUtf8 text.now × ((bytes : List ℕ) × Spells bytes text.now
+        × IsDelivered bytes escaped.old escaped.new escaped_len.new result))
         ⊎ ((escaped.new ≡ escaped.old) × (escaped_len.new ≡ 0)
-        × (((result ≡ bad) × ¬ IsUtf8 text.now) ⊎ (result ≡ no_memory))) }
+        × (((result ≡ bad) × ¬ IsUtf8 text.now)
+        ⊎ ((result ≡ no_memory) × IsUtf8 text.now × (text.now ≢ [])))) }
 {
     *escaped_len = 0;
     let Ok(text) = from_utf8(text) else {

@@ -1,12 +1,19 @@
 //! A whole script.
-ghost use Rattle.tera_c.specs.Scripts.{Comes, IsReplayed};
-ghost use Rattle.std.specs.Prelude.{◌≡◌, []};
-ghost use Rattle.tera_report.specs.Growing.{grown_bytes};
+ghost use Rattle.std.specs.Prelude.{◌⊎◌, IfOk, string_bytes};
+ghost use Rattle.tera_c.specs.Scripts.{Comes, FoundNoMemory, IsReplayed};
 
-use crate::status::SMALL;
-use std::alloc::Global;
+use crate::kept::Kept;
+use crate::status::{NO_MEMORY, SMALL};
+use std::alloc::{AllocError, Global};
 use tera_replies::{InputPieces, replay_from};
-use tera_report::sink::Growing;
+
+/// What a script comes to.
+#[derive(Drop)]
+pub struct Replayed {
+    answers: String,
+    report: String,
+    status: u8,
+}
 
 /// Replays a script into two rooms, and says how long what belongs there is.
 pub(crate) fn replay_into(
@@ -18,13 +25,16 @@ pub(crate) fn replay_into(
     err_len: &mut usize,
 ) -> u8
     ensures { IsReplayed script.now out.old out.new err.old err.new out_len.new err_len.new
-        result }
+        result
+        ⊎ FoundNoMemory out.old out.new err.old err.new out_len.new err_len.new result }
 {
-    let mut answers = Growing::new(alloc);
-    let mut report = Growing::new(alloc);
-    let status = replay_text(alloc, script, &mut answers, &mut report);
-    let answers = answers.as_str().as_bytes();
-    let report = report.as_str().as_bytes();
+    *out_len = 0;
+    *err_len = 0;
+    let Ok(replayed) = replay_text(alloc, script) else {
+        return NO_MEMORY;
+    };
+    let answers = replayed.answers.as_bytes();
+    let report = replayed.report.as_bytes();
     *out_len = answers.len();
     *err_len = report.len();
     if out.len() < answers.len() || err.len() < report.len() {
@@ -32,16 +42,24 @@ pub(crate) fn replay_into(
     }
     out[..answers.len()].copy_from_slice(answers);
     err[..report.len()].copy_from_slice(report);
-    status
+    replayed.status
 }
 
-// Replays a script into two empty texts.
-fn replay_text(alloc: Global, script: &[u8], answers: &mut Growing, report: &mut Growing) -> u8
-    requires answers { grown_bytes answers.old ≡ [] }
-    requires report { grown_bytes report.old ≡ [] }
-    ensures { Comes script.now (grown_bytes answers.new) (grown_bytes report.new) result }
+// Replays a script into two texts; or memory for one of these was refused.
+fn replay_text(alloc: Global, script: &[u8]) -> Result<Replayed, AllocError>
+    ensures { IfOk result (λ replayed. Comes script.now (string_bytes replayed.answers)
+        (string_bytes replayed.report) replayed.status) }
 {
     let pieces = [script];
     let mut input = InputPieces::new(&pieces, false);
-    replay_from(alloc, &mut input, answers, report)
+    let mut answers = Kept::new(alloc);
+    let mut report = Kept::new(alloc);
+    let status = replay_from(alloc, &mut input, &mut answers, &mut report);
+    let answers = answers.whole()?;
+    let report = report.whole()?;
+    Ok(Replayed {
+        answers,
+        report,
+        status,
+    })
 }

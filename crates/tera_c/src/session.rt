@@ -11,7 +11,6 @@ use std::ptr;
 
 /// A session, open or closed. It is a pointer, which C passes on and never reads.
 #[repr(C)]
-#[derive(Drop)]
 pub struct Session {
     held: *mut u8,
     pub(crate) ghost talk: { Option Talk } by { talk_coded },
@@ -68,5 +67,14 @@ impl Session {
             ptr: held as *mut Talk,
             alloc,
         }
+    }
+}
+
+/// Only a closed one is dropped: an open one first goes back into its box.
+impl Drop for Session {
+    fn drop(self)
+        requires { self.talk ≡ None }
+    {
+        let Session { held: _ } = self;
     }
 }

@@ -1,13 +1,13 @@
--- `closed` is the null pointer, and owns nothing.
+-- `closed` is the null pointer, and owns no more than that it is.
 use Rattle.std.proofs.Common.{[], ◌∷◌, refl, None, lit<}
 use Rattle.std.proofs.raw_atomic.Walks.{proved}
 use mir.Val.{vnull}
 use base.Fml.{ftrue}
-use types.Kit.{‵, raw, ◌$◌, ◌∵◌, !, qed, done, drop, join, suffices}
+use types.Kit.{‵, raw, ◌$◌, ◌∵◌, !, qed, done, drop, join, feq_i, suffices}
 use types.Part.{agg}
 use types.Run.{enter, lit, no_more, and_then, returns}
 use types.ByLocal.{alloc_all, pass_all, free_all, look_at, sets}
-use denote.RawPtr.{null_ptr}
+use denote.RawPtr.{Ptr, null_ptr}
 use denote.Steps.{nothing}
 use denote.Triple.Entry.{on_entry}
 use denote.Triple.Walked.{Stays, walk_of, says, ends_at}
@@ -30,4 +30,4 @@ closed_spec 𝓤 𝓛 𝓜 𝓡 wired =
     sets ! (agg ! (and_then ! (lit ! tt) (no_more !))) refl (tt, (record { fits = lit< tt }, tt)) $
     returns ! (look_at ! 0 refl) $ free_all ! refl $
     suffices ! _ (ends_at 𝓛 f.ended stayed c y (word vnull) (record { held = null_ptr; talk = None }) tt tt) $ says ! refl $
-    nothing ! $ session_in ! null_ptr None $ nothing ! $ join ! $ nothing ! $ join ! $ done !))
+    feq_i ! Ptr null_ptr null_ptr refl $ session_in ! null_ptr None $ nothing ! $ join ! $ nothing ! $ join ! $ done !))
