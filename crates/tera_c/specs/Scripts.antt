@@ -26,7 +26,7 @@ pub record IsReplayed (script out out_new err err_new : List ℕ) (out_len err_l
   pub small : (length out < length answers) ⊎ (length err < length report)
       → (status ≡ small) × (out_new ≡ out) × (err_new ≡ err)
 
--- no memory was found for the answers or the report: nothing is written, and the lengths are 0
+-- the status says that no memory was found: nothing is written, and the lengths are 0
 abbrev pub FoundNoMemory : List ℕ → List ℕ → List ℕ → List ℕ → ℕ → ℕ → ℕ → Type 0
 FoundNoMemory out out_new err err_new out_len err_len status =
     (status ≡ no_memory) × (out_len ≡ 0) × (err_len ≡ 0) × (out_new ≡ out) × (err_new ≡ err)

@@ -8,7 +8,7 @@ use tera_report::sink::{Growing, Sink};
 
 /// A text that takes memory as it grows. What was put is all there, unless memory was refused.
 #[derive(Drop)]
-pub struct Kept {
+pub(crate) struct Kept {
     text: Growing,
     refused: bool,
 }

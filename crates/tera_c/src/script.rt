@@ -9,7 +9,7 @@ use tera_replies::{InputPieces, replay_from};
 
 /// What a script comes to.
 #[derive(Drop)]
-pub struct Replayed {
+pub(crate) struct Replayed {
     answers: String,
     report: String,
     status: u8,
