@@ -1,11 +1,12 @@
 //! Escaped texts, and writers that fail.
-use crate::failing::{Failing, fails_after, kind_of};
+use crate::failing::{Failing, fails_after, fails_once, kind_of};
 use crate::held::hold;
 use crate::made::{many, owned};
 use std::alloc::Global;
 use std::io::{ErrorKind, Write};
+use tera_report::sink::{Growing, Room};
 use tera_report::watch::Watched;
-use tera_report::{escape_html, escape_text, escape_watched};
+use tera_report::{escape_html, escape_into_room, escape_text, escape_to, escape_watched};
 
 const PAGE: &str = "<a href='x'>&amp;\"/";
 
@@ -55,9 +56,72 @@ fn written_texts(rt: HostRuntime) {
     );
 }
 
+// It is put as that behind what a growing text holds.
+fn puts(alloc: Global, text: &str, wanted: &str) -> bool {
+    let mut made = Growing::new(alloc);
+    let is_told = escape_to("<", &mut made).is_ok() && escape_to(text, &mut made).is_ok();
+    is_told && made.as_str().strip_prefix("&lt;") == Some(wanted)
+}
+
 #[test]
-fn the_page_is_of_that_length(rt: HostRuntime) {
-    hold(&rt, &[PAGE.len() == 19, ESCAPED_PAGE.len() == 42]);
+fn texts_that_are_put(rt: HostRuntime) {
+    let alloc = rt.alloc();
+    hold(
+        &rt,
+        &[
+            puts(alloc, "", ""),
+            puts(alloc, "a", "a"),
+            puts(alloc, PAGE, ESCAPED_PAGE),
+        ],
+    );
+}
+
+// It is put as that into a room of that size, behind a first byte, and then so many bytes are left.
+fn fits(alloc: Global, text: &str, size: usize, left: usize, wanted: &str) -> bool {
+    match Room::new(alloc, size).ok() {
+        Some(room) => fits_behind(text, room, left, wanted),
+        None => false,
+    }
+}
+
+fn fits_behind(text: &str, room: Room, left: usize, wanted: &str) -> bool {
+    let mut room = room;
+    let is_told = escape_into_room("-", &mut room).is_ok()
+        && escape_into_room(text, &mut room).is_ok();
+    is_told && room.left() == left && room.as_str().strip_prefix("-") == Some(wanted)
+}
+
+// A room of that size, which is one byte too small for it behind a first one, is full, and holds a
+// beginning of it.
+fn overflows(alloc: Global, text: &str, size: usize, wanted: &str) -> bool {
+    match Room::new(alloc, size).ok() {
+        Some(room) => overflows_behind(text, room, wanted),
+        None => false,
+    }
+}
+
+fn overflows_behind(text: &str, room: Room, wanted: &str) -> bool {
+    let mut room = room;
+    let is_refused = escape_into_room("-", &mut room).is_ok()
+        && escape_into_room(text, &mut room).is_err();
+    is_refused && room.as_str().strip_prefix("-") == Some(wanted)
+}
+
+#[test]
+fn rooms_for_escaped_texts(rt: HostRuntime) {
+    let alloc = rt.alloc();
+    hold(
+        &rt,
+        &[
+            fits(alloc, "", 1, 0, ""),
+            fits(alloc, "a", 5, 3, "a"),
+            fits(alloc, PAGE, 1 + ESCAPED_PAGE.len(), 0, ESCAPED_PAGE),
+            fits(alloc, PAGE, 9 + ESCAPED_PAGE.len(), 8, ESCAPED_PAGE),
+            overflows(alloc, "a", 1, ""),
+            overflows(alloc, "a<", 5, "a"),
+            overflows(alloc, "<'>", 13, "&lt;&#39;"),
+        ],
+    );
 }
 
 // That special byte behind so many others and before the rest of 72 is escaped as that.
@@ -125,6 +189,33 @@ fn writers_that_fail(rt: HostRuntime) {
         );
     }
     assert!(rt; all_answer(ESCAPED_PAGE.len(), None));
+}
+
+// A writer that answers one error and then takes all is answered that error, behind a beginning of
+// the page. The page is written piece by piece.
+fn answers_once(before: usize, kind: ErrorKind) -> bool {
+    let mut writer = fails_once(before, kind);
+    let answer = escape_html(PAGE, &mut writer);
+    kind_of(answer) == Some(kind) && writer.taken < ESCAPED_PAGE.len()
+}
+
+// After an interruption the rest is written.
+fn goes_on(before: usize) -> bool {
+    let mut writer = fails_once(before, ErrorKind::Interrupted);
+    escape_html(PAGE, &mut writer).is_ok() && writer.taken == ESCAPED_PAGE.len()
+}
+
+#[test]
+fn writers_that_fail_once(rt: HostRuntime) {
+    for before in 0..10 {
+        assert!(rt;
+            answers_once(before, ErrorKind::StorageFull)
+                && answers_once(before, ErrorKind::WouldBlock)
+                && answers_once(before, ErrorKind::BrokenPipe)
+                && goes_on(before),
+            "behind {before} writes"
+        );
+    }
 }
 
 // A text to that writer is answered by this.

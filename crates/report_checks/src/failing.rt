@@ -1,4 +1,4 @@
-//! A writer that fails.
+//! Writers that fail.
 use std::io;
 use std::io::{ErrorKind, Write};
 
@@ -42,6 +42,40 @@ pub fn fails_after(left: usize, step: usize, interrupts: bool) -> Failing {
         step,
         interrupts,
         calls: 0,
+    }
+}
+
+/// Takes all of each write but one: the one behind so many others answers an error and takes
+/// nothing.
+#[derive(Drop)]
+pub struct FailingOnce {
+    before: usize,
+    kind: ErrorKind,
+    pub taken: usize,
+}
+
+impl Write for FailingOnce {
+    fn write(&mut self, buf: &[u8]) -> io::Result<usize> {
+        if self.before == 0 {
+            self.before = usize::MAX;
+            return Err(io::Error::from(self.kind));
+        }
+        self.before -= 1;
+        self.taken = self.taken.wrapping_add(buf.len());
+        Ok(buf.len())
+    }
+
+    fn flush(&mut self) -> io::Result<()> {
+        Ok(())
+    }
+}
+
+/// Such a writer that was not yet called.
+pub fn fails_once(before: usize, kind: ErrorKind) -> FailingOnce {
+    FailingOnce {
+        before,
+        kind,
+        taken: 0,
     }
 }
 

@@ -38,6 +38,13 @@ fn is_its_clone(span: Span, other: Span) -> bool {
     }
 }
 
+// Its debug text is that under options of the format too.
+fn shows_anyhow(alloc: Global, span: &Span, wanted: &str) -> bool {
+    let over_lines = format!(in alloc; "{span:#?}").unwrap_or(String::new(alloc));
+    let wide = format!(in alloc; "{span:40?}").unwrap_or(String::new(alloc));
+    over_lines.as_str() == wanted && wide.as_str() == wanted
+}
+
 #[test]
 fn texts_of_spans(rt: HostRuntime) {
     let alloc = rt.alloc();
@@ -47,6 +54,7 @@ fn texts_of_spans(rt: HostRuntime) {
             displays(alloc, &span(), " @ 1:0-1:4"),
             shows(alloc, &span(), " @ 1:0-1:4 (0..4)"),
             shows(alloc, &expanded(), " @ 1:0-7:8 (0..9)"),
+            shows_anyhow(alloc, &expanded(), " @ 1:0-7:8 (0..9)"),
             shows(alloc, &Span::default(), " @ 0:0-0:0 (0..0)"),
             is_its_clone(expanded(), later()),
         ],

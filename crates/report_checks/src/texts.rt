@@ -135,12 +135,20 @@ fn causes(rt: HostRuntime) {
     let chained = Error::chain(alloc, "outer", anyhow::Error::msg("inner"));
     let no_text = "invalid utf-8 sequence of 1 bytes from index 1";
     let not_found = Error::from(io::Error::from(io::ErrorKind::NotFound));
+    let of_its_own = Error::io_error(io::Error::other("the disk is gone"));
+    let of_the_system = Error::io_error(io::Error::from_raw_os_error(28));
     hold(
         &rt,
         &[
             displays(alloc, &chained, "outer"),
             has_cause(alloc, chained, "inner"),
             has_cause(alloc, not_found, "entity not found"),
+            has_cause(alloc, of_its_own, "the disk is gone"),
+            has_cause(
+                alloc,
+                of_the_system,
+                "No space left on device (os error 28)",
+            ),
             has_cause(alloc, of_bytes(alloc, b"a\xff"), no_text),
             has_none(Error::message(alloc, "a")),
         ],

@@ -1,13 +1,14 @@
 -- One stretch of puts and flushes after another, and what stretches on a watched writer say of the writer.
 use Rattle.std.specs.Prelude.{ℕ, List, [], ◌∷◌, ◌++◌, Option, Result, refl}
 use Rattle.std.proofs.Common.{◌∙◌, ap, subst, append-nil}
+use Rattle.std.proofs.KnownBytes.{Appends-nil, Appends-trans}
 use Rattle.std.proofs.lemmas.List.Concat.{flat_map-append}
 use Rattle.std.specs.declared.io.Error.{Error}
 use Rattle.std.specs.Io.KnownBytes.{Appends, Keeps}
 use Rattle.std.specs.List.{FoldsTo, flat_map}
 use Rattle.tera_report.specs.declared.watch.Watched.{Watched}
 use Rattle.tera_report.specs.Sink.{Use, put, flush, bytes_put, Uses, Sends, Delivers}
-use Rattle.tera_report.specs.inner.SinkLaws.{appends_nothing, appends_joined, keeps_appends}
+use Rattle.tera_report.specs.inner.SinkLaws.{keeps_appends}
 use Rattle.tera_report.specs.Watch.{held, watched_writer, WatchedTakes, WatchedFlushes}
 use Rattle.tera_report.specs.Writer.{Passes, Flushes}
 use Rattle.tera_report.specs.inner.WriterLaws.{folds_joined}
@@ -35,11 +36,11 @@ module _ {S : Type 0} (takes : S → List ℕ → S → Type 0) (flushes : S →
       (keeps : (s t : S) → flushes s t → Keeps (known s) (known t)) where
     turns_append : (s : S) (uses : List Use) (t : S) → FoldsTo (Uses takes flushes) s uses t
         → Appends (known s) (known t) (flat_map bytes_put uses)
-    turns_append s [] t p = subst (λ (x : S). Appends (known s) (known x) []) p (appends_nothing (known s))
+    turns_append s [] t p = subst (λ (x : S). Appends (known s) (known x) []) p (Appends-nil (known s))
     turns_append s (put a ∷ uses) t (mid, p, later) =
-        appends_joined (known s) (known mid) (known t) a (flat_map bytes_put uses) (grows s a mid p) (turns_append mid uses t later)
+        Appends-trans (known s) (known mid) (known t) a (flat_map bytes_put uses) (grows s a mid p) (turns_append mid uses t later)
     turns_append s (flush ∷ uses) t (mid, p, later) =
-        appends_joined (known s) (known mid) (known t) [] (flat_map bytes_put uses) (keeps_appends (known s) (known mid) (keeps s mid p))
+        Appends-trans (known s) (known mid) (known t) [] (flat_map bytes_put uses) (keeps_appends (known s) (known mid) (keeps s mid p))
         (turns_append mid uses t later)
 
     pub sends_append : (s : S) (a : List ℕ) (t : S) → Sends takes flushes s a t → Appends (known s) (known t) a

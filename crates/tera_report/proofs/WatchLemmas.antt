@@ -1,14 +1,14 @@
 -- What several writes of a watched writer did, one after another.
-use Rattle.std.proofs.Common.{◌≡◌, ◌≢◌, ℕ, ◌+◌, ◌-◌, ◌≤◌, true, ◌||◌, IsTrue, List, [], ◌++◌, length, take, drop, refl, sym, ap, subst, ◌∙◌, append_assoc}
-use Rattle.std.proofs.Common.{append-nil, take-append-drop, arith, length-drop, Option, Result}
+use Rattle.std.proofs.Common.{◌≡◌, ◌≢◌, ℕ, ◌+◌, ◌-◌, ◌^◌, ◌≤◌, true, ◌||◌, IsTrue, List, [], ◌∷◌, ◌++◌, length, take, drop, refl, sym, ap, subst, ◌∙◌}
+use Rattle.std.proofs.Common.{append_assoc, append-nil, take-append-drop, arith, length-drop, Option, Result, Ok}
 use Rattle.std.proofs.Math.Bool.{or_assoc, or-false}
 use Rattle.std.proofs.lemmas.List.{take_rest}
-use Rattle.std.proofs.KnownBytes.{Appends-trans}
+use Rattle.std.proofs.KnownBytes.{Appends-nil, Appends-trans}
 use Rattle.std.specs.Io.KnownBytes.{Appends}
+use Rattle.std.specs.List.{AllByRecursion}
 use Rattle.std.specs.declared.io.Error.{Error}
 use Rattle.tera_report.specs.Watch.{has_failed, held, SameWriter, watched_writer, WatchedTakes, WatchedFails}
-use Rattle.tera_report.specs.Writer.{Attempt, once, is_fault, bytes_taken, all_taken, has_fault, Tries}
-use Rattle.tera_report.specs.inner.SinkLaws.{appends_nothing}
+use Rattle.tera_report.specs.Writer.{Attempt, once, is_fault, bytes_taken, all_taken, has_fault, GoesOn, Tries}
 use Rattle.tera_report.specs.inner.WriterLaws.{tries_more, taken_more, faults_more, or_later}
 use Rattle.tera_report.specs.declared.watch.Watched.{Watched}
 
@@ -33,22 +33,37 @@ pub record Tried {W : Type 0} (contents : W → Option (List ℕ)) (wrote : W �
 
 module _ {W : Type 0} (contents : W → Option (List ℕ)) (wrote : W → List ℕ → Result ℕ Error → W → Type 0) (old : Watched W) where
   pub none_tried : Tried contents wrote old [] old
-  none_tried = record { calls = refl; grows = appends_nothing _; same = refl; told = sym (or-false _) }
+  none_tried = record { calls = refl; grows = Appends-nil _; same = refl; told = sym (or-false _) }
 
   module _ (new : Watched W) (attempts : List Attempt) (buf : List ℕ) (h : Tried contents wrote old attempts new) where
-    pub tried_takes : all_taken attempts ≡ buf → WatchedTakes contents wrote old buf new
-    tried_takes is = record {
+    pub tried_takes : AllByRecursion GoesOn attempts → all_taken attempts ≡ buf → WatchedTakes contents wrote old buf new
+    tried_takes steady is = record {
       same = h.same;
       grows = subst (Appends _ _) is h.grows;
-      passed = record { attempts = attempts; calls = h.calls; whole = is };
+      passed = record { attempts = attempts; calls = h.calls; whole = is; steady = steady };
       told = h.told;
     }
 
-    pub tried_fails : IsTrue (has_fault attempts) → (rest : List ℕ) → all_taken attempts ++ rest ≡ buf → WatchedFails contents wrote old buf new
-    tried_fails fault rest part = record {
+    pub tried_fails : IsTrue (has_fault attempts) → (rest : List ℕ) → all_taken attempts ++ rest ≡ buf → rest ≢ []
+        → (before : List Attempt) (last : Attempt) → attempts ≡ before ++ last ∷ [] → AllByRecursion GoesOn before
+        → (GoesOn last → 2 ^ 64 - 1 ≤ length attempts) → WatchedFails contents wrote old buf new
+    tried_fails fault rest part left before last ended steady stops = record {
       same = h.same;
       told = subst IsTrue (sym h.told) (or_later _ _ fault);
-      broke = record { attempts = attempts; calls = h.calls; fault = fault; rest = rest; part = part };
+      broke =
+          record {
+            attempts = attempts;
+            calls = h.calls;
+            fault = fault;
+            rest = rest;
+            part = part;
+            left = left;
+            before = before;
+            last = last;
+            ended = ended;
+            steady = steady;
+            stops = stops;
+          };
       grows = h.grows;
     }
 
@@ -67,8 +82,27 @@ module _ {W : Type 0} (contents : W → Option (List ℕ)) (wrote : W → List �
 
     -- it failed, and took nothing
     pub failed_here : (buf : List ℕ) → all_taken attempts ++ rest ≡ buf → is_fault answer rest ≡ true → bytes_taken answer rest ≡ []
-        → WatchedFails contents wrote old buf new
-    failed_here buf split fault none =
+        → rest ≢ [] → AllByRecursion GoesOn attempts → (GoesOn (record { given = rest; answer = answer }) → ⊥) → WatchedFails contents wrote old buf new
+    failed_here buf split fault none left steady stops =
         let nothing = taken_more attempts rest answer ∙ ap (λ l. all_taken attempts ++ l) none ∙ append-nil (all_taken attempts) in
         tried_fails new (attempts ++ once rest answer) buf one_more (subst IsTrue (sym (faults_more attempts rest answer)) (or_later _ _ fault)) rest
-        (ap (λ l. l ++ rest) nothing ∙ split)
+        (ap (λ l. l ++ rest) nothing ∙ split) left attempts (record { given = rest; answer = answer }) refl steady (λ on. absurd (stops on))
+
+-- bytes of which none can be taken without a fault
+pub some_if_fault : (bytes : List ℕ) → is_fault {E = Error} (Ok 0) bytes ≡ true → bytes ≢ []
+some_if_fault [] fault none = absurd (cc)
+some_if_fault (x ∷ bytes) fault none = absurd (cc)
+
+-- the last of some writes, and those before it
+pub last_of : (first : Attempt) (later : List Attempt) → AllByRecursion GoesOn (first ∷ later)
+    → (before : List Attempt) × (last : Attempt) × (first ∷ later ≡ before ++ last ∷ []) × AllByRecursion GoesOn before
+last_of first [] steady = ([], first, refl, tt)
+last_of first (x ∷ later) (one, steady) =
+    let (before, last, is, all) = last_of x later steady in
+    (first ∷ before, last, ap (λ l. first ∷ l) is, (one, all))
+
+-- the last of so many writes, and those before it
+pub ended_late : (attempts : List Attempt) → 2 ^ 64 - 1 ≤ length attempts → AllByRecursion GoesOn attempts
+    → (before : List Attempt) × (last : Attempt) × (attempts ≡ before ++ last ∷ []) × AllByRecursion GoesOn before
+ended_late [] late steady = absurd (omega (arith, late))
+ended_late (x ∷ later) late steady = last_of x later steady

@@ -21,10 +21,11 @@ pub record GrowingTakes (old : Growing) (bytes : List ℕ) (new : Growing) : Typ
   pub capacity : grown_capacity old ≤ grown_capacity new
 
 -- more memory was wanted for the bytes than the text had, and it was refused; a beginning of the
--- bytes was taken
+-- bytes was taken, and no memory was given back
 pub record GrowingFails (old : Growing) (bytes : List ℕ) (new : Growing) : Type 0 where
   pub wanted : grown_capacity old < grown_len old + length bytes
   pub taken : List ℕ
   pub rest : List ℕ
   pub part : taken ++ rest ≡ bytes
   pub grows : grown_bytes new ≡ grown_bytes old ++ taken
+  pub capacity : grown_capacity old ≤ grown_capacity new

@@ -2,7 +2,7 @@
 use Rattle.std.specs.Prelude.{◌≡◌, ℕ, ℤ, List, [], ◌++◌, codes, Option, Some, None, unwrap_or}
 use Rattle.std.specs.Option.{option_map}
 use Rattle.std.specs.Fmt.{◌++?◌, debug_str, debug_list, signed_decimal}
-use Rattle.std.specs.declared.io.ErrorKind.{ErrorKind}
+use Rattle.std.specs.declared.io.ErrorKind.{ErrorKind as IoKind}
 use Rattle.tera_report.specs.Quoted.{IsText, QuotesList}
 use Rattle.tera_report.specs.Report.{Report, report_text}
 
@@ -47,7 +47,7 @@ pub data Refusal : Type 0 where
   invalid_argument : (expected actual : List ℕ) → Refusal
   missing_argument : (name : List ℕ) → Refusal
   out_of_range : (value target : List ℕ) → Refusal
-  writing_failed : (kind : ErrorKind) → Refusal
+  writing_failed : (kind : IoKind) → Refusal
   not_utf8 : Refusal
   memory_refused : Refusal
   -- arithmetic

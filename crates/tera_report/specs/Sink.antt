@@ -1,5 +1,5 @@
 -- What is put where text goes.
-use Rattle.std.specs.Prelude.{◌≡◌, ℕ, ◌⊎◌, List, [], Result, MatchResult}
+use Rattle.std.specs.Prelude.{◌≡◌, ℕ, List, [], Result, MatchResult}
 use Rattle.std.specs.List.{FoldsTo, flat_map}
 use Rattle.std.specs.declared.fmt.Formatter.{Formatter}
 use Rattle.std.specs.Fmt.{HasWrittenStyled, IsFlush}
@@ -49,13 +49,6 @@ abbrev pub Delivers : {S : Type 0} → (S → List ℕ → S → Type 0) → (S 
     → S → List ℕ → S → Type 0
 Delivers {S} takes flushes old bytes new =
     (sent : S) × Sends takes flushes old bytes sent × flushes sent new
-
--- some bytes were sent, and then a put or a flush failed
-abbrev pub Broke : {S : Type 0} → (S → List ℕ → S → Type 0) → (S → List ℕ → S → Type 0)
-    → (S → S → Type 0) → (S → S → Type 0) → S → S → Type 0
-Broke {S} takes fails flushes flush_fails old new =
-    (bytes : List ℕ) × (sent : S) × Sends takes flushes old bytes sent
-    × (((text : List ℕ) × fails sent text new) ⊎ flush_fails sent new)
 
 -- a formatter took the bytes, and has the options that it had
 abbrev pub FormatterTakes : {W : Type 0} → (W → List ℕ → W → Type 0)

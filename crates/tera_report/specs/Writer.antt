@@ -1,8 +1,11 @@
 -- Writes of a writer in turn: what each was given, and what it answered.
-use Rattle.std.specs.Prelude.{◌≡◌, ℕ, Bool, true, false, ◌&&◌, ◌||◌, ◌==◌, not, List, [], ◌∷◌, ◌++◌}
-use Rattle.std.specs.Prelude.{IsTrue, Result, Ok, Err, length, take}
-use Rattle.std.specs.List.{FoldsTo, flat_map}
+use Rattle.std.specs.Prelude.{◌≡◌, ◌≢◌, ℕ, ◌^◌, ◌-◌, ◌<◌, ◌≤◌, Bool, true, false, ◌&&◌, ◌||◌}
+use Rattle.std.specs.Prelude.{◌==◌, not, IsTrue, List, [], ◌∷◌, ◌++◌, length, take}
+use Rattle.std.specs.Prelude.{Result, Ok, Err, MatchResult}
+use Rattle.std.specs.List.{AllByRecursion, FoldsTo, flat_map}
+use Rattle.std.specs.IoError.{error_kind}
 use Rattle.std.specs.declared.io.Error.{Error}
+use Rattle.std.specs.declared.io.ErrorKind.TheVariants.{Interrupted}
 
 -- a write of these bytes with this answer
 pub record Attempt : Type 0 where
@@ -32,20 +35,27 @@ abbrev pub has_fault : List Attempt → Bool
 has_fault [] = false
 has_fault (a ∷ rest) = is_fault a.answer a.given || has_fault rest
 
+-- more may be written after this write: it took a byte, or was interrupted
+abbrev pub GoesOn : Attempt → Type 0
+GoesOn a = MatchResult a.answer (λ taken. 0 < taken) (λ e. error_kind e ≡ Interrupted)
+
 -- the writer went from old to new by these writes, in turn
 abbrev pub Tries : {W : Type 0} → (W → List ℕ → Result ℕ Error → W → Type 0)
     → W → List Attempt → W → Type 0
 Tries wrote old attempts new = FoldsTo (λ v a w. wrote v a.given a.answer w) old attempts new
 
--- the writer went from old to new by writes that took just these bytes
+-- the writer went from old to new by writes that took just these bytes; each of them took a byte or
+-- was interrupted
 pub record Passes {W : Type 0} (wrote : W → List ℕ → Result ℕ Error → W → Type 0) (old : W)
     (bytes : List ℕ) (new : W) : Type 0 where
   pub attempts : List Attempt
   pub calls : Tries wrote old attempts new
   pub whole : all_taken attempts ≡ bytes
+  pub steady : AllByRecursion GoesOn attempts
 
--- the writer went from old to new by writes that took a beginning of these bytes, and one of them
--- answered an error or took no byte of some
+-- the writer went from old to new by writes that took some of these bytes and not all, and one of
+-- them answered an error or took no byte of some; each but the last took a byte or was interrupted,
+-- and so may the last where there are so many
 pub record Breaks {W : Type 0} (wrote : W → List ℕ → Result ℕ Error → W → Type 0) (old : W)
     (bytes : List ℕ) (new : W) : Type 0 where
   pub attempts : List Attempt
@@ -53,6 +63,12 @@ pub record Breaks {W : Type 0} (wrote : W → List ℕ → Result ℕ Error → 
   pub fault : IsTrue (has_fault attempts)
   pub rest : List ℕ
   pub part : all_taken attempts ++ rest ≡ bytes
+  pub left : rest ≢ []
+  pub before : List Attempt
+  pub last : Attempt
+  pub ended : attempts ≡ before ++ last ∷ []
+  pub steady : AllByRecursion GoesOn before
+  pub stops : GoesOn last → 2 ^ 64 - 1 ≤ length attempts
 
 -- a flush of the writer that went well, and one that failed, led from old to new
 abbrev pub Flushes : {W : Type 0} → (W → Result (Unit {0}) Error → W → Type 0) → W → W → Type 0

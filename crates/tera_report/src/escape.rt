@@ -19,9 +19,9 @@ use std::alloc::Global;
 use std::io;
 
 /// Writes the text with `&`, `<`, `>`, `"` and `'` as `&amp;`, `&lt;`, `&gt;`, `&quot;` and
-/// `&#39;`, and does not flush. Answers an error only where a write of the writer, during the call,
-/// answered one or took no byte; then a beginning may be written. Takes no memory. Mirrors
-/// `tera::escape_html`.
+/// `&#39;`, and does not flush. A write that is interrupted is tried again. Answers an error only
+/// where a write of the writer, during the call, answered one or took no byte; then a beginning may
+/// be written, and not all. Takes no memory. Mirrors `tera::escape_html`.
 pub fn escape_html<W: Writer>(text: &str, writer: &mut W) -> io::Result<()>
     ensures written { OnOk result
         (WritesEscaped (W.contents writer.old) (W.contents writer.new) text.now) }
@@ -32,7 +32,8 @@ pub fn escape_html<W: Writer>(text: &str, writer: &mut W) -> io::Result<()>
     escape_watched(text, &mut watched)
 }
 
-/// Writes the text escaped, as `escape_html` does, to a writer that is watched.
+/// Writes the text escaped, as `escape_html` does, to a writer that is watched. Answers an error
+/// only where `escape_html` would. Takes no memory.
 pub fn escape_watched<W: Writer>(text: &str, writer: &mut Watched<'_, W>) -> io::Result<()>
     ensures { Puts (WatchedTakes W.contents W.wrote) (WatchedFails W.contents W.wrote) result
         (λ bytes. Spells bytes text.now) writer.old writer.new }

@@ -2,8 +2,7 @@
 ghost use Rattle.std.specs.Prelude.{◌≡◌, ◌↔◌, [], ◌++◌, ◌∷◌, IfOk, IfErr, OnOk, OnErr, IsTrue, map};
 ghost use Rattle.std.specs.Prelude.{codes, string_bytes};
 ghost use Rattle.tera_report.specs.Errors.{IsOutOfMemory, report_of, note_of};
-ghost use Rattle.tera_report.specs.Report.{Report, report_text};
-ghost use Rattle.tera_report.specs.Sink.{PutsThese};
+ghost use Rattle.tera_report.specs.Report.{report_text};
 ghost use Rattle.tera_report.specs.declared.report.ReportError.{ReportError};
 
 pub mod laws;
@@ -13,7 +12,6 @@ mod text;
 
 use crate::errors::TeraResult;
 use crate::growing::Growing;
-use crate::sink::Sink;
 use crate::span::Span;
 pub use source::from_line;
 use std::alloc::{AllocError, Global};
@@ -229,8 +227,8 @@ impl Note {
 }
 
 #[tactic(auto, using(std::proofs::lemmas::List::map_more))]
-fn copied_notes(alloc: Global, notes: &Vec<Note>) -> Result<Vec<Note>, AllocError>
-    ensures { IfOk result (λ copies. map note_of copies.items ≡ map note_of notes.now.items) }
+fn copied_notes(alloc: Global, notes: &[Note]) -> Result<Vec<Note>, AllocError>
+    ensures { IfOk result (λ copies. map note_of copies.items ≡ map note_of notes.now) }
 {
     let mut copies = Vec::with_capacity(alloc, notes.len())?;
     for note in notes {

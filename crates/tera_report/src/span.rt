@@ -1,5 +1,6 @@
 //! Where a node stands in the source of its template.
 ghost use Rattle.std.specs.Prelude.{◌≡◌, ◌↔◌, Some, IsTrue};
+ghost use Rattle.std.specs.Fmt.{DisplaysOnOk, DisplaysStyledOnOk};
 ghost use Rattle.tera_report.specs.Span.{span_text, span_debug_text, expanded, zeros};
 ghost use Rattle.tera_report.specs.declared.span.Span.{Span};
 
@@ -76,12 +77,33 @@ impl fmt::Display for Span {
     }
 }
 
-/// ` @ 1:0-1:5 (3..8)`.
+/// ` @ 1:0-1:5 (3..8)`. No option of the format changes it. Takes no memory.
 impl fmt::Debug for Span {
     ghost debug_output = { λ span. Some (span_debug_text span) };
 
-    fn fmt<W: fmt::Write>(&self, f: &mut fmt::Formatter<W>) -> fmt::Result {
-        let Range { start, end } = &self.range;
-        write!(f, "{self} ({start}..{end})")
+    fn fmt<W: fmt::Write>(&self, f: &mut fmt::Formatter<W>) -> fmt::Result
+        ensures writes { DisplaysOnOk W.write_str_gives f.old result
+            (Some (span_debug_text self.now)) f.new }
+        ensures styled { DisplaysStyledOnOk W.write_str_gives f.old result
+            (Some (span_debug_text self.now)) f.new }
+    {
+        put_all(
+            &[
+                " @ ",
+                Buffer::new().format(self.start_line),
+                ":",
+                Buffer::new().format(self.start_col),
+                "-",
+                Buffer::new().format(self.end_line),
+                ":",
+                Buffer::new().format(self.end_col),
+                " (",
+                Buffer::new().format(self.range.start),
+                "..",
+                Buffer::new().format(self.range.end),
+                ")",
+            ],
+            f,
+        )
     }
 }

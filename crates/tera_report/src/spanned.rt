@@ -81,7 +81,7 @@ impl<T: Debug> Spanned<T> {
         ensures err { IfErr result IsOutOfMemory }
     {
         let node = T::clone(&self.node)?;
-        let span = self.span.clone()?;
+        let span = self.span.copy();
         Spanned::new(alloc, node, span)
     }
 }

@@ -21,7 +21,7 @@ pub struct Watched<'a, W> {
 }
 
 impl<'a, W: Writer> Watched<'a, W> {
-    /// Watches that writer from now on.
+    /// Watches that writer from now on. Takes no memory.
     pub fn new(writer: &'a mut W) -> Watched<'a, W>
         ensures lent { writer_loan result ≡ writer.entry.ghost_name }
         ensures writer { watched_writer result ≡ writer.old }
@@ -33,7 +33,8 @@ impl<'a, W: Writer> Watched<'a, W> {
         }
     }
 
-    /// Whether a write answered an error or took no byte of some since the writer is watched.
+    /// Whether a write answered an error or took no byte of some since the writer is watched. Takes
+    /// no memory.
     pub fn has_failed(&self) -> bool
         ensures { result ≡ has_failed self.now }
     {
@@ -62,6 +63,9 @@ impl<'a, W: Writer> Watched<'a, W> {
                     }
                 }
             }
+        }
+        if rest.is_empty() {
+            return Ok(());
         }
         Err(io::Error::from(ErrorKind::TimedOut))
     }

@@ -22,13 +22,15 @@ pub trait Writer {
     // a flush with this answer leads from one state to another
     ghost flushed: { Self → Result (Unit {0}) Error → Self → Type 0 };
 
-    /// Writes a beginning of the bytes, and answers how many it took, or why it took none.
+    /// Writes a beginning of the bytes, and answers how many it took, or an error where it took
+    /// none. Whether it takes memory is its own affair.
     fn write_once(&mut self, bytes: &[u8]) -> io::Result<usize>
         ensures bound { WritesAtMost result bytes.now }
         ensures bytes { WriteAppends (contents self.old) (contents self.new) result bytes.now }
         ensures told { wrote self.old bytes.now result self.new };
 
-    /// Passes on what it keeps back.
+    /// Passes on what it keeps back, or answers an error. Whether it takes memory is its own
+    /// affair.
     fn flush_once(&mut self) -> io::Result<()>
         ensures bytes { Keeps (contents self.old) (contents self.new) }
         ensures told { flushed self.old result self.new };

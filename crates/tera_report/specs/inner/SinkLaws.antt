@@ -1,8 +1,10 @@
 -- What is taken in turn is taken together; and what fails on a beginning, or on what comes after
 -- it, fails on the whole.
-use Rattle.std.specs.Prelude.{◌≡◌, ◌||◌, ℕ, List, [], ◌++◌, Option, None, Some, Result, Ok, Err}
+use Rattle.std.specs.Prelude.{◌≡◌, ◌||◌, ℕ, List, [], ◌++◌, Option, Result, Ok, Err}
 use Rattle.std.specs.Prelude.{refl}
 use Rattle.std.proofs.Common.{◌∙◌, ap, sym, subst, append_assoc, append-nil, arith, length-append}
+use Rattle.std.proofs.KnownBytes.{Appends-kept, Appends-nil, Appends-trans}
+use Rattle.std.proofs.Math.Bool.{or_assoc, or-false}
 use Rattle.std.proofs.lemmas.List.Folds.{concat-append}
 use Rattle.std.specs.declared.fmt.Formatter.{Formatter}
 use Rattle.std.specs.declared.io.Error.{Error}
@@ -18,33 +20,20 @@ use Rattle.tera_report.specs.Watch.{has_failed, WatchedTakes, WatchedFails}
 use Rattle.tera_report.specs.Writer.{all_taken, has_fault}
 use Rattle.tera_report.specs.inner.WriterLaws.{folds_joined, passes_nothing, passes_joined}
 use Rattle.tera_report.specs.inner.WriterLaws.{breaks_early, breaks_later, taken_joined}
-use Rattle.tera_report.specs.inner.WriterLaws.{faults_joined, or_assoc, or_false}
-
-pub appends_nothing : (a : Option (List ℕ)) → Appends a a []
-appends_nothing None = tt
-appends_nothing (Some xs) = sym (append-nil xs)
-
-pub appends_joined : (a b c : Option (List ℕ)) (xs ys : List ℕ) → Appends a b xs → Appends b c ys
-    → Appends a c (xs ++ ys)
-appends_joined None b c xs ys p q = tt
-appends_joined (Some a) None c xs ys p q = absurd p
-appends_joined (Some a) (Some b) None xs ys p q = absurd q
-appends_joined (Some a) (Some b) (Some c) xs ys p q = q ∙ ap (λ l. l ++ ys) p ∙ append_assoc a xs ys
+use Rattle.tera_report.specs.inner.WriterLaws.{faults_joined}
 
 -- what is kept grows by nothing
 pub keeps_appends : (a b : Option (List ℕ)) → Keeps a b → Appends a b []
-keeps_appends None b h = tt
-keeps_appends (Some xs) None h = absurd h
-keeps_appends (Some xs) (Some ys) h = h ∙ sym (append-nil xs)
+keeps_appends a b h = Appends-kept a a b [] (Appends-nil a) h
 
 module _ {W : Type 0} (contents : W → Option (List ℕ)) (wrote : W → List ℕ → Result ℕ Error → W
     → Type 0) where
   pub watched_nothing : (s : Watched W) → WatchedTakes contents wrote s [] s
   watched_nothing s = record {
     same = refl;
-    grows = appends_nothing _;
+    grows = Appends-nil _;
     passed = passes_nothing wrote _;
-    told = sym (or_false (has_failed s));
+    told = sym (or-false (has_failed s));
   }
 
   pub watched_joined : (s : Watched W) (a : List ℕ) (t : Watched W) (b : List ℕ) (u : Watched W)
@@ -52,10 +41,10 @@ module _ {W : Type 0} (contents : W → Option (List ℕ)) (wrote : W → List �
       → WatchedTakes contents wrote s (a ++ b) u
   watched_joined s a t b u p q = record {
     same = q.same ∙ p.same;
-    grows = appends_joined _ _ _ a b p.grows q.grows;
+    grows = Appends-trans _ _ _ a b p.grows q.grows;
     passed = passes_joined wrote _ a _ b _ p.passed q.passed;
     told = q.told ∙ ap (λ x. x || has_fault q.passed.attempts) p.told
-        ∙ sym (or_assoc (has_failed s) (has_fault p.passed.attempts) (has_fault q.passed.attempts))
+        ∙ or_assoc (has_failed s) (has_fault p.passed.attempts) (has_fault q.passed.attempts)
         ∙ ap (λ x. has_failed s || x)
         (sym (faults_joined p.passed.attempts q.passed.attempts));
   }
@@ -79,7 +68,7 @@ module _ {W : Type 0} (contents : W → Option (List ℕ)) (wrote : W → List �
     grows = subst (Appends _ _)
         (ap (λ l. l ++ all_taken q.broke.attempts) (sym p.passed.whole)
         ∙ sym (taken_joined p.passed.attempts q.broke.attempts))
-        (appends_joined _ _ _ a (all_taken q.broke.attempts) p.grows q.grows);
+        (Appends-trans _ _ _ a (all_taken q.broke.attempts) p.grows q.grows);
   }
 
 module _ {W : Type 0} (took : W → List ℕ → W → Type 0) where
@@ -196,6 +185,7 @@ growing_early s a t b p =
       rest = p.rest ++ b;
       part = part_early p.taken p.rest a b p.part;
       grows = p.grows;
+      capacity = p.capacity;
     }
 
 pub growing_later : (s : Growing) (a : List ℕ) (t : Growing) (b : List ℕ) (u : Growing)
@@ -208,6 +198,7 @@ growing_later s a t b u p q =
       rest = q.rest;
       part = part_later a q.taken q.rest b q.part;
       grows = grown_later _ _ _ a q.taken p.grows q.grows;
+      capacity = omega (arith, p.capacity, q.capacity);
     }
 
 -- where just these bytes have the property, a call that puts bytes with it into a room puts them in

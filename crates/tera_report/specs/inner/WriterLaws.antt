@@ -1,10 +1,11 @@
 -- Writes in turn, one stretch after another.
-use Rattle.std.specs.Prelude.{◌≡◌, ℕ, Bool, true, false, ◌||◌, List, [], ◌∷◌, ◌++◌, IsTrue, Result}
-use Rattle.std.specs.Prelude.{refl}
-use Rattle.std.proofs.Common.{◌∙◌, ap, sym, subst, append_assoc, append-nil}
+use Rattle.std.specs.Prelude.{◌≡◌, ◌≢◌, ℕ, ◌||◌, List, [], ◌∷◌, ◌++◌, IsTrue, Result}
+use Rattle.std.specs.Prelude.{Bool, true, false, refl}
+use Rattle.std.proofs.Common.{◌∙◌, ap, sym, subst, append_assoc, append-nil, arith, length-append}
+use Rattle.std.proofs.Math.Bool.{or_assoc, or-false}
 use Rattle.std.proofs.lemmas.List.Concat.{flat_map-append}
 use Rattle.std.specs.declared.io.Error.{Error}
-use Rattle.std.specs.List.{FoldsTo}
+use Rattle.std.specs.List.{AllByRecursion, FoldsTo}
 use Rattle.tera_report.specs.Writer.{Attempt, once, is_fault, bytes_taken, all_taken, has_fault}
 use Rattle.tera_report.specs.Writer.{Tries, Passes, Breaks}
 
@@ -25,14 +26,6 @@ taken_more xs bytes answer =
     taken_joined xs (once bytes answer)
     ∙ ap (λ l. all_taken xs ++ l) (append-nil (bytes_taken answer bytes))
 
-pub or_assoc : (a b c : Bool) → (a || (b || c)) ≡ ((a || b) || c)
-or_assoc true b c = refl
-or_assoc false b c = refl
-
-pub or_false : (a : Bool) → (a || false) ≡ a
-or_false true = refl
-or_false false = refl
-
 pub or_later : (a b : Bool) → IsTrue b → IsTrue (a || b)
 or_later true b h = refl
 or_later false b h = h
@@ -41,13 +34,24 @@ pub faults_joined : (xs ys : List Attempt) → has_fault (xs ++ ys) ≡ (has_fau
 faults_joined [] ys = refl
 faults_joined (x ∷ xs) ys =
     ap (λ b. is_fault x.answer x.given || b) (faults_joined xs ys)
-    ∙ or_assoc (is_fault x.answer x.given) (has_fault xs) (has_fault ys)
+    ∙ sym (or_assoc (is_fault x.answer x.given) (has_fault xs) (has_fault ys))
 
 pub faults_more : (xs : List Attempt) (bytes : List ℕ) (answer : Result ℕ Error)
     → has_fault (xs ++ once bytes answer) ≡ (has_fault xs || is_fault answer bytes)
 faults_more xs bytes answer =
     faults_joined xs (once bytes answer)
-    ∙ ap (λ b. has_fault xs || b) (or_false (is_fault answer bytes))
+    ∙ ap (λ b. has_fault xs || b) (or-false (is_fault answer bytes))
+
+-- what holds of some writes and of some more holds of all
+pub all_joined : (P : Attempt → Type 0) (xs ys : List Attempt) → AllByRecursion P xs
+    → AllByRecursion P ys → AllByRecursion P (xs ++ ys)
+all_joined P [] ys p q = q
+all_joined P (x ∷ xs) ys (first, p) q = (first, all_joined P xs ys p q)
+
+-- some bytes, and maybe more behind them
+pub some_more : (rest b : List ℕ) → rest ≢ [] → rest ++ b ≢ []
+some_more [] b some e = some refl
+some_more (x ∷ rest) b some e = absurd (cc)
 
 module _ {W : Type 0} (wrote : W → List ℕ → Result ℕ Error → W → Type 0) where
   pub tries_joined : (w : W) (xs : List Attempt) (v : W) (ys : List Attempt) (u : W)
@@ -60,7 +64,7 @@ module _ {W : Type 0} (wrote : W → List ℕ → Result ℕ Error → W → Typ
   tries_more w xs v bytes answer u p q = tries_joined w xs v (once bytes answer) u p (u, q, refl)
 
   abbrev pub passes_nothing : (w : W) → Passes wrote w [] w
-  passes_nothing w = record { attempts = []; calls = refl; whole = refl }
+  passes_nothing w = record { attempts = []; calls = refl; whole = refl; steady = tt }
 
   abbrev pub passes_joined : (w : W) (a : List ℕ) (v : W) (b : List ℕ) (u : W)
       → Passes wrote w a v → Passes wrote v b u → Passes wrote w (a ++ b) u
@@ -68,6 +72,7 @@ module _ {W : Type 0} (wrote : W → List ℕ → Result ℕ Error → W → Typ
     attempts = p.attempts ++ q.attempts;
     calls = tries_joined w p.attempts v q.attempts u p.calls q.calls;
     whole = taken_joined p.attempts q.attempts ∙ (λ i. p.whole i ++ q.whole i);
+    steady = all_joined _ p.attempts q.attempts p.steady q.steady;
   }
 
   abbrev pub breaks_early : (w : W) (a : List ℕ) (v : W) (b : List ℕ) → Breaks wrote w a v
@@ -78,6 +83,12 @@ module _ {W : Type 0} (wrote : W → List ℕ → Result ℕ Error → W → Typ
     fault = p.fault;
     rest = p.rest ++ b;
     part = sym (append_assoc (all_taken p.attempts) p.rest b) ∙ ap (λ l. l ++ b) p.part;
+    left = some_more p.rest b p.left;
+    before = p.before;
+    last = p.last;
+    ended = p.ended;
+    steady = p.steady;
+    stops = p.stops;
   }
 
   abbrev pub breaks_later : (w : W) (a : List ℕ) (v : W) (b : List ℕ) (u : W)
@@ -92,4 +103,14 @@ module _ {W : Type 0} (wrote : W → List ℕ → Result ℕ Error → W → Typ
         ap (λ l. l ++ q.rest) (taken_joined p.attempts q.attempts)
         ∙ append_assoc (all_taken p.attempts) (all_taken q.attempts) q.rest
         ∙ (λ i. p.whole i ++ q.part i);
+    left = q.left;
+    before = p.attempts ++ q.before;
+    last = q.last;
+    ended =
+        ap (λ l. p.attempts ++ l) q.ended
+        ∙ sym (append_assoc p.attempts q.before (q.last ∷ []));
+    steady = all_joined _ p.attempts q.before p.steady q.steady;
+    stops = λ more.
+        let most = q.stops more in
+        omega (arith, length-append p.attempts q.attempts, most);
   }

@@ -166,8 +166,8 @@ impl Error {
         }
     }
 
-    /// Kind `Io` of the error's own kind, with that error as its cause. Takes no memory. Mirrors
-    /// `Error::io_error`.
+    /// Kind `Io` of the error's own kind, with a cause, which has none of its own. Takes no memory.
+    /// Mirrors `Error::io_error`.
     pub fn io_error(error: io::Error) -> Error
         ensures kind { refusal_of (kind_of result) ≡ writing_failed (io_kind error) }
         ensures cause { IsSomeAnd (source_of result)
@@ -179,7 +179,7 @@ impl Error {
         }
     }
 
-    /// Kind `Utf8Conversion`, with that error as its cause. Takes no memory. Mirrors
+    /// Kind `Utf8Conversion`, with a cause, which has none of its own. Takes no memory. Mirrors
     /// `Error::invalid_utf8`.
     pub fn invalid_utf8(error: FromUtf8Error) -> Error
         ensures kind { refusal_of (kind_of result) ≡ not_utf8 }

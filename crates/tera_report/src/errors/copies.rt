@@ -22,10 +22,8 @@ impl ErrorKind {
             Self::CircularExtend {
                 tpl,
                 inheritance_chain,
-            } => copied_extend(alloc, tpl, inheritance_chain)?,
-            Self::CircularInclude { tpl, include_chain } => {
-                copied_include(alloc, tpl, include_chain)?
-            }
+            } => extended(alloc, tpl, inheritance_chain)?,
+            Self::CircularInclude { tpl, include_chain } => included(alloc, tpl, include_chain)?,
             Self::MissingParent { current, parent } => Self::MissingParent {
                 current: copied(alloc, current)?,
                 parent: copied(alloc, parent)?,
@@ -53,17 +51,16 @@ impl ErrorKind {
     }
 }
 
-fn copied_report(alloc: Global, report: &Box<ReportError>) -> TeraResult<Box<ReportError>>
-    ensures ok { IfOk result (λ copy. report_of copy.value ≡ report_of report.now.value) }
+fn copied_report(alloc: Global, report: &ReportError) -> TeraResult<Box<ReportError>>
+    ensures ok { IfOk result (λ copy. report_of copy.value ≡ report_of report.now) }
     ensures err { IfErr result IsOutOfMemory }
 {
-    let held: &ReportError = report;
-    Ok(Box::new(alloc, held.clone(alloc)?)?)
+    Ok(Box::new(alloc, report.clone(alloc)?)?)
 }
 
-fn copied_extend(alloc: Global, tpl: &String, chain: &Vec<String>) -> Result<ErrorKind, AllocError>
+fn extended(alloc: Global, tpl: &str, chain: &[String]) -> Result<ErrorKind, AllocError>
     ensures { IfOk result (λ copy. refusal_of copy
-        ≡ circular_extend (string_bytes tpl.now) (map string_bytes chain.now.items)) }
+        ≡ circular_extend tpl.now (map string_bytes chain.now)) }
 {
     Ok(ErrorKind::CircularExtend {
         tpl: copied(alloc, tpl)?,
@@ -71,9 +68,9 @@ fn copied_extend(alloc: Global, tpl: &String, chain: &Vec<String>) -> Result<Err
     })
 }
 
-fn copied_include(alloc: Global, tpl: &String, chain: &Vec<String>) -> Result<ErrorKind, AllocError>
+fn included(alloc: Global, tpl: &str, chain: &[String]) -> Result<ErrorKind, AllocError>
     ensures { IfOk result (λ copy. refusal_of copy
-        ≡ circular_include (string_bytes tpl.now) (map string_bytes chain.now.items)) }
+        ≡ circular_include tpl.now (map string_bytes chain.now)) }
 {
     Ok(ErrorKind::CircularInclude {
         tpl: copied(alloc, tpl)?,
@@ -81,16 +78,16 @@ fn copied_include(alloc: Global, tpl: &String, chain: &Vec<String>) -> Result<Er
     })
 }
 
-fn copied(alloc: Global, text: &String) -> Result<String, AllocError>
-    ensures { IfOk result (λ copy. string_bytes copy ≡ string_bytes text.now) }
+fn copied(alloc: Global, text: &str) -> Result<String, AllocError>
+    ensures { IfOk result (λ copy. string_bytes copy ≡ text.now) }
 {
-    String::from_str(alloc, text.as_str())
+    String::from_str(alloc, text)
 }
 
 #[tactic(auto, using(std::proofs::lemmas::List::map_more))]
-fn all_copied(alloc: Global, texts: &Vec<String>) -> Result<Vec<String>, AllocError>
+fn all_copied(alloc: Global, texts: &[String]) -> Result<Vec<String>, AllocError>
     ensures { IfOk result (λ copies.
-        map string_bytes copies.items ≡ map string_bytes texts.now.items) }
+        map string_bytes copies.items ≡ map string_bytes texts.now) }
 {
     let mut copies = Vec::with_capacity(alloc, texts.len())?;
     for text in texts {

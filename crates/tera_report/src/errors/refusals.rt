@@ -17,7 +17,7 @@ ghost use Rattle.tera_report.specs.Refusal.{with_actual, Tells, writing_failed, 
 ghost use Rattle.tera_report.specs.Refusal.{circular_include};
 ghost use Rattle.std.specs.declared.io.ErrorKind.{ErrorKind};
 
-/// What arithmetic refuses is told by the operand or by both and their operator.
+/// The texts of what arithmetic refuses.
 pub fn refusals_of_arithmetic_have_these_texts()
     ensures kind { text_of (not_a_number (codes "string"))
         ≡ Some (codes "Only numbers can be used in arithmetic. This is a `string`") }
@@ -46,7 +46,7 @@ pub fn refusals_of_arithmetic_have_these_texts()
         ≡ Some (codes "Only numbers can be negated. This is a `string`") }
 {}
 
-/// What look-ups, slices, reversal and `in` refuse is told by the kind of the value.
+/// The texts of what look-ups, slices, reversal and `in` refuse.
 pub fn refusals_of_look_ups_have_these_texts()
     ensures key { text_of not_a_key ≡ Some (codes "Not a valid key type") }
     ensures map_key { text_of (not_a_map_key (codes "array"))
@@ -65,7 +65,7 @@ pub fn refusals_of_look_ups_have_these_texts()
         ++ codes "arrays, strings and map/structs") }
 {}
 
-/// What conversions and arguments refuse is told by the type that is wanted.
+/// The texts of what conversions and arguments refuse, and of want of memory.
 pub fn refusals_of_conversions_have_these_texts()
     ensures kind { text_of (invalid_argument (codes "u8") (codes "string"))
         ≡ Some (codes "Invalid type for the value, expected `u8` but got `string`") }

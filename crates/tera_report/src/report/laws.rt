@@ -1,7 +1,7 @@
 //! What holds of the definitions of reports.
 ghost use Rattle.std.specs.Prelude.{◌≡◌, ◌++◌, ℕ, List, [], ◌∷◌, codes};
 ghost use Rattle.tera_report.specs.Parts.{AreParts, parts_of};
-ghost use Rattle.tera_report.specs.Report.{Report, report_text, numbered_line, pieces_of};
+ghost use Rattle.tera_report.specs.Report.{report_text, numbered_line, pieces_of};
 ghost use Rattle.tera_report.specs.WorkedReports.{with_note, without_source, at_tab, past_the_end};
 ghost use Rattle.tera_report.specs.WorkedReports.{at_line_0, at_last_column, past_ascii};
 ghost use Rattle.tera_report.specs.WorkedReports.{four_lines};

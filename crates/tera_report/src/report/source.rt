@@ -16,8 +16,7 @@ pub(super) fn numbered_line(source: &str, number: usize) -> &str
     }
 }
 
-/// The source from the line of that number on, counted from 1, if it has one. It has a line more
-/// than line feeds. Takes no memory.
+/// The source from the line of that number on, counted from 1, if it has one. Takes no memory.
 pub fn from_line(source: &str, number: usize) -> Option<&str>
     ensures found { IfSome result (λ rest. (0 < number)
         × (pieces_of rest.now ≡ drop (number - 1) (pieces_of source.now))) }
