@@ -1,5 +1,5 @@
 -- Answers depend on meanings alone.
-use Rattle.tera_meaning.proofs.ReadLemmas.{fields_by_meaning}
+use Rattle.tera_meaning.proofs.ReadLemmas.{fields_by_meaning, shown_by_layout}
 use Rattle.std.specs.Prelude.{◌≡◌, ℕ, length, Bool, List, [], ◌∷◌, Option, Some, Result, Ok, is_some, refl}
 use Rattle.std.proofs.Common.{sym, ◌∙◌, ap, subst, rules}
 use Rattle.std.specs.Option.{option_map, unwrap_or}
@@ -63,7 +63,7 @@ asked_alike Question.len held also o p h e d s = both e d (λ i. Ok (Answer.size
 asked_alike Question.print held also o p h (t, prints, e) (u, again, d) s = search (rules, both, text_alike)
 asked_alike Question.escape held also o p h (t, v, prints, spells, e) (u, w, again, spelled, d) s = search (rules, both, word_alike, text_alike)
 asked_alike Question.fields held also o p h e d s = search (rules, both, fields_by_meaning, read_alike)
-asked_alike Question.walk held also o p h e d s = absurd s
+asked_alike Question.walk held also o p h e d s = both e d (ap (λ ts. Ok (Answer.walked ts)) (shown_by_layout (read held) (read also) s))
 asked_alike Question.is_safe held also o p h e d s = absurd s
 asked_alike Question.kind held also o p h e d s = absurd s
 

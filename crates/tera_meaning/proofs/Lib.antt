@@ -12,6 +12,7 @@ pub mod EqualLaws
 pub mod ExtendLaws
 pub mod FieldLaws
 pub mod KeyLaws
+mod LaidOutLemmas
 pub mod LookupLaws
 pub mod MeaningLaws
 mod MeantLemmas

@@ -38,6 +38,10 @@ pub items_meant : (xs : Items Integer MarkedText KeyForm) → items_list (meant_
 items_meant no_items = refl
 items_meant (item x xs) = ap (λ l. meaning x ∷ l) (items_meant xs)
 
+pub items_laid_out : (xs : Items Integer MarkedText KeyForm) → items_list (layout_items xs) ≡ map layout (items_list xs)
+items_laid_out no_items = refl
+items_laid_out (item x xs) = ap (λ l. layout x ∷ l) (items_laid_out xs)
+
 pub pairs_meant : (ps : Members Integer MarkedText KeyForm) → sorted_pairs (layout_members ps) ≡ map pair_meaning (members_list ps)
 pairs_meant no_members = refl
 pairs_meant (member k x ps) = ap (λ l. (key_meaning k, meaning x) ∷ l) (pairs_meant ps)
@@ -70,6 +74,12 @@ found_there : (ps : List (KeyForm × Form)) (k : KeyMeaning)
     → option_map meaning (lookup (λ l. eq_by_cmp key_order k (key_meaning l)) ps) ≡ value_at key_order (map pair_meaning ps) k
 found_there [] k = refl
 found_there (p ∷ ps) k = search (rules, picked, (found_there ps k))
+
+pub found_laid_out : (ps : Members Integer MarkedText KeyForm) (k : KeyMeaning)
+    → option_map layout (lookup (λ l. eq_by_cmp key_order k (key_meaning l)) (members_list ps))
+    ≡ value_at key_order (members_list (layout_members ps)) k
+found_laid_out no_members k = refl
+found_laid_out (member l x ps) k = search (rules, picked, (found_laid_out ps k))
 
 pub found_meant : (ps : List (KeyForm × Form)) (k : KeyForm)
     → value_at key_order (rising key_order (map pair_meaning ps)) (key_meaning k) ≡ option_map meaning (value_at key_form_order ps k)

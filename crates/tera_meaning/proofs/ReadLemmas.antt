@@ -5,21 +5,21 @@ use Rattle.std.specs.BTreeMap.{insert_entry}
 use Rattle.std.specs.Option.{option_map}
 use Rattle.std.specs.Ordering.{match_ordering}
 use Rattle.std.specs.declared.cmp.Ordering.TheVariants.{Less, Equal, Greater}
-use Rattle.tera_meaning.specs.Fields.{AreRisingOf, fields, rising_texts, shown_keys}
+use Rattle.tera_meaning.specs.Fields.{AreRisingOf, fields, rising_texts, shown_in, shown_keys}
 use Rattle.tera_meaning.specs.Form.{Form, MarkedText}
 use Rattle.tera_meaning.specs.Integer.{Integer}
 use Rattle.tera_meaning.specs.KeyMeaning.{KeyForm, KeyMeaning, key_meaning, truth_key, number_key, text_key, key_order}
-use Rattle.tera_meaning.specs.Lookup.{key_in}
-use Rattle.tera_meaning.specs.Meaning.{Meaning, meaning, pair_meaning}
+use Rattle.tera_meaning.specs.Lookup.{key_in, seen_by}
+use Rattle.tera_meaning.specs.Meaning.{Layout, Meaning, layout, meaning, pair_meaning}
 use Rattle.tera_meaning.specs.Pairs.{rising}
 use Rattle.tera_meaning.specs.Printed.{shown_key}
 use Rattle.tera_meaning.specs.Read.{text_in}
 use Rattle.tera_meaning.specs.SliceRule.{shape_of}
-use Rattle.tera_meaning.specs.Tree.{Members, truth, number, text, array, object, items, members, members_list}
+use Rattle.tera_meaning.specs.Tree.{Members, truth, number, text, array, object, items, member, members, members_list, no_members}
 use Rattle.tera_meaning.proofs.Among.{Among, among, contained}
 use Rattle.tera_meaning.proofs.FieldLaws.{rising_are_rising, only_rising_texts}
 use Rattle.tera_meaning.proofs.KeyLaws.{key_exact}
-use Rattle.tera_meaning.proofs.MeaningLaws.{layout_members, meant_pairs, pairs_meant, array_means}
+use Rattle.tera_meaning.proofs.MeaningLaws.{array_laid_out, layout_members, meant_pairs, pairs_meant, array_means}
 use Rattle.tera_meaning.proofs.TreeLaws.{list_of_members}
 
 -- the members that a map means
@@ -29,6 +29,10 @@ meant_members ps = members (meant_pairs ps)
 pub array_shape : (ys : List Form) (zs : List Meaning) → map meaning ys ≡ zs
     → shape_of (Ok (array (items ys))) ≡ Ok (array (items zs))
 array_shape ys zs e = ap Ok (array_means ys) ∙ ap (λ (ws : List Meaning). Ok (array (items ws))) e
+
+-- and the array that is laid out so
+pub array_seen : (ys : List Form) (zs : List Layout) → map layout ys ≡ zs → seen_by layout (Ok (array (items ys))) ≡ Ok (array (items zs))
+array_seen ys zs e = ap Ok (array_laid_out ys) ∙ ap (λ (ws : List Layout). Ok (array (items ws))) e
 
 pub key_meant : Meaning → Option KeyMeaning
 key_meant (truth b) = Some (truth_key b)
@@ -61,6 +65,23 @@ shown_as_meant : (ps : List (KeyForm × Form)) → shown_keys ps ≡ shown_of (m
 unfolding shown_of
 shown_as_meant [] = refl
 shown_as_meant (p ∷ ps) = ap (λ l. shown_key (key_meaning p.0) ∷ l) (shown_as_meant ps)
+
+-- what the keys of a map print goes by its layout
+shown_laid_out : Layout → List (List ℕ)
+shown_laid_out (object ps) = shown_of (members_list ps)
+shown_laid_out x = []
+
+keys_as_laid_out : (ps : Members Integer MarkedText KeyForm) → shown_keys (members_list ps) ≡ shown_of (members_list (layout_members ps))
+unfolding shown_of
+keys_as_laid_out no_members = refl
+keys_as_laid_out (member k x ps) = ap (λ l. shown_key (key_meaning k) ∷ l) (keys_as_laid_out ps)
+
+shown_as_laid_out : (v : Form) → shown_in v ≡ shown_laid_out (layout v)
+unfolding shown_laid_out
+shown_as_laid_out v = search (rules, keys_as_laid_out)
+
+pub shown_by_layout : (v w : Form) → layout v ≡ layout w → shown_in v ≡ shown_in w
+shown_by_layout v w e = search (rules, shown_as_laid_out)
 
 -- the keys of the rising list print the same texts
 module _ {V : Type 0} (t : List ℕ) where

@@ -12,7 +12,7 @@ use Rattle.tera_meaning.specs.Question.{Question, IsAnswered, IsFixedAnswer}
 use Rattle.tera_meaning.specs.Request.{Request, extend, ask, Command, asking}
 use Rattle.tera_meaning.specs.State.{State, read}
 use Rattle.tera_meaning.specs.Step.{ComesTo, IsOutcome, IsFixed, LeavesInWant, IsStep, state_after}
-use Rattle.tera_meaning.specs.Run.{IsRun, AreOutcomes, AreFixed, state_after_all, WasDoneInWant, IsDoneOf, NoneWantsMemory, IsAmpleRun}
+use Rattle.tera_meaning.specs.Run.{IsRun, AreOutcomes, AreFixed, state_after_all, WasDone, WasDoneInWant, IsDoneOf, NoneWantsMemory, IsAmpleRun}
 use Rattle.tera_meaning.specs.Alike.{MeanTheSame, AllAskTheSame, AreAlike}
 use Rattle.tera_meaning.proofs.AlikeLemmas.{word_alike, all_outcomes_alike, states_alike}
 
@@ -113,6 +113,21 @@ done_of_run old [] [] new run = ([], [], (refl, refl), (run, tt))
 done_of_run old (command ∷ commands) (outcome ∷ outcomes) new (mid, step, run) =
     done_first old command commands outcome outcomes mid new (is_want outcome) refl step (done_of_run mid commands outcomes new run)
 done_of_run old commands outcomes new run = absurd run
+
+-- where no step wanted memory all was done
+one_done : (command : Command) (outcome : Outcome) (done next : List Command) (answers others : List Outcome)
+    → outcome ≢ out_of_memory → WasDone command outcome done answers next others
+    → (done ≡ command ∷ next) × (answers ≡ outcome ∷ others)
+one_done command outcome done next answers others none was = search rules
+
+pub all_done : (commands done : List Command) (outcomes answers : List Outcome) → NoneWantsMemory outcomes
+    → IsDoneOf commands outcomes done answers → (done ≡ commands) × (answers ≡ outcomes)
+all_done [] done [] answers none is = is
+all_done (command ∷ commands) done (outcome ∷ outcomes) answers none (next, others, was, are) =
+    let first = one_done command outcome done next answers others none.0 was in
+    let rest = all_done commands next outcomes others none.1 are in
+    (first.0 ∙ ap (λ cs. command ∷ cs) rest.0, first.1 ∙ ap (λ os. outcome ∷ os) rest.1)
+all_done commands done outcomes answers none is = absurd is
 
 -- a run in which no step wants memory gives outcomes of its commands, and the state that they leave
 pub ample_outcomes : (old : State) (commands : List Command) (outcomes : List Outcome) (new : State)

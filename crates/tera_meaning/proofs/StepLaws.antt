@@ -1,6 +1,6 @@
 -- What single steps answer and leave.
-use Rattle.std.specs.Prelude.{◌≡◌, ℕ, Bool, cond, List, Option, Some, None, Ok, Err}
-use Rattle.std.proofs.Common.{sym, ◌∙◌, ap, subst, rules}
+use Rattle.std.specs.Prelude.{◌≡◌, ℕ, ℤ, Bool, true, false, cond, List, [], Option, Some, None, Result, Ok, Err}
+use Rattle.std.proofs.Common.{sym, ◌∙◌, ap, subst, inl, inr, rules}
 use Rattle.std.specs.Option.{option_map, unwrap_or}
 use Rattle.std.specs.Ordering.{nat_cmp, eq_by_cmp}
 use Rattle.std.specs.Cmp.{Equal-is}
@@ -11,8 +11,10 @@ use Rattle.tera_report.specs.Refusal.{Refusal}
 use Rattle.tera_report.proofs.EscapeLaws.{escaped_from_spelling}
 use Rattle.tera_meaning.specs.Form.{Form}
 use Rattle.tera_meaning.specs.Meaning.{layout, meaning}
-use Rattle.tera_meaning.specs.Printed.{printed, IsExact}
-use Rattle.tera_meaning.specs.Read.{marked_safe}
+use Rattle.tera_meaning.specs.Printed.{printed, IsExact, PrintsNothing}
+use Rattle.tera_meaning.specs.Read.{iterable_in, marked_safe}
+use Rattle.tera_meaning.specs.Arithmetic.{each_ok, negated}
+use Rattle.tera_meaning.specs.Search.{Search, found_at, FoundTakes}
 use Rattle.tera_meaning.specs.State.{State, layout_at, meaning_at}
 use Rattle.tera_meaning.proofs.StateLaws.{get_set, meaning_set, name_exact, get_other}
 use Rattle.tera_meaning.specs.Alike.{MeanTheSame, meaning_held}
@@ -20,6 +22,7 @@ use Rattle.tera_meaning.specs.Answer
 use Rattle.tera_meaning.specs.Question
 use Rattle.tera_meaning.specs.Request.{mark_safe, ask, asking, asking_into}
 use Rattle.tera_meaning.specs.Step.{marking, found_or_kept, keeping, ComesOnlyTo, state_after}
+use Rattle.tera_meaning.specs.Steps.{StepsOnlyTo}
 use Rattle.tera_meaning.specs.Tree.{undefined}
 
 -- what is escaped of a name that holds this form
@@ -35,6 +38,15 @@ module _ (state : State) (name : List ℕ) where
   pub escapes_one : IsExact (layout_at state name)
       → ComesOnlyTo state (ask Question.escape name) (Ok (Answer.text (escaped (printed (layout_at state name)))))
   escapes_one = search (rules, escapes)
+
+  -- of what prints nothing nothing is escaped
+  escaped_nothing : PrintsNothing (layout_at state name) → ComesOnlyTo state (ask Question.escape name) (Ok (Answer.text []))
+  escaped_nothing (exact, none) given is = escapes_one exact given is ∙ ap (λ t. Ok (Answer.text (escaped t))) none
+
+  pub escapes_nothing : (into : Option (List ℕ)) → PrintsNothing (layout_at state name)
+      → StepsOnlyTo state (ask Question.escape name) into (Answer.text []) state
+  escapes_nothing into nothing new outcome (inl step) = (escaped_nothing nothing outcome step.0, step.1)
+  escapes_nothing into nothing new outcome (inr want) = absurd (want.0 nothing)
 
 -- what is marked safe
 module _ (state : State) (name : List ℕ) where
@@ -64,5 +76,18 @@ refused_answer x0 refusal = search rules
 
 pub refused_left : (state : State) (into : Option (List ℕ)) (refusal : Refusal) → keeping state into (Err refusal) ≡ state
 refused_left state x1 refusal = search rules
+
+-- what is computed or read is a number, which is no copy
+each_number : (f : ℤ → Form) (r : Result ℤ Refusal) (x : Form) → ((z : ℤ) → iterable_in (f z) ≡ false) → each_ok f r ≡ Ok x
+    → iterable_in x ≡ false
+each_number f x1 x h e = search rules
+
+negated_number : (v x : Form) → negated v ≡ Ok x → iterable_in x ≡ false
+negated_number v x e = search rules
+
+-- where what is found has parts, a copy of it takes memory
+pub copy_takes : (state : State) (search : Search) (value : Form) → found_at state search ≡ Ok (Some value)
+    → iterable_in value ≡ true → FoundTakes search (found_at state search)
+copy_takes state x1 value e h = search (rules, each_number, negated_number)
 
 pub ruleset marks = (marked_alike, marked_meaning, marked_absent, get_set, get_other)

@@ -4,7 +4,7 @@ use Rattle.std.specs.List.{AllZip}
 use Rattle.std.specs.Option.{option_map}
 use Rattle.std.specs.FinMap.{get as held_at}
 use Rattle.tera_meaning.specs.Form.{Form}
-use Rattle.tera_meaning.specs.Meaning.{Meaning, meaning}
+use Rattle.tera_meaning.specs.Meaning.{Meaning, layout, meaning}
 use Rattle.tera_meaning.specs.Outcome.{Outcome, shape}
 use Rattle.tera_meaning.specs.Question
 use Rattle.tera_meaning.specs.Question.{IsSettledAnswer}
@@ -23,6 +23,11 @@ meaning_held state name = option_map meaning (held_at state name)
 abbrev pub MeanTheSame : State → State → Type 0
 MeanTheSame f g = (name : List ℕ) → meaning_held f name ≡ meaning_held g name
 
+-- the same names are held, and each is laid out the same
+abbrev pub LaidOutTheSame : State → State → Type 0
+LaidOutTheSame f g =
+    (name : List ℕ) → option_map layout (held_at f name) ≡ option_map layout (held_at g name)
+
 -- the same request; and where it keeps values, these of the same meaning
 abbrev pub RequestTheSame : Request → Request → Type 0
 RequestTheSame (set m v) (set n w) = (m ≡ n) × (meaning v ≡ meaning w)
@@ -37,8 +42,8 @@ AskTheSame command also = RequestTheSame command.request also.request × (comman
 abbrev pub AllAskTheSame : List Command → List Command → Type 0
 AllAskTheSame asked also = AllZip AskTheSame asked also
 
--- from two states of equal meaning the outcomes are of one shape: of what is printed this holds
--- where the layouts are equal and exact
+-- from two states of equal meaning the outcomes are of one shape: of a walk this holds where the
+-- layouts are equal, and of what is printed where they are equal and exact
 abbrev pub IsSettled : State → State → Request → Type 0
 IsSettled f g (set name value) = ⊤
 IsSettled f g (extend source) = ⊤
@@ -47,6 +52,10 @@ IsSettled f g (mark_safe name) = ⊤
 IsSettled f g (ask question name) = IsSettledAnswer question (layout_at f name) (layout_at g name)
 IsSettled f g (weigh weighing left right) = ⊤
 IsSettled f g (find search) = ⊤
+
+-- so it is whatever the states hold
+abbrev pub IsAlwaysSettled : Request → Type 0
+IsAlwaysSettled request = (f g : State) → IsSettled f g request
 
 -- the outcomes of two lists of commands from two states have the same shapes, one for one, wherever
 -- these are settled

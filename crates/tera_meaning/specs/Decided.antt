@@ -8,9 +8,9 @@ use Rattle.tera_meaning.specs.Meaning.{Meaning}
 use Rattle.tera_meaning.specs.Order.{rank, compare}
 use Rattle.tera_meaning.specs.Tree.{Items, array, object, no_items, item}
 
--- nothing of two maps, and nothing across ranks. Of two arrays the first pair of items whose answer
--- is not `Equal` gives the answer, which may be nothing; without such a pair the lengths decide.
--- Else the order of meanings
+-- nothing of two maps, and nothing across ranks. Of two arrays the items decide one after another:
+-- the first answer but `Equal` stands, be it none; behind equal items the lengths decide. Of all
+-- else, the order of meanings
 abbrev mutual
   pub decided : Meaning → Meaning → Option Ordering
   decided (array xs) (array ys) = decided_items xs ys

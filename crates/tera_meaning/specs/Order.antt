@@ -22,8 +22,8 @@ rank (bytes bs) = 5
 rank none = 6
 rank undefined = 7
 
--- by rank, and inside a rank by value: lists by the first place where they differ, a proper
--- beginning being less, and a pair of a map by its key and then by its value
+-- by rank, and inside a rank by value: lists item by item, the shorter first where it runs out; in
+-- a pair of a map the key counts before the value
 abbrev mutual
   pub compare : Meaning → Meaning → Ordering
   compare (truth a) (truth b) = bool_cmp a b

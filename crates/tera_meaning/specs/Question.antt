@@ -51,12 +51,12 @@ IsFixedAnswer escape x = IsExact x
 IsFixedAnswer fields x = ⊤
 IsFixedAnswer walk x = ⊤
 
--- of two values of one meaning, laid out so, the answers are equal: what is printed where the
--- layouts are equal and exact, and not those that read the form or the order of pairs
+-- of two values of one meaning, laid out so, the answers are equal: a walk where the layouts are
+-- equal, what is printed where they are equal and exact, and not those that read the form
 abbrev pub IsSettledAnswer : Question → Layout → Layout → Type 0
 IsSettledAnswer is_safe x y = ⊥
 IsSettledAnswer kind x y = ⊥
-IsSettledAnswer walk x y = ⊥
+IsSettledAnswer walk x y = x ≡ y
 IsSettledAnswer has x y = ⊤
 IsSettledAnswer truthy x y = ⊤
 IsSettledAnswer len x y = ⊤

@@ -114,8 +114,7 @@ abbrev pub is_nonempty : {X : Type 0} → List X → Bool
 is_nonempty [] = false
 is_nonempty (x ∷ xs) = true
 
--- undefined and none are false, a truth value is itself, a number is true unless zero, and all else
--- unless empty
+-- what counts as true: `true`, a number but 0, and what holds something
 abbrev pub truthy_in : Meaning → Bool
 truthy_in undefined = false
 truthy_in none = false

@@ -64,6 +64,7 @@ cut_by (pos zero) v start end = Err step_of_zero
 cut_by (pos (suc s)) v start end = cut v start end (pos (suc s))
 cut_by (negsuc s) v start end = cut v start end (negsuc s)
 
--- what a slice comes to, computed
+-- what a slice comes to, computed: the one outcome of `IsSliced`, as the law
+-- `slices_have_one_answer` says
 abbrev pub sliced : Form → Option ℤ → Option ℤ → Option ℤ → Result Form Refusal
 sliced v start end step = cut_by (unwrap_or step (pos 1)) v start end

@@ -1,12 +1,14 @@
 -- What the laws of steps say of a request.
 use Rattle.std.specs.Prelude.{◌≡◌, ℕ, List, Option, Some, None, Ok}
 use Rattle.std.specs.FinMap.{get as held_at}
+use Rattle.tera_meaning.specs.Answer
 use Rattle.tera_meaning.specs.Answer.{AnswerOf}
 use Rattle.tera_meaning.specs.Form.{Form}
 use Rattle.tera_meaning.specs.Meaning.{layout}
 use Rattle.tera_meaning.specs.Outcome.{Outcome}
 use Rattle.tera_meaning.specs.Printed.{IsExact}
-use Rattle.tera_meaning.specs.Request.{Request}
+use Rattle.tera_meaning.specs.Request.{Request, find}
+use Rattle.tera_meaning.specs.Search.{Search}
 use Rattle.tera_meaning.specs.State.{State}
 use Rattle.tera_meaning.specs.Step.{ComesOnlyTo, IsStep}
 
@@ -35,15 +37,26 @@ BothAbsentAnswer request answer =
     (state : State) (left right : List ℕ) → held_at state left ≡ None → held_at state right ≡ None
     → ComesOnlyTo state (request left right) (Ok answer)
 
+-- each step of the request, with this name for what it finds, has this answer and leaves this state
+abbrev pub StepsOnlyTo : State → Request → Option (List ℕ) → AnswerOf Form → State → Type 0
+StepsOnlyTo old request into answer after =
+    (new : State) (outcome : Outcome)
+    → IsStep old (record { request = request; into = into }) outcome new
+    → (outcome ≡ Ok answer) × (new ≡ after)
+
 -- each step of the request, whatever name is given for what it finds, has this answer and leaves
 -- this state
 abbrev pub HasOneStep : (List ℕ → Request) → (State → List ℕ → AnswerOf Form)
     → (State → List ℕ → State) → Type 0
 HasOneStep request answer after =
-    (old new : State) (name : List ℕ) (into : Option (List ℕ)) (outcome : Outcome)
-    → IsStep old (record { request = request name; into = into }) outcome new
-    → (outcome ≡ Ok (answer old name)) × (new ≡ after old name)
+    (old : State) (name : List ℕ) (into : Option (List ℕ))
+    → StepsOnlyTo old (request name) into (answer old name) (after old name)
 
 -- each step of the request has this answer, and leaves the state as it was
 abbrev pub HasOneAnswer : (List ℕ → Request) → (State → List ℕ → AnswerOf Form) → Type 0
 HasOneAnswer request answer = HasOneStep request answer (λ old name. old)
+
+-- each step of the search, with no name for what it finds, answers this value and changes nothing
+abbrev pub OnlyFinds : State → Search → Form → Type 0
+OnlyFinds state search value =
+    StepsOnlyTo state (find search) None (Answer.found (Some value)) state

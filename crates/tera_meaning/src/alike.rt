@@ -1,28 +1,44 @@
 //! Answers depend on meanings alone: not on the kind of an integer, the safe flag of a text, how a
 //! key holds its text, or the order in which a map's pairs were inserted. Each function here does
 //! nothing: its clauses are the law.
-ghost use Rattle.std.specs.Prelude.{◌≡◌, ◌≢◌, ◌↔◌, ℕ, List, length};
+ghost use Rattle.std.specs.Prelude.{◌≡◌, ◌≢◌, ◌↔◌, ℕ, List, length, Option};
 ghost use Rattle.tera_meaning.specs.Alike.{meaning_held, MeanTheSame, AskTheSame, AllAskTheSame};
 ghost use Rattle.tera_meaning.specs.Alike.{AnswerAlike, AreAlike, AreToldApartBy, RunsAreToldApart};
-ghost use Rattle.tera_meaning.specs.Alike.{IsSettled, probe};
+ghost use Rattle.tera_meaning.specs.Alike.{IsSettled, IsAlwaysSettled, LaidOutTheSame, probe};
+ghost use Rattle.std.specs.FinMap.{insert};
 ghost use Rattle.std.specs.Str.{IsUtf8};
+ghost use Rattle.tera_meaning.specs.Form.{Form};
+ghost use Rattle.tera_meaning.specs.Meaning.{layout, meaning};
 ghost use Rattle.tera_meaning.specs.Outcome.{Outcome, shape};
-ghost use Rattle.tera_meaning.specs.Request.{Command};
+ghost use Rattle.tera_meaning.specs.Printed.{IsExact};
+ghost use Rattle.tera_meaning.specs.Question;
+ghost use Rattle.tera_meaning.specs.Request.{Command, set, extend, remove, mark_safe, ask, weigh};
+ghost use Rattle.tera_meaning.specs.Request.{find};
 ghost use Rattle.tera_meaning.specs.Run.{AreOutcomes, state_after_all};
-ghost use Rattle.tera_meaning.specs.State.{State, form_at};
+ghost use Rattle.tera_meaning.specs.Search.{Search};
+ghost use Rattle.tera_meaning.specs.State.{State, form_at, layout_at};
 ghost use Rattle.tera_meaning.specs.Step.{IsOutcome, state_after};
+ghost use Rattle.tera_meaning.specs.Weighing.{Weighing};
 ghost use Rattle.tera_meaning.specs.WellMade.{IsWellMadeState, AllBringWellMade};
 
-/// Each command asks the same as itself, and so do lists of them.
+/// Each command asks the same as itself, and so do lists of them. To set a value asks the same as
+/// to set one that means the same, and to take over a source the same as to take over one that
+/// means the same.
 #[tactic(auto, using(crate::proofs::AlikeLemmas::all_ask_the_same))]
 pub fn commands_ask_the_same_as_themselves()
     ensures one { (command : Command) → AskTheSame command command }
     ensures all { (commands : List Command) → AllAskTheSame commands commands }
+    ensures set { (name : List ℕ) (v w : Form) (into : Option (List ℕ)) → meaning v ≡ meaning w
+        → AskTheSame (record { request = set name v; into = into })
+        (record { request = set name w; into = into }) }
+    ensures extend { (source other : State) (into : Option (List ℕ)) → MeanTheSame source other
+        → AskTheSame (record { request = extend source; into = into })
+        (record { request = extend other; into = into }) }
 {}
 
 /// From states of equal meaning, commands of equal meaning come to outcomes of equal shapes, where
-/// these are settled, and leave states of equal meaning. What is printed or escaped is settled
-/// where the printed values are laid out alike and this is exact.
+/// these are settled, and leave states of equal meaning. A walk is settled where the values are
+/// laid out alike, and what is printed or escaped where they are and this is exact.
 #[tactic(auto, using(crate::proofs::AlikeLemmas::laws))]
 pub fn answers_depend_on_meaning()
     ensures answer { (f g : State) (command also : Command) (outcome other : Outcome)
@@ -30,6 +46,45 @@ pub fn answers_depend_on_meaning()
         → IsOutcome g also other → IsSettled f g command.request → shape outcome ≡ shape other }
     ensures state { (f g : State) (command also : Command) → MeanTheSame f g
         → AskTheSame command also → MeanTheSame (state_after f command) (state_after g also) }
+{}
+
+/// States are laid out the same where they hold the same names, each with a value that is laid out
+/// the same; and so they mean the same. After the same commands they are still laid out the same:
+/// what is printed, escaped and walked in the middle of a run goes by layouts too.
+#[tactic(auto, using(crate::proofs::LaidOutLemmas::laws))]
+pub fn states_that_are_laid_out_the_same_stay_so()
+    ensures after { (f g : State) (command : Command) → LaidOutTheSame f g
+        → LaidOutTheSame (state_after f command) (state_after g command) }
+    ensures after_all { (f g : State) (commands : List Command) → LaidOutTheSame f g
+        → LaidOutTheSame (state_after_all f commands) (state_after_all g commands) }
+    ensures layout { (f g : State) (name : List ℕ) → LaidOutTheSame f g
+        → layout_at f name ≡ layout_at g name }
+    ensures meaning { (f g : State) → LaidOutTheSame f g → MeanTheSame f g }
+    ensures set { (state : State) (name : List ℕ) (v w : Form) → layout v ≡ layout w
+        → LaidOutTheSame (insert state name v) (insert state name w) }
+{}
+
+/// Whatever two states hold, the outcomes of these requests are settled: of all but the questions
+/// for the safe flag and the kind, for the walk, and for what is printed or escaped. The walk is
+/// settled where the layouts are equal, and these two where they are equal and exact.
+pub fn most_outcomes_are_settled()
+    ensures set { (name : List ℕ) (value : Form) → IsAlwaysSettled (set name value) }
+    ensures extend { (source : State) → IsAlwaysSettled (extend source) }
+    ensures remove { (name : List ℕ) → IsAlwaysSettled (remove name) }
+    ensures mark { (name : List ℕ) → IsAlwaysSettled (mark_safe name) }
+    ensures has { (name : List ℕ) → IsAlwaysSettled (ask Question.has name) }
+    ensures truthy { (name : List ℕ) → IsAlwaysSettled (ask Question.truthy name) }
+    ensures len { (name : List ℕ) → IsAlwaysSettled (ask Question.len name) }
+    ensures fields { (name : List ℕ) → IsAlwaysSettled (ask Question.fields name) }
+    ensures weigh { (weighing : Weighing) (left right : List ℕ)
+        → IsAlwaysSettled (weigh weighing left right) }
+    ensures find { (search : Search) → IsAlwaysSettled (find search) }
+    ensures walk { (f g : State) (name : List ℕ) → layout_at f name ≡ layout_at g name
+        → IsSettled f g (ask Question.walk name) }
+    ensures print { (f g : State) (name : List ℕ) → layout_at f name ≡ layout_at g name
+        → IsExact (layout_at f name) → IsSettled f g (ask Question.print name) }
+    ensures escape { (f g : State) (name : List ℕ) → layout_at f name ≡ layout_at g name
+        → IsExact (layout_at f name) → IsSettled f g (ask Question.escape name) }
 {}
 
 /// From states of equal meaning, lists of commands of equal meaning, however long, come to outcomes

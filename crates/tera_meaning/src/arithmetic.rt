@@ -33,7 +33,7 @@ pub fn divisions_have_one_answer()
 {}
 
 /// Where a division and a remainder both answer, the left operand is the right one times the
-/// quotient, and the remainder; and so it is with the numbers of two values.
+/// quotient, plus the remainder; and so it is with the numbers of two values.
 pub fn quotients_and_remainders_make_the_left_operand()
     ensures computed { (a b q r : ℤ) → computed floor_division a b ≡ Ok q
         → computed remainder a b ≡ Ok r → IsDivided a b q r }
@@ -83,6 +83,7 @@ pub fn small_numbers_are_those_of_an_i128()
 {}
 
 /// A conversion gives the number of a value where its type has it, and refuses every other value.
+/// The values that an i128 takes are the operands of arithmetic.
 pub fn conversions_give_the_numbers_of_a_type()
     ensures given { (type : IntegerType) (v : Form) (z : ℤ) → (converted type v ≡ Ok z)
         ↔ (number_of type v ≡ Some z) }
@@ -198,7 +199,8 @@ pub fn negations_are_exact()
     ensures text { negated (normal (codes "x")) ≡ Err (negated_no_number (codes "string")) }
 {}
 
-/// A type has the numbers from its least one up to its greatest one.
+/// These are numbers at the ends of some types, and past them. A number of a type is held in the
+/// kind of the type, and what is no number, or no truth value, is refused.
 pub fn types_have_their_numbers()
     ensures most { converted IntegerType.u8 (integer i128 (pos 255)) ≡ Ok (pos 255) }
     ensures past { converted IntegerType.u8 (integer u64 (pos 300))

@@ -38,7 +38,7 @@ pub fn what_is_decided_compares_so()
     ensures swapped { (x y : Meaning) → decided x y ≡ option_map ordering_reverse (decided y x) }
 {}
 
-/// Maps have an order by which nothing is decided, whatever holds their keys and texts.
+/// Maps are ordered, but none of these pairs is decided, whatever holds their keys and texts.
 pub fn maps_are_ordered_undecided()
     ensures forms { ComparesUndecided (map_meaning ((key_of u64 1, normal (codes "a")) ∷ []))
         (map_meaning ((key_of i64 1, marked (codes "a")) ∷ [])) Ordering.Equal }

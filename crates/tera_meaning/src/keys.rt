@@ -15,8 +15,7 @@ pub fn keys_are_ordered()
     ensures { IsTotalOrder key_order }
 {}
 
-/// The order of keys answers `Equal` exactly at one and the same key, whatever kind of integer or
-/// of text holds it.
+/// The order of keys answers `Equal` exactly at one and the same key.
 #[tactic(auto, using(crate::proofs::KeyLaws::laws))]
 pub fn keys_tie_themselves()
     ensures order { (k l : KeyMeaning) → (key_order k l ≡ Ordering.Equal) ↔ (k ≡ l) }
@@ -24,8 +23,8 @@ pub fn keys_tie_themselves()
     ensures equivalence { IsEquivalence (eq_by_cmp key_order) }
 {}
 
-/// Keys of two ranks compare by their ranks, and those of one rank by value: numbers whatever kind
-/// of integer held them, and texts by the first byte where they differ.
+/// Keys of two ranks compare by their ranks, and those of one rank by value: texts by the first
+/// byte where they differ.
 pub fn key_ranks_decide_before_values()
     ensures ranks { (k l : KeyMeaning) → key_rank k < key_rank l → key_order k l ≡ Ordering.Less }
     ensures truths { (a b : Bool) → key_order (truth_key a) (truth_key b) ≡ bool_cmp a b }

@@ -48,7 +48,7 @@ pub fn paths_from_none_lead_to_itself()
     ensures number { path (integer i64 (pos 1)) (codes "x") ≡ None }
 {}
 
-/// An attribute is found at a text, owned or lent, and at no number that prints as it.
+/// An attribute is found at a text, and at no number that prints as it; an array has none.
 pub fn attributes_are_found_at_texts()
     ensures text { attr (at_name (codes "a") none) (codes "a") ≡ Some none }
     ensures number { attr (mapped ((key_of u64 1, none) ∷ [])) (codes "1") ≡ None }
@@ -86,7 +86,7 @@ pub fn items_are_refused_by_their_kind()
 {}
 
 /// An array holds what is equal to an item, a text each of its parts, the empty one too, and a map
-/// its keys; nothing else holds anything.
+/// its keys; a number is no container.
 pub fn containers_hold_by_meaning()
     ensures empty { holds (normal (codes "abc")) (normal []) ≡ Ok true }
     ensures part { holds (normal (codes "abc")) (marked (codes "bc")) ≡ Ok true }
@@ -108,7 +108,7 @@ pub fn fields_are_named_once()
     ensures array { fields (listed (none ∷ [])) ≡ [] }
 {}
 
-/// A truth value, an integer in its kind and a text are keys, and nothing else is.
+/// An integer is a key in its kind, and a text is one; none is no key.
 pub fn keys_keep_their_kind()
     ensures number { (n : Integer) → as_key (number n) ≡ Ok (number_key n) }
     ensures text { as_key (marked (codes "a")) ≡ Ok (text_key (owned (codes "a"))) }

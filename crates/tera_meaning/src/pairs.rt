@@ -52,8 +52,8 @@ pub fn only_one_pair_list_holds_the_entries()
 {}
 
 /// What a map means is the rising list of what its pairs mean, in whatever order these stand. A
-/// look-up in it is a look-up in the pairs, it is as long as they are many, and it is the only such
-/// list of just these pairs. Two rising lists of meanings in which each key finds the same are one.
+/// look-up in it is a look-up in the pairs, it has as many pairs, and it is the only such list of
+/// just these pairs. Two rising lists of meanings in which each key finds the same are one.
 #[tactic(auto, using(crate::proofs::EntryLaws::entries))]
 pub fn pair_lists_mean_what_their_entries_mean()
     ensures meaning { (entries : List (KeyForm × Form)) → meaning (object (members entries))

@@ -1,13 +1,15 @@
 //! The laws of printing. Each function here does nothing: its clauses are the law.
-ghost use Rattle.std.specs.Prelude.{◌≡◌, ◌↔◌, ℕ, Bool, ℤ, IsTrue, List};
+ghost use Rattle.std.specs.Prelude.{◌≡◌, ◌↔◌, ℕ, Bool, ℤ, IsTrue, List, []};
 ghost use Rattle.std.specs.List.{All};
 ghost use Rattle.std.specs.Str.{IsAscii, IsUtf8};
+ghost use Rattle.tera_meaning.specs.Fields.{shown_in};
 ghost use Rattle.tera_meaning.specs.Form.{Form};
 ghost use Rattle.tera_meaning.specs.KeyMeaning.{KeyMeaning, truth_key, number_key, text_key};
 ghost use Rattle.tera_meaning.specs.Meaning.{Layout, layout, meaning};
 ghost use Rattle.tera_meaning.specs.Order.{same};
 ghost use Rattle.tera_meaning.specs.Printed.{IsExact, IsExactInside, IsExactKey, Prints};
-ghost use Rattle.tera_meaning.specs.Printed.{PrintsInside, is_exact_inside, printed, printed_with};
+ghost use Rattle.tera_meaning.specs.Printed.{PrintsInside, PrintsNothing};
+ghost use Rattle.tera_meaning.specs.Printed.{is_exact_inside, printed, printed_with};
 ghost use Rattle.tera_report.specs.Quoted.{quoted};
 ghost use Rattle.tera_meaning.specs.Tree.{undefined, none, truth, number, text, bytes, array};
 ghost use Rattle.tera_meaning.specs.Tree.{object, items, members};
@@ -15,7 +17,9 @@ ghost use Rattle.tera_meaning.specs.WellMade.{IsWellMade, IsWellMadeLayout};
 
 /// Values that are laid out alike print equal bytes where each text that is quoted is ASCII, by
 /// themselves and inside arrays and maps: kinds of integers and flags of texts change no byte. What
-/// one of them prints, or may print, the other does. Such values are equal.
+/// one of them prints, or may print, the other does; and what the keys of one print, those of the
+/// other do, pair by pair. Such values are equal.
+#[tactic(auto, using(crate::proofs::ReadLemmas::shown_by_layout))]
 pub fn equal_layouts_print_alike()
     ensures alone { (v w : Form) (written other : List ℕ) → layout v ≡ layout w
         → IsExact (layout v) → Prints (layout v) written → Prints (layout w) other
@@ -29,6 +33,7 @@ pub fn equal_layouts_print_alike()
         → (IsExact (layout v) ↔ IsExact (layout w)) }
     ensures prints { (v w : Form) (written : List ℕ) → layout v ≡ layout w
         → (Prints (layout v) written ↔ Prints (layout w) written) }
+    ensures walk { (v w : Form) → layout v ≡ layout w → shown_in v ≡ shown_in w }
     ensures equal { (v w : Form) → layout v ≡ layout w → meaning v ≡ meaning w }
 {}
 
@@ -72,6 +77,14 @@ pub fn texts_inside_are_exact_where_they_are_ascii()
     ensures truth_key { (b : Bool) → IsExactKey (truth_key b) }
     ensures number_key { (z : ℤ) → IsExactKey (number_key z) }
     ensures text_key { (t : List ℕ) → IsExactKey (text_key t) ↔ IsAscii t }
+{}
+
+/// It is known that these print nothing: undefined, none, the empty text and no bytes.
+pub fn these_print_nothing()
+    ensures undefined { PrintsNothing undefined }
+    ensures none { PrintsNothing none }
+    ensures text { PrintsNothing (text []) }
+    ensures bytes { PrintsNothing (bytes []) }
 {}
 
 /// What is printed of a well-made layout is UTF-8, by itself and inside arrays and maps.

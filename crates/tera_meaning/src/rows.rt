@@ -36,25 +36,6 @@ pub fn ranks_rise()
         ∷ map_at (text_key (codes "1")) ∷ map_at (text_key (codes "a")) ∷ [])) }
 {}
 
-/// Maps compare along their pairs, by key and then by value; one that is a beginning of the other
-/// is less.
-pub fn maps_compare_along_their_pairs()
-    ensures value { compare (map_of ((text_key (codes "a"), count 1) ∷ []))
-        (map_of ((text_key (codes "a"), count 2) ∷ [])) ≡ Ordering.Less }
-    ensures longer { compare
-        (map_of ((text_key (codes "a"), count 1) ∷ (text_key (codes "b"), count 2) ∷ []))
-        (map_of ((text_key (codes "a"), count 1) ∷ [])) ≡ Ordering.Greater }
-    ensures later { compare
-        (map_of ((text_key (codes "a"), count 1) ∷ (text_key (codes "b"), count 2) ∷ []))
-        (map_of ((text_key (codes "a"), count 1) ∷ (text_key (codes "c"), count 0) ∷ []))
-        ≡ Ordering.Less }
-    ensures first { compare
-        (map_of ((text_key (codes "a"), count 1) ∷ (text_key (codes "c"), count 1) ∷ []))
-        (map_of ((text_key (codes "b"), count 0) ∷ [])) ≡ Ordering.Less }
-    ensures nested { compare (list_of (map_of ((text_key (codes "a"), count 1) ∷ []) ∷ []))
-        (list_of (map_of ((text_key (codes "a"), count 2) ∷ []) ∷ [])) ≡ Ordering.Less }
-{}
-
 /// Undefined and none print nothing, integers print in decimal, a text by itself as it is, and
 /// bytes with U+FFFD for each invalid sequence.
 pub fn single_values_print()
@@ -92,8 +73,8 @@ pub fn nested_values_print()
         ∷ (truth_key true, count 1) ∷ [])) ≡ codes "{\"1\": 3, 1: 2, true: 1}" }
 {}
 
-/// The texts of bytes are quoted in no array, those of safe texts are, and where no character
-/// stands next in bytes the longest beginning of one is one U+FFFD.
+/// In an array bytes are not quoted and a safe text is. Where no character stands next in bytes,
+/// the longest beginning of one is one U+FFFD.
 pub fn texts_and_bytes_print_in_arrays()
     ensures safe { printed (layout (listed (marked (codes "a") ∷ bytes (104 ∷ 105 ∷ [])
         ∷ listed [] ∷ []))) ≡ codes "[\"a\", hi, []]" }

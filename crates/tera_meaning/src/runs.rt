@@ -1,15 +1,23 @@
 //! The laws of whole runs. Each function here does nothing: its clauses are the law.
-ghost use Rattle.std.specs.Prelude.{◌≡◌, List, ◌∷◌, ◌++◌, length};
+ghost use Rattle.std.specs.Prelude.{◌≡◌, ◌≢◌, ℕ, List, ◌∷◌, ◌++◌, length};
 ghost use Rattle.tera_meaning.specs.Alike.{MeanTheSame, AllAskTheSame, AreAlike};
+ghost use Rattle.tera_meaning.specs.Form.{Form};
 ghost use Rattle.tera_meaning.specs.Outcome.{Outcome};
-ghost use Rattle.tera_meaning.specs.Request.{Command};
+ghost use Rattle.tera_meaning.specs.Printed.{IsExact};
+ghost use Rattle.tera_meaning.specs.Question;
+ghost use Rattle.tera_meaning.specs.Question.{Question};
+ghost use Rattle.tera_meaning.specs.Request.{Command, set, extend, remove, mark_safe, ask, weigh};
+ghost use Rattle.tera_meaning.specs.Request.{find};
 ghost use Rattle.tera_meaning.specs.Run.{IsRun, IsAmpleRun, AreOutcomes, AreFixed, state_after_all};
-ghost use Rattle.tera_meaning.specs.Run.{IsDoneOf};
-ghost use Rattle.tera_meaning.specs.State.{State};
+ghost use Rattle.tera_meaning.specs.Run.{IsDoneOf, NoneWantsMemory};
+ghost use Rattle.tera_meaning.specs.Search.{Search};
+ghost use Rattle.tera_meaning.specs.State.{State, layout_at};
 ghost use Rattle.tera_meaning.specs.Step.{IsOutcome, IsFixed, IsStep};
+ghost use Rattle.tera_meaning.specs.Weighing.{Weighing};
 
-/// Each command comes to some outcome, whatever the context holds, and where what it prints is
-/// exact to one alone.
+/// Each command comes to some outcome, whatever the context holds, and to one alone where its
+/// outcome is fixed. So it is for all commands but those that print or escape, and for these where
+/// what they print is exact.
 #[tactic(auto, using(crate::proofs::RunLemmas::one_outcome))]
 pub fn commands_have_outcomes()
     ensures some { (state : State) (command : Command)
@@ -17,6 +25,20 @@ pub fn commands_have_outcomes()
     ensures one { (state : State) (command : Command) (outcome other : Outcome)
         → IsFixed state command.request → IsOutcome state command outcome
         → IsOutcome state command other → outcome ≡ other }
+    ensures set { (state : State) (name : List ℕ) (value : Form) → IsFixed state (set name value) }
+    ensures extend { (state source : State) → IsFixed state (extend source) }
+    ensures remove { (state : State) (name : List ℕ) → IsFixed state (remove name) }
+    ensures mark { (state : State) (name : List ℕ) → IsFixed state (mark_safe name) }
+    ensures ask { (state : State) (question : Question) (name : List ℕ)
+        → question ≢ Question.print → question ≢ Question.escape
+        → IsFixed state (ask question name) }
+    ensures weigh { (state : State) (weighing : Weighing) (left right : List ℕ)
+        → IsFixed state (weigh weighing left right) }
+    ensures find { (state : State) (search : Search) → IsFixed state (find search) }
+    ensures print { (state : State) (name : List ℕ) → IsExact (layout_at state name)
+        → IsFixed state (ask Question.print name) }
+    ensures escape { (state : State) (name : List ℕ) → IsExact (layout_at state name)
+        → IsFixed state (ask Question.escape name) }
 {}
 
 /// An outcome in a run is that of the command in the same place, in a step from the state that the
@@ -29,15 +51,18 @@ pub fn each_outcome_is_that_of_its_command()
         × IsRun next later ps new }
 {}
 
-/// The steps that want memory can be left out of a run, and an `extend` among them replaced by one
-/// of just the names that it took over. What is left is a run to the same state in which no step
-/// wants memory, and the other outcomes are unchanged.
-#[tactic(auto, using(crate::proofs::RunLemmas::done_of_run))]
+/// The steps that want memory can be left out of a run; an `extend` among them becomes an `extend`
+/// of the names that were taken. What is left is a run to the same state in which no step wants
+/// memory, and the other outcomes are unchanged. Where no step wants memory nothing is left out.
+#[tactic(auto, using(crate::proofs::RunLemmas::done_of_run, crate::proofs::RunLemmas::all_done))]
 pub fn wants_of_memory_can_be_left_out()
-    ensures { (old : State) (commands : List Command) (outcomes : List Outcome) (new : State)
+    ensures done { (old : State) (commands : List Command) (outcomes : List Outcome) (new : State)
         → IsRun old commands outcomes new
         → (done : List Command) × (answers : List Outcome) × IsDoneOf commands outcomes done answers
         × IsAmpleRun old done answers new }
+    ensures ample { (commands done : List Command) (outcomes answers : List Outcome)
+        → NoneWantsMemory outcomes → IsDoneOf commands outcomes done answers
+        → (done ≡ commands) × (answers ≡ outcomes) }
 {}
 
 /// A run in which no step wants memory gives outcomes of its commands, one after another, and

@@ -10,6 +10,8 @@ ghost use Rattle.tera_meaning.specs.State.{State, states_equal, extended, IsProp
 ghost use Rattle.tera_meaning.specs.State.{meaning_at};
 ghost use Rattle.tera_meaning.specs.Tree.{undefined};
 
+use std::cmp::Ordering;
+
 /// After a value is set the name holds it, and each other name what it held.
 #[tactic(auto, using(crate::proofs::StateLaws::laws))]
 pub fn setting_keeps_other_names()
@@ -42,8 +44,8 @@ pub fn setting_gives_the_meaning()
     ensures nothing { (name : List ℕ) → get {X = Form} {R = slice_cmp nat_cmp} empty name ≡ None }
 {}
 
-/// After a state takes over what a source holds, each name of the source has the source's value,
-/// and each other name what it had.
+/// What a state holds after it took over a source: what the source names, it decides, and the rest
+/// stays.
 #[tactic(auto, using(crate::proofs::ExtendLaws::laws))]
 pub fn extending_gives_the_values_of_the_source()
     ensures source { (state source : State) (name : List ℕ) → IsSome (get source name)
@@ -52,14 +54,19 @@ pub fn extending_gives_the_values_of_the_source()
         → get (extended state source) name ≡ get state name }
 {}
 
-/// A state has a beginning of each number of names below its own, and this holds nothing that the
-/// state does not hold.
+/// A state has a beginning of each number of names below its own. A beginning holds fewer names
+/// than the state, and nothing that the state does not hold. In the order of bytes each of its
+/// names comes before each name that the state alone holds.
 #[tactic(auto, using(crate::proofs::ExtendLaws::laws))]
 pub fn states_have_beginnings()
     ensures some { (whole : State) (n : ℕ) → n < len whole
         → (part : State) × IsProperBeginning part whole × (len part ≡ n) }
     ensures held { (part whole : State) (name : List ℕ) → IsProperBeginning part whole
         → IsSome (get part name) → get whole name ≡ get part name }
+    ensures fewer { (part whole : State) → IsProperBeginning part whole → len part < len whole }
+    ensures first { (part whole : State) (name later : List ℕ) → IsProperBeginning part whole
+        → IsSome (get part name) → IsSome (get whole later) → get part later ≡ None
+        → slice_cmp nat_cmp name later ≡ Ordering.Less }
 {}
 
 /// States are equal exactly where they hold the same names and each means the same.

@@ -1,37 +1,42 @@
 //! The laws of single steps. Each function here does nothing: its clauses are the law.
 ghost use Rattle.std.specs.Prelude.{◌≡◌, ◌≢◌, ℕ, true, false, [], List, Option, Some, None, Ok};
-ghost use Rattle.std.specs.Prelude.{Err, IsOk};
+ghost use Rattle.std.specs.Prelude.{◌↔◌, Err, IsErr, IsOk, IsSome};
 ghost use Rattle.std.specs.FinMap.{contains_key, get as held_at, insert, remove as without};
 ghost use Rattle.tera_report.specs.Escaping.{escaped};
-ghost use Rattle.tera_report.specs.Refusal.{Refusal};
+ghost use Rattle.tera_report.specs.Refusal.{Operator, Refusal};
 ghost use Rattle.tera_meaning.specs.Answer;
+ghost use Rattle.tera_meaning.specs.Arithmetic.{calculated, negated};
+ghost use Rattle.tera_meaning.specs.Conversion.{IntegerType, read_as};
 ghost use Rattle.tera_meaning.specs.Search;
 ghost use Rattle.tera_meaning.specs.Search.{Search, found_at};
-ghost use Rattle.tera_meaning.specs.Fields.{shown_in};
+ghost use Rattle.tera_meaning.specs.Fields.{fields, shown_in};
 ghost use Rattle.tera_meaning.specs.Form.{Form};
 ghost use Rattle.tera_meaning.specs.Kind.{kind_in, undefined_kind};
 ghost use Rattle.tera_meaning.specs.Meaning.{layout, meaning};
 ghost use Rattle.tera_meaning.specs.Order.{compare, same};
 ghost use Rattle.tera_meaning.specs.Outcome.{Outcome, out_of_memory};
 ghost use Rattle.tera_meaning.specs.Printed.{IsExact, printed, shown_in_page};
-ghost use Rattle.tera_meaning.specs.Read.{marked_safe, safe_in, size_in, truthy_in};
+ghost use Rattle.tera_meaning.specs.Printed.{PrintsNothing};
+ghost use Rattle.tera_meaning.specs.Read.{iterable_in, marked_safe, safe_in, size_in, truthy_in};
 ghost use Rattle.tera_meaning.specs.Question;
 ghost use Rattle.tera_meaning.specs.Question.{Question, IsAnswered, TakesMemory};
 ghost use Rattle.tera_meaning.specs.Request.{Request, Command, set, remove, mark_safe, ask, weigh};
-ghost use Rattle.tera_meaning.specs.Request.{find, heeds_into, asking, asking_into};
+ghost use Rattle.tera_meaning.specs.Request.{extend, find, heeds_into, asking, asking_into};
 ghost use Rattle.tera_meaning.specs.State.{State, form_at, layout_at, meaning_at};
 ghost use Rattle.tera_meaning.specs.Step.{ComesTo, ComesOnlyTo, IsOutcome, IsStep};
-ghost use Rattle.tera_meaning.specs.Step.{leaves, LeavesInWant, marking, MayWantMemory};
+ghost use Rattle.tera_meaning.specs.Step.{leaves, LeavesInWant, marking, MayWant, MayWantMemory};
 ghost use Rattle.tera_meaning.specs.Step.{state_after};
 ghost use Rattle.tera_meaning.specs.Steps.{AbsentAnswers, BothAbsentAnswer, ExactAnswers};
-ghost use Rattle.tera_meaning.specs.Steps.{HasOneAnswer, HasOneStep, HeldAnswers};
+ghost use Rattle.tera_meaning.specs.Steps.{HasOneAnswer, HasOneStep, HeldAnswers, OnlyFinds};
+ghost use Rattle.tera_meaning.specs.Steps.{StepsOnlyTo};
 ghost use Rattle.tera_meaning.specs.Tree.{undefined};
 ghost use Rattle.tera_meaning.specs.Weighing;
 ghost use Rattle.tera_meaning.specs.Weighing.{Weighing, weighed};
 
 use std::cmp::Ordering;
 
-/// What a name holds is what is found, removed, counted, judged, printed, escaped and walked there.
+/// What a name holds is what is found, removed, counted, judged, printed, escaped and walked there,
+/// and whose fields are named.
 pub fn what_is_held_is_read()
     ensures get { HeldAnswers (λ name. find (Search.get name))
         (λ value. Answer.found (Some value)) }
@@ -46,6 +51,7 @@ pub fn what_is_held_is_read()
         (λ value. Answer.text (printed (layout value))) }
     ensures escape { ExactAnswers (ask Question.escape)
         (λ value. Answer.text (escaped (printed (layout value)))) }
+    ensures fields { HeldAnswers (ask Question.fields) (λ value. Answer.texts (fields value)) }
     ensures walk { HeldAnswers (ask Question.walk) (λ value. Answer.walked (shown_in value)) }
 {}
 
@@ -78,9 +84,7 @@ pub fn what_is_set_is_compared()
         (Ok (Answer.order (Some (compare (meaning value) (meaning_at state other))))) }
 {}
 
-/// A name that is not held reads as undefined: nothing is found or printed there, and it stays
-/// absent.
-#[tactic(auto, using(crate::proofs::StateLaws::remove_absent))]
+/// A name that is not held reads as undefined: nothing is found, printed or named there.
 pub fn absent_names_read_as_undefined()
     ensures get { AbsentAnswers (λ name. find (Search.get name)) (Answer.found None) }
     ensures remove { AbsentAnswers remove (Answer.found None) }
@@ -91,23 +95,29 @@ pub fn absent_names_read_as_undefined()
     ensures safe { AbsentAnswers (ask Question.is_safe) (Answer.truth true) }
     ensures print { AbsentAnswers (ask Question.print) (Answer.text []) }
     ensures escape { AbsentAnswers (ask Question.escape) (Answer.text []) }
+    ensures fields { AbsentAnswers (ask Question.fields) (Answer.texts []) }
     ensures walk { AbsentAnswers (ask Question.walk) (Answer.walked []) }
     ensures equal { BothAbsentAnswer (weigh Weighing.equal) (Answer.truth true) }
     ensures compare { BothAbsentAnswer (weigh Weighing.compare)
         (Answer.order (Some Ordering.Equal)) }
     ensures try_compare { BothAbsentAnswer (weigh Weighing.try_compare)
         (Answer.order (Some Ordering.Equal)) }
-    ensures removed { (state : State) (name : List ℕ) → held_at state name ≡ None
-        → state_after state (asking (remove name)) ≡ state }
 {}
 
-/// Only what finds something, and `mark_safe`, heed the name under which it is to be kept.
+/// Only what finds something, and `mark_safe`, heed the name under which it is to be kept. To set,
+/// to take over, to remove, to ask and to weigh do not.
 pub fn other_requests_heed_no_name_for_what_they_find()
     ensures outcome { (state : State) (request : Request) (into other : Option (List ℕ))
         (outcome : Outcome) → heeds_into request ≡ false → ComesTo state request into outcome
         → ComesTo state request other outcome }
     ensures state { (state : State) (request : Request) (into other : Option (List ℕ))
         → heeds_into request ≡ false → leaves state request into ≡ leaves state request other }
+    ensures set { (name : List ℕ) (value : Form) → heeds_into (set name value) ≡ false }
+    ensures extend { (source : State) → heeds_into (extend source) ≡ false }
+    ensures remove { (name : List ℕ) → heeds_into (remove name) ≡ false }
+    ensures ask { (question : Question) (name : List ℕ) → heeds_into (ask question name) ≡ false }
+    ensures weigh { (weighing : Weighing) (left right : List ℕ)
+        → heeds_into (weigh weighing left right) ≡ false }
 {}
 
 /// With a name for it, the form that is found is kept there, and the answer says just that it was
@@ -159,15 +169,17 @@ pub fn what_is_marked_is_kept()
         ≡ held_at state other }
 {}
 
-/// Only a command that may want memory comes to want of it. This changes nothing; but of `extend`
-/// some first names of its source, fewer than all, may be taken over.
+/// Only a command that may want memory comes to want of it, and each that may can. This changes
+/// nothing; but of `extend` some first names of its source, fewer than all, may be taken over.
 pub fn wants_of_memory_change_nothing()
     ensures { (old new : State) (command : Command) → IsStep old command out_of_memory new
-        → MayWantMemory old command × LeavesInWant old command.request new }
+        ↔ (MayWantMemory old command × LeavesInWant old command.request new) }
 {}
 
 /// These never want memory, whatever name is given for what they find: each has one answer and
-/// leaves one state. Marking wants none in place.
+/// leaves one state. Nor does a question whose answer takes none, nor a weighing that is not
+/// refused. Where no name is given, a number that is computed or read wants none, and marking wants
+/// none.
 pub fn these_requests_never_want_memory()
     ensures remove { HasOneStep remove (λ old name. Answer.found (held_at old name))
         (λ old name. without old name) }
@@ -190,7 +202,85 @@ pub fn these_requests_never_want_memory()
         → IsOk (weighed weighing (form_at old left) (form_at old right))
         → IsStep old (record { request = weigh weighing left right; into = into }) outcome new
         → (outcome ≡ weighed weighing (form_at old left) (form_at old right)) × (new ≡ old) }
-    ensures mark { (old new : State) (name : List ℕ) (outcome : Outcome)
-        → IsStep old (asking (mark_safe name)) outcome new
-        → (outcome ≡ Ok Answer.done) × (new ≡ marking old name (held_at old name)) }
+    ensures calculate { (operator : Operator) (state : State) (left right : List ℕ) (value : Form)
+        → calculated operator (form_at state left) (form_at state right) ≡ Ok value
+        → OnlyFinds state (Search.calculate operator left right) value }
+    ensures negate { (state : State) (name : List ℕ) (value : Form)
+        → negated (form_at state name) ≡ Ok value → OnlyFinds state (Search.negate name) value }
+    ensures read { (type : IntegerType) (state : State) (name : List ℕ) (value : Form)
+        → read_as type (form_at state name) ≡ Ok value
+        → OnlyFinds state (Search.read type name) value }
+    ensures mark { (state : State) (name : List ℕ) → StepsOnlyTo state (mark_safe name) None
+        Answer.done (marking state name (held_at state name)) }
+{}
+
+/// What takes no memory wants none. A value is set under a name that is held. Nothing is found.
+/// What is found, or marked, is no text, no bytes, no array and no map; and it is answered, or kept
+/// under a name that is held. Nothing is printed, and there are no names to tell.
+pub fn what_takes_no_memory_wants_none()
+    ensures set { (state : State) (name : List ℕ) (value : Form) (into : Option (List ℕ))
+        → IsSome (held_at state name)
+        → StepsOnlyTo state (set name value) into Answer.done (insert state name value) }
+    ensures nothing { (state : State) (search : Search) (into : Option (List ℕ))
+        → found_at state search ≡ Ok None
+        → StepsOnlyTo state (find search) into (Answer.found None) state }
+    ensures found { (state : State) (search : Search) (value : Form)
+        → found_at state search ≡ Ok (Some value) → iterable_in value ≡ false
+        → OnlyFinds state search value }
+    ensures kept { (state : State) (search : Search) (into : List ℕ) (value : Form)
+        → found_at state search ≡ Ok (Some value) → iterable_in value ≡ false
+        → IsSome (held_at state into)
+        → StepsOnlyTo state (find search) (Some into) Answer.done (insert state into value) }
+    ensures marked { (state : State) (name into : List ℕ)
+        → iterable_in (form_at state name) ≡ false → IsSome (held_at state into)
+        → StepsOnlyTo state (mark_safe name) (Some into) Answer.done
+        (insert state into (marked_safe (form_at state name))) }
+    ensures print { (state : State) (name : List ℕ) (into : Option (List ℕ))
+        → PrintsNothing (layout_at state name)
+        → StepsOnlyTo state (ask Question.print name) into (Answer.text []) state }
+    ensures escape { (state : State) (name : List ℕ) (into : Option (List ℕ))
+        → PrintsNothing (layout_at state name)
+        → StepsOnlyTo state (ask Question.escape name) into (Answer.text []) state }
+    ensures fields { (state : State) (name : List ℕ) (into : Option (List ℕ))
+        → fields (form_at state name) ≡ []
+        → StepsOnlyTo state (ask Question.fields name) into (Answer.texts []) state }
+    ensures walk { (state : State) (name : List ℕ) (into : Option (List ℕ))
+        → shown_in (form_at state name) ≡ []
+        → StepsOnlyTo state (ask Question.walk name) into (Answer.walked []) state }
+{}
+
+/// These may want memory: a value for a name that is new, and what a source holds; a copy of a
+/// text, of bytes, of an array or of a map; a name that is new for what is found, or marked; a text
+/// that is printed, and names that are told; and the text of a refusal.
+#[tactic(auto, using(crate::proofs::StepLaws::copy_takes))]
+pub fn what_takes_memory_may_want_it()
+    ensures set { (state : State) (name : List ℕ) (value : Form) (into : Option (List ℕ))
+        → held_at state name ≡ None → MayWant state (set name value) into }
+    ensures extend { (state source : State) (into : Option (List ℕ))
+        → MayWant state (extend source) into }
+    ensures found { (state : State) (search : Search) (value : Form) (into : Option (List ℕ))
+        → found_at state search ≡ Ok (Some value) → iterable_in value ≡ true
+        → MayWant state (find search) into }
+    ensures kept { (state : State) (search : Search) (value : Form) (into : List ℕ)
+        → found_at state search ≡ Ok (Some value) → held_at state into ≡ None
+        → MayWant state (find search) (Some into) }
+    ensures refused { (state : State) (search : Search) (refusal : Refusal)
+        (into : Option (List ℕ)) → found_at state search ≡ Err refusal
+        → MayWant state (find search) into }
+    ensures marked { (state : State) (name into : List ℕ) → iterable_in (form_at state name) ≡ true
+        → MayWant state (mark_safe name) (Some into) }
+    ensures placed { (state : State) (name into : List ℕ) → held_at state into ≡ None
+        → MayWant state (mark_safe name) (Some into) }
+    ensures weighed { (state : State) (weighing : Weighing) (left right : List ℕ)
+        (into : Option (List ℕ))
+        → IsErr (weighed weighing (form_at state left) (form_at state right))
+        → MayWant state (weigh weighing left right) into }
+    ensures print { (state : State) (name : List ℕ) (into : Option (List ℕ))
+        → ¬ PrintsNothing (layout_at state name) → MayWant state (ask Question.print name) into }
+    ensures escape { (state : State) (name : List ℕ) (into : Option (List ℕ))
+        → ¬ PrintsNothing (layout_at state name) → MayWant state (ask Question.escape name) into }
+    ensures fields { (state : State) (name : List ℕ) (into : Option (List ℕ))
+        → fields (form_at state name) ≢ [] → MayWant state (ask Question.fields name) into }
+    ensures walk { (state : State) (name : List ℕ) (into : Option (List ℕ))
+        → shown_in (form_at state name) ≢ [] → MayWant state (ask Question.walk name) into }
 {}

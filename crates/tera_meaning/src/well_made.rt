@@ -12,7 +12,7 @@ ghost use Rattle.tera_meaning.specs.WellMade.{IsWellMade, IsWellMadeLayout, IsWe
 ghost use Rattle.tera_meaning.specs.WellMade.{IsWellMadeState, AllBringWellMade};
 
 /// Commands that bring well-made values under names that are UTF-8 leave such values and names, and
-/// nothing held is well made. This holds of each run, whatever wants memory.
+/// a state that holds nothing is well made. This holds of each run, whatever wants memory.
 #[tactic(auto, using(crate::proofs::WellMadeLemmas::laws))]
 pub fn what_is_held_stays_well_made()
     ensures empty { IsWellMadeState empty }

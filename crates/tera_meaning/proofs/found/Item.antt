@@ -11,15 +11,14 @@ use Rattle.tera_meaning.specs.Form.{Form, MarkedText}
 use Rattle.tera_meaning.specs.Integer.{Integer}
 use Rattle.tera_meaning.specs.KeyMeaning.{KeyForm, KeyMeaning, key_meaning, key_order}
 use Rattle.tera_meaning.specs.Lookup.{key_in, item, indexed, part_at, place_of, character_of, seen_by, name_of}
-use Rattle.tera_meaning.specs.Meaning.{meaning, Meaning}
-use Rattle.tera_meaning.specs.Order.{same}
+use Rattle.tera_meaning.specs.Meaning.{Layout, layout, meaning, Meaning}
 use Rattle.tera_meaning.specs.Pairs.{key_form_order, value_at}
 use Rattle.tera_meaning.specs.Read.{number_in}
 use Rattle.tera_meaning.specs.Tree.{Items, undefined, text, array, object, items_list, members_list, Members}
 use Rattle.tera_meaning.specs.WellMade.{IsWellMade, AreWellMade, AreWellMadeMembers}
 use Rattle.tera_report.specs.Refusal.{Container, in_array, in_text, not_a_map_key, not_an_index, Refusal}
 use lib.Utf8.{scalars}
-use Rattle.tera_meaning.proofs.MeaningLaws.{meant_items, items_meant, found_pair}
+use Rattle.tera_meaning.proofs.MeaningLaws.{layout_items, layout_members, items_laid_out, found_laid_out, meant_items, items_meant, found_pair}
 use Rattle.tera_meaning.proofs.ReadLemmas.{meant_members, key_meant, key_as_meant, number_meant}
 use Rattle.tera_meaning.proofs.SoundLemmas.{Sound, sound_pair, sound_place}
 use Rattle.std.proofs.lemmas.List.{length-map}
@@ -77,6 +76,41 @@ item_as_meant v i = search (rules, indexed_as_meant, char_as_meant, meant_items,
 
 pub by_meaning : (v i w j : Form) → meaning v ≡ meaning w → meaning i ≡ meaning j → seen_by meaning (item v i) ≡ seen_by meaning (item w j)
 by_meaning v i w j same index = search (rules, item_as_meant, item_meant, number_meant, key_as_meant, key_meant)
+
+-- ---- by layout
+
+part_as_laid_out : (xs : Items Integer MarkedText KeyForm) (z : ℤ) → option_map layout (part_at (items_list xs) z) ≡ part_at (items_list (layout_items xs)) z
+part_as_laid_out xs z = search (rules, got_at, length-map, items_laid_out)
+
+char_as_laid_out : (t : MarkedText) (z : ℤ) → option_map layout (option_map (character_of t) (part_at (chars t.spelled) z)) ≡ char_at t.spelled z
+unfolding char_at
+char_as_laid_out t z = search rules
+
+indexed_as_laid_out : (container : Container) (index : Form) (part : ℤ → Option Form) (laid : ℤ → Option Layout)
+    → ((z : ℤ) → option_map layout (part z) ≡ laid z)
+    → seen_by layout (indexed container index part) ≡ indexed_meant container (number_in index) laid
+unfolding indexed_meant
+indexed_as_laid_out container index part laid h = search rules
+
+laid_out_or : (o : Option Form) → layout (unwrap_or o undefined) ≡ unwrap_or (option_map layout o) undefined
+laid_out_or x0 = search rules
+
+at_key_as_laid_out : (ps : Members Integer MarkedText KeyForm) (i : Form)
+    → seen_by layout (item (object ps) i) ≡ at_key_meant (layout_members ps) (option_map key_meaning (key_in i))
+unfolding at_key_meant
+at_key_as_laid_out ps i = by (key_in i)
+  where
+    by : (k : Option KeyForm) → seen_by layout (ok_or (option_map (λ k. unwrap_or (value_at key_form_order (members_list ps) k) undefined) k)
+        (not_a_map_key (name_of i))) ≡ at_key_meant (layout_members ps) (option_map key_meaning k)
+    by None = refl
+    by (Some k) = ap Ok (laid_out_or (value_at key_form_order (members_list ps) k) ∙ ap (λ o. unwrap_or o undefined) (found_laid_out ps (key_meaning k)))
+
+item_as_laid_out : (v i : Form) → seen_by layout (item v i) ≡ item_meant (layout v) (number_in i) (option_map key_meaning (key_in i))
+unfolding item_meant
+item_as_laid_out v i = search (rules, indexed_as_laid_out, char_as_laid_out, layout_items, part_as_laid_out, at_key_as_laid_out)
+
+pub by_layout : (v i w j : Form) → layout v ≡ layout w → meaning i ≡ meaning j → seen_by layout (item v i) ≡ seen_by layout (item w j)
+by_layout v i w j same index = search (rules, item_as_laid_out, item_meant, number_meant, key_as_meant, key_meant)
 
 -- ---- well made
 

@@ -4,14 +4,15 @@ use Rattle.std.proofs.lemmas.Str.{scalars-chars}
 use Rattle.std.specs.Prelude.{◌≡◌, List, [], Result, Ok, Err, IfOk, refl, ◌∷◌, map, reverse}
 use Rattle.std.specs.Str.{chars, encode_utf8_all}
 use Rattle.tera_meaning.specs.Form.{Form}
-use Rattle.tera_meaning.specs.Meaning.{meaning, Meaning}
+use Rattle.tera_meaning.specs.Lookup.{seen_by}
+use Rattle.tera_meaning.specs.Meaning.{layout, meaning, Meaning}
 use Rattle.tera_meaning.specs.SliceRule.{reversed, shape_of}
 use Rattle.tera_meaning.specs.Tree.{text, bytes, array, items, items_list}
 use Rattle.tera_meaning.specs.WellMade.{IsWellMade}
 use Rattle.tera_report.specs.Refusal.{Refusal, not_reversible}
 use mathlib.Core.List.{reverse_aux}
-use Rattle.tera_meaning.proofs.MeaningLaws.{items_meant}
-use Rattle.tera_meaning.proofs.ReadLemmas.{array_shape}
+use Rattle.tera_meaning.proofs.MeaningLaws.{items_laid_out, items_meant}
+use Rattle.tera_meaning.proofs.ReadLemmas.{array_seen, array_shape}
 use Rattle.tera_meaning.proofs.SoundLemmas.{all_reversed, listed_well, items_well, each_scalar, spelled_well}
 
 module _ {X Y : Type 0} (f : X → Y) where
@@ -33,6 +34,12 @@ reversed_means v = search (rules, array_shape, reverse_mapped, items_meant)
 
 pub by_meaning : (v w : Form) → meaning v ≡ meaning w → shape_of (reversed v) ≡ shape_of (reversed w)
 by_meaning v w e = search (rules, reversed_means)
+
+reversed_lays_out : (v : Form) → seen_by layout (reversed v) ≡ reversed_meaning (layout v)
+reversed_lays_out v = search (rules, array_seen, reverse_mapped, items_laid_out)
+
+pub by_layout : (v w : Form) → layout v ≡ layout w → seen_by layout (reversed v) ≡ seen_by layout (reversed w)
+by_layout v w e = search (rules, reversed_lays_out)
 
 pub well_made : (v : Form) → IsWellMade v → IfOk (reversed v) IsWellMade
 well_made v h = search (rules, spelled_well, all_reversed, each_scalar, scalars-chars, items_well, listed_well)

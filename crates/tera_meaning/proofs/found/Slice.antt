@@ -8,14 +8,15 @@ use Rattle.std.specs.Prelude.{◌≡◌, ℕ, zero, suc, ℤ, pos, negsuc, List,
 use Rattle.std.specs.Str.{chars, encode_utf8_all}
 use Rattle.tera_meaning.proofs.SliceLaws.{slice_of_is, slices_same, sliced_only}
 use Rattle.tera_meaning.specs.Form.{Form}
-use Rattle.tera_meaning.specs.Meaning.{meaning, Meaning}
+use Rattle.tera_meaning.specs.Lookup.{seen_by}
+use Rattle.tera_meaning.specs.Meaning.{layout, meaning, Meaning}
 use Rattle.tera_meaning.specs.SliceRule.{IsSliceFrom, start_place, end_place, IsSliced, shape_of}
 use Rattle.tera_meaning.specs.Tree.{text, array, items, items_list}
 use Rattle.tera_meaning.specs.Slice.{directed, walked, slice_of, cut, cut_by, sliced}
 use Rattle.tera_meaning.specs.WellMade.{IsWellMade}
 use Rattle.tera_report.specs.Refusal.{Refusal, step_of_zero, not_sliceable}
-use Rattle.tera_meaning.proofs.MeaningLaws.{items_meant}
-use Rattle.tera_meaning.proofs.ReadLemmas.{array_shape}
+use Rattle.tera_meaning.proofs.MeaningLaws.{items_laid_out, items_meant}
+use Rattle.tera_meaning.proofs.ReadLemmas.{array_seen, array_shape}
 use Rattle.tera_meaning.proofs.SoundLemmas.{all_reversed, listed_well, items_well, each_scalar, spelled_well}
 use Rattle.std.proofs.lemmas.List.{length-map}
 use Rattle.std.proofs.lemmas.Grind.{common_steps}
@@ -55,6 +56,17 @@ cut_by_means x0 v start end = search (rules, cut_means)
 pub by_meaning : (start end step : Option ℤ) (v w : Form) → meaning v ≡ meaning w
     → shape_of (sliced v start end step) ≡ shape_of (sliced w start end step)
 by_meaning start end step v w e = search (rules, cut_by_means)
+
+cut_lays_out : (v : Form) (start end : Option ℤ) (step : ℤ) → step ≢ pos 0
+    → seen_by layout (cut v start end step) ≡ cut_meaning (layout v) start end step
+cut_lays_out v start end step nonzero = search (rules, array_seen, slice_of_mapped, items_laid_out)
+
+cut_by_lays_out : (step : ℤ) (v : Form) (start end : Option ℤ) → seen_by layout (cut_by step v start end) ≡ sliced_meaning step (layout v) start end
+cut_by_lays_out x0 v start end = search (rules, cut_lays_out)
+
+pub by_layout : (start end step : Option ℤ) (v w : Form) → layout v ≡ layout w
+    → seen_by layout (sliced v start end step) ≡ seen_by layout (sliced w start end step)
+by_layout start end step v w e = search (rules, cut_by_lays_out)
 
 pub sliced_alike : (v w : Form) (start end step : Option ℤ) (outcome other : Result Form Refusal) → meaning v ≡ meaning w
     → IsSliced v start end step outcome → IsSliced w start end step other → shape_of outcome ≡ shape_of other
