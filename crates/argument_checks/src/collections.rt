@@ -1,4 +1,6 @@
 //! What collections give, by what their parts give.
+mod refusing;
+
 use crate::given::{gives, text_key};
 use crate::held::hold;
 use crate::made::{none_of, one_of, owned, set_of, table_of, tree_of, two_of, with_item};

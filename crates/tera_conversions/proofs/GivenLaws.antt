@@ -1,12 +1,12 @@
 -- What parts give and refuse, one after another.
-use Rattle.std.specs.Prelude.{◌≡◌, ◌⊎◌, List, [], ◌∷◌, ◌++◌, length, true, false, Result, Ok, Err, IfErr, IsOk}
+use Rattle.std.specs.Prelude.{◌≡◌, ◌⊎◌, List, [], ◌∷◌, ◌++◌, true, false, Result, Ok, Err, IfErr, IsOk}
 use Rattle.std.specs.List.{AllZip}
-use Rattle.std.proofs.Common.{inl, inr, subst, ap, sym, refl, ◌∙◌, arith}
-use Rattle.std.proofs.lemmas.List.{reverse-append, length-append}
+use Rattle.std.proofs.Common.{inl, inr, subst, ap, sym, refl, ◌∙◌}
+use Rattle.std.proofs.lemmas.List.{reverse-append}
 use Rattle.std.proofs.lemmas.List.Sums.{fold_push}
 use Rattle.std.specs.BTreeMap.{insert_entry}
 use Rattle.std.specs.Result.{IsErrAnd}
-use Rattle.tera_conversions.specs.Given.{FirstRefuses, PartsRefuse, GivesPair, PutsPairs, PutsRising}
+use Rattle.tera_conversions.specs.Given.{FirstRefuses, FirstGives, LaterRefuse, GivesPair, PutsPairs, PutsRising}
 use Rattle.tera_meaning.specs.Form.{Form}
 use Rattle.tera_meaning.specs.KeyMeaning.{KeyForm}
 use Rattle.tera_meaning.specs.Pairs.{key_form_order, pairs_of, put}
@@ -29,13 +29,20 @@ module _ {X Y : Type 0} (gives : X → Y → Type 0) (refuses : X → Error → 
   first_refused all before given x rest e whole told refused =
       subst (λ xs. FirstRefuses gives refuses xs e) whole (refused_after before given x rest e told refused)
 
+  -- where a part gave something after others, the first did
+  first_gave : (before : List X) (given : List Y) (x : X) (rest : List X) → AllZip gives before given
+      → (y : Y) × gives x y → FirstGives gives (before ++ (x ∷ rest))
+  first_gave [] given x rest told gave = gave
+  first_gave (b ∷ before) [] x rest told gave = elim told [ ]
+  first_gave (b ∷ before) (y ∷ given) x rest told gave = (y, told.0)
+
   -- a part is refused, or there is no memory for what it gave
-  pub parts_refused : (all before : List X) (given : List Y) (x : X) (rest : List X) (e : Error)
-      → before ++ (x ∷ rest) ≡ all → AllZip gives before given → IsOutOfMemory e ⊎ refuses x e
-      → PartsRefuse gives refuses all e
-  parts_refused all before given x rest e whole told (inl memory) =
-      inl (omega (arith, ap length whole, length-append before (x ∷ rest)), memory)
-  parts_refused all before given x rest e whole told (inr refused) =
+  pub later_refused : (all before : List X) (given : List Y) (x : X) (rest : List X) (e : Error)
+      → before ++ (x ∷ rest) ≡ all → AllZip gives before given → (IsOutOfMemory e × (y : Y) × gives x y) ⊎ refuses x e
+      → LaterRefuse gives refuses all e
+  later_refused all before given x rest e whole told (inl memory) =
+      inl (subst (FirstGives gives) whole (first_gave before given x rest told (memory.1, memory.2)), memory.0)
+  later_refused all before given x rest e whole told (inr refused) =
       inr (first_refused all before given x rest e whole told refused)
 
 -- a part goes from what is left to what was
@@ -81,6 +88,12 @@ pub refused_where : {X : Type 0} (P : Type 0) (Q : Error → Type 0) (r : Result
     → IfErr r (λ e. ¬ P × Q e)
 refused_where P Q (Ok x) only refused = tt
 refused_where P Q (Err e) only refused = ((λ holds. let none : false ≡ true = only holds in cc), refused)
+
+-- want of memory is answered where something was given
+pub wanted_where : {X Y : Type 0} (G : Y → Type 0) (P : Error → Type 0) (r : Result X Error) → IsErrAnd r IsOutOfMemory
+    → (y : Y) × G y → IfErr r (λ e. (IsOutOfMemory e × (y : Y) × G y) ⊎ P e)
+wanted_where G P (Ok x) is gave = elim is [ ]
+wanted_where G P (Err e) is gave = inl (is, gave.0, gave.1)
 
 -- an error is answered as it was
 pub passed_on : {X : Type 0} (P : Error → Type 0) (r : Result X Error) (e : Error) → IsErrAnd r (λ f. f ≡ e) → P e

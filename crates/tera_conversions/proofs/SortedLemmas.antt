@@ -7,11 +7,11 @@ use Rattle.std.specs.Map.{keys_of}
 use Rattle.std.specs.Ordering.{on, match_ordering}
 use Rattle.std.specs.declared.cmp.Ordering.TheVariants.{Less, Equal, Greater}
 use Rattle.std.proofs.Common.{sym, ◌∙◌, ap, inl, subst, arith}
-use Rattle.std.proofs.lemmas.List.{append-nil, map-append, length-append, length-map}
+use Rattle.std.proofs.lemmas.List.{append-nil, map-append, length-map}
 use Rattle.std.proofs.lemmas.List.Sums.{fold_push}
 use Rattle.std.proofs.lemmas.Map.Keys.{IsDistinct-from_sorted}
 use Rattle.tera_conversions.proofs.EntryLemmas.{put_as_given}
-use Rattle.tera_conversions.specs.Given.{GivesPair, PartsRefuse, PutsRising}
+use Rattle.tera_conversions.specs.Given.{FirstGives, GivesPair, LaterRefuse, PutsRising}
 use Rattle.tera_conversions.specs.inner.Forms.{forms_of}
 use Rattle.tera_meaning.proofs.PutLaws.{distinct_read}
 use Rattle.tera_meaning.specs.Form.{Form}
@@ -57,18 +57,20 @@ forms_in_order es before rest made rises whole none so_far =
 
 -- there is no memory for the map of what some entries gave
 module _ {K X : Type 0} (key : K → KeyForm → Type 0) (gives : X → Form → Type 0) where
-  some_entry : (entries : List (K × X)) (given : List (KeyForm × Form)) → AllZip (GivesPair key gives) entries given
-      → 0 < length (pairs_of (reverse given)) → 0 < length entries
-  some_entry [] [] told some = some
-  some_entry [] (p ∷ given) told some = elim told [ ]
-  some_entry (e ∷ entries) given told some = omega arith
+  some_entry : (entries rest : List (K × X)) (given : List (KeyForm × Form)) → AllZip (GivesPair key gives) entries given
+      → 0 < length (pairs_of (reverse given)) → FirstGives (GivesPair key gives) (entries ++ rest)
+  some_entry [] rest [] told some = elim some [ ]
+  some_entry [] rest (p ∷ given) told some = elim told [ ]
+  some_entry (e ∷ entries) rest [] told some = elim told [ ]
+  some_entry (e ∷ entries) rest (p ∷ given) told some = (p, told.0)
 
   pub no_memory : {Z : Type 0} (refuses : K × X → Error → Type 0) (all before rest : List (K × X)) (es : List (Key × Form)) (r : Result Z Error)
       → before ++ rest ≡ all
       → PutsRising key gives before (forms_of es) → IfErr r (λ e. (0 < length es) × IsOutOfMemory e)
-      → IfErr r (PartsRefuse (GivesPair key gives) refuses all)
+      → IfErr r (LaterRefuse (GivesPair key gives) refuses all)
   no_memory refuses all before rest es (Ok z) whole puts told = tt
   no_memory refuses all before rest es (Err e) whole puts told =
       let as_many : length (forms_of es) ≡ length es = length-map es (λ q. (key_form q.0, q.1)) in
-      let some : 0 < length before = some_entry before puts.0 puts.1 (subst (λ (ps : List (KeyForm × Form)). 0 < length ps) puts.2 (omega (arith, told.0))) in
-      inl (omega (arith, ap length whole, length-append before rest), told.1)
+      let some : 0 < length (pairs_of (reverse puts.0)) =
+      subst (λ (ps : List (KeyForm × Form)). 0 < length ps) puts.2 (omega (arith, told.0)) in
+      inl (subst (FirstGives (GivesPair key gives)) whole (some_entry before rest puts.0 puts.1 some), told.1)

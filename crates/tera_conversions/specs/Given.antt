@@ -9,6 +9,11 @@ use Rattle.tera_meaning.specs.Tree.{none, array, object, items, members}
 use Rattle.tera_report.specs.Errors.{IsOutOfMemory}
 use Rattle.tera_report.specs.declared.errors.Error.{Error}
 
+-- the first of the parts gives something
+abbrev pub FirstGives : {X Y : Type 0} → (X → Y → Type 0) → List X → Type 0
+FirstGives gives [] = ⊥
+FirstGives {Y = Y} gives (x ∷ xs) = (y : Y) × gives x y
+
 module _ {X Y : Type 0} (gives : X → Y → Type 0) (refuses : X → Error → Type 0) where
   -- the first of the parts that gives nothing is refused so
   abbrev pub FirstRefuses : List X → Error → Type 0
@@ -19,6 +24,11 @@ module _ {X Y : Type 0} (gives : X → Y → Type 0) (refuses : X → Error → 
   -- parts make
   abbrev pub PartsRefuse : List X → Error → Type 0
   PartsRefuse xs e = ((0 < length xs) × IsOutOfMemory e) ⊎ FirstRefuses xs e
+
+  -- the first of the parts that gives nothing is refused so, or the first part gave something and
+  -- there was no memory for what was given
+  abbrev pub LaterRefuse : List X → Error → Type 0
+  LaterRefuse xs e = (FirstGives gives xs × IsOutOfMemory e) ⊎ FirstRefuses xs e
 
 module _ {X : Type 0} (gives : X → Form → Type 0) where
   -- an array of what the parts give, in their order

@@ -1,18 +1,17 @@
 //! Collections, each given by what its parts give.
-ghost use Rattle.std.specs.Prelude.{◌≡◌, ◌<◌, length, IfOk, IfErr};
+ghost use Rattle.std.specs.Prelude.{◌≡◌, ◌<◌, length, IfOk, OnErr};
 ghost use Rattle.std.specs.List.{AllZip};
 ghost use Rattle.tera_conversions.specs.Given.{GivesArray, GivesPart, PartRefuses, PartsRefuse};
-ghost use Rattle.tera_meaning.specs.Form.{Form};
 ghost use Rattle.tera_meaning.specs.Tree.{array, bytes, items};
 ghost use Rattle.tera_report.specs.Errors.{IsOutOfMemory};
 
 use crate::ToValue;
-use std::alloc::Global;
+use std::alloc::{AllocError, Global};
 use std::collections::BTreeSet;
 use tera_report::TeraResult;
 use tera_values::Value;
 
-/// None of nothing, else what its part gives.
+/// None of nothing, else what its part gives, or its error. Takes memory for the part alone.
 impl<T: ToValue> ToValue for Option<T> {
     ghost gives = { GivesPart T.gives };
 
@@ -26,8 +25,10 @@ impl<T: ToValue> ToValue for Option<T> {
     }
 }
 
-/// An array of what its parts give; bytes are an array of numbers too. Takes memory, but for no
-/// part; the first error of a part is passed on.
+/// An array of what its parts give; bytes are an array of numbers too.
+///
+/// Takes memory, but for no part. The error is the first one of a part or, where there is a part,
+/// `Out of memory`.
 impl<T: ToValue + Drop> ToValue for Vec<T> {
     ghost gives = { λ parts v. GivesArray T.gives parts.items v };
 
@@ -43,8 +44,10 @@ impl<T: ToValue + Drop> ToValue for Vec<T> {
     }
 }
 
-/// An array of what its parts give, in rising order. Takes memory, but for no part; the first error
-/// of a part is passed on.
+/// An array of what its parts give, in rising order.
+///
+/// Takes memory, but for no part. The error is the first one of a part or, where there is a part,
+/// `Out of memory`.
 impl<T: ToValue + Ord + Drop> ToValue for BTreeSet<T> {
     ghost gives = { λ parts v. GivesArray T.gives parts.keys v };
 
@@ -87,13 +90,13 @@ impl ToValue for &[u8] {
 }
 
 // A copy of each value, in their order.
-fn copies(alloc: Global, all: &[Value]) -> TeraResult<Vec<Value>>
+fn copies(alloc: Global, all: &[Value]) -> Result<Vec<Value>, AllocError>
     ensures ok { IfOk result (λ v. v.items ≡ all.now) }
-    ensures err { IfErr result (λ e. (0 < length all.now) × IsOutOfMemory e) }
+    ensures err { OnErr result (0 < length all.now) }
 {
     let mut made = Vec::with_capacity(alloc, all.len())?;
     for value in all {
-        made.push(value.clone(alloc)?)?;
+        made.push(value.copy(alloc)?)?;
     }
     Ok(made)
 }

@@ -1,5 +1,5 @@
 //! What a function of templates may answer.
-ghost use Rattle.std.specs.Prelude.{◌≡◌, IfOk, IfErr};
+ghost use Rattle.std.specs.Prelude.{IfOk, IfErr};
 ghost use Rattle.tera_conversions.specs.Given.{Answers, Fails};
 ghost use Rattle.tera_meaning.specs.Form.{Form};
 ghost use Rattle.tera_report.specs.declared.errors.Error.{Error};
@@ -18,13 +18,14 @@ pub trait FunctionResult {
     // an error that may be answered in its place
     ghost fails: { Self → Error → Type 0 };
 
-    /// The value that it is, or the error.
+    /// The value that it is, or an error. Takes the memory that its making takes.
     fn into_result(self, alloc: Global) -> TeraResult<Value>
         ensures ok { IfOk result (answers self) }
         ensures err { IfErr result (fails self) };
 }
 
-/// The value that is given.
+/// The value that is given; the errors are those of `to_value`, as they are. Takes the memory that
+/// it takes.
 impl<T: ToValue> FunctionResult for T {
     ghost answers = { T.gives };
 
@@ -35,7 +36,8 @@ impl<T: ToValue> FunctionResult for T {
     }
 }
 
-/// The value that is given, or the error as it is.
+/// The value that is given, or the error as it is; the other errors are those of `to_value`, as
+/// they are. Takes the memory that it takes, and for an error none.
 impl<T: ToValue> FunctionResult for Result<T, Error> {
     ghost answers = { Answers T.gives };
 

@@ -4,8 +4,8 @@ ghost use Rattle.std.specs.BTreeMap.{insert_entry};
 ghost use Rattle.std.specs.List.{AllZip, IsDistinct};
 ghost use Rattle.std.specs.List.Sorted.{IsPermutation};
 ghost use Rattle.std.specs.Map.{keys_of};
-ghost use Rattle.tera_conversions.specs.Given.{GivesMap, GivesPair, GivesRisingMap, PairRefuses};
-ghost use Rattle.tera_conversions.specs.Given.{PartsRefuse};
+ghost use Rattle.tera_conversions.specs.Given.{GivesMap, GivesPair, GivesRisingMap, LaterRefuse};
+ghost use Rattle.tera_conversions.specs.Given.{PairRefuses};
 ghost use Rattle.tera_conversions.specs.inner.Forms.{forms_of};
 ghost use Rattle.tera_meaning.specs.Form.{Form};
 ghost use Rattle.tera_meaning.specs.KeyMeaning.{KeyForm};
@@ -32,15 +32,14 @@ impl ToValue for Map {
     }
 }
 
-/// A map of what its keys and its values give, in its order. Of equal keys the first key and its
-/// place and the later value stand.
+/// A map of what its keys and its values give, in its order.
 ///
-/// Takes memory, but for no entry; the first error of a key or a value, in that order, is passed
-/// on.
+/// Takes memory, but for no entry. The error is the first one of a key or a value, in that order,
+/// or, where the first entry gave its pair, `Out of memory`.
 impl<K: ToKey + Hash + Drop, T: ToValue + Drop> ToValue for IndexMap<K, T> {
     ghost gives = { λ map v. GivesMap K.gives_key T.gives map.entries v };
 
-    ghost refuses = { λ map e. PartsRefuse (GivesPair K.gives_key T.gives)
+    ghost refuses = { λ map e. LaterRefuse (GivesPair K.gives_key T.gives)
         (PairRefuses K.gives_key K.refuses_key T.refuses) map.entries e };
 
     fn to_value(self, alloc: Global) -> TeraResult<Value> {
@@ -52,15 +51,14 @@ impl<K: ToKey + Hash + Drop, T: ToValue + Drop> ToValue for IndexMap<K, T> {
     }
 }
 
-/// A map of what its keys and its values give, in the order of its keys. Of keys that give equal
-/// ones the first key and its place and the later value stand.
+/// A map of what its keys and its values give, in the order of its keys.
 ///
-/// Takes memory, but for no entry; the first error of a key or a value, in that order, is passed
-/// on.
+/// Takes memory, but for no entry. The error is the first one of a key or a value, in that order,
+/// or, where the first entry gave its pair, `Out of memory`.
 impl<K: ToKey + Ord + Drop, T: ToValue + Drop> ToValue for BTreeMap<K, T> {
     ghost gives = { λ map v. GivesMap K.gives_key T.gives map.entries v };
 
-    ghost refuses = { λ map e. PartsRefuse (GivesPair K.gives_key T.gives)
+    ghost refuses = { λ map e. LaterRefuse (GivesPair K.gives_key T.gives)
         (PairRefuses K.gives_key K.refuses_key T.refuses) map.entries e };
 
     fn to_value(self, alloc: Global) -> TeraResult<Value> {
@@ -74,12 +72,12 @@ impl<K: ToKey + Ord + Drop, T: ToValue + Drop> ToValue for BTreeMap<K, T> {
 
 /// A map of what its keys and its values give, in rising order of the keys that are given.
 ///
-/// Takes memory, but for no entry; the first error of a key or a value, in the order in which the
-/// table is walked, is passed on.
+/// Takes memory, but for no entry. The error is the first one of a key or a value, in the order in
+/// which the table is walked, or, where the first entry gave its pair, `Out of memory`.
 impl<K: ToKey + Hash + Drop, T: ToValue + Drop> ToValue for HashMap<K, T> {
     ghost gives = { λ map v. GivesRisingMap K.gives_key T.gives map.entries v };
 
-    ghost refuses = { λ map e. PartsRefuse (GivesPair K.gives_key T.gives)
+    ghost refuses = { λ map e. LaterRefuse (GivesPair K.gives_key T.gives)
         (PairRefuses K.gives_key K.refuses_key T.refuses) map.entries e };
 
     fn to_value(self, alloc: Global) -> TeraResult<Value> {
@@ -91,8 +89,8 @@ impl<K: ToKey + Hash + Drop, T: ToValue + Drop> ToValue for HashMap<K, T> {
     }
 }
 
-/// The map of entries whose keys are not equal holds just the pairs that they give: keys that are
-/// not equal give keys that are not. It does nothing: its clause is the law.
+/// The rising map of entries whose keys are not equal holds just the pairs that they give: keys
+/// that are not equal give keys that are not. It does nothing: its clause is the law.
 pub fn maps_hold_each_entry<K: ToKey, T: ToValue>()
     ensures { (entries : List (K × T)) (given : List (KeyForm × Form))
         → IsDistinct K.PartialEq.eq (keys_of entries)
@@ -119,7 +117,8 @@ fn put<K: ToKey, T: ToValue + Drop>(
     ensures ok { OnOk result ((pair : KeyForm × Form)
         × GivesPair K.gives_key T.gives (key, value) pair
         × (given.new ≡ put key_form_order given.old pair.0 pair.1)) }
-    ensures err { IfErr result (λ e. IsOutOfMemory e
+    ensures err { IfErr result (λ e. (IsOutOfMemory e × (pair : KeyForm × Form)
+        × GivesPair K.gives_key T.gives (key, value) pair)
         ⊎ PairRefuses K.gives_key K.refuses_key T.refuses (key, value) e) }
 {
     let key = key.to_key(alloc)?;
@@ -139,7 +138,8 @@ fn place<K: ToKey, T: ToValue + Drop>(
         × GivesPair K.gives_key T.gives (key, value) pair
         × (forms_of sorted.new.entries
         ≡ insert_entry key_form_order (forms_of sorted.old.entries) pair.0 pair.1)) }
-    ensures err { IfErr result (λ e. IsOutOfMemory e
+    ensures err { IfErr result (λ e. (IsOutOfMemory e × (pair : KeyForm × Form)
+        × GivesPair K.gives_key T.gives (key, value) pair)
         ⊎ PairRefuses K.gives_key K.refuses_key T.refuses (key, value) e) }
 {
     let key = key.to_key(alloc)?;

@@ -27,7 +27,8 @@ pub trait ToKey: Eq {
     // an error that may be answered in its place
     ghost refuses_key: { Self → Error → Type 0 };
 
-    /// The key that it is.
+    /// The key that it is, or an error that the implementation tells. Takes memory where that says
+    /// so.
     fn to_key(self, alloc: Global) -> TeraResult<Key<'static>>
         ensures ok { IfOk result (λ k. gives_key self (key_form k)) }
         ensures err { IfErr result (refuses_key self) };

@@ -30,7 +30,8 @@ pub trait ToValue {
     // an error that may be answered in its place
     ghost refuses: { Self → Error → Type 0 };
 
-    /// The value that it is.
+    /// The value that it is, or an error that the implementation tells. Takes memory where that
+    /// says so.
     fn to_value(self, alloc: Global) -> TeraResult<Value>
         ensures ok { IfOk result (gives self) }
         ensures err { IfErr result (refuses self) };

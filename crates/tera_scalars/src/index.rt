@@ -9,7 +9,7 @@ ghost use Rattle.tera_scalars.specs.Whole.{whole_value};
 use crate::Whole;
 
 /// How many parts stand before the one that is named, or behind it.
-#[derive(Clone, Copy, Debug)]
+#[derive(Drop)]
 pub(crate) enum Index {
     FromFront(u128),
     FromBack(u128),
@@ -44,7 +44,7 @@ pub fn place(number: Whole, count: usize) -> Option<usize>
 }
 
 /// The character of a text at an index, one below 0 being counted from the end; nothing where it
-/// names none. It decodes what stands before the character, or behind it. Takes no memory.
+/// names none. Takes no memory.
 pub fn character(text: &str, number: Whole) -> Option<char>
     ensures { result ≡ part_at (chars text.now) (whole_value number) }
 {

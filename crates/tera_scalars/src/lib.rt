@@ -18,7 +18,7 @@ pub use index::{character, place};
 pub use lossy::put_lossy;
 pub use number::{Number, numbers_compare_by_value};
 pub use operation::{BinaryOp, NoResult, negation};
-pub use positions::{Stride, needs_count};
+pub use positions::Stride;
 pub use refused::{
     negated_no_number, negation_outside_i128, no_result, not_a_number, operand_outside_i128,
 };

@@ -8,8 +8,8 @@ use bstr::ByteSlice;
 use tera_report::sink::Sink;
 
 /// Puts the bytes as UTF-8 text. One U+FFFD stands for each longest piece that begins a character's
-/// bytes and is not whole, and for each byte that begins none. A run of characters is put in one
-/// piece. Answers an error only where the sink refused a piece. Takes no memory of its own.
+/// bytes and is not whole, and for each byte that begins none. Answers an error only where the sink
+/// refused a piece. Takes no memory of its own.
 pub fn put_lossy<S: Sink>(bytes: &[u8], out: &mut S) -> Result<(), S::Fault>
     ensures { PutsThese S.takes S.fails result (utf8_lossy bytes.now) out.old out.new }
 {

@@ -27,20 +27,21 @@ impl Stride {
     {
         Stride {
             from: match start {
-                Some(bound) => place(length, bound, step),
+                Some(bound) => distance(length, bound, step),
                 None => 0,
             },
             until: match end {
-                Some(bound) => place(length, bound, step),
+                Some(bound) => distance(length, bound, step),
                 None => length,
             },
             by: pace(step),
         }
     }
 
-    /// How many items it takes. Takes no memory.
+    /// How many items it takes: of a `by` of 0 none. Takes no memory.
     pub fn count(self) -> usize
-        ensures { 0 < self.by → result ≡ div_ceil (self.until - self.from) self.by }
+        ensures some { 0 < self.by → result ≡ div_ceil (self.until - self.from) self.by }
+        ensures none { self.by ≡ 0 → result ≡ 0 }
     {
         if self.by == 0 {
             return 0;
@@ -51,7 +52,7 @@ impl Stride {
 
 /// Whether some bound counts from the other end than the one at which the step begins, so that how
 /// many items there are is to be known. Takes no memory.
-pub fn needs_count(start: Option<i128>, end: Option<i128>, step: i128) -> bool
+pub(crate) fn needs_count(start: Option<i128>, end: Option<i128>, step: i128) -> bool
     ensures { result ≡ (counts_from_afar step start || counts_from_afar step end) }
 {
     is_afar(start, step) || is_afar(end, step)
@@ -68,7 +69,7 @@ fn is_afar(bound: Option<i128>, step: i128) -> bool
 }
 
 // How many items stand before the place of a bound in the direction of the step.
-fn place(length: usize, bound: i128, step: i128) -> usize
+fn distance(length: usize, bound: i128, step: i128) -> usize
     ensures place { place_behind step length result ≡ place_of_bound step length bound }
     ensures within { result ≤ length }
 {

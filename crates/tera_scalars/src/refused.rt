@@ -1,17 +1,20 @@
 //! The errors of arithmetic, by what they say.
-ghost use Rattle.std.specs.Prelude.{◌++◌, codes, pos};
+ghost use Rattle.std.specs.Prelude.{pos};
 ghost use Rattle.tera_report.specs.Errors.{Raises};
-ghost use Rattle.tera_report.specs.Refusal.{message, stated, not_a_number, not_exact};
+ghost use Rattle.tera_report.specs.Refusal.{stated, not_a_number, not_exact};
 ghost use Rattle.tera_report.specs.Refusal.{operand_outside_i128, exponent_outside_u32};
-ghost use Rattle.tera_report.specs.Refusal.{negated_no_number};
+ghost use Rattle.tera_report.specs.Refusal.{negated_no_number, negation_outside_i128};
 ghost use Rattle.tera_scalars.specs.Operation.{operator_of, refusal_of};
+ghost use Rattle.tera_scalars.specs.Whole.{whole_value};
 
+use crate::Whole;
 use crate::operation::{BinaryOp, NoResult};
-use itoa::{Buffer, Integer};
+use itoa::Buffer;
 use std::alloc::Global;
 use tera_report::Error;
 
-/// An operand of that kind, which is no number. `Out of memory` where the text finds none.
+/// ``Only numbers can be used in arithmetic. This is a `KIND` ``, of an operand of that kind.
+/// `Out of memory` where the text finds none.
 pub fn not_a_number(alloc: Global, kind: &str) -> Error
     ensures { Raises (stated (not_a_number kind.now)) result }
 {
@@ -19,7 +22,8 @@ pub fn not_a_number(alloc: Global, kind: &str) -> Error
     Error::message_of(alloc, &[before, kind, "`"])
 }
 
-/// An operand that no `i128` holds. `Out of memory` where the text finds none.
+/// ``Operand `NUMBER` is out of range for integer arithmetic (must fit in i128)``. `Out of memory`
+/// where the text finds none.
 pub fn operand_outside_i128(alloc: Global, operand: u128) -> Error
     ensures { Raises (stated (operand_outside_i128 (pos operand))) result }
 {
@@ -28,7 +32,9 @@ pub fn operand_outside_i128(alloc: Global, operand: u128) -> Error
     Error::message_of(alloc, &["Operand `", digits.format(operand), after])
 }
 
-/// Two numbers that have no result, and why. `Out of memory` where the text finds none.
+/// Two numbers that have no result, and why: `Cannot divide by 0`, `Exponent NUMBER is out of range
+/// for integer ** (must fit in u32)`, or `Unable to perform LEFT OPERATOR RIGHT`. `Out of memory`
+/// where the text finds none.
 pub fn no_result(alloc: Global, op: BinaryOp, left: i128, right: i128, why: NoResult) -> Error
     ensures { Raises (stated (refusal_of (operator_of op) left right why)) result }
 {
@@ -39,8 +45,8 @@ pub fn no_result(alloc: Global, op: BinaryOp, left: i128, right: i128, why: NoRe
     }
 }
 
-/// A value of that kind, which is no number that could be negated. `Out of memory` where the text
-/// finds none.
+/// ``Only numbers can be negated. This is a `KIND` ``, of a value of that kind. `Out of memory`
+/// where the text finds none.
 pub fn negated_no_number(alloc: Global, kind: &str) -> Error
     ensures { Raises (stated (negated_no_number kind.now)) result }
 {
@@ -48,15 +54,18 @@ pub fn negated_no_number(alloc: Global, kind: &str) -> Error
     Error::message_of(alloc, &[before, kind, "`"])
 }
 
-/// A number that no `i128` holds, or the negation of which none holds. `Out of memory` where the
-/// text finds none.
-pub fn negation_outside_i128<I: Integer>(alloc: Global, operand: I) -> Error
-    ensures { Raises (message (codes "Cannot negate "
-        ++ (I.text operand ++ codes ": result would overflow i128"))) result }
+/// `Cannot negate NUMBER: result would overflow i128`, of a number that no `i128` holds, or the
+/// negation of which none holds. `Out of memory` where the text finds none.
+pub fn negation_outside_i128(alloc: Global, operand: Whole) -> Error
+    ensures { Raises (stated (negation_outside_i128 (whole_value operand))) result }
 {
     let mut digits = Buffer::new();
+    let operand = match operand {
+        Whole::Signed(z) => digits.format(z),
+        Whole::Unsigned(n) => digits.format(n),
+    };
     let after = ": result would overflow i128";
-    Error::message_of(alloc, &["Cannot negate ", digits.format(operand), after])
+    Error::message_of(alloc, &["Cannot negate ", operand, after])
 }
 
 // The error of an exponent that is no count of factors.

@@ -12,15 +12,14 @@ ghost use Rattle.tera_meaning.specs.Slice.{walked};
 ghost use Rattle.tera_scalars.specs.Ends.{chars_from, far, near};
 ghost use Rattle.tera_scalars.specs.Positions.{counts_from_afar, turned};
 
-use crate::{Stride, needs_count};
+use crate::Stride;
+use crate::positions::needs_count;
 use std::alloc::{AllocError, Global};
 use std::str::Chars;
 use tera_report::words::characters;
 
-/// The characters of a text in the opposite order. All bytes are turned at once, after those of
-/// each character past ASCII were turned where they stand, so that they come out in order.
-///
-/// Takes memory for the answer in one step; the only refusal is want of it.
+/// The characters of a text in the opposite order. Takes memory for the answer; the only refusal is
+/// want of it.
 pub fn reversed_text(alloc: Global, text: &str) -> Result<String, AllocError>
     ensures { IfOk result (λ t. string_bytes t ≡ encode_utf8_all (reverse (chars text.now))) }
 {
@@ -222,10 +221,11 @@ fn strided(
     count: usize,
     by: usize,
 ) -> Result<String, AllocError>
+    requires { 0 < by }
     ensures { IfOk result (λ t. string_bytes t
         ≡ encode_utf8_all (walked (by - 1) 0 (take count (chars_from backwards text.now)))) }
 {
-    let mut made = Vec::with_capacity(alloc, count.min(text.len()).div_ceil(by.max(1)))?;
+    let mut made = Vec::with_capacity(alloc, count.min(text.len()).div_ceil(by))?;
     let mut rest = text.chars();
     let mut waits = 0;
     for turn in 0..count {
@@ -236,7 +236,7 @@ fn strided(
             waits -= 1;
         } else {
             put_bytes(&mut made, spelled)?;
-            waits = by.saturating_sub(1);
+            waits = by - 1;
         }
     }
     Ok(unsafe { String::from_utf8_unchecked(made) })
@@ -249,16 +249,16 @@ fn strided_ascii(
     backwards: bool,
     by: usize,
 ) -> Result<String, AllocError>
-    requires { IsAscii bytes.now }
+    requires moves { 0 < by }
+    requires ascii { IsAscii bytes.now }
     ensures { IfOk result (λ t. string_bytes t
         ≡ encode_utf8_all (walked (by - 1) 0 (turned backwards bytes.now))) }
 {
-    let pace = by.saturating_sub(1) + 1;
-    let mut made = String::with_capacity(alloc, bytes.len().div_ceil(pace))?;
+    let mut made = String::with_capacity(alloc, bytes.len().div_ceil(by))?;
     let mut at = 0;
     while at < bytes.len() {
         made.push(byte_from(bytes, backwards, at) as char)?;
-        at = at.saturating_add(pace);
+        at = at.saturating_add(by);
     }
     Ok(made)
 }
@@ -277,6 +277,7 @@ fn byte_from(bytes: &[u8], backwards: bool, at: usize) -> u8
 
 // The slice of a text's characters by a walk from an end.
 fn sliced(alloc: Global, text: &str, backwards: bool, stride: Stride) -> Result<String, AllocError>
+    requires { 0 < stride.by }
     ensures { IfOk result (λ t. string_bytes t ≡ encode_utf8_all (walked (stride.by - 1)
         stride.from (take stride.until (chars_from backwards text.now)))) }
 {
@@ -298,7 +299,7 @@ fn sliced(alloc: Global, text: &str, backwards: bool, stride: Stride) -> Result<
 
 // How many places a slice has to reckon with: as many as the text has characters, or more where no
 // bound takes their count.
-fn places(text: &str, start: Option<i128>, end: Option<i128>, step: i128) -> usize
+fn length_to_reckon_with(text: &str, start: Option<i128>, end: Option<i128>, step: i128) -> usize
     ensures enough { length (chars text.now) ≤ result }
     ensures exact { ((counts_from_afar step start || counts_from_afar step end) ≡ false)
         ⊎ (result ≡ length (chars text.now)) }
@@ -310,9 +311,8 @@ fn places(text: &str, start: Option<i128>, end: Option<i128>, step: i128) -> usi
     }
 }
 
-/// The slice of a text's characters between two bounds. They are counted only where a bound counts
-/// from the other end than the one at which the step begins. What a step of 1 takes is copied in
-/// one piece; every other step walks once over the characters. A step of 0 is no step.
+/// The slice of a text's characters between two bounds, by a step other than 0; of a step of 0
+/// nothing is said.
 ///
 /// Takes memory for the answer; the only refusal is want of it.
 pub fn sliced_text(
@@ -325,6 +325,11 @@ pub fn sliced_text(
     ensures { IfOk result (λ t. step ≢ pos 0 → (cs : List ℕ)
         × IsSliceOf (chars text.now) start end step cs × (string_bytes t ≡ encode_utf8_all cs)) }
 {
-    let stride = Stride::new(places(text, start, end, step), start, end, step);
+    let stride = Stride::new(
+        length_to_reckon_with(text, start, end, step),
+        start,
+        end,
+        step,
+    );
     sliced(alloc, text, step < 0, stride)
 }

@@ -55,8 +55,8 @@ fn signed_to_unsigned(z: i128, n: u128) -> Ordering
     }
 }
 
-/// Puts an integer in decimal, by a minus and its digits, without memory. Answers an error only
-/// where the sink refused it.
+/// Puts an integer as the text of its type: of Rust's own in decimal, a minus where it is below 0
+/// and its digits. Answers an error only where the sink refused it. Takes no memory.
 pub fn put_integer<I: Integer, S: Sink>(n: I, out: &mut S) -> Result<(), S::Fault>
     ensures { PutsThese S.takes S.fails result (I.text n) out.old out.new }
 {

@@ -10,12 +10,13 @@ returns c =
     let cs = chars c.args.text.now in
     let stride = c.new-stride.result in
     let at = c.new-stride.ensures in
+    let reckoned = c.length_to_reckon_with in
     let step = cast_signed w128 (cast_unsigned w128 c.args.step) in
     let spelled =
     ap (λ (ds : List ℕ). encode_utf8_all (walked (stride.by - 1) stride.from (take stride.until ds))) (turned_directed _ step cs refl)
     in
-    let slices = λ (nonzero : step ≢ pos 0). walk_slices cs c.args.start c.args.end step c.places.result stride.from stride.until stride.by nonzero
-    c.places.type_inv c.places.ensures.enough at.from_within at.until_within c.places.ensures.exact at.from at.until at.by in
+    let slices = λ (nonzero : step ≢ pos 0). walk_slices cs c.args.start c.args.end step reckoned.result stride.from stride.until stride.by nonzero
+    reckoned.type_inv reckoned.ensures.enough at.from_within at.until_within reckoned.ensures.exact at.from at.until at.by in
     subst
     (λ (s : ℤ). IfOk c.sliced.result (λ t. s ≢ pos 0 → (ds : List ℕ) × IsSliceOf cs c.args.start c.args.end s ds × (string_bytes t ≡ encode_utf8_all ds)))
     (to_z-of_z w128 c.args.step c.ranges.step)

@@ -30,7 +30,7 @@ loop-turn-preserved c =
           rw w.made-is (record { text = before.text; so_far = passes p n m next _ _ _ _ off less _ _ one before.so_far })
       | else-waits-gt0+in_ok-put_bytes w ↦
           let put = ap (λ v. v.items) w.made-is ∙ w.in_ok-put_bytes.ensures.items in
-          rw (w.waits-is ∙ w.saturating_sub-waits.ensures) (record {
+          rw w.waits-is (record {
             text = subst IsUtf8 (sym put) (IsUtf8-append _ _ before.text text);
             so_far = takes p n m next _ _ _ _ off less _ _ (omega arith) (put ∙ ap (λ (bs : List ℕ). c.loop-turn.made.items ++ bs) is) before.so_far;
           })

@@ -6,7 +6,7 @@ use Rattle.tera_scalars.proofs.TextLemmas.{IsPutSoFar}
 use Rattle.tera_scalars.proofs.text.strided_ascii.Given as goal
 
 abbrev pub invariant-loop-at : goal.invariant-loop-at
-invariant-loop-at l = IsPutSoFar (l.pace - 1) (turned l.backwards l.bytes) l.at (string_bytes l.made)
+invariant-loop-at l = IsPutSoFar (l.fn.by - 1) (turned l.backwards l.bytes) l.at (string_bytes l.made)
 
 abbrev pub decreases-loop-at : goal.decreases-loop-at
 decreases-loop-at l = length l.bytes - l.at

@@ -1,12 +1,12 @@
 use Rattle.std.proofs.Common.{ap, sym, ◌∙◌, ◌++◌}
-use Rattle.tera_conversions.proofs.GivenLaws.{passed_on, puts_on, parts_refused, moved_on}
+use Rattle.tera_conversions.proofs.GivenLaws.{passed_on, puts_on, later_refused, moved_on}
 use Rattle.tera_conversions.specs.Given.{GivesPair, PairRefuses}
 use Rattle.tera_conversions.proofs.maps.BTreeMapToValue.to_value.Goals as goal
 
 pub returns-in_err-put-clause-err : goal.returns-in_err-put-clause-err
 returns-in_err-put-clause-err g c =
     let whole = ap (λ rest. c.loop-key.yielded ++ rest) (sym c.in-Some.ensures.steps) ∙ c.loop-key.invariant.whole in
-    let refused = parts_refused (GivesPair g.K.ToKey.gives_key g.T.ToValue.gives) (PairRefuses g.K.ToKey.gives_key g.K.ToKey.refuses_key g.T.ToValue.refuses)
+    let refused = later_refused (GivesPair g.K.ToKey.gives_key g.T.ToValue.gives) (PairRefuses g.K.ToKey.gives_key g.K.ToKey.refuses_key g.T.ToValue.refuses)
     _ _ _ _ _ _ whole
     c.loop-key.invariant.so_far.1 c.in_err-put.ensures.err in
     passed_on _ _ _ c.from_residual.ensures.1 refused
