@@ -1,5 +1,5 @@
 -- The two columns of a map: its keys, and its values in the same order.
-use Rattle.std.specs.Prelude.{◌≡◌, ◌≢◌, ◌<◌, ◌≤◌, ◌+◌, ℕ, Bool, zero, suc, true, false, not, cond, ◌||◌, nat_lt}
+use Rattle.std.specs.Prelude.{◌≡◌, ◌≢◌, ◌<◌, ◌≤◌, ℕ, Bool, zero, suc, true, false, not, cond, ◌||◌}
 use Rattle.std.specs.Prelude.{if◌then◌else◌, List, [], ◌∷◌, ◌++◌, length, Some, None, position, slice_get, refl}
 use Rattle.std.proofs.Common.{sym, ◌∙◌, ap, arith, get_or, set}
 use Rattle.std.proofs.lemmas.List.Quantifiers.{position-Some}
@@ -13,8 +13,9 @@ use Rattle.tera_meaning.specs.KeyMeaning.{KeyForm}
 use Rattle.tera_meaning.specs.Tree.{items, items_depth, members, members_depth}
 use Rattle.tera_meaning.specs.Pairs.{key_form_order, put, value_at, HasDistinctKeys}
 use Rattle.tera_values.specs.Key.{key_form}
-use Rattle.tera_values.specs.Map.{keys_tie, pairs_held, AreColumns}
+use Rattle.tera_values.specs.inner.Map.{keys_tie, pairs_held, AreColumns}
 use Rattle.tera_values.specs.declared.key.Key.{Key}
+use Rattle.tera_values.proofs.KeyLemmas.{place_tells}
 
 pub no_keys : IsDistinct keys_tie []
 unfolding IsDistinct
@@ -30,18 +31,10 @@ held_key ks k e = ap (λ b. if b then ks else ks ++ k ∷ []) e
 
 -- the place of a key, where one is equal to it
 pub placed : (k : Key) (ks : List Key) → list_any (keys_tie k) ks ≡ true → position_or_len (keys_tie k) ks < length ks
-placed k [] some = cc
-placed k (x ∷ ks) some =
-    elim (keys_tie k x) as (λ b. (b || list_any (keys_tie k) ks) ≡ true
-    → cond (not b) (1 + position_or_len (keys_tie k) ks) 0 < suc (length ks)) [
-      | true ↦ λ e. omega arith
-      | false ↦ λ e. let later = placed k ks e in omega (arith, later)
-    ] some
+placed k ks some = let below = place_tells (keys_tie k) ks ∙ some in grind (arith, nat_tests, below)
 
 pub placed_at : (k : Key) (ks : List Key) → list_any (keys_tie k) ks ≡ true → Some (position_or_len (keys_tie k) ks) ≡ position (keys_tie k) ks
-placed_at k ks some =
-    let below : nat_lt (position_or_len (keys_tie k) ks) (length ks) ≡ true = let within = placed k ks some in grind (arith, nat_tests, within) in
-    ap (λ b. cond b (Some (position_or_len (keys_tie k) ks)) None) (sym below)
+placed_at k ks some = ap (λ b. cond b (Some (position_or_len (keys_tie k) ks)) None) (sym (place_tells (keys_tie k) ks ∙ some))
 
 pub was_held : (is_new any : Bool) → is_new ≡ not any → is_new ≡ false → any ≡ true
 was_held is_new true e h = refl

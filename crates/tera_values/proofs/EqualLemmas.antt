@@ -1,26 +1,87 @@
--- When a walk over one of two maps shows that they mean the same.
-use Rattle.std.proofs.Common.{◌≡◌, ◌≢◌, ◌≤◌, ◌||◌, true, false, not, cond, List, [], ◌∷◌, length, Option, None, Some, IsSome, refl, sym, ap, subst, arith}
+-- When a walk shows that two arrays or two maps mean the same.
+use Rattle.std.proofs.Common.{◌≡◌, ◌≢◌, ◌<◌, ◌≤◌, ◌||◌, ℕ, zero, suc, Bool, true, false, not, cond}
+use Rattle.std.proofs.Common.{List, [], ◌∷◌, length, get_or, drop, ◌∙◌, Option, None, Some, IsSome, refl, sym, ap, subst, arith}
 use Rattle.std.proofs.lemmas.Map.Steps.{length-le_from_keys}
 use Rattle.std.specs.Cmp.{eq_by_cmp_equiv}
 use Rattle.std.specs.List.{list_any}
 use Rattle.std.specs.Map.{keys_of}
 use Rattle.std.specs.Option.{is_some, option_eq}
-use Rattle.std.specs.Ordering.{is_eq, eq_by_cmp}
+use Rattle.std.specs.Ordering.{is_eq, eq_by_cmp, ordering_then}
 use Rattle.std.specs.declared.cmp.Ordering.{Ordering}
 use Rattle.std.specs.declared.cmp.Ordering.TheVariants.{Less, Equal, Greater}
 use Rattle.tera_meaning.proofs.EntryLaws.{forms_tie}
 use Rattle.tera_meaning.specs.Form.{Form}
 use Rattle.tera_meaning.specs.KeyMeaning.{KeyForm}
+use Rattle.tera_meaning.specs.Meaning.{meaning}
+use Rattle.tera_meaning.specs.Order.{compare, same}
 use Rattle.tera_meaning.specs.Pairs.{key_form_order, value_at, HasDistinctKeys, AgreeEverywhere}
 use Rattle.tera_meaning.proofs.KeyLaws.{form_total}
+use Rattle.tera_values.proofs.PartsLaws.{lists_order}
 use Rattle.tera_values.proofs.UnlikeLemmas.{from_left, left_walk, both_walks, walks_meet_least, one_walk, all_tie, length_keys}
-use Rattle.tera_values.specs.Unlike.{form_values, is_before, difference_at, met, least_met, maps_order, IsLeastUnlike}
+use Rattle.tera_values.specs.inner.Unlike.{form_values, is_before, difference_at, met, least_met, maps_order, IsLeastUnlike}
 use Rattle.tera_values.specs.declared.unlike.Unlike.{Unlike}
 
 not_equal : (o : Ordering) → o ≢ Equal → is_eq o ≡ false
 not_equal Less n = refl
 not_equal Equal n = absurd (n refl)
 not_equal Greater n = refl
+
+-- ---- arrays
+
+differs_then : (o p : Ordering) → is_eq o ≡ false → is_eq (ordering_then o p) ≡ false
+differs_then Less p e = refl
+differs_then Equal p e = cc
+differs_then Greater p e = refl
+
+differs_later : (o p : Ordering) → is_eq p ≡ false → is_eq (ordering_then o p) ≡ false
+differs_later Less p e = refl
+differs_later Equal p e = e
+differs_later Greater p e = refl
+
+ties_then : (o p : Ordering) → is_eq o ≡ true → ordering_then o p ≡ p
+ties_then Less p e = cc
+ties_then Equal p e = refl
+ties_then Greater p e = cc
+
+-- arrays that mean the same have as many items
+pub uneven_items : (xs ys : List Form) → length xs ≢ length ys → is_eq (lists_order xs ys) ≡ false
+uneven_items [] [] n = absurd (n refl)
+uneven_items [] (y ∷ ys) n = refl
+uneven_items (x ∷ xs) [] n = refl
+uneven_items (x ∷ xs) (y ∷ ys) n =
+    differs_later (compare (meaning x) (meaning y)) (lists_order xs ys) (uneven_items xs ys (λ e. n (ap suc e)))
+
+item_same : (x y v w : Form) (b : Bool) → v ≡ x → w ≡ y → same (meaning v) (meaning w) ≡ b → same (meaning x) (meaning y) ≡ b
+item_same x y v w b e f h = sym (ap (λ u. same (meaning u) (meaning w)) e ∙ ap (λ u. same (meaning x) (meaning u)) f) ∙ h
+
+-- where two items in one place mean the same, those behind them decide
+pub goes_even : (xs ys : List Form) (i : ℕ) (v w : Form) → i < length xs → i < length ys → v ≡ get_or xs i v → w ≡ get_or ys i w
+    → same (meaning v) (meaning w) ≡ true → lists_order (drop i xs) (drop i ys) ≡ lists_order (drop (suc i) xs) (drop (suc i) ys)
+goes_even [] ys i v w h k e f s = absurd (omega arith)
+goes_even (x ∷ xs) [] i v w h k e f s = absurd (omega arith)
+goes_even (x ∷ xs) (y ∷ ys) zero v w h k e f s =
+    ties_then (compare (meaning x) (meaning y)) (lists_order xs ys) (item_same x y v w true e f s)
+goes_even (x ∷ xs) (y ∷ ys) (suc i) v w h k e f s = goes_even xs ys i v w (omega arith) (omega arith) e f s
+
+-- where two do not, the arrays do not
+pub differs_here : (xs ys : List Form) (i : ℕ) (v w : Form) → i < length xs → i < length ys → v ≡ get_or xs i v → w ≡ get_or ys i w
+    → same (meaning v) (meaning w) ≡ false → is_eq (lists_order (drop i xs) (drop i ys)) ≡ false
+differs_here [] ys i v w h k e f s = absurd (omega arith)
+differs_here (x ∷ xs) [] i v w h k e f s = absurd (omega arith)
+differs_here (x ∷ xs) (y ∷ ys) zero v w h k e f s =
+    differs_then (compare (meaning x) (meaning y)) (lists_order xs ys) (item_same x y v w false e f s)
+differs_here (x ∷ xs) (y ∷ ys) (suc i) v w h k e f s = differs_here xs ys i v w (omega arith) (omega arith) e f s
+
+-- behind the last ones nothing is left that could differ
+pub all_even : (xs ys : List Form) (n : ℕ) → length xs ≡ length ys → n ≡ length xs → is_eq (lists_order (drop n xs) (drop n ys)) ≡ true
+all_even [] [] zero e h = refl
+all_even [] [] (suc n) e h = absurd (omega arith)
+all_even [] (y ∷ ys) n e h = absurd (omega arith)
+all_even (x ∷ xs) [] n e h = absurd (omega arith)
+all_even (x ∷ xs) (y ∷ ys) zero e h = absurd (omega arith)
+all_even (x ∷ xs) (y ∷ ys) (suc n) e h = all_even xs ys n (omega arith) (omega arith)
+
+-- ---- maps
 
 -- a walk that has met a difference has met one at its end
 met_some : (d : KeyForm × Unlike) (k : KeyForm) (how : Option Unlike) → IsSome (met (Some d) k how)

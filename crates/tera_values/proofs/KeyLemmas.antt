@@ -12,11 +12,11 @@ use Rattle.std.specs.Cmp.Lexicographic.{pointwise, texts_ties}
 use Rattle.tera_meaning.proofs.KeyLaws.{key_equivalence, key_is}
 use Rattle.tera_meaning.specs.KeyMeaning.{key_order, text_key}
 use Rattle.tera_values.specs.Key.{key_form, meaning_of_key}
-use Rattle.tera_values.specs.Map.{keys_tie}
+use Rattle.tera_values.specs.inner.Map.{keys_tie}
 use Rattle.tera_values.specs.declared.key.Key.{Key}
 
 -- where a key is equal, its place is below the length, and else it is the length
-place_tells : (test : Key → Bool) (ks : List Key) → nat_lt (position_or_len test ks) (length ks) ≡ list_any test ks
+pub place_tells : (test : Key → Bool) (ks : List Key) → nat_lt (position_or_len test ks) (length ks) ≡ list_any test ks
 place_tells test [] = let none : nat_lt 0 0 ≡ false = grind (arith, nat_tests) in none
 place_tells test (x ∷ ks) =
     elim (test x) as (λ b. nat_lt (cond (not b) (1 + position_or_len test ks) 0) (suc (length ks)) ≡ (b || list_any test ks)) [

@@ -1,8 +1,10 @@
 -- What arrays and maps have and hold, by the lists of their items and pairs.
-use Rattle.std.specs.Prelude.{◌≡◌, ℕ, Bool, List, Option, Some, None, is_some, Ok, refl}
-use Rattle.std.proofs.Common.{◌∙◌, ap, Bor}
+use Rattle.std.specs.Prelude.{◌≡◌, ◌<◌, ℕ, Bool, true, List, [], ◌∷◌, length, Option, Some, None, is_some, Ok, refl}
+use Rattle.std.proofs.Common.{◌∙◌, ap, arith, Bor}
+use Rattle.std.proofs.lemmas.Str.{length-encode, len_utf8_bounds}
 use Rattle.std.proofs.lemmas.Str.Pattern.{contains_text}
 use Rattle.std.specs.Bool.{MatchBool}
+use Rattle.std.specs.Char.{encode_utf8}
 use Rattle.std.specs.List.{list_any}
 use Rattle.std.specs.Str.Pattern.{HasMatch, FindsText}
 use Rattle.std.specs.Option.{option_copied}
@@ -12,6 +14,7 @@ use Rattle.tera_meaning.proofs.LookupLaws.{tells_occurs}
 use Rattle.tera_meaning.specs.KeyMeaning.{KeyForm}
 use Rattle.tera_meaning.specs.Meaning.{meaning}
 use Rattle.tera_meaning.specs.Order.{same}
+use Rattle.tera_meaning.specs.Read.{is_nonempty}
 use Rattle.tera_meaning.specs.Tree.{array, object, items, members}
 use Rattle.tera_meaning.proofs.TreeLaws.{list_of_items, list_of_members}
 use Rattle.tera_report.specs.Refusal.{in_array}
@@ -32,3 +35,11 @@ some_copied (Some x) = refl
 -- what `contains` tells of a text
 pub told_occurs : (told : Bool) (part bs : List ℕ) → MatchBool told (HasMatch (FindsText part) bs) (FindsText part bs None) → told ≡ occurs part bs
 told_occurs told part bs h = tells_occurs told part bs (contains_text told part bs h)
+
+filled : (bs : List ℕ) → 0 < length bs → is_nonempty bs ≡ true
+filled [] h = absurd (omega arith)
+filled (b ∷ bs) h = refl
+
+-- a character has a byte
+pub some_encoded : (c : ℕ) → is_nonempty (encode_utf8 c) ≡ true
+some_encoded c = filled (encode_utf8 c) (omega (arith, length-encode c, (len_utf8_bounds c).0))

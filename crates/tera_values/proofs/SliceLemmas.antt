@@ -3,6 +3,7 @@ use Rattle.std.specs.Prelude.{◌≡◌, ◌≢◌, ◌<◌, ◌≤◌, ◌+◌,
 use Rattle.std.specs.Prelude.{slice_get, Option, Some, Result, Ok, Err, IfOk, IfErr}
 use Rattle.std.proofs.Common.{refl, sym, ap, ◌∙◌, subst, arith, inl, inr, length-append, ltb-true, reverse, take}
 use Rattle.std.proofs.lemmas.Bool.{cases_lt}
+use Rattle.std.proofs.lemmas.Int.{ints}
 use Rattle.std.proofs.lemmas.List.{length-reverse, take_more}
 use Rattle.std.proofs.lemmas.Option.{get_or_from_slice_get}
 use Rattle.std.specs.Str.{chars, encode_utf8_all}
@@ -11,12 +12,12 @@ use Rattle.tera_report.specs.Errors.{Refuses}
 use Rattle.tera_report.specs.Refusal.{Refusal, step_of_zero}
 use Rattle.tera_report.specs.declared.errors.Error.{Error}
 use Rattle.tera_meaning.specs.Form.{Form}
-use Rattle.tera_meaning.specs.Tree.{array, items}
+use Rattle.tera_meaning.specs.Tree.{array, items, no_items}
 use Rattle.tera_meaning.proofs.TreeLaws.{list_of_items}
 use Rattle.tera_meaning.specs.SliceRule.{IsSliceOf, IsCutBy, IsSliced, start_place, end_place}
 use Rattle.tera_meaning.specs.Slice.{IsStrided, directed, pause, place_behind, slice_of, cut, cut_by, sliced}
 use Rattle.tera_values.specs.View.{marked}
-use Rattle.tera_meaning.proofs.SliceLaws.{slices_same, slice_of_is, sliced_is}
+use Rattle.tera_meaning.proofs.SliceLaws.{slices_same, slice_of_is, sliced_is, sliced_only}
 use Rattle.tera_scalars.proofs.PositionLaws.{stride_slices}
 use Rattle.tera_scalars.specs.Positions.{turned}
 
@@ -114,6 +115,28 @@ module _ {X : Type 0} where
       (subst (λ ys. IsStrided ys from until by (held v)) (turned_directed z (int_lt z (pos 0)) xs refl) h))
       (slice_of_is xs start end z nonzero))
 
+  -- a slice without items ends where it starts, or before
+  pub none_taken : (xs : List X) (start end : Option ℤ) (step z : ℤ) (from until : ℕ) → z ≡ step → step ≢ pos 0
+      → from ≤ length xs → until ≤ length xs → place_behind z (length xs) from ≡ start_place z (length xs) start
+      → place_behind z (length xs) until ≡ end_place z (length xs) end → slice_of xs start end step ≡ [] → until ≤ from
+  none_taken xs start end step z from until same nonzero f u first last none =
+      ends_first xs start end z from until (λ e. nonzero (sym same ∙ e)) f u first last
+      (ap (slice_of xs start end) same ∙ none)
+    where
+      ends_first : (xs : List X) (start end : Option ℤ) (z : ℤ) (from until : ℕ) → z ≢ pos 0
+          → from ≤ length xs → until ≤ length xs → place_behind z (length xs) from ≡ start_place z (length xs) start
+          → place_behind z (length xs) until ≡ end_place z (length xs) end → slice_of xs start end z ≡ [] → until ≤ from
+      ends_first xs start end (pos s) from until nonzero f u first last none =
+          let reached = (subst (IsSliceOf xs start end (pos s)) none (slice_of_is xs start end (pos s) nonzero)).reached in
+          omega (arith, ints, reached, first, last)
+      ends_first xs start end (negsuc s) from until nonzero f u first last none =
+          let reached = (subst (IsSliceOf xs start end (negsuc s)) none (slice_of_is xs start end (negsuc s) nonzero)).reached in
+          omega (arith, ints, reached, first, last)
+
+none_kept : (ys : List Form) → items ys ≡ no_items → ys ≡ []
+none_kept [] e = refl
+none_kept (y ∷ ys) e = cc
+
 module _ (start end : Option ℤ) (z step : ℤ) (same : z ≡ step) where
   -- the slice of an array and of a text, from the slice of what they hold
   pub array_cut : (v w : Form) (xs ys : List Form) → array (items xs) ≡ v → (z ≢ pos 0 → ys ≡ slice_of xs start end z)
@@ -123,6 +146,16 @@ module _ (start end : Option ℤ) (z step : ℤ) (same : z ≡ step) where
       ap (λ u. cut u start end step) (sym held)
       ∙ ap (λ (zs : List Form). Ok (array (items (slice_of zs start end step)))) (list_of_items xs)
       ∙ ap (λ (zs : List Form). Ok (array (items zs))) (sym part) ∙ ap (λ (u : Form). Ok u) (sym found)
+
+  -- what has an empty slice is an array, of which it takes no item
+  pub none_cut : (v : Form) (xs : List Form) → array (items xs) ≡ v → cut v start end step ≡ Ok (array no_items)
+      → slice_of xs start end z ≡ []
+  none_cut v xs held none =
+      let made : Ok (array (items (slice_of xs start end step))) ≡ Ok (array no_items) =
+      sym (ap (λ (zs : List Form). Ok (array (items (slice_of zs start end step)))) (list_of_items xs))
+      ∙ ap (λ u. cut u start end step) held ∙ none
+      in
+      ap (slice_of xs start end) same ∙ none_kept (slice_of xs start end step) cc
 
   pub text_cut : (v : Form) (bs t : List ℕ) (safe : Bool) → marked bs safe ≡ v
       → (z ≢ pos 0 → (cs : List ℕ) × IsSliceOf (chars bs) start end z cs × (t ≡ encode_utf8_all cs)) → step ≢ pos 0
@@ -150,6 +183,9 @@ module _ (start end : Option ℤ) (z step : ℤ) (same : z ≡ step) where
     cut_is_sliced =
         cut_by_nonzero z (not_zero nonzero) ∙ ap (λ k. cut_by k v start end) (same ∙ is)
 
+    pub slice_is_cut : (o : Result Form Refusal) → IsSliced v start end given o → cut v start end z ≡ o
+    slice_is_cut o h = cut_is_sliced ∙ sym (sliced_only v start end given o h)
+
     pub slice_found : {E : Type 0} (r : Result Form E) → IfOk r (λ w. z ≢ pos 0 → cut v start end z ≡ Ok w)
         → IfOk r (λ w. IsSliced v start end given (Ok w))
     slice_found (Err e) h = h
@@ -169,3 +205,7 @@ module _ (start end : Option ℤ) (z step : ℤ) (same : z ≡ step) where
 pub zero_refused : (v : Form) (start end given : Option ℤ) → unwrap_or given (pos 1) ≡ pos 0
     → IsSliced v start end given (Err step_of_zero)
 zero_refused v start end given e = subst (λ k. IsCutBy k v start end (Err step_of_zero)) (sym e) refl
+
+pub zero_gives_none : (v w : Form) (start end given : Option ℤ) → unwrap_or given (pos 1) ≡ pos 0
+    → IsSliced v start end given (Ok w) → ⊥
+zero_gives_none v w start end given e h = let refused = subst (λ k. IsCutBy k v start end (Ok w)) e h in cc

@@ -14,7 +14,7 @@ use Rattle.tera_meaning.specs.KeyMeaning.{KeyForm}
 use Rattle.tera_meaning.specs.Pairs.{key_form_order, value_at, goes_on, agree_at, HasDistinctKeys, AgreeEverywhere, IsLeastDifference, by_values, order_at}
 use Rattle.tera_meaning.proofs.EntryLaws.{forms_decide, forms_tie}
 use Rattle.tera_meaning.proofs.KeyLaws.{form_total}
-use Rattle.tera_values.specs.Unlike.{form_values, by_order, unlike, lacking, is_before, difference_at, met, least_met, maps_order, IsLeastUnlike}
+use Rattle.tera_values.specs.inner.Unlike.{form_values, by_order, unlike, lacking, is_before, difference_at, met, least_met, maps_order, IsLeastUnlike}
 use Rattle.tera_values.specs.declared.unlike.Unlike.{Unlike}
 use Rattle.tera_values.specs.declared.unlike.Unlike.TheVariants.{Values, LeftAlone, RightAlone}
 

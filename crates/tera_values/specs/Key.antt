@@ -40,7 +40,7 @@ abbrev pub owned_in_key : KeyForm → Option (List ℕ)
 owned_in_key (text_key (owned t)) = Some t
 owned_in_key _ = None
 
--- a text of at most 16 bytes, which takes no memory where a key owns it
+-- a text of at most 16 bytes: a key that owns it is made and cloned without memory
 abbrev pub FitsInline : List ℕ → Type 0
 FitsInline t = length t ≤ 16
 

@@ -1,9 +1,6 @@
 pub mod Key
 pub mod Map
-pub mod Size
 pub mod View
-pub mod Unlike
-pub mod Depth
 pub mod Kind
 pub mod Print
 pub mod Computed

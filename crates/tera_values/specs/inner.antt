@@ -1,1 +1,5 @@
+pub mod Depth
+pub mod Map
+pub mod Size
 pub mod Stage
+pub mod Unlike

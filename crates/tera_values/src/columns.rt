@@ -6,10 +6,12 @@ ghost use Rattle.std.specs.Option.{option_copied};
 ghost use Rattle.std.specs.Vec.{vec_len, vec_capacity};
 ghost use Rattle.tera_meaning.specs.Pairs.{key_form_order, put, value_at};
 ghost use Rattle.tera_values.specs.Key.{key_form};
-ghost use Rattle.tera_values.specs.Map.{keys_tie, keys_held, AreListsOf};
+ghost use Rattle.tera_values.specs.inner.Map.{keys_tie, keys_held, AreListsOf};
 
 use crate::copy::copies;
-use crate::keys::{FEW, FIRST, Keys, copied_keys, first_key, key_slice, place_of, put_key};
+use crate::keys::{
+    FIRST, Keys, copied_keys, first_key, insert_key, key_slice, more_than, place_of,
+};
 use crate::{Key, Value};
 use std::alloc::{AllocError, Global};
 use std::marker::Model;
@@ -33,8 +35,8 @@ impl Model for Columns {
 
     ghost coded = { coded_pairs };
 
-    ghost use Rattle.tera_values.specs.Map.{pairs_held, keys_held, AreColumns};
-    ghost use Rattle.tera_values.specs.Size.{columns_size};
+    ghost use Rattle.tera_values.specs.inner.Map.{pairs_held, keys_held, AreColumns};
+    ghost use Rattle.tera_values.specs.inner.Size.{columns_size};
 
     ghost view = { λ c. pairs_held (keys_held c.keys) c.values.items };
 
@@ -42,7 +44,7 @@ impl Model for Columns {
 
     ghost size = { columns_size };
 
-    ghost use Rattle.tera_values.specs.Depth.{most_le-columns_size};
+    ghost use Rattle.tera_values.specs.inner.Depth.{most_le-columns_size};
 
     ghost size_decreases = { λ c h. most_le-columns_size (keys_held c.keys) c.values.items h };
 }
@@ -80,8 +82,8 @@ impl Columns {
         }
     }
 
-    /// Puts a value at a key, and answers the value that was there.
-    pub(crate) fn put(
+    /// Inserts a value at a key, and answers the value that was there.
+    pub(crate) fn insert(
         &mut self,
         key: Key<'static>,
         value: Value,
@@ -96,7 +98,7 @@ impl Columns {
         ensures some { self.new ≡ [] → self.old ≡ [] }
     {
         make_room(&self.keys, &mut self.values, &key)?;
-        let (place, is_new) = put_key(*self.values.allocator(), &mut self.keys, key)?;
+        let (place, is_new) = insert_key(*self.values.allocator(), &mut self.keys, key)?;
         if is_new {
             self.values.push_reserved(value);
             return Ok(None);
@@ -143,5 +145,5 @@ fn make_room(keys: &Keys, values: &mut Vec<Value>, key: &Key<'_>) -> Result<(), 
     if values.len() < values.capacity() || place_of(keys, key).is_some() {
         return Ok(());
     }
-    values.reserve(FEW - FIRST)
+    values.reserve(more_than(values.len()))
 }

@@ -11,7 +11,7 @@ ghost use Rattle.tera_meaning.proofs.OrderLaws.{compare_total, compare_partial, 
 ghost use Rattle.tera_meaning.proofs.OrderLaws.{same_partial_equivalence};
 ghost use Rattle.tera_meaning.specs.Tree.{truth, number, text, bytes, array, object, items};
 ghost use Rattle.tera_meaning.specs.Tree.{members};
-ghost use Rattle.tera_values.specs.Unlike.{unlike, maps_order};
+ghost use Rattle.tera_values.specs.inner.Unlike.{unlike, maps_order};
 ghost use Rattle.tera_scalars.specs.Whole.{whole_value};
 
 use crate::equal::equal;
@@ -21,9 +21,8 @@ use crate::{Map, Value};
 use std::cmp::Ordering;
 use tera_scalars::Whole;
 
-/// Values are equal exactly where their meanings are: integers by number, texts whatever their
-/// flags, arrays item by item, maps as sets of pairs. Mirrors `PartialEq` of `tera::Value`. Takes
-/// no memory.
+/// Values are equal exactly where they mean the same: kinds of integers, safe flags and the order
+/// of a map's pairs count for nothing. Mirrors `PartialEq` of `tera::Value`. Takes no memory.
 impl PartialEq for Value {
     ghost eq = { on meaning same };
 
@@ -52,10 +51,9 @@ impl PartialOrd for Value {
     }
 }
 
-/// By rank (truth values, numbers, texts, arrays, maps, bytes, none, undefined), and inside a rank
-/// by value. Arrays go by the first items that differ, a proper beginning being less. Maps go as
-/// the lists of their pairs sorted by key, and a pair by its key and then by its value. Mirrors
-/// `Ord` of `tera::Value`. Takes no memory.
+/// The total order of meanings: by rank (truth values, numbers, texts, arrays, maps, bytes, none,
+/// undefined), and inside a rank as the definition `compare` says. Mirrors `Ord` of `tera::Value`.
+/// Takes no memory.
 impl Ord for Value {
     ghost cmp = { on meaning compare };
 

@@ -1,8 +1,9 @@
 //! Copies of values, deep.
 ghost use Rattle.std.specs.Prelude.{◌≡◌, ◌+◌, ◌<◌, true, false, [], ◌∷◌, ◌++◌, IfOk, IfErr};
-ghost use Rattle.std.specs.Prelude.{IsOk, OnOk, MatchOption};
+ghost use Rattle.std.specs.Prelude.{IsOk, OnOk, MatchOption, string_bytes};
 ghost use Rattle.std.specs.Vec.{vec_len, vec_capacity};
-ghost use Rattle.tera_meaning.specs.Read.{iterable_in};
+ghost use Rattle.tera_meaning.specs.Meaning.{meaning};
+ghost use Rattle.tera_meaning.specs.Read.{iterable_in, truthy_in};
 ghost use Rattle.tera_report.specs.Errors.{IsOutOfMemory};
 
 use crate::Value;
@@ -14,12 +15,13 @@ impl Value {
     /// A value of the same form: kinds of integers, keys and flags of texts are kept at every
     /// depth. Mirrors `Clone` of `tera::Value`.
     ///
-    /// Takes memory for texts, bytes, items and pairs, and none for other values; the only refusal
-    /// is want of it, `Out of memory`.
+    /// Takes memory for texts, bytes, items and pairs, where there are some, and none for other
+    /// values; the only refusal is want of it, `Out of memory`.
     pub fn clone(&self, alloc: Global) -> TeraResult<Value>
         ensures ok { IfOk result (λ v. v ≡ self.now) }
         ensures err { IfErr result IsOutOfMemory }
         ensures succeeds { iterable_in self.now ≡ false → IsOk result }
+        ensures empty { truthy_in (meaning self.now) ≡ false → IsOk result }
     {
         Ok(self.copy(alloc)?)
     }
@@ -32,6 +34,7 @@ impl Value {
     pub fn copy(&self, alloc: Global) -> Result<Value, AllocError>
         ensures ok { IfOk result (λ v. v ≡ self.now) }
         ensures succeeds { iterable_in self.now ≡ false → IsOk result }
+        ensures empty { truthy_in (meaning self.now) ≡ false → IsOk result }
     {
         match self.plain_copy() {
             Some(copy) => Ok(copy),
@@ -62,19 +65,42 @@ impl Value {
     #[cycle(copy)]
     fn owner_copy(&self, alloc: Global) -> Result<Value, AllocError>
         requires { iterable_in self.now ≡ true }
-        ensures { IfOk result (λ v. v ≡ self.now) }
+        ensures ok { IfOk result (λ v. v ≡ self.now) }
+        ensures empty { truthy_in (meaning self.now) ≡ false → IsOk result }
     {
         let inner = match &self.inner {
             ValueInner::String(safe, text) => {
-                ValueInner::String(*safe, String::from_str(alloc, text.as_str())?)
+                ValueInner::String(*safe, text_of(alloc, text.as_str())?)
             }
             ValueInner::Array(all) => ValueInner::Array(copies(alloc, all.as_slice())?),
-            ValueInner::Bytes(held) => ValueInner::Bytes(held.as_slice().to_vec(alloc)?),
+            ValueInner::Bytes(held) => ValueInner::Bytes(bytes_of(alloc, held.as_slice())?),
             ValueInner::Map(all) => ValueInner::Map(all.copy(alloc)?),
             _ => unreachable!(),
         };
         Ok(Value { inner })
     }
+}
+
+/// A text of its own. The empty one takes no memory.
+pub(crate) fn text_of(alloc: Global, text: &str) -> Result<String, AllocError>
+    ensures ok { IfOk result (λ made. string_bytes made ≡ text.now) }
+    ensures succeeds { text.now ≡ [] → IsOk result }
+{
+    if text.is_empty() {
+        return Ok(String::new(alloc));
+    }
+    String::from_str(alloc, text)
+}
+
+// Bytes of their own. None take no memory.
+fn bytes_of(alloc: Global, held: &[u8]) -> Result<Vec<u8>, AllocError>
+    ensures ok { IfOk result (λ made. made.items ≡ held.now) }
+    ensures succeeds { held.now ≡ [] → IsOk result }
+{
+    if held.is_empty() {
+        return Ok(Vec::new(alloc));
+    }
+    held.to_vec(alloc)
 }
 
 /// A copy of each item, in their order.

@@ -1,11 +1,12 @@
-//! Whether two values mean the same, by a walk over maps that stops at the first difference.
+//! Whether two values mean the same, by walks over arrays and maps that stop at the first
+//! difference.
 ghost use Rattle.std.specs.Prelude.{◌≡◌, Some, not};
 ghost use Rattle.std.specs.Option.{option_copied, is_some};
 ghost use Rattle.std.specs.Ordering.{is_eq};
 ghost use Rattle.tera_meaning.specs.Meaning.{meaning};
 ghost use Rattle.tera_meaning.specs.Order.{same};
-ghost use Rattle.tera_meaning.specs.Tree.{object, members};
-ghost use Rattle.tera_values.specs.Unlike.{maps_order, unlike};
+ghost use Rattle.tera_meaning.specs.Tree.{array, items, object, members};
+ghost use Rattle.tera_values.specs.inner.Unlike.{maps_order, unlike};
 
 use crate::compare::order;
 use crate::value::ValueInner;
@@ -21,9 +22,39 @@ pub(crate) fn equal(left: &Value, right: &Value) -> bool
     match (&left.inner, &right.inner) {
         (ValueInner::U64(n), ValueInner::U64(m)) => n == m,
         (ValueInner::I64(z), ValueInner::I64(y)) => z == y,
+        (ValueInner::Array(all), _) => array_equal(all.as_slice(), right),
         (ValueInner::Map(all), _) => map_equal(all, right),
         _ => order(left, right).is_eq(),
     }
+}
+
+// Whether an array of these items and a value mean the same.
+#[cycle(equal)]
+fn array_equal(left: &[Value], right: &Value) -> bool
+    ensures { result ≡ same (meaning (array (items left.now))) (meaning right.now) }
+{
+    match right.as_array() {
+        Some(all) => items_equal(left, all),
+        None => false,
+    }
+}
+
+// Whether two arrays of these items mean the same: they have as many, and each means the same as
+// the one in its place.
+#[cycle(equal)]
+fn items_equal(left: &[Value], right: &[Value]) -> bool
+    ensures { result
+        ≡ same (meaning (array (items left.now))) (meaning (array (items right.now))) }
+{
+    if left.len() != right.len() {
+        return false;
+    }
+    for place in 0..left.len() {
+        if !equal(&left[place], &right[place]) {
+            return false;
+        }
+    }
+    true
 }
 
 // Whether a map and a value mean the same.

@@ -12,9 +12,7 @@ ghost use Rattle.tera_meaning.proofs.KeyLaws.{key_total, key_equivalence, key_pa
 ghost use Rattle.tera_meaning.specs.KeyMeaning.{truth_key, number_key, text_key, owned};
 ghost use Rattle.tera_meaning.specs.KeyMeaning.{key_order, key_rank};
 ghost use Rattle.tera_report.specs.Errors.{IsOutOfMemory};
-ghost use Rattle.tera_report.specs.Room.{IsDecided};
 ghost use Rattle.tera_report.specs.Sink.{PutsThese};
-ghost use Rattle.tera_report.specs.Watch.{WatchedTakes, WatchedFails};
 ghost use Rattle.tera_report.specs.Writer.{Passes, Breaks};
 ghost use Rattle.tera_values.specs.Key.{key_form, meaning_of_key, text_in_key};
 ghost use Rattle.tera_values.specs.Key.{owned_in_key, number_in_key, key_value, shown_key};
@@ -30,7 +28,7 @@ use std::hash::{Hash, Hasher};
 use std::rc::RcStr;
 use std::{fmt, io};
 use tera_report::TeraResult;
-use tera_report::sink::{Full, Room, Sink};
+use tera_report::sink::Sink;
 use tera_report::watch::{Watched, Writer};
 use tera_scalars::{Whole, put_integer};
 
@@ -60,7 +58,8 @@ pub enum Key<'a> {
 }
 
 impl<'a> Key<'a> {
-    /// The text that it is, lent. Mirrors `Key::as_str`. Takes no memory.
+    /// The text that it is, lent; `None` of a truth value and of a number. Mirrors `Key::as_str`.
+    /// Takes no memory.
     pub fn as_str(&self) -> Option<&str>
         ensures { MatchOption result (text_in_key (key_form self.now) ≡ None)
             (λ t. text_in_key (key_form self.now) ≡ Some t.now) }
@@ -139,20 +138,11 @@ impl<'a> Key<'a> {
         ensures told { OnErr result
             (Breaks W.wrote out.old (shown_key (meaning_of_key self.now)) out.new) }
     {
-        self.format_watched(&mut Watched::new(out))
+        self.print_to(&mut Watched::new(out))
     }
 
-    /// Writes what `format` writes, to a writer that is watched already.
-    ///
-    /// Takes no memory.
-    pub fn format_watched<W: Writer>(&self, out: &mut Watched<'_, W>) -> io::Result<()>
-        ensures { PutsThese (WatchedTakes W.contents W.wrote) (WatchedFails W.contents W.wrote)
-            result (shown_key (meaning_of_key self.now)) out.old out.new }
-    {
-        self.print_to(out)
-    }
-
-    /// Puts what it prints. Answers an error only where the sink refused it.
+    /// Puts what it prints into any sink. Answers an error only where the sink refused it. The
+    /// project's own.
     ///
     /// Takes no memory of its own.
     pub fn print_to<S: Sink>(&self, out: &mut S) -> Result<(), S::Fault>
@@ -169,13 +159,6 @@ impl<'a> Key<'a> {
             Key::Str(text) => out.put(*text),
             Key::Inline(text) => out.put(text.as_str()),
         }
-    }
-
-    /// Puts what it prints into a room, exactly where it fits. Takes no memory.
-    pub fn print_into_room(&self, room: &mut Room) -> Result<(), Full>
-        ensures { IsDecided result room.old (shown_key (meaning_of_key self.now)) room.new }
-    {
-        self.print_to(room)
     }
 
     // The number that it is.
@@ -361,7 +344,8 @@ impl fmt::Debug for Key<'_> {
     }
 }
 
-/// What `format` writes. A width or a fill of the format changes nothing. Takes no memory.
+/// What `format` writes. A width or a fill of the format changes nothing. Mirrors `Display` of
+/// `tera::value::Key`. Takes no memory.
 impl fmt::Display for Key<'_> {
     ghost output = { λ k. Some (shown_key (meaning_of_key k)) };
 

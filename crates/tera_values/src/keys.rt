@@ -1,12 +1,13 @@
 //! The keys of a map: a list while they are few, and else a set that knows their order.
 ghost use Rattle.std.specs.Prelude.{◌≡◌, ◌∷◌, ◌++◌, ◌+◌, ◌≤◌, [], length, position};
 ghost use Rattle.std.specs.Prelude.{IfOk, OnOk, OnErr};
-ghost use Rattle.std.specs.Prelude.{MatchOption, is_some, not, false};
+ghost use Rattle.std.specs.Prelude.{MatchOption, is_some, not, false, max, ◌-◌};
 ghost use Rattle.std.specs.List.{IsDistinct, list_any, position_or_len};
 ghost use Rattle.std.specs.Ordering.{eq_by_cmp};
 ghost use Rattle.indexmap.specs.IndexSet.{insert_key, spare};
 ghost use Rattle.tera_meaning.specs.KeyMeaning.{key_order, text_key};
-ghost use Rattle.tera_values.specs.Map.{keys_tie, is_text_key, keys_held, keys_left, AreKeysLike};
+ghost use Rattle.tera_values.specs.inner.Map.{keys_tie, is_text_key, keys_held, keys_left};
+ghost use Rattle.tera_values.specs.inner.Map.{AreKeysLike};
 
 use crate::Key;
 use indexmap::{IndexSet, set};
@@ -118,9 +119,9 @@ pub(crate) fn key_slice(keys: &Keys) -> &[Key<'static>]
     }
 }
 
-/// Puts a key behind the others where none is equal to it. Answers the place of the one that is, or
-/// of the new one, and whether it is new.
-pub(crate) fn put_key(
+/// Inserts a key behind the others where none is equal to it. Answers the place of the one that is,
+/// or of the new one, and whether it is new.
+pub(crate) fn insert_key(
     alloc: Global,
     keys: &mut Keys,
     key: Key<'static>,
@@ -128,9 +129,9 @@ pub(crate) fn put_key(
     requires { IsDistinct keys_tie (keys_held keys.old) }
     ensures keys { OnOk result
         (keys_held keys.new ≡ insert_key keys_tie (keys_held keys.old) key.entry) }
-    ensures place { IfOk result (λ put. put.0
+    ensures place { IfOk result (λ found. found.0
         ≡ position_or_len (keys_tie key.entry) (keys_held keys.old)) }
-    ensures new { IfOk result (λ put. put.1
+    ensures new { IfOk result (λ found. found.1
         ≡ not (list_any (keys_tie key.entry) (keys_held keys.old))) }
     ensures distinct { IsDistinct keys_tie (keys_held keys.new) }
     ensures err { OnErr result (keys_held keys.new ≡ keys_held keys.old) }
@@ -152,35 +153,46 @@ pub(crate) fn put_key(
             *keys = Keys::Many(many);
             Ok((place, true))
         }
-        Keys::Many(many) => put_in(many, key),
+        Keys::Many(many) => insert_in(many, key),
     }
 }
 
-// Puts a key behind few others.
+/// For how many more keys or values room is made, where there are so many and no room: up to `FEW`,
+/// and behind that for one more, where std makes at least twice the room.
+pub(crate) fn more_than(len: usize) -> usize
+    ensures { result ≡ max (12 - len) 1 }
+{
+    FEW.saturating_sub(len).max(1)
+}
+
+// Inserts a key behind few others.
 fn push_key(few: &mut Vec<Key<'static>>, key: Key<'static>) -> Result<(), AllocError>
     ensures ok { OnOk result (few.new.items ≡ few.old.items ++ key.entry ∷ []) }
     ensures err { OnErr result (few.new.items ≡ few.old.items) }
 {
     if few.len() == few.capacity() {
-        few.reserve(FEW - FIRST)?;
+        few.reserve(more_than(few.len()))?;
     }
     few.push_reserved(key);
     Ok(())
 }
 
-// Puts a key into a set, behind the others, where none is equal to it.
-fn put_in(held: &mut IndexSet<Key<'static>>, key: Key<'static>) -> Result<(usize, bool), AllocError>
+// Inserts a key into a set, behind the others, where none is equal to it.
+fn insert_in(
+    held: &mut IndexSet<Key<'static>>,
+    key: Key<'static>,
+) -> Result<(usize, bool), AllocError>
     ensures keys { OnOk result (held.new.keys ≡ insert_key keys_tie held.old.keys key.entry) }
-    ensures place { IfOk result (λ put. put.0
+    ensures place { IfOk result (λ found. found.0
         ≡ position_or_len (keys_tie key.entry) held.old.keys) }
-    ensures new { IfOk result (λ put. put.1
+    ensures new { IfOk result (λ found. found.1
         ≡ not (list_any (keys_tie key.entry) held.old.keys)) }
     ensures distinct { IsDistinct keys_tie held.new.keys }
     ensures err { OnErr result (held.new.keys ≡ held.old.keys) }
     ensures absent { OnErr result (list_any (keys_tie key.entry) held.old.keys ≡ false) }
 {
     match held.insert_full(key) {
-        Ok(put) => Ok(put),
+        Ok(found) => Ok(found),
         Err(_) => Err(AllocError),
     }
 }
@@ -239,7 +251,7 @@ fn copied_set(alloc: Global, keys: &[Key<'static>]) -> Result<IndexSet<Key<'stat
 {
     let mut made = IndexSet::with_capacity(alloc, keys.len())?;
     for key in keys {
-        put_in(&mut made, key.copy(alloc)?)?;
+        insert_in(&mut made, key.copy(alloc)?)?;
     }
     Ok(made)
 }

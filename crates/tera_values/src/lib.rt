@@ -35,4 +35,4 @@ pub use kind::{ValueKind, kinds_equal_where_the_same};
 pub use map::{Map, OwnPairs, Pairs};
 pub use tera_scalars::{BinaryOp, NoResult, Number};
 pub use value::Value;
-pub use well_made::is_well_made;
+pub use well_made::{is_well_made, key_is_well_made, map_is_well_made};

@@ -4,7 +4,8 @@ ghost use Rattle.std.specs.Option.{option_copied};
 ghost use Rattle.tera_meaning.specs.Lookup.{attr, as_key, key_in, paired, item, indexed, part_at};
 ghost use Rattle.tera_report.specs.Refusal.{in_array};
 ghost use Rattle.tera_scalars.specs.Whole.{whole_value};
-ghost use Rattle.tera_meaning.specs.Read.{text_in, iterable_in};
+ghost use Rattle.tera_meaning.specs.Meaning.{meaning};
+ghost use Rattle.tera_meaning.specs.Read.{text_in, iterable_in, truthy_in};
 ghost use Rattle.tera_meaning.specs.Tree.{undefined, object, members};
 ghost use Rattle.tera_report.specs.Errors.{Refuses, IsOutOfMemory};
 ghost use Rattle.tera_values.specs.Key.{key_form, FitsInline};
@@ -31,7 +32,7 @@ impl Value {
     }
 
     /// The key that it is: a truth value, an integer in its kind, a text of its own. Mirrors
-    /// `Value::as_key`.
+    /// `Value::as_key`, which is private there.
     ///
     /// Refuses every other value with `Not a valid key type`. Takes memory only for a text of more
     /// than 16 bytes and for that of the refusal; want of it, `Out of memory`, is answered in the
@@ -56,7 +57,7 @@ impl Value {
     /// A copy of what it has at an item. A map has a value at the key that the item is, whatever
     /// its kind; an array or a text has a part at an index, one below 0 being counted from the end.
     /// A character keeps the text's flag. Undefined where there is nothing, and on every other
-    /// value. Mirrors `Value::get_item`.
+    /// value. Mirrors `Value::get_item`, which is private there.
     ///
     /// Refuses an item of a map that is no key with ``Map keys must be strings, integers, or bools,
     /// got `N`.``, where N is the name of the item's kind. Refuses one of an array that is no
@@ -68,6 +69,8 @@ impl Value {
         ensures err { IfErr result (Refuses (item self.now at.now)) }
         ensures succeeds { IfOk (item self.now at.now)
             (λ part. iterable_in part ≡ false → IsOk result) }
+        ensures empty { IfOk (item self.now at.now)
+            (λ part. truthy_in (meaning part) ≡ false → IsOk result) }
     {
         match &self.inner {
             ValueInner::Map(all) => item_of_map(alloc, all, at),
@@ -117,6 +120,8 @@ fn item_of_map(alloc: Global, all: &Map, at: &Value) -> TeraResult<Value>
     ensures err { IfErr result (Refuses (item (object (members all.now)) at.now)) }
     ensures succeeds { IfOk (item (object (members all.now)) at.now)
         (λ part. iterable_in part ≡ false → IsOk result) }
+    ensures empty { IfOk (item (object (members all.now)) at.now)
+        (λ part. truthy_in (meaning part) ≡ false → IsOk result) }
 {
     if !at.is_key() {
         return Err(not_a_map_key(alloc, at));
@@ -130,6 +135,8 @@ fn item_of_array(alloc: Global, all: &[Value], at: &Value) -> TeraResult<Value>
     ensures err { IfErr result (Refuses (indexed in_array at.now (part_at all.now))) }
     ensures succeeds { IfOk (indexed in_array at.now (part_at all.now))
         (λ made. iterable_in made ≡ false → IsOk result) }
+    ensures empty { IfOk (indexed in_array at.now (part_at all.now))
+        (λ made. truthy_in (meaning made) ≡ false → IsOk result) }
 {
     let Some(index) = at.whole() else {
         return Err(not_an_array_index(alloc, at));
@@ -148,11 +155,14 @@ fn part<T>(all: &[T], index: Whole) -> Option<&T>
 }
 
 // What a text has at an item.
+#[tactic(auto, using(crate::proofs::LookupLemmas::some_encoded))]
 fn item_of_text(alloc: Global, text: &str, safe: bool, at: &Value) -> TeraResult<Value>
     ensures ok { IfOk result (λ part. item (marked text.now safe) at.now ≡ Ok part) }
     ensures err { IfErr result (Refuses (item (marked text.now safe) at.now)) }
     ensures succeeds { IfOk (item (marked text.now safe) at.now)
         (λ part. iterable_in part ≡ false → IsOk result) }
+    ensures empty { IfOk (item (marked text.now safe) at.now)
+        (λ part. truthy_in (meaning part) ≡ false → IsOk result) }
 {
     let Some(index) = at.whole() else {
         return Err(not_a_text_index(alloc, at));
@@ -174,6 +184,8 @@ fn copy_of(alloc: Global, part: Option<&Value>) -> TeraResult<Value>
     ensures ok { IfOk result (λ made. unwrap_or (option_copied part.entry) undefined ≡ made) }
     ensures err { IfErr result IsOutOfMemory }
     ensures succeeds { iterable_in (unwrap_or (option_copied part.entry) undefined) ≡ false
+        → IsOk result }
+    ensures empty { truthy_in (meaning (unwrap_or (option_copied part.entry) undefined)) ≡ false
         → IsOk result }
 {
     match part {

@@ -1,9 +1,9 @@
 //! Maps, and walks over their pairs.
-ghost use Rattle.std.specs.Prelude.{◌≡◌, [], None, length, IfOk, IfErr, IsOk, OnOk, OnErr};
+ghost use Rattle.std.specs.Prelude.{◌≡◌, ◌==◌, [], None, length, IfOk, IfErr, IsOk, OnOk, OnErr};
 ghost use Rattle.std.specs.Prelude.{slice_get};
 ghost use Rattle.std.specs.Option.{option_copied, option_map};
 ghost use Rattle.tera_meaning.specs.Pairs.{key_form_order, put, value_at, HasDistinctKeys};
-ghost use Rattle.tera_values.specs.Map.{keys_held, AreListsOf};
+ghost use Rattle.tera_values.specs.inner.Map.{keys_held, AreListsOf};
 ghost use Rattle.tera_report.specs.Errors.{IsOutOfMemory};
 ghost use Rattle.tera_values.specs.Key.{key_form};
 
@@ -29,7 +29,8 @@ impl Model for Map {
     ghost use Rattle.std.specs.Prelude.{List};
     ghost use Rattle.tera_meaning.specs.Form.{Form};
     ghost use Rattle.tera_meaning.specs.KeyMeaning.{KeyForm};
-    ghost use Rattle.tera_values.specs.Map.{coded_pairs, pairs_in};
+    ghost use Rattle.tera_values.specs.Map.{coded_pairs};
+    ghost use Rattle.tera_values.specs.inner.Map.{pairs_in};
 
     ghost Value = { List (KeyForm × Form) };
 
@@ -41,17 +42,17 @@ impl Model for Map {
 
     ghost invariant = { λ m. IfSome m.columns (λ c. c.value ≢ []) };
 
-    ghost use Rattle.tera_values.specs.Size.{pairs_size};
+    ghost use Rattle.tera_values.specs.inner.Size.{pairs_size};
 
     ghost size = { pairs_size };
 
-    ghost use Rattle.tera_values.specs.Depth.{deep_le-pairs_size};
+    ghost use Rattle.tera_values.specs.inner.Depth.{deep_le-pairs_size};
 
     ghost size_decreases = { λ m h. deep_le-pairs_size m };
 }
 
 impl Map {
-    /// A map without pairs. Takes no memory.
+    /// A map without pairs. Mirrors `IndexMap::new`. Takes no memory.
     pub fn new(alloc: Global) -> Map
         ensures { result ≡ [] }
     {
@@ -61,7 +62,7 @@ impl Map {
         }
     }
 
-    /// How many pairs there are. Takes no memory.
+    /// How many pairs there are. Mirrors `IndexMap::len`. Takes no memory.
     #[tactic(auto, using(crate::proofs::ColumnLemmas::counted))]
     pub fn len(&self) -> usize
         ensures len { result ≡ length self.now }
@@ -70,7 +71,15 @@ impl Map {
         self.lists().1.len()
     }
 
-    /// The value at a key, lent; `None` where no key is equal to it. Takes no memory.
+    /// Whether there is no pair. Mirrors `IndexMap::is_empty`. Takes no memory.
+    pub fn is_empty(&self) -> bool
+        ensures { result ≡ (length self.now == 0) }
+    {
+        self.columns.is_none()
+    }
+
+    /// The value at a key, lent; `None` where no key is equal to it. Mirrors `IndexMap::get`. Takes
+    /// no memory.
     pub fn get(&self, key: &Key<'_>) -> Option<&Value>
         ensures { option_copied result ≡ value_at key_form_order self.now (key_form key.now) }
     {
@@ -80,8 +89,8 @@ impl Map {
         }
     }
 
-    /// The key and the value at a place, counted from 0, lent; `None` past the last. Takes no
-    /// memory.
+    /// The key and the value at a place, counted from 0, lent; `None` past the last. Mirrors
+    /// `IndexMap::get_index`. Takes no memory.
     pub fn get_index(&self, index: usize) -> Option<(&Key<'static>, &Value)>
         ensures { option_map (λ p. (key_form p.0.now, p.1.now)) result
             ≡ slice_get self.now index }
@@ -95,7 +104,7 @@ impl Map {
     }
 
     /// Puts a value at a key, and answers the value that was there. A new key goes last; a key that
-    /// is there stays as it is held and where it is.
+    /// is there stays as it is held and where it is. Mirrors `IndexMap::insert`.
     ///
     /// Takes memory where the key is not there; the only refusal is want of it, `Out of memory`,
     /// and then the map is as it was.
@@ -110,7 +119,7 @@ impl Map {
             (value_at key_form_order self.old (key_form key.entry) ≡ None) }
     {
         match &mut self.columns {
-            Some(columns) => Ok(columns.put(key, value)?),
+            Some(columns) => Ok(columns.insert(key, value)?),
             None => {
                 self.columns = Some(Columns::of_pair(self.alloc, key, value)?);
                 Ok(None)
@@ -118,7 +127,8 @@ impl Map {
         }
     }
 
-    /// The pairs, lent one after another in their order. No two keys are equal. Takes no memory.
+    /// The pairs, lent one after another in their order. No two keys are equal. Mirrors
+    /// `IndexMap::iter`. Takes no memory.
     #[tactic(auto, using(crate::proofs::ColumnLemmas::distinct_pairs))]
     pub fn iter(&self) -> Pairs<'_>
         ensures pairs { result ≡ self.now }
@@ -153,7 +163,7 @@ impl Map {
     }
 
     /// A map of the same pairs in their order, each key and each value in the form that it has,
-    /// deep.
+    /// deep. Mirrors `Clone` of `IndexMap`.
     ///
     /// Takes memory where there are pairs; the only refusal is want of it, `Out of memory`.
     pub fn clone(&self) -> TeraResult<Map>
@@ -202,7 +212,8 @@ impl<'a> Model for Pairs<'a> {
     ghost use Rattle.std.specs.Slice.Iter.{iter_rest};
     ghost use Rattle.tera_meaning.specs.Form.{Form};
     ghost use Rattle.tera_meaning.specs.KeyMeaning.{KeyForm};
-    ghost use Rattle.tera_values.specs.Map.{coded_pairs, pairs_held, AreColumns};
+    ghost use Rattle.tera_values.specs.Map.{coded_pairs};
+    ghost use Rattle.tera_values.specs.inner.Map.{pairs_held, AreColumns};
 
     ghost Value = { List (KeyForm × Form) };
 
@@ -213,6 +224,7 @@ impl<'a> Model for Pairs<'a> {
     ghost invariant = { λ p. AreColumns (iter_rest p.keys) (iter_rest p.values) };
 }
 
+/// Lends the next pair in their order, and behind the last `None` for ever. Takes no memory.
 impl<'a> Iterator for Pairs<'a> {
     ghost use Rattle.std.specs.Iterator.{YieldsFirstBy, item_count};
     ghost use Rattle.tera_values.specs.Key.{key_form};
@@ -230,7 +242,8 @@ impl<'a> Iterator for Pairs<'a> {
     }
 }
 
-/// The pairs, given away one after another in their order. No two keys are equal. Takes no memory.
+/// The pairs, given away one after another in their order. No two keys are equal. Mirrors
+/// `IntoIterator` of `IndexMap`. Takes no memory.
 impl IntoIterator for Map {
     ghost use Rattle.std.specs.Prelude.{◌≡◌};
     ghost use Rattle.tera_meaning.specs.Pairs.{HasDistinctKeys, key_form_order};
@@ -262,7 +275,8 @@ impl Model for OwnPairs {
     ghost use Rattle.std.specs.Vec.Iter.{into_iter_items};
     ghost use Rattle.tera_meaning.specs.Form.{Form};
     ghost use Rattle.tera_meaning.specs.KeyMeaning.{KeyForm};
-    ghost use Rattle.tera_values.specs.Map.{coded_pairs, pairs_held, keys_left, AreColumns};
+    ghost use Rattle.tera_values.specs.Map.{coded_pairs};
+    ghost use Rattle.tera_values.specs.inner.Map.{pairs_held, keys_left, AreColumns};
 
     ghost Value = { List (KeyForm × Form) };
 
@@ -273,6 +287,7 @@ impl Model for OwnPairs {
     ghost invariant = { λ p. AreColumns (keys_left p.keys) (into_iter_items p.values) };
 }
 
+/// Gives the next pair away in their order, and behind the last `None` for ever. Takes no memory.
 impl Iterator for OwnPairs {
     ghost use Rattle.std.specs.Iterator.{YieldsFirstBy, item_count};
     ghost use Rattle.tera_values.specs.Key.{key_form};

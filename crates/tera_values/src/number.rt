@@ -258,11 +258,11 @@ pub fn negate(alloc: Global, value: &Value) -> TeraResult<Value>
         None => Err(negated_no_number(alloc, value.name())),
         Some(Whole::Signed(z)) => match negation(z) {
             Some(opposite) => Ok(Value::from(opposite)),
-            None => Err(negation_outside_i128(alloc, z)),
+            None => Err(negation_outside_i128(alloc, Whole::Signed(z))),
         },
         Some(Whole::Unsigned(n)) => match i128::try_from(n) {
             Ok(z) => Ok(Value::from(-z)),
-            Err(_) => Err(negation_outside_i128(alloc, n)),
+            Err(_) => Err(negation_outside_i128(alloc, Whole::Unsigned(n))),
         },
     }
 }

@@ -20,15 +20,7 @@ impl Value {
         match &self.inner {
             ValueInner::Undefined => None,
             ValueInner::None => Some(self),
-            ValueInner::Bool(_) => follow(self, to),
-            ValueInner::U64(_) => follow(self, to),
-            ValueInner::I64(_) => follow(self, to),
-            ValueInner::U128(_) => follow(self, to),
-            ValueInner::I128(_) => follow(self, to),
-            ValueInner::String(_, _) => follow(self, to),
-            ValueInner::Array(_) => follow(self, to),
-            ValueInner::Bytes(_) => follow(self, to),
-            ValueInner::Map(_) => follow(self, to),
+            _ => follow(self, to),
         }
     }
 }

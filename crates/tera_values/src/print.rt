@@ -8,7 +8,6 @@ ghost use Rattle.tera_meaning.specs.Tree.{array, items, members, object};
 ghost use Rattle.tera_report.specs.Errors.{IsOutOfMemory};
 ghost use Rattle.tera_report.specs.Room.{RoomTakes, RoomFails, IsDecided};
 ghost use Rattle.tera_report.specs.Sink.{OfSome, Puts, PutsThese};
-ghost use Rattle.tera_report.specs.Watch.{WatchedTakes, WatchedFails};
 ghost use Rattle.tera_report.specs.Writer.{Passes, Breaks};
 ghost use Rattle.tera_values.specs.Key.{key_form, meaning_of_key, shown_key};
 ghost use Rattle.tera_values.specs.Print.{PrintsItems, WritesInside, WritesPrinted};
@@ -42,17 +41,7 @@ impl Value {
         ensures told { OnErr result
             (OfSome (Breaks W.wrote) (Prints (layout self.now)) out.old out.new) }
     {
-        self.format_watched(&mut Watched::new(out))
-    }
-
-    /// Writes what `format` writes, to a writer that is watched already.
-    ///
-    /// Takes no memory.
-    pub fn format_watched<W: Writer>(&self, out: &mut Watched<'_, W>) -> io::Result<()>
-        ensures { Puts (WatchedTakes W.contents W.wrote) (WatchedFails W.contents W.wrote) result
-            (Prints (layout self.now)) out.old out.new }
-    {
-        self.print_to(out)
+        self.print_to(&mut Watched::new(out))
     }
 
     /// Writes what is printed of the value inside an array or a map: a text in debug form, and
@@ -68,17 +57,7 @@ impl Value {
         ensures told { OnErr result
             (OfSome (Breaks W.wrote) (PrintsInside (layout self.now)) out.old out.new) }
     {
-        self.format_inside_watched(&mut Watched::new(out))
-    }
-
-    /// Writes what `format_inside` writes, to a writer that is watched already.
-    ///
-    /// Takes no memory.
-    pub fn format_inside_watched<W: Writer>(&self, out: &mut Watched<'_, W>) -> io::Result<()>
-        ensures { Puts (WatchedTakes W.contents W.wrote) (WatchedFails W.contents W.wrote) result
-            (PrintsInside (layout self.now)) out.old out.new }
-    {
-        self.print_inside_to(out)
+        self.print_inside_to(&mut Watched::new(out))
     }
 
     /// Puts the printed text, piece by piece. Answers an error only where the sink refused a piece.
@@ -100,8 +79,8 @@ impl Value {
         put_whole_inside(self, out)
     }
 
-    /// Puts the printed text into a room, where it fits. Else the room holds a beginning of it
-    /// besides what it held. Takes no memory.
+    /// Puts the printed text into a room, or a beginning of it behind what the room held. Of a
+    /// value whose quoted texts are ASCII it puts the text exactly where it fits. Takes no memory.
     pub fn print_into_room(&self, room: &mut Room) -> Result<(), Full>
         ensures puts { Puts RoomTakes RoomFails result (Prints (layout self.now))
             room.old room.new }

@@ -112,16 +112,7 @@ impl Value {
     {
         let inner = match self.into_inner() {
             ValueInner::String(_, text) => ValueInner::String(true, text),
-            ValueInner::Undefined => ValueInner::Undefined,
-            ValueInner::None => ValueInner::None,
-            ValueInner::Bool(b) => ValueInner::Bool(b),
-            ValueInner::U64(n) => ValueInner::U64(n),
-            ValueInner::I64(z) => ValueInner::I64(z),
-            ValueInner::U128(n) => ValueInner::U128(n),
-            ValueInner::I128(z) => ValueInner::I128(z),
-            ValueInner::Array(all) => ValueInner::Array(all),
-            ValueInner::Bytes(held) => ValueInner::Bytes(held),
-            ValueInner::Map(all) => return Value::of_map(all),
+            other => other,
         };
         Value { inner }
     }
@@ -136,10 +127,10 @@ impl Value {
             ValueInner::Undefined => false,
             ValueInner::None => false,
             ValueInner::Bool(b) => *b,
-            ValueInner::U64(n) => Whole::Unsigned(u128::from(*n)).is_nonzero(),
-            ValueInner::I64(z) => Whole::Signed(i128::from(*z)).is_nonzero(),
-            ValueInner::U128(n) => Whole::Unsigned(*n).is_nonzero(),
-            ValueInner::I128(z) => Whole::Signed(*z).is_nonzero(),
+            ValueInner::U64(n) => *n != 0,
+            ValueInner::I64(z) => *z != 0,
+            ValueInner::U128(n) => *n != 0,
+            ValueInner::I128(z) => *z != 0,
             ValueInner::String(_, text) => is_nonempty(text.as_bytes()),
             ValueInner::Array(all) => is_nonempty(all.as_slice()),
             ValueInner::Bytes(held) => is_nonempty(held.as_slice()),

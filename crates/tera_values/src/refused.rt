@@ -1,14 +1,13 @@
 //! The errors of refusals that a look-up or a slice names.
-ghost use Rattle.std.specs.Prelude.{◌≡◌, ◌++◌, IfOk, string_bytes};
 ghost use Rattle.tera_meaning.specs.Lookup.{name_of};
 ghost use Rattle.tera_report.specs.Errors.{Raises};
-ghost use Rattle.tera_report.specs.Refusal.{message, stated, not_a_key, not_a_map_key};
+ghost use Rattle.tera_report.specs.Refusal.{stated, not_a_key, not_a_map_key};
 ghost use Rattle.tera_report.specs.Refusal.{not_an_index, not_a_container, in_array, in_text};
 ghost use Rattle.tera_report.specs.Refusal.{step_of_zero, not_sliceable, not_reversible};
 
 use crate::Value;
-use std::alloc::{AllocError, Global};
-use tera_report::{Error, ErrorKind};
+use std::alloc::Global;
+use tera_report::Error;
 
 /// A value that is no key. `Out of memory` where the text finds none.
 pub(crate) fn not_a_key(alloc: Global) -> Error
@@ -22,7 +21,7 @@ pub(crate) fn not_a_map_key(alloc: Global, key: &Value) -> Error
     ensures { Raises (stated (not_a_map_key (name_of key.now))) result }
 {
     let before = "Map keys must be strings, integers, or bools, got `";
-    message_around(alloc, before, key.name(), "`.")
+    Error::message_of(alloc, &[before, key.name(), "`."])
 }
 
 /// A value that is no index into an array. `Out of memory` where the text finds none.
@@ -30,7 +29,7 @@ pub(crate) fn not_an_array_index(alloc: Global, index: &Value) -> Error
     ensures { Raises (stated (not_an_index in_array (name_of index.now))) result }
 {
     let before = "Array index must be an integer, got `";
-    message_around(alloc, before, index.name(), "`.")
+    Error::message_of(alloc, &[before, index.name(), "`."])
 }
 
 /// A value that is no index into a text. `Out of memory` where the text finds none.
@@ -38,7 +37,7 @@ pub(crate) fn not_a_text_index(alloc: Global, index: &Value) -> Error
     ensures { Raises (stated (not_an_index in_text (name_of index.now))) result }
 {
     let before = "String index must be an integer, got `";
-    message_around(alloc, before, index.name(), "`.")
+    Error::message_of(alloc, &[before, index.name(), "`."])
 }
 
 /// A value that holds no others. `Out of memory` where the text finds none.
@@ -47,7 +46,7 @@ pub(crate) fn not_a_container(alloc: Global, value: &Value) -> Error
 {
     let before = "`in` cannot be used on a container of type `";
     let after = "`. It can only be used on arrays, strings and map/structs";
-    message_around(alloc, before, value.name(), after)
+    Error::message_of(alloc, &[before, value.name(), after])
 }
 
 /// A step of a slice that is 0. `Out of memory` where the text finds none.
@@ -62,33 +61,13 @@ pub(crate) fn not_sliceable(alloc: Global, value: &Value) -> Error
     ensures { Raises (stated (not_sliceable (name_of value.now))) result }
 {
     let before = "Slicing can only be used on arrays or strings, not on `";
-    message_around(alloc, before, value.name(), "`.")
+    Error::message_of(alloc, &[before, value.name(), "`."])
 }
 
 /// A value that has no opposite order. `Out of memory` where the text finds none.
 pub(crate) fn not_reversible(alloc: Global, value: &Value) -> Error
     ensures { Raises (stated (not_reversible (name_of value.now))) result }
 {
-    message_around(alloc, "Value of type ", value.name(), " cannot be reversed")
-}
-
-// A message of a kind's name between words, or `Out of memory` where its text finds none.
-fn message_around(alloc: Global, before: &str, name: &str, after: &str) -> Error
-    ensures { Raises (message (before.now ++ (name.now ++ after.now))) result }
-{
-    match joined(alloc, before, name, after) {
-        Ok(text) => Error::new(ErrorKind::Msg(text)),
-        Err(refused) => Error::from(refused),
-    }
-}
-
-// The text of three pieces.
-#[tactic(auto, using(std::proofs::Common::append_assoc))]
-fn joined(alloc: Global, before: &str, name: &str, after: &str) -> Result<String, AllocError>
-    ensures { IfOk result (λ text. string_bytes text ≡ before.now ++ (name.now ++ after.now)) }
-{
-    let mut text = String::from_str(alloc, before)?;
-    text.push_str(name)?;
-    text.push_str(after)?;
-    Ok(text)
+    let after = " cannot be reversed";
+    Error::message_of(alloc, &["Value of type ", value.name(), after])
 }

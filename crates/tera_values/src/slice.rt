@@ -1,10 +1,11 @@
 //! Slices of values, and their reversal.
 ghost use Rattle.std.specs.Prelude.{◌≡◌, ◌≢◌, ◌<◌, ◌≤◌, Result, Ok, Some, IfOk, IfErr, IsOk, pos};
-ghost use Rattle.std.specs.Prelude.{[], reverse, length, slice_get, unwrap_or};
+ghost use Rattle.std.specs.Prelude.{[], reverse, length, slice_get};
 ghost use Rattle.tera_meaning.specs.Form.{Form};
 ghost use Rattle.tera_meaning.specs.Read.{items_in};
 ghost use Rattle.tera_meaning.specs.SliceRule.{IsSliced, reversed};
 ghost use Rattle.tera_meaning.specs.Slice.{cut, slice_of, IsStrided};
+ghost use Rattle.tera_meaning.specs.Tree.{array, no_items};
 ghost use Rattle.tera_report.specs.Errors.{IsOutOfMemory, Refuses};
 ghost use Rattle.tera_report.specs.Refusal.{Refusal};
 ghost use Rattle.tera_scalars.specs.Positions.{turned};
@@ -21,12 +22,13 @@ impl Value {
     /// The items of an array or the characters of a text from a start up to an end, by a step that
     /// may go backwards. A bound below 0 counts from the end, and one past an end is clamped to it.
     /// An absent step is 1. An absent bound is where the items begin or end in the direction of the
-    /// step. Items keep their forms, and a text keeps its flag. Mirrors `Value::slice`.
+    /// step. Items keep their forms, and a text keeps its flag. Mirrors `Value::slice`, which is
+    /// private there.
     ///
     /// Refuses a step of 0 with `Slicing step cannot be 0`. Then it refuses every other value with
     /// ``Slicing can only be used on arrays or strings, not on `N`.``, where N is the name of its
-    /// kind. Takes memory for what it gives, unless the array is empty, and for a refusal's text;
-    /// want of it, `Out of memory`, is answered in the place of either.
+    /// kind. Takes memory for what it gives, unless that is an empty array, and for a refusal's
+    /// text; want of it, `Out of memory`, is answered in the place of either.
     pub fn slice(
         &self,
         alloc: Global,
@@ -37,8 +39,7 @@ impl Value {
         ensures ok { IfOk result (λ v. IsSliced self.now start end step (Ok v)) }
         ensures err { IfErr result (λ e. (outcome : Result Form Refusal)
             × IsSliced self.now start end step outcome × Refuses outcome e) }
-        ensures succeeds { items_in self.now ≡ Some [] → unwrap_or step (pos 1) ≢ pos 0
-            → IsOk result }
+        ensures succeeds { IsSliced self.now start end step (Ok (array no_items)) → IsOk result }
     {
         let step = step.unwrap_or(1);
         if step == 0 {
@@ -83,7 +84,8 @@ impl Value {
     ) -> TeraResult<Value>
         ensures ok { IfOk result (λ v. step ≢ pos 0 → cut self.now start end step ≡ Ok v) }
         ensures err { IfErr result (Refuses (cut self.now start end step)) }
-        ensures succeeds { items_in self.now ≡ Some [] → IsOk result }
+        ensures succeeds { step ≢ pos 0 → cut self.now start end step ≡ Ok (array no_items)
+            → IsOk result }
     {
         match &self.inner {
             ValueInner::Array(all) => {
@@ -110,7 +112,7 @@ fn sliced_items(
     step: i128,
 ) -> Result<Vec<Value>, AllocError>
     ensures ok { IfOk result (λ ys. step ≢ pos 0 → ys.items ≡ slice_of all.now start end step) }
-    ensures succeeds { all.now ≡ [] → IsOk result }
+    ensures succeeds { step ≢ pos 0 → slice_of all.now start end step ≡ [] → IsOk result }
 {
     strided_items(
         alloc,
@@ -143,7 +145,7 @@ fn strided_items(
     requires within { stride.until ≤ length all.now }
     ensures ok { IfOk result (λ ys. IsStrided (turned backwards all.now) stride.from stride.until
         stride.by ys.items) }
-    ensures succeeds { all.now ≡ [] → IsOk result }
+    ensures succeeds { stride.until ≤ stride.from → IsOk result }
 {
     let mut made = Vec::with_capacity(alloc, stride.count())?;
     let mut at = stride.from;

@@ -1,11 +1,12 @@
 //! The type of values, and what makes one.
-ghost use Rattle.std.specs.Prelude.{◌≡◌, true, false, IfOk, IfErr};
+ghost use Rattle.std.specs.Prelude.{◌≡◌, true, false, [], IfOk, IfErr, IsOk};
 ghost use Rattle.tera_meaning.specs.Tree.{undefined, none, bytes, array, object, items, members};
 ghost use Rattle.tera_meaning.specs.Tree.{no_members};
 ghost use Rattle.tera_report.specs.Errors.{IsOutOfMemory};
 ghost use Rattle.tera_values.specs.View.{form_of, marked};
 
 use crate::Map;
+use crate::copy::text_of;
 use std::alloc::Global;
 use std::marker::Model;
 use tera_report::TeraResult;
@@ -42,13 +43,13 @@ impl Model for Value {
     ghost coded = { coded_form };
 
     ghost use Rattle.tera_values.specs.View.{form_of};
-    ghost use Rattle.tera_values.specs.Size.{value_size};
+    ghost use Rattle.tera_values.specs.inner.Size.{value_size};
 
     ghost view = { λ v. form_of v.inner };
 
     ghost size = { value_size };
 
-    ghost use Rattle.tera_values.specs.Depth.{deep_le-value_size};
+    ghost use Rattle.tera_values.specs.inner.Depth.{deep_le-value_size};
 
     ghost size_decreases = { λ v h. deep_le-value_size v.inner };
 }
@@ -109,25 +110,29 @@ impl Value {
 
     /// A text that is to be escaped where it is shown. Mirrors `Value::normal_string`.
     ///
-    /// Takes memory for the text; the only refusal is want of it, `Out of memory`.
+    /// Takes memory for the text, unless it is empty; the only refusal is want of it, `Out of
+    /// memory`.
     pub fn normal_string(alloc: Global, text: &str) -> TeraResult<Value>
         ensures ok { IfOk result (λ v. v ≡ marked text.now false) }
         ensures err { IfErr result IsOutOfMemory }
+        ensures succeeds { text.now ≡ [] → IsOk result }
     {
         Ok(Value {
-            inner: ValueInner::String(false, String::from_str(alloc, text)?),
+            inner: ValueInner::String(false, text_of(alloc, text)?),
         })
     }
 
     /// A text that is shown as it is. Mirrors `Value::safe_string`.
     ///
-    /// Takes memory for the text; the only refusal is want of it, `Out of memory`.
+    /// Takes memory for the text, unless it is empty; the only refusal is want of it, `Out of
+    /// memory`.
     pub fn safe_string(alloc: Global, text: &str) -> TeraResult<Value>
         ensures ok { IfOk result (λ v. v ≡ marked text.now true) }
         ensures err { IfErr result IsOutOfMemory }
+        ensures succeeds { text.now ≡ [] → IsOk result }
     {
         Ok(Value {
-            inner: ValueInner::String(true, String::from_str(alloc, text)?),
+            inner: ValueInner::String(true, text_of(alloc, text)?),
         })
     }
 

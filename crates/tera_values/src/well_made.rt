@@ -1,4 +1,4 @@
-//! The law that values are well made.
+//! The laws that values, maps and keys are well made.
 ghost use Rattle.std.specs.List.{AllByRecursion};
 ghost use Rattle.tera_meaning.specs.Tree.{array, object, items, members};
 ghost use Rattle.tera_meaning.specs.WellMade.{IsWellMade, IsWellMadeKey, IsByte};
@@ -35,7 +35,7 @@ pub fn is_well_made(value: &Value)
         }
         ValueInner::Array(all) => items_are_well_made(all.as_slice()),
         ValueInner::Bytes(held) => bytes_are_small(held.as_slice()),
-        ValueInner::Map(all) => pairs_are_well_made(all),
+        ValueInner::Map(all) => map_is_well_made(all),
     }
 }
 
@@ -49,19 +49,23 @@ fn items_are_well_made(all: &[Value])
     }
 }
 
-// The pairs of a map are well made.
+/// Each map that a program holds is well made, at every depth: so is each key and each value, and
+/// no two keys are equal. The function only walks through the map, for the sake of the clause.
+/// Takes no memory.
 #[cycle(well_made)]
-fn pairs_are_well_made(all: &Map)
-    ensures { IsWellMade (object (members all.now)) }
+pub fn map_is_well_made(map: &Map)
+    ensures { IsWellMade (object (members map.now)) }
 {
-    for (key, value) in all.iter() {
+    for (key, value) in map.iter() {
         key_is_well_made(key);
         is_well_made(value);
     }
 }
 
-// A key is well made.
-fn key_is_well_made(key: &Key<'static>)
+/// Each key that a program holds is well made: its number is one of its kind, or its text spells
+/// characters in UTF-8. The function only looks at the key, for the sake of the clause. Takes no
+/// memory.
+pub fn key_is_well_made(key: &Key<'_>)
     ensures { IsWellMadeKey (key_form key.now) }
 {
     match key {

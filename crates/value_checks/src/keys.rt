@@ -21,6 +21,12 @@ pub fn in_place(alloc: Global, text: &str) -> Key<'static> {
     Key::of_text(alloc, text).unwrap_or(Key::Bool(false))
 }
 
+// A key made of a text that is handed over.
+fn handed_over(alloc: Global, text: &str) -> Key<'static> {
+    let text = String::from_str(alloc, text).unwrap_or(String::new(alloc));
+    Key::of_string(text).unwrap_or(Key::Bool(false))
+}
+
 // The key holds its text in place.
 fn is_in_place(key: Key<'static>) -> bool {
     let is_inline = match &key {
@@ -40,6 +46,9 @@ fn texts_that_fit_stand_in_place(rt: HostRuntime) {
             is_in_place(in_place(alloc, "")),
             is_in_place(in_place(alloc, "0123456789abcd\u{e9}")),
             !is_in_place(in_place(alloc, "0123456789abcde\u{e9}")),
+            is_in_place(handed_over(alloc, "")),
+            is_in_place(handed_over(alloc, "0123456789abcd\u{e9}")),
+            !is_in_place(handed_over(alloc, "0123456789abcde\u{e9}")),
             are_equal(in_place(alloc, "é"), owned(alloc, "é")),
             are_equal(Key::Str("é"), in_place(alloc, "é")),
         ],

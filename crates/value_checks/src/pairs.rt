@@ -3,6 +3,7 @@ use crate::held::hold;
 use made_values::with;
 use std::alloc::Global;
 use std::mem;
+use std::ops::Range;
 use tera_values::{Key, Map, Pairs, Value};
 
 // What was found is that number.
@@ -50,6 +51,7 @@ fn what_is_put_is_found(rt: HostRuntime) {
             key_has(&map, Key::I64(7), 2),
             map.get(&Key::Str("7")).is_none(),
             map.len() == 2,
+            !map.is_empty(),
         ],
     );
     drop(map);
@@ -155,10 +157,89 @@ fn a_map_without_pairs_has_none(rt: HostRuntime) {
     hold(
         &rt,
         &[
+            map.is_empty(),
             map.len() == 0,
             map.get(&Key::Bool(true)).is_none(),
             map.get_index(0).is_none(),
             map.iter().next().is_none(),
+        ],
+    );
+    drop(map);
+}
+
+// The map with those numbers too, each at itself.
+fn counted(map: Map, numbers: Range<u8>) -> Map {
+    let mut map = map;
+    for number in numbers {
+        map = with(map, Key::U64(u64::from(number)), Value::from(number));
+    }
+    map
+}
+
+// The pairs given away are the numbers from 0 up, so many, each at itself.
+fn gives_away(map: Map, count: u8) -> bool {
+    let mut is_so = true;
+    let mut number = 0u8;
+    for (key, value) in map {
+        is_so &= is_pair(Some((&key, &value)), Key::U64(u64::from(number)), number);
+        number = number.saturating_add(1);
+        drop(value);
+        drop(key);
+    }
+    is_so && number == count
+}
+
+#[test]
+fn pairs_are_given_away_in_their_order(rt: HostRuntime) {
+    let alloc = rt.alloc();
+    hold(
+        &rt,
+        &[
+            gives_away(counted(Map::new(alloc), 0..0), 0),
+            gives_away(counted(Map::new(alloc), 0..1), 1),
+            gives_away(counted(Map::new(alloc), 0..12), 12),
+            gives_away(counted(Map::new(alloc), 0..13), 13),
+            gives_away(counted(Map::new(alloc), 0..100), 100),
+        ],
+    );
+}
+
+// A copy of so many pairs, put on to a hundred, has them all in their order.
+fn copy_grows(alloc: Global, count: u8) -> bool {
+    let map = counted(Map::new(alloc), 0..count);
+    let copy = map.clone().unwrap_or(Map::new(alloc));
+    drop(map);
+    gives_away(counted(copy, count..100), 100)
+}
+
+#[test]
+fn copies_grow(rt: HostRuntime) {
+    let alloc = rt.alloc();
+    hold(
+        &rt,
+        &[
+            copy_grows(alloc, 0),
+            copy_grows(alloc, 1),
+            copy_grows(alloc, 5),
+            copy_grows(alloc, 11),
+            copy_grows(alloc, 12),
+            copy_grows(alloc, 13),
+        ],
+    );
+}
+
+#[test]
+fn many_pairs_are_found(rt: HostRuntime) {
+    let map = counted(Map::new(rt.alloc()), 0..100);
+    hold(
+        &rt,
+        &[
+            key_has(&map, Key::I64(12), 12),
+            key_has(&map, Key::U128(99), 99),
+            map.get(&Key::U64(100)).is_none(),
+            is_pair(map.get_index(13), Key::U64(13), 13),
+            map.get_index(100).is_none(),
+            map.len() == 100,
         ],
     );
     drop(map);

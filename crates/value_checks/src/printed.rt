@@ -5,6 +5,7 @@ use made_values::{
 };
 use std::alloc::Global;
 use std::fmt::Display;
+use tera_report::sink::Room;
 use tera_values::{Key, Map, Value};
 
 /// Whether `{}` makes that of it, whatever width and fill it has.
@@ -89,6 +90,43 @@ fn pairs_are_printed_in_their_order(rt: HostRuntime) {
                 "{\"other\": 2, \"hello\": \"world\"}",
             ),
             writes(alloc, Value::of_map(pairs), "{\"1\": 3, 1: 2, true: 1}"),
+        ],
+    );
+}
+
+// A room of so many bytes takes that text of it.
+fn fits(alloc: Global, value: &Value, wanted: &str, size: usize) -> bool {
+    match Room::new(alloc, size).ok() {
+        Some(room) => fits_room(value, wanted, room),
+        None => false,
+    }
+}
+
+fn fits_room(value: &Value, wanted: &str, room: Room) -> bool {
+    let mut room = room;
+    let is_put = value.print_into_room(&mut room).is_ok();
+    is_put && room.as_str() == wanted
+}
+
+// It fits into a room of just as many bytes, and not into one of a byte less. It is let go.
+fn just_fits(alloc: Global, value: Value, wanted: &str) -> bool {
+    let size = wanted.len();
+    let is_so = fits(alloc, &value, wanted, size)
+        && !fits(alloc, &value, wanted, size.saturating_sub(1));
+    drop(value);
+    is_so
+}
+
+#[test]
+fn a_room_takes_what_fits(rt: HostRuntime) {
+    let alloc = rt.alloc();
+    let pairs = with(Map::new(alloc), Key::Str("ü"), text(alloc, "\u{7f}…"));
+    hold(
+        &rt,
+        &[
+            just_fits(alloc, text(alloc, "é"), "é"),
+            just_fits(alloc, one_item(alloc, text(alloc, "é")), "[\"é\"]"),
+            just_fits(alloc, Value::of_map(pairs), "{\"ü\": \"\\u{7f}…\"}"),
         ],
     );
 }

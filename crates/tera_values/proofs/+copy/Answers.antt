@@ -1,10 +1,11 @@
-use Rattle.std.proofs.Common.{◌≡◌, arith, ap, ◌∙◌, subst, List, IfOk}
+use Rattle.std.proofs.Common.{◌≡◌, arith, ap, ◌∙◌, sym, subst, List, IfOk}
 use Rattle.tera_meaning.specs.Form.{Form}
 use Rattle.tera_meaning.specs.KeyMeaning.{KeyForm}
-use Rattle.tera_meaning.specs.Tree.{items, items_depth, members, members_depth}
-use Rattle.tera_values.specs.Map.{keys_held, pairs_held}
+use Rattle.tera_meaning.specs.Tree.{array, items, items_depth, members, members_depth}
+use Rattle.tera_values.specs.inner.Map.{keys_held, pairs_held}
 use Rattle.tera_values.proofs.ColumnLemmas.{column_depth}
-use Rattle.tera_values.proofs.CopyLemmas.{same_pairs}
+use Rattle.tera_values.specs.View.{form_of}
+use Rattle.tera_values.proofs.CopyLemmas.{no_items_held, no_pairs_held, same_pairs}
 use Rattle.tera_values.proofs.PartsLaws.{depth_at}
 use Rattle.tera_values.proofs.+copy.Goals as goal
 
@@ -31,3 +32,17 @@ columns::Columns::copy-returns t c =
     ∙ same_pairs (keys_held c.self.inside.keys) made c.self.inside.values.items c.in_ok-keys.ensures.forms
     ∙ c.self.view_is in
     subst (λ (all : List (KeyForm × Form)). IfOk c.boxed.result (λ b. b.value ≡ all)) pairs c.boxed.ensures
+
+pub value::Value::owner_copy-returns-in_err-copies-in-Array-clause-empty :
+    goal.value::Value::owner_copy-returns-in_err-copies-in-Array-clause-empty
+value::Value::owner_copy-returns-in_err-copies-in-Array-clause-empty t c false_now =
+    let held = ap (λ (xs : List Form). array (items xs)) c.as_slice.ensures.value ∙ sym (ap form_of c.in-Array.is) ∙ c.self.view_is in
+    let made = c.in_err-copies-in-Array.ensures.succeeds (no_items_held c.args.self.now c.as_slice.result.now held false_now) in
+    cc
+
+pub value::Value::owner_copy-returns-in_err-copy-in-Map-clause-empty :
+    goal.value::Value::owner_copy-returns-in_err-copy-in-Map-clause-empty
+value::Value::owner_copy-returns-in_err-copy-in-Map-clause-empty t c false_now =
+    let held = sym (ap form_of c.in-Map.is) ∙ c.self.view_is in
+    let made = c.in_err-copy-in-Map.ensures.succeeds (no_pairs_held c.args.self.now c.in-Map.all held false_now) in
+    cc

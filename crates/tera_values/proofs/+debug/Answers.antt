@@ -2,7 +2,7 @@ use Rattle.std.proofs.Common.{arith, rules, ◌<◌}
 use Rattle.tera_meaning.specs.Form.{Form}
 use Rattle.tera_meaning.specs.KeyMeaning.{KeyForm}
 use Rattle.tera_values.specs.Key.{key_form}
-use Rattle.tera_values.specs.Size.{value_size}
+use Rattle.tera_values.specs.inner.Size.{value_size}
 use Rattle.tera_values.proofs.PartsLaws.{first_depth}
 use Rattle.tera_values.proofs.+debug.Goals as goal
 

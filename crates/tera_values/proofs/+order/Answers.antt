@@ -7,7 +7,7 @@ use Rattle.tera_meaning.specs.Form.{Form}
 use Rattle.tera_meaning.specs.KeyMeaning.{KeyForm}
 use Rattle.tera_meaning.specs.Pairs.{key_form_order, value_at}
 use Rattle.tera_values.specs.Key.{key_form}
-use Rattle.tera_values.specs.Unlike.{IsLeastUnlike, least_met, unlike, lacking, difference_at, met}
+use Rattle.tera_values.specs.inner.Unlike.{IsLeastUnlike, least_met, unlike, lacking, difference_at, met}
 use Rattle.tera_values.proofs.UnlikeLemmas.{from_left, met_below, met_not_below, by_held, by_left, by_right, all_tie, walks_meet_least, one_walk, none_found}
 use Rattle.tera_values.proofs.PartsLaws.{depth_at, first_depth, array_of_items, map_of_members, order_ended}
 use Rattle.tera_values.proofs.+order.Goals as goal

@@ -3,7 +3,7 @@ use Rattle.std.specs.Option.{option_map}
 use Rattle.tera_meaning.specs.Pairs.{key_form_order, value_at}
 use Rattle.tera_meaning.specs.Tree.{items, members, depth, items_depth, members_depth}
 use Rattle.tera_values.specs.Key.{key_form}
-use Rattle.tera_values.specs.Unlike.{least_met, unlike}
+use Rattle.tera_values.specs.inner.Unlike.{least_met, unlike}
 use Rattle.tera_values.proofs.PartsLaws.{lists_order}
 use Rattle.tera_values.proofs.+order.Given as goal
 

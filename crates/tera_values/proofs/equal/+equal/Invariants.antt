@@ -1,11 +1,22 @@
-use Rattle.std.proofs.Common.{◌≡◌, ◌+◌, ◌*◌, ◌≤◌, None}
-use Rattle.tera_meaning.specs.Tree.{members, depth, members_depth}
-use Rattle.tera_values.specs.Unlike.{least_met}
+use Rattle.std.proofs.Common.{◌≡◌, ◌+◌, ◌*◌, ◌≤◌, None, drop}
+use Rattle.tera_meaning.specs.Tree.{items, members, depth, items_depth, members_depth}
+use Rattle.tera_values.specs.inner.Unlike.{least_met}
+use Rattle.tera_values.proofs.PartsLaws.{lists_order}
 use Rattle.tera_values.proofs.UnlikeLemmas.{from_left, left_walk}
 use Rattle.tera_values.proofs.equal.+equal.Given as goal
 
 abbrev pub decreases-equal : goal.decreases-equal
 decreases-equal l = 4 * depth l.left.now
+
+abbrev pub decreases-array_equal : goal.decreases-array_equal
+decreases-array_equal l = 4 * items_depth (items l.left.now) + 3
+
+abbrev pub decreases-items_equal : goal.decreases-items_equal
+decreases-items_equal l = 4 * items_depth (items l.left.now) + 2
+
+-- what is left decides
+abbrev pub invariant-items_equal-loop-place : goal.invariant-items_equal-loop-place
+invariant-items_equal-loop-place l = lists_order l.left l.right ≡ lists_order (drop l.place l.left) (drop l.place l.right)
 
 abbrev pub decreases-map_equal : goal.decreases-map_equal
 decreases-map_equal l = 4 * members_depth (members l.left.now) + 3

@@ -1,5 +1,4 @@
-use Rattle.std.proofs.Common.{◌≡◌, ◌++◌, ◌∷◌, [], ap, ◌∙◌, map, subst, take}
-use Rattle.std.proofs.Math.Numerals.{suc-eq-add-one}
+use Rattle.std.proofs.Common.{ap, ◌∙◌, map}
 use Rattle.tera_values.specs.Key.{key_form}
 use Rattle.tera_values.proofs.ColumnLemmas.{new_key}
 use Rattle.tera_values.proofs.CopyLemmas.{new_copy, one_more_copy}
@@ -14,10 +13,9 @@ loop-key-preserved c =
     let copy = c.in_ok-copy.field-0 in
     let so_far = c.loop-key.invariant.forms in
     let none = new_copy keys made i k copy c.loop-key-test.true c.key-item.is c.in_ok-copy.ensures.ok so_far c.requires in
-    let put = c.in_ok-put_in.ensures.keys ∙ new_key made copy none in
+    let put = c.in_ok-insert_in.ensures.keys ∙ new_key made copy none in
     record {
       forms = ap (map key_form) put
-          ∙ subst (λ n. map key_form (made ++ copy ∷ []) ≡ map key_form (take n keys)) (suc-eq-add-one i)
-          (one_more_copy keys made i k copy c.loop-key-test.true c.key-item.is c.in_ok-copy.ensures.ok so_far);
-      distinct = c.put_in.ensures.distinct;
+          ∙ one_more_copy keys made i k copy c.loop-key-test.true c.key-item.is c.in_ok-copy.ensures.ok so_far;
+      distinct = c.insert_in.ensures.distinct;
     }

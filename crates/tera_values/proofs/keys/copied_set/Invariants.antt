@@ -1,7 +1,7 @@
 use Rattle.std.proofs.Common.{◌≡◌, map, take}
 use Rattle.std.specs.List.{IsDistinct}
 use Rattle.tera_values.specs.Key.{key_form}
-use Rattle.tera_values.specs.Map.{keys_tie}
+use Rattle.tera_values.specs.inner.Map.{keys_tie}
 use Rattle.tera_values.proofs.keys.copied_set.Given as goal
 
 -- those so far are copied

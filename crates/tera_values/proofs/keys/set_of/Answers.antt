@@ -1,7 +1,7 @@
 use Rattle.std.proofs.Common.{◌≡◌, ◌∷◌, [], ◌++◌, ap, sym, ◌∙◌, subst, arith, append_assoc, length}
 use Rattle.std.specs.List.{IsDistinct}
 use Rattle.std.specs.Vec.Iter.{into_iter_items}
-use Rattle.tera_values.specs.Map.{keys_tie}
+use Rattle.tera_values.specs.inner.Map.{keys_tie}
 use Rattle.tera_values.proofs.ColumnLemmas.{new_key}
 use Rattle.tera_values.proofs.KeyLemmas.{none_in_front}
 use Rattle.tera_values.proofs.keys.set_of.Goals as goal

@@ -2,7 +2,7 @@ use Rattle.std.proofs.Common.{◌≡◌, ◌∙◌, sym, ap}
 use Rattle.std.specs.Option.{option_map}
 use Rattle.tera_meaning.specs.Pairs.{key_form_order, value_at}
 use Rattle.tera_values.specs.Key.{key_form}
-use Rattle.tera_values.specs.Unlike.{least_met, lacking, difference_at, met}
+use Rattle.tera_values.specs.inner.Unlike.{least_met, lacking, difference_at, met}
 use Rattle.tera_values.proofs.UnlikeLemmas.{met_below, met_not_below}
 use Rattle.tera_values.proofs.unlike.least_absent.Goals as goal
 

@@ -2,7 +2,7 @@ use Rattle.std.proofs.Common.{◌≡◌}
 use Rattle.std.specs.Option.{option_map}
 use Rattle.tera_meaning.specs.Pairs.{key_form_order, value_at}
 use Rattle.tera_values.specs.Key.{key_form}
-use Rattle.tera_values.specs.Unlike.{least_met, lacking}
+use Rattle.tera_values.specs.inner.Unlike.{least_met, lacking}
 use Rattle.tera_values.proofs.unlike.least_absent.Given as goal
 
 -- the least so far and what is left give the least of all

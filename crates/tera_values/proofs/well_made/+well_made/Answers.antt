@@ -22,15 +22,15 @@ items_are_well_made-loop-value-preserved t c =
     let more = one_more_well_made all l.value-index item.result c.loop-value-test.true item.is l.invariant c.is_well_made.ensures in
     subst (λ n. AreWellMade (items (take n all))) (suc-eq-add-one l.value-index) more
 
-pub pairs_are_well_made-is_well_made-requires : goal.pairs_are_well_made-is_well_made-requires
-pairs_are_well_made-is_well_made-requires t c =
+pub map_is_well_made-is_well_made-requires : goal.map_is_well_made-is_well_made-requires
+map_is_well_made-is_well_made-requires t c =
     let p : KeyForm × Form = (key_form c.in-Some.key.now, c.in-Some.value.now) in
     let less_deep = first_depth c.loop-key.key-iterator c.next.new.self p c.in-Some.ensures.steps in
     let within = c.loop-key.invariant.within in
     (omega (arith, less_deep.0, within), tt)
 
-pub pairs_are_well_made-loop-key-preserved : goal.pairs_are_well_made-loop-key-preserved
-pairs_are_well_made-loop-key-preserved t c =
+pub map_is_well_made-loop-key-preserved : goal.map_is_well_made-loop-key-preserved
+map_is_well_made-loop-key-preserved t c =
     let p : KeyForm × Form = (key_form c.in-Some.key.now, c.in-Some.value.now) in
     let steps = c.in-Some.ensures.steps in
     let left = c.loop-key.key-iterator in
@@ -38,12 +38,12 @@ pairs_are_well_made-loop-key-preserved t c =
     let less_deep = first_depth left rest p steps in
     let within = c.loop-key.invariant.within in
     record {
-      made = one_more_made c.args.all.now left rest p steps c.loop-key.invariant.made c.key_is_well_made.ensures c.is_well_made.ensures;
+      made = one_more_made c.args.map.now left rest p steps c.loop-key.invariant.made c.key_is_well_made.ensures c.is_well_made.ensures;
       within = omega (arith, less_deep.1, within);
     }
 
-pub pairs_are_well_made-returns : goal.pairs_are_well_made-returns
-pairs_are_well_made-returns t c =
+pub map_is_well_made-returns : goal.map_is_well_made-returns
+map_is_well_made-returns t c =
     let none = c.in-None.ensures.steps in
-    map_made c.args.all.now c.iter-key-items.ensures.distinct
+    map_made c.args.map.now c.iter-key-items.ensures.distinct
     (c.loop-key.invariant.made (subst (λ l. AreWellMadeMembers (members l)) (sym none.0) tt))

@@ -14,13 +14,13 @@ decreases-items_are_well_made l = 2 * items_depth (items l.all.now) + 2
 abbrev pub invariant-items_are_well_made-loop-value : goal.invariant-items_are_well_made-loop-value
 invariant-items_are_well_made-loop-value l = IsWellMade (array (items (take l.value-index l.all)))
 
-abbrev pub decreases-pairs_are_well_made : goal.decreases-pairs_are_well_made
-decreases-pairs_are_well_made l = 2 * members_depth (members l.all.now) + 2
+abbrev pub decreases-map_is_well_made : goal.decreases-map_is_well_made
+decreases-map_is_well_made l = 2 * members_depth (members l.map.now) + 2
 
 -- those so far are well made, and those that are left are no deeper
-abbrev pub invariant-pairs_are_well_made-loop-key : goal.invariant-pairs_are_well_made-loop-key
-invariant-pairs_are_well_made-loop-key l =
+abbrev pub invariant-map_is_well_made-loop-key : goal.invariant-map_is_well_made-loop-key
+invariant-map_is_well_made-loop-key l =
     record {
-      made : AreMadeBut l.all l.key-iterator;
-      within : members_depth (members l.key-iterator) ≤ members_depth (members l.all);
+      made : AreMadeBut l.map l.key-iterator;
+      within : members_depth (members l.key-iterator) ≤ members_depth (members l.map);
     }

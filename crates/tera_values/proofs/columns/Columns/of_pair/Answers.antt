@@ -1,6 +1,6 @@
 use Rattle.std.proofs.Common.{◌∷◌, ◌++◌, [], ap, length, sym, ◌∙◌, subst}
 use Rattle.std.specs.List.{IsDistinct}
-use Rattle.tera_values.specs.Map.{keys_tie}
+use Rattle.tera_values.specs.inner.Map.{keys_tie}
 use Rattle.tera_values.proofs.KeyLemmas.{one_key_distinct}
 use Rattle.tera_values.proofs.columns.Columns.of_pair.Goals as goal
 

@@ -1,6 +1,6 @@
 use Rattle.std.proofs.Common.{ap, length, sym, ◌∙◌, subst}
 use Rattle.std.specs.List.{IsDistinct}
-use Rattle.tera_values.specs.Map.{keys_tie, pairs_held, pairs_in}
+use Rattle.tera_values.specs.inner.Map.{keys_tie, pairs_held, pairs_in}
 use Rattle.tera_values.proofs.ColumnLemmas.{no_keys}
 use Rattle.tera_values.proofs.map.Map.into_lists.Goals as goal
 

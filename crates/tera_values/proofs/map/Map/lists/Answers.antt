@@ -1,5 +1,5 @@
 use Rattle.std.proofs.Common.{ap, sym, ◌∙◌}
-use Rattle.tera_values.specs.Map.{pairs_in}
+use Rattle.tera_values.specs.inner.Map.{pairs_in}
 use Rattle.tera_values.proofs.ColumnLemmas.{no_columns}
 use Rattle.tera_values.proofs.map.Map.lists.Goals as goal
 

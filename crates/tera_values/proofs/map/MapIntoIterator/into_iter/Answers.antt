@@ -1,6 +1,6 @@
 use Rattle.std.proofs.Common.{◌∙◌, subst}
 use Rattle.tera_meaning.specs.Pairs.{HasDistinctKeys, key_form_order}
-use Rattle.tera_values.specs.Map.{pairs_held}
+use Rattle.tera_values.specs.inner.Map.{pairs_held}
 use Rattle.tera_values.proofs.ColumnLemmas.{distinct_pairs}
 use Rattle.tera_values.proofs.map.MapIntoIterator.into_iter.Goals as goal
 

@@ -1,6 +1,6 @@
 use Rattle.std.proofs.Common.{subst, ◌∷◌}
 use Rattle.std.specs.Vec.Iter.{into_iter_items}
-use Rattle.tera_values.specs.Map.{keys_left, AreColumns}
+use Rattle.tera_values.specs.inner.Map.{keys_left, AreColumns}
 use Rattle.tera_values.proofs.ColumnLemmas.{rest_columns}
 use Rattle.tera_values.proofs.map.OwnPairsIterator.next.Goals as goal
 

@@ -1,6 +1,6 @@
 use Rattle.std.proofs.Common.{subst, ◌∷◌}
 use Rattle.std.specs.Slice.Iter.{iter_rest}
-use Rattle.tera_values.specs.Map.{AreColumns}
+use Rattle.tera_values.specs.inner.Map.{AreColumns}
 use Rattle.tera_values.proofs.ColumnLemmas.{rest_columns}
 use Rattle.tera_values.proofs.map.PairsIterator.next.Goals as goal
 

@@ -2,7 +2,7 @@ use Rattle.std.proofs.Common.{Err, sym, ap, ◌∙◌}
 use Rattle.std.proofs.lemmas.Int.{to_z-of_z}
 use Rattle.std.specs.Int.{w128, cast_signed, cast_unsigned}
 use Rattle.tera_report.specs.Refusal.{step_of_zero}
-use Rattle.tera_values.proofs.SliceLemmas.{slice_found, slice_refused, zero_refused}
+use Rattle.tera_values.proofs.SliceLemmas.{slice_found, slice_refused, slice_is_cut, zero_refused, zero_gives_none, not_zero}
 use Rattle.tera_values.proofs.value.Value.slice.Goals as goal
 
 pub returns-then-step-eq0-clause-err : goal.returns-then-step-eq0-clause-err
@@ -22,3 +22,17 @@ returns-clause-err c =
     let same = to_z-of_z w128 c.unwrap_or-step.result (record { sfits = c.unwrap_or-step.type_inv }) in
     slice_refused c.args.start c.args.end _ c.unwrap_or-step.result same c.args.step c.unwrap_or-step.ensures
     (λ zero. c.if-step-eq0.false (ap (cast_unsigned w128) zero)) c.args.self.now c.cut.result c.cut.ensures.err
+
+pub returns-then-step-eq0-clause-succeeds : goal.returns-then-step-eq0-clause-succeeds
+returns-then-step-eq0-clause-succeeds c none =
+    let same = to_z-of_z w128 c.unwrap_or-step.result (record { sfits = c.unwrap_or-step.type_inv }) in
+    let zero = sym same ∙ ap (cast_signed w128) c.if-step-eq0.true in
+    absurd (zero_gives_none c.args.self.now _ c.args.start c.args.end c.args.step (sym c.unwrap_or-step.ensures ∙ zero) none)
+
+pub returns-clause-succeeds : goal.returns-clause-succeeds
+returns-clause-succeeds c none =
+    let same = to_z-of_z w128 c.unwrap_or-step.result (record { sfits = c.unwrap_or-step.type_inv }) in
+    c.cut.ensures.succeeds
+    (not_zero c.args.start c.args.end _ c.unwrap_or-step.result same (λ zero. c.if-step-eq0.false (ap (cast_unsigned w128) zero)))
+    (slice_is_cut c.args.start c.args.end _ c.unwrap_or-step.result same c.args.step c.unwrap_or-step.ensures
+    (λ zero. c.if-step-eq0.false (ap (cast_unsigned w128) zero)) c.args.self.now _ none)

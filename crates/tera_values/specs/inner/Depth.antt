@@ -7,8 +7,8 @@ use denote.Param.Weighed.{most}
 use Rattle.tera_meaning.specs.Form.{Form}
 use Rattle.tera_meaning.specs.KeyMeaning.{KeyForm}
 use Rattle.tera_meaning.specs.Tree.{items, items_depth}
-use Rattle.tera_values.specs.Map.{pairs_held, pairs_in, AreColumns}
-use Rattle.tera_values.specs.Size.{value_size, pairs_size, columns_size}
+use Rattle.tera_values.specs.inner.Map.{pairs_held, pairs_in, AreColumns}
+use Rattle.tera_values.specs.inner.Size.{value_size, pairs_size, columns_size}
 use Rattle.tera_values.specs.View.{form_of}
 use Rattle.tera_values.specs.declared.key.Key.{Key}
 use Rattle.tera_values.specs.declared.map.Map.TheInside.{Inside}

@@ -1,9 +1,9 @@
 use Rattle.std.proofs.Common.{◌≡◌, Some, None, ◌++◌, ◌∷◌, [], ap, sym, ◌∙◌, get_or, length, set, arith, rules, position}
 use Rattle.tera_meaning.specs.Pairs.{key_form_order, put, value_at}
 use Rattle.tera_values.specs.Key.{key_form}
-use Rattle.tera_values.specs.Map.{keys_held, keys_tie, pairs_held}
+use Rattle.tera_values.specs.inner.Map.{keys_held, keys_tie, pairs_held}
 use Rattle.tera_values.proofs.ColumnLemmas.{found, lost, put_found, put_new, put_some, held_key, new_key, placed, placed_at, was_held, was_new}
-use Rattle.tera_values.proofs.columns.Columns.put.Goals as goal
+use Rattle.tera_values.proofs.columns.Columns.insert.Goals as goal
 
 pub returns-in_err-place-clause-absent : goal.returns-in_err-place-clause-absent
 returns-in_err-place-clause-absent c =

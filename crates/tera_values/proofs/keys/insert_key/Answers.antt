@@ -1,9 +1,9 @@
 use Rattle.std.proofs.Common.{◌≡◌, ◌∷◌, [], ◌++◌, ap, sym, ◌∙◌, subst, false, arith}
 use Rattle.std.proofs.lemmas.Grind.{common_steps}
 use Rattle.std.specs.List.{IsDistinct, list_any}
-use Rattle.tera_values.specs.Map.{keys_tie, keys_held}
+use Rattle.tera_values.specs.inner.Map.{keys_tie, keys_held}
 use Rattle.tera_values.proofs.KeyLemmas.{one_more_distinct}
-use Rattle.tera_values.proofs.keys.put_key.Goals as goal
+use Rattle.tera_values.proofs.keys.insert_key.Goals as goal
 
 pub returns-then-place-lt-FEW-clause-distinct : goal.returns-then-place-lt-FEW-clause-distinct
 returns-then-place-lt-FEW-clause-distinct c =
