@@ -1,3 +1,4 @@
 pub mod Taken
 pub mod Named
 pub mod Rendered
+pub mod inner

@@ -16,9 +16,7 @@ use Rattle.tera_meaning.specs.Tree.{undefined, none, truth, number, text, bytes,
 use Rattle.tera_report.specs.Errors.{Raises}
 use Rattle.tera_report.specs.Refusal.{Refusal, stated, invalid_argument, number_outside_i128}
 use Rattle.tera_report.specs.declared.errors.Error.{Error}
-use Rattle.tera_values.specs.Converted.{IsRefusal}
 use Rattle.tera_meaning.specs.Printed.{Prints}
-use Rattle.tera_values.specs.declared.convert.ConversionRefused.{ConversionRefused}
 
 -- the error of a call that is to give this and takes no memory for it: of its refusal, or want of
 -- memory in its place
@@ -79,12 +77,3 @@ module _ {V X : Type 0} (items : V → Option (List V)) (is_no_array : V → Err
 
 abbrev pub IsNoArray : Form → Error → Type 0
 IsNoArray value e = Raises (invalid_argument (codes "Vec<Value>") (name_of value)) e
-
--- the error of an integer type of that name that has not the number of a value: of a value that is
--- no number, or of the conversion's own refusal
-abbrev pub IsRaised : {X : Type 0} → (Form → Result X ConversionRefused → Type 0) → Form → List ℕ
-    → Error → Type 0
-IsRaised gives value name e = MatchOption (number_in value)
-    (Raises (invalid_argument name (name_of value)) e)
-    (λ z. (why : ConversionRefused) × gives value (Err why)
-    × ((held : Form) (refusal : Refusal) → IsRefusal held refusal why → Raises (stated refusal) e))

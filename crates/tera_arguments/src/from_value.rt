@@ -1,16 +1,15 @@
 //! What a value can be handed to a filter or a function as.
-ghost use Rattle.std.specs.Prelude.{◌≡◌, true, None, Ok, IfOk, IfErr};
+ghost use Rattle.std.specs.Prelude.{◌≡◌, ◌≢◌, true, [], None, Ok, IfOk, IfErr, MatchOption};
 ghost use Rattle.std.specs.List.{AllZip};
 ghost use Rattle.std.specs.String.{string_bytes};
 ghost use Rattle.tera_arguments.specs.Taken.{Denies, as_text, as_number, as_pairs, as_items};
 ghost use Rattle.tera_arguments.specs.Taken.{TakesText, TakesItems, DeniesItems};
 ghost use Rattle.tera_conversions.specs.Given.{PartsRefuse};
 ghost use Rattle.tera_meaning.specs.Conversion.{IntegerType, as_truth, number_of};
-ghost use Rattle.tera_meaning.specs.Form.{Form};
 ghost use Rattle.tera_meaning.specs.Meaning.{layout};
-ghost use Rattle.tera_meaning.specs.Read.{iterable_in, text_in};
+ghost use Rattle.tera_meaning.specs.Read.{iterable_in, members_in, text_in};
 ghost use Rattle.tera_scalars.specs.Number.{number_value};
-ghost use Rattle.tera_report.specs.Errors.{IsOutOfMemory, Refuses};
+ghost use Rattle.tera_report.specs.Errors.{IsOutOfMemory};
 ghost use Rattle.tera_report.specs.declared.errors.Error.{Error};
 ghost use Rattle.tera_meaning.specs.Printed.{Prints, PrintsNothing};
 
@@ -26,7 +25,8 @@ use tera_values::{Map, Number, Value};
 ///
 /// Each implementation says what it takes of a value, by the form in which the value is held, and
 /// with which errors it refuses. A refusal takes memory for its text; want of it, `Out of memory`,
-/// is answered in its place.
+/// is answered in its place. An implementation that says nothing else of memory takes none. In the
+/// texts of refusals V is the number as it prints.
 pub trait ArgFromValue<'k, V>: Sealed<V> {
     /// What a value is taken as.
     type Output;
@@ -154,15 +154,16 @@ impl<'k> ArgFromValue<'k, Value> for Number {
     }
 }
 
-/// A copy of the map, deep, its pairs in their order. Takes memory. Refuses every other value with
-/// ``Invalid type for the value, expected `Map` but got `N` ``, N being the name of its kind,
-/// without the last blank.
+/// A copy of the map, deep, its pairs in their order. Takes memory where there are pairs. Refuses
+/// every other value with ``Invalid type for the value, expected `Map` but got `N` ``, N being the
+/// name of its kind, without the last blank.
 impl<'k> ArgFromValue<'k, Value> for Map {
     type Output = Map;
 
     ghost takes = { λ value map. as_pairs value ≡ Ok map };
 
-    ghost denies = { λ value e. Refuses (as_pairs value) e };
+    ghost denies = { λ value e. MatchOption (members_in value) (Denies (as_pairs value) e)
+        (λ pairs. (pairs ≢ []) × IsOutOfMemory e) };
 
     fn from_value(alloc: Global, value: &'k Value) -> TeraResult<Map> {
         match value.as_map() {
@@ -232,9 +233,9 @@ fn taken<'k, V, T: ArgFromValue<'k, V, Output = T> + Drop>(
     ensures ok { IfOk result (λ taken. AllZip T.takes items.now taken.items) }
     ensures err { IfErr result (PartsRefuse T.takes T.denies items.now) }
 {
-    let mut taken = Vec::new(alloc);
+    let mut taken = Vec::with_capacity(alloc, items.len())?;
     for value in items {
-        taken.push(T::from_value(alloc, value)?)?;
+        taken.push_reserved(T::from_value(alloc, value)?);
     }
     Ok(taken)
 }

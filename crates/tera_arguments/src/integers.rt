@@ -1,6 +1,7 @@
 //! Integers of Rust, by the conversions of values to them.
 ghost use Rattle.std.specs.Prelude.{◌≡◌, pos, Ok, Err, IfOk, IfErr};
-ghost use Rattle.tera_arguments.specs.Taken.{Denies, IsRaised};
+ghost use Rattle.tera_arguments.specs.Taken.{Denies};
+ghost use Rattle.tera_arguments.specs.inner.Raised.{IsRaised};
 ghost use Rattle.tera_meaning.specs.Conversion.{IntegerType, converted};
 
 use crate::ArgFromValue;

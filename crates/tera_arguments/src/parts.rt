@@ -14,9 +14,9 @@ use tera_conversions::ToKey;
 use tera_report::{Error, TeraResult};
 use tera_values::{Map, Value};
 
-/// What holds arguments by their names, and items. It is sealed, and `Value` alone implements it:
-/// what is generic in it takes arguments for a lifetime, which no call does whose signature names
-/// `Value`.
+/// What holds arguments by their names, and items. It is sealed, and `Value` alone implements it.
+/// `KwargsOf` goes by it and not by `Value`, since the kit refuses a bound on a lifetime in a
+/// signature that names `Value`.
 pub trait Parts: SealedParts + Sized + Drop {
     // the argument of a name
     ghost argument: { Self → List ℕ → Option Self };

@@ -1,4 +1,4 @@
-//! What seals `ArgFromValue` and `Parts`: no other crate can name these traits.
+//! Traits that no other crate can name, and so none implements `ArgFromValue` or `Parts`.
 use crate::StringInput;
 use std::borrow::CowStr;
 use tera_values::{Map, Number, Value};

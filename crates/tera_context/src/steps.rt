@@ -111,7 +111,7 @@ fn mark_safe(context: &mut Context, name: &str, into: Option<String>) -> TeraRes
     }
 }
 
-/// Runs the steps in order, one answer a step, and goes on after a step that was refused.
+/// Runs one step after another, also behind a refused one, and keeps what each answers.
 ///
 /// The list of answers takes its memory first: where that is refused, `Out of memory` is the answer
 /// to the whole run and nothing was done. A run of no steps takes none. A step that finds no memory
