@@ -5,16 +5,18 @@ use tera_replies::{InputPieces, replay, replay_from};
 use tera_report::sink::Growing;
 
 // Gives these bytes, at most `size` at a read, and then ends. Where there are later bytes, one read
-// between these and those is interrupted.
+// between these and those is interrupted. Counts its reads.
 #[derive(Drop)]
-struct Slow<'a> {
+pub(crate) struct Slow<'a> {
     bytes: &'a [u8],
     size: usize,
     later: Option<&'a [u8]>,
+    pub(crate) reads: usize,
 }
 
 impl Read for Slow<'_> {
     fn read(&mut self, buf: &mut [u8]) -> Result<usize> {
+        self.reads = self.reads.saturating_add(1);
         if self.bytes.is_empty() {
             if let Some(later) = self.later.take() {
                 self.bytes = later;
@@ -31,8 +33,8 @@ impl Read for Slow<'_> {
 
 // Holds up to `room` bytes, and fails at the next, or at a flush where it holds `unflushed` bytes.
 #[derive(Drop)]
-struct Shelf {
-    held: Vec<u8>,
+pub(crate) struct Shelf {
+    pub(crate) held: Vec<u8>,
     room: usize,
     unflushed: usize,
 }
@@ -56,7 +58,7 @@ impl Write for Shelf {
     }
 }
 
-fn empty_shelf(alloc: Global, room: usize) -> Shelf {
+pub(crate) fn empty_shelf(alloc: Global, room: usize) -> Shelf {
     Shelf {
         held: Vec::new(alloc),
         room,
@@ -65,11 +67,12 @@ fn empty_shelf(alloc: Global, room: usize) -> Shelf {
 }
 
 // Gives these bytes, as many at a read, and then ends.
-fn in_pieces(bytes: &[u8], size: usize) -> Slow<'_> {
+pub(crate) fn in_pieces(bytes: &[u8], size: usize) -> Slow<'_> {
     Slow {
         bytes,
         size,
         later: None,
+        reads: 0,
     }
 }
 
@@ -79,15 +82,16 @@ fn interrupted(bytes: &[u8], size: usize) -> Slow<'_> {
         bytes,
         size,
         later: Some(b"\nhas a\n"),
+        reads: 0,
     }
 }
 
-fn roomy(alloc: Global) -> Shelf {
+pub(crate) fn roomy(alloc: Global) -> Shelf {
     empty_shelf(alloc, 4096)
 }
 
 // A status, and what is written to either writer.
-type Ended<'a> = (u8, &'a [u8], &'a [u8]);
+pub(crate) type Ended<'a> = (u8, &'a [u8], &'a [u8]);
 
 // The replay of that input to these writers ends so.
 fn ends(alloc: Global, input: Slow<'_>, out: Shelf, err: Shelf, wanted: Ended<'_>) -> bool {
@@ -102,7 +106,7 @@ fn ends(alloc: Global, input: Slow<'_>, out: Shelf, err: Shelf, wanted: Ended<'_
 
 const READING: &[u8] = b"error: reading failed\n";
 
-const WRITING: &[u8] = b"error: writing failed\n";
+pub(crate) const WRITING: &[u8] = b"error: writing failed\n";
 
 // The reports of `frob` as the second and as the third line.
 const SECOND: &[u8] = b"error: bad line\n --> line 2:1:1\n  |\n1 | frob\n  | ^^^^\n";
@@ -111,10 +115,10 @@ const THIRD: &str = "error: bad line\n --> line 3:1:1\n  |\n1 | frob\n  | ^^^^\n
 
 const THE_2001ST: &str = "error: bad line\n --> line 2001:1:1\n  |\n1 | frob\n  | ^^^^\n";
 
-const FIRST: &[u8] =
+pub(crate) const FIRST: &[u8] =
     b"set a 1u64\nset b 1i128\neq a b\ncmp a b\nset c s\"<x>\"\nprint c\ncmp b c\n";
 
-const FIRST_ANSWERS: &[u8] = b"ok\nok\ntrue\nequal\nok\ntext <x>\nless\n";
+pub(crate) const FIRST_ANSWERS: &[u8] = b"ok\nok\ntrue\nequal\nok\ntext <x>\nless\n";
 
 const WORKED: &[u8] = b"set t s\"a\\nb\"\nget t\nset b x\"6869\"\nprint b\n\
 slice t _ _ -1\nlen t\nkind b\nread u8 t\nset n 300\nread u8 n\n\
@@ -312,7 +316,7 @@ fn a_bad_line_before_a_failed_read_is_told_alone(rt: HostRuntime) {
 }
 
 // Fails at a flush where it holds so many bytes.
-fn unflushed(alloc: Global, unflushed: usize) -> Shelf {
+pub(crate) fn unflushed(alloc: Global, unflushed: usize) -> Shelf {
     Shelf {
         unflushed,
         ..roomy(alloc)

@@ -1,12 +1,10 @@
--- The reply that stands in a text, what ended a line, and a session before and after.
+-- The reply that stands in a text, and a session before and after.
 use Rattle.std.proofs.Common.{◌≡◌, ℕ, Bool, List, [], ◌∷◌, Option, Some, sym, subst, ◌∙◌}
 use Rattle.tera_meaning.specs.State.{State}
 use Rattle.tera_report.specs.Growing.{GrowingTakes, grown_bytes}
 use Rattle.tera_report.specs.Sink.{Sends}
 use Rattle.tera_report.specs.declared.growing.Growing.{Growing}
-use Rattle.tera_replies.specs.Stretch.{Runs, IfWriteFailed}
-use Rattle.tera_replies.specs.declared.fault.Fault.{Fault}
-use Rattle.tera_replies.specs.declared.fault.Fault.TheVariants.{WriteFailed}
+use Rattle.tera_replies.specs.Stretch.{Runs}
 use Rattle.tera_c.specs.Talks.{Goes, Has}
 use Rattle.tera_c.specs.declared.talk.Talk.{Talk}
 use Rattle.tera_c.proofs.TextLemmas.{sent_is}
@@ -18,9 +16,6 @@ pub reply_is : (n : ℕ) (old new : State) (line : List ℕ) (want : Bool) (firs
     → Runs n old (line ∷ []) bytes want new
 reply_is n old new line want first last bytes empty is (text, runs, sent) =
     subst (λ (b : List ℕ). Runs n old (line ∷ []) b want new) (sym (is ∙ sent_is first text last empty sent)) runs
-
-pub ran_where : (Ran : Type 0) (fault : Fault) → fault ≡ WriteFailed → IfWriteFailed Ran fault → Ran
-ran_where Ran fault is h = subst (IfWriteFailed Ran) is h
 
 pub goes_where : (old new : Option Talk) (s t : Talk) (P : Talk → Talk → Type 0) → old ≡ Some s → new ≡ Some t → P s t → Goes old P new
 goes_where old new s t P was is p =

@@ -1,11 +1,12 @@
 -- A replay that finds no memory before it reads.
-use Rattle.std.proofs.Common.{◌≢◌, ℕ, Bool, inl, inr, List, [], Option, None, Some, Result, Ok, Err, IfSome, MatchResult, codes, refl, arith}
+use Rattle.std.proofs.Common.{◌≡◌, ◌≢◌, ℕ, Bool, inl, inr, List, [], Option, None, Some, Result, Ok, Err, IfSome, MatchResult, codes, refl, subst, arith}
 use Rattle.std.specs.FinMap.{empty}
 use Rattle.std.proofs.lemmas.List.Elements.{All-nil}
 use Rattle.std.specs.declared.io.Error.{Error}
 use Rattle.tera_report.specs.declared.watch.Watched.{Watched}
-use Rattle.tera_report.specs.Watch.{WatchedTakes, WatchedFails}
-use Rattle.tera_replies.specs.Output.{TakesOrFails}
+use Rattle.tera_report.specs.Watch.{WatchedTakes, WatchedFails, watched_writer}
+use Rattle.tera_replies.specs.Output.{TakesOrFails, WriterTakesOrFails}
+use Rattle.tera_replies.proofs.ReplayLaws.{told_writer}
 use Rattle.tera_replies.specs.Replay.{Replays}
 use Rattle.tera_replies.specs.Script.{HasNoLineFeed, Splits, line_feed}
 
@@ -50,3 +51,12 @@ pub took_or_failed : {W : Type 0} (contents : W → Option (List ℕ)) (wrote : 
     → TakesOrFails (WatchedTakes contents wrote) (WatchedFails contents wrote) old text new
 took_or_failed contents wrote (Ok done) old text new h = inl h
 took_or_failed contents wrote (Err fault) old text new h = inr h
+
+-- what a watched writer took, or failed on, its writer did
+pub writer_told : {W : Type 0} (contents : W → Option (List ℕ)) (wrote : W → List ℕ → Result ℕ Error → W → Type 0)
+    (flushed : W → Result (Unit {0}) Error → W → Type 0) (s : Watched W) (text : List ℕ) (t : Watched W) (old new : W)
+    → watched_writer s ≡ old → watched_writer t ≡ new → TakesOrFails (WatchedTakes contents wrote) (WatchedFails contents wrote) s text t
+    → WriterTakesOrFails contents wrote old text new
+writer_told contents wrote flushed s text t old new first last put =
+    subst (λ v. WriterTakesOrFails contents wrote v text new) first
+    (subst (λ w. WriterTakesOrFails contents wrote (watched_writer s) text w) last (told_writer contents wrote flushed s text t put))

@@ -20,8 +20,8 @@ fn main(rt: HostRuntime) -> ExitCode {
 }
 
 /// Replays a script to a buffer, as `replay` does, and gives the status and the buffer as the
-/// replay left it. Where no memory was found for one, so that there is none, no line is read, `err`
-/// gets `error: Out of memory`, and the status is 1.
+/// replay left it. Where no memory was found for one, so that there is none, `err` gets
+/// `error: Out of memory`, and the status is 1.
 fn replay_buffered<S: Source + Drop, B: Writer + Drop, E: Writer>(
     alloc: Global,
     input: S,
@@ -44,8 +44,16 @@ fn replay_buffered<S: Source + Drop, B: Writer + Drop, E: Writer>(
             (status, Some(buffered))
         }
         None => {
-            let _ = Watched::new(err).write_all(b"error: Out of memory\n");
+            tell_no_memory(err);
             (1, None)
         }
     }
+}
+
+/// Tells that no memory was found, where the writer takes it. Takes no memory.
+fn tell_no_memory<E: Writer>(err: &mut E)
+    ensures told { WriterTakesOrFails E.contents E.wrote err.old (codes "error: Out of memory\n")
+        err.new }
+{
+    let _ = Watched::new(err).write_all(b"error: Out of memory\n");
 }

@@ -1,4 +1,4 @@
-pub mod InputLaws
 pub mod ReplayLaws
+mod InputLemmas
 mod ReplyLemmas
 mod StretchLemmas

@@ -5,10 +5,11 @@ use Rattle.tera_report.specs.Watch.{watched_writer, writer_loan, SameWriter, Wat
 use Rattle.tera_report.specs.{Sink.Use, Sink.put, Sink.flush, Sink.Uses, Sink.Sends, Sink.Delivers, Sink.PutsThese, declared.watch.Watched.Watched}
 use Rattle.tera_report.proofs.SentLaws.{watched_sends}
 use Rattle.tera_replies.specs.declared.fault.Fault.TheVariants.{BadLine, ReadFailed, WriteFailed, OutOfMemory}
-use Rattle.tera_replies.specs.{Output.BrokeOn, Output.TakesOrFails, Output.WriterBroke, Output.WriterTakesOrFails, declared.fault.Fault.Fault, Stretch.Ends}
-use Rattle.tera_replies.specs.{Stretch.EndsFlushed, Stretch.told, Stretch.status_at, Replay.Replays, Replay.ReadEnough, Replay.Writes}
+use Rattle.tera_replies.specs.{Output.BrokeOn, Output.TakesOrFails, Output.WriterBroke, Output.WriterTakesOrFails}
+use Rattle.tera_replies.specs.{declared.fault.Fault.Fault, inner.Endings.Ends}
+use Rattle.tera_replies.specs.{inner.Endings.EndsFlushed, inner.Endings.told, inner.Endings.status_at, Replay.Replays, Replay.ReadEnough, Replay.Writes}
 use Rattle.tera_replies.specs.{Replay.WritingFailed, Script.BadLine as Bad}
-use Rattle.tera_replies.proofs.{InputLaws.broke_at_end, InputLaws.broke_at_failure, InputLaws.broke_at_memory, ReplyLemmas.broke_on_flush}
+use Rattle.tera_replies.proofs.{InputLemmas.broke_at_end, InputLemmas.broke_at_failure, InputLemmas.broke_at_memory, ReplyLemmas.broke_on_flush}
 
 -- what was told was put, or putting it failed
 pub told_comes : {S E : Type 0} (takes fails : S → List ℕ → S → Type 0) (put : Result (Unit {0}) E) (text : List ℕ) (old new : S)
@@ -101,7 +102,7 @@ module _ {InGave InHad : List ℕ → List ℕ → Type 0} {InEnded InFailed InD
     later = h.later;
     outcomes = h.outcomes;
     front = h.front;
-    read = elim h.read [ inl gave ↦ inl (had h.before h.last gave) | inr (none, end) ↦ inr (none, done h.before end) ];
+    read = elim h.read [ inl gave ↦ inl (had h.before h.last gave) | inr (none, all, end) ↦ inr (none, all, done h.before end) ];
     split = h.split;
     lines_are = h.lines_are;
     prompt = h.prompt;
@@ -126,8 +127,8 @@ module _ {InGave InHad : List ℕ → List ℕ → Type 0} {InEnded InFailed InD
     front = h.front;
     read = elim h.read [
       | inl gave ↦ inl (had h.before h.last gave)
-      | inr (none, inl end) ↦ inr (none, inl (done h.before end))
-      | inr (none, inr failed) ↦ inr (none, inr (faulty h.before failed))
+      | inr (none, inl (all, end)) ↦ inr (none, inl (all, done h.before end))
+      | inr (none, inr (may, failed)) ↦ inr (none, inr (may, faulty h.before failed))
     ];
     split = h.split;
     lines_are = h.lines_are;

@@ -10,7 +10,7 @@ use Rattle.tera_report.proofs.{TellLaws.some_telling, TellLaws.told_known, TellL
 use Rattle.tera_report.proofs.SentLaws.{sends_nothing, sends_put, sends_joined}
 use Rattle.tera_replies.specs.declared.fault.Fault.TheVariants.{BadLine, ReadFailed, WriteFailed, OutOfMemory}
 use Rattle.tera_replies.specs.{Reply.IsFormOf, Reply.IsListed, Reply.IsReply, Reply.IsFixedReply, Reply.order_name, declared.fault.Fault.Fault, Output.BrokeOn}
-use Rattle.tera_replies.specs.{Stretch.LineStops, Stretch.IfWriteFailed, Stretch.ReplyStops, Stretch.Runs, Stated.outcome_stated}
+use Rattle.tera_replies.specs.{Stretch.LineStops, inner.Endings.ReplyStops, Stretch.Runs, inner.Stated.outcome_stated}
 use Rattle.tera_context.specs.Steps.{ShowsOutcome}
 use Rattle.tera_meaning.specs.Answer
 use Rattle.tera_context.specs.declared.call.Answer as code
@@ -41,18 +41,16 @@ pub line_answered : (result : Result Bool Fault) (Replies OutGets OutBroke : Lis
     → IfOk result (λ wanted. (reply : List ℕ) × Replies reply × OutGets reply × (wanted ≡ w)) → IfErr result (ReplyStops Replies OutBroke)
     → record {
       ok : IfOk result (λ wanted. (text : List ℕ) × Runs n old (line ∷ []) text wanted new × OutGets text);
-      err : IfErr result (LineStops n old line OutStays OutBroke);
-      only : IfErr result (λ fault. fault ≡ WriteFailed);
+      err : IfErr result (LineStops n old line new OutStays OutBroke);
+      only : MatchResult result (λ wanted. wanted ≡ w) (λ fault. fault ≡ WriteFailed);
       unchanged : IfErr result (λ fault. fault ≢ WriteFailed → Same);
-      ran : IfErr result (IfWriteFailed ((text : List ℕ) × (wanted : Bool) × Runs n old (line ∷ []) text wanted new));
     }
 line_answered (Ok wanted) Replies OutGets OutBroke OutStays Same n old new line w then (reply, is, gets, same) err =
-    record { ok = (reply, rw same (then reply is), gets); err = tt; only = tt; unchanged = tt; ran = tt }
+    record { ok = (reply, rw same (then reply is), gets); err = tt; only = same; unchanged = tt }
 line_answered (Err (BadLine report)) Replies OutGets OutBroke OutStays Same n old new line w then ok err = absurd err
 line_answered (Err ReadFailed) Replies OutGets OutBroke OutStays Same n old new line w then ok err = absurd err
 line_answered (Err WriteFailed) Replies OutGets OutBroke OutStays Same n old new line w then ok (reply, is, broke) =
-    let ran = then reply is in
-    record { ok = tt; err = (reply, w, new, ran, broke); only = refl; unchanged = λ other. absurd (other refl); ran = (reply, w, ran) }
+    record { ok = tt; err = (reply, w, then reply is, broke); only = refl; unchanged = λ other. absurd (other refl) }
 line_answered (Err OutOfMemory) Replies OutGets OutBroke OutStays Same n old new line w then ok err = absurd err
 
 -- a reply was put, or a write failed

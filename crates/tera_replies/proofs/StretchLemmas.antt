@@ -9,7 +9,8 @@ use Rattle.tera_meaning.specs.{Outcome.Outcome, Outcome.is_want, Request.Command
 use Rattle.tera_script.specs.Line.{Says, IsSkipped}
 use Rattle.tera_replies.specs.Script.{BadLine as Bad, Script, Splits, HasNoLineFeed, ended, line_feed, without_return}
 use Rattle.tera_replies.specs.declared.fault.Fault.TheVariants.{BadLine, ReadFailed, WriteFailed, OutOfMemory}
-use Rattle.tera_replies.specs.{Stretch.Runs, Stretch.Place, Stretch.Goes, Stretch.Begins, Stretch.StopsAtBad, Stretch.Stops, Stretch.LineStops}
+use Rattle.tera_replies.specs.{Stretch.Runs, inner.Stretches.Place, inner.Stretches.Goes, inner.Stretches.Begins}
+use Rattle.tera_replies.specs.{inner.Stretches.StopsAtBad, inner.Stretches.Stops, Stretch.LineStops}
 use Rattle.tera_replies.specs.{Reply.IsReply, Reply.AreReplies, declared.fault.Fault.Fault, Output.BrokeOn}
 use Rattle.tera_report.specs.{Report.Report, Sink.Sends}
 use Rattle.tera_report.proofs.SentLaws.{sends_nothing, sends_flush, sends_joined}
@@ -290,10 +291,10 @@ module _ {S : Type 0} (takes fails : S → List ℕ → S → Type 0) (flushes f
       (front ++ text, Begins-later goes s, sends_joined takes flushes _ _ _ _ _ passed sent)
 
   -- a fault at a line is one at the bytes that it begins
-  pub Halts-line : (now : Place) (line later : List ℕ) (mid after : S) (fault : Fault) → HasNoLineFeed now.part → HasNoLineFeed line
-      → LineStops now.number now.state (without_return (now.part ++ line)) (Sends takes flushes mid [] after)
+  pub Halts-line : (now : Place) (state : State) (line later : List ℕ) (mid after : S) (fault : Fault) → HasNoLineFeed now.part → HasNoLineFeed line
+      → LineStops now.number now.state (without_return (now.part ++ line)) state (Sends takes flushes mid [] after)
       (λ text. BrokeOn takes fails flushes flush_fails mid text after) fault → Halts now (ended line ++ later) mid after fault
-  Halts-line now line later mid after (BadLine report) part_in line_in (is, bad, sent) = (
+  Halts-line now state line later mid after (BadLine report) part_in line_in (is, bad, sent) = (
     [],
     record {
       read = line;
@@ -306,9 +307,9 @@ module _ {S : Type 0} (takes fails : S → List ℕ → S → Type 0) (flushes f
     },
     sent,
   )
-  Halts-line now line later mid after ReadFailed part_in line_in stops = absurd stops
-  Halts-line now line later mid after WriteFailed part_in line_in (text, wanted, state, runs, broke) =
+  Halts-line now state line later mid after ReadFailed part_in line_in stops = absurd stops
+  Halts-line now state line later mid after WriteFailed part_in line_in (text, wanted, runs, broke) =
       let new : Place = record { number = now.number + 1; part = []; state = state; wanted = now.wanted || wanted } in
       let goes = Goes-line now new line text wanted part_in line_in runs refl refl refl in
       (text, record { read = ended line; unread = later; place = new; bytes_are = refl; goes = goes }, broke)
-  Halts-line now line later mid after OutOfMemory part_in line_in sent = ([], Begins-none now (ended line ++ later) part_in, sent)
+  Halts-line now state line later mid after OutOfMemory part_in line_in sent = ([], Begins-none now (ended line ++ later) part_in, sent)

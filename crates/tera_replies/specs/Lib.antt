@@ -1,9 +1,7 @@
 pub mod Script
 pub mod Reply
-pub mod Stated
 pub mod Replay
 pub mod Output
 pub mod Source
 pub mod Stretch
-pub mod Place
-pub mod Terse
+pub mod inner

@@ -1,4 +1,4 @@
--- What is read from gave to a replay, and what is written to got from it.
+-- What an input gave to a replay, and what an output got from it.
 use Rattle.std.specs.Prelude.{◌≡◌, ℕ, ◌⊎◌, List, ◌++◌, Option, Result}
 use Rattle.std.specs.declared.io.Error.{Error}
 use Rattle.std.specs.Io.KnownBytes.{Appends}
@@ -7,8 +7,8 @@ use Rattle.tera_report.specs.Writer.{Passes, Breaks, Flushes, FlushFails}
 use Rattle.tera_replies.specs.declared.source.ReadError.{ReadError}
 use Rattle.tera_replies.specs.Source.{ReadsTo, ReadEnds, ReadFails}
 
--- reads of a source from this state on, which is then dropped, gave just these bytes, and one more
--- the last ones; or none was made
+-- some reads of a source, which is then dropped, gave just these bytes, and one more read the last
+-- ones; or none was made
 abbrev pub Gave : {S : Type 0} → (S → List ℕ → Result ℕ ReadError → S → Type 0)
     → S → List ℕ → List ℕ → Type 0
 Gave {S} gave old before last = (new : S) × ReadsTo gave old before last new

@@ -144,7 +144,7 @@ pub record MemoryFailed (bytes : List ℕ) (InGave : List ℕ → List ℕ → T
   pub later : List (List ℕ)
   pub outcomes : List Outcome
   pub front : bytes ≡ (before ++ last) ++ rest
-  pub read : InGave before last ⊎ ((last ≡ []) × InEnded before)
+  pub read : InGave before last ⊎ ((last ≡ []) × (rest ≡ []) × InEnded before)
   pub split : Splits (before ++ last) lines part
   pub lines_are : map without_return lines ≡ first ++ later
   pub prompt : HoldFewer before (1 + length first)
@@ -168,7 +168,9 @@ pub record WritingFailed (bytes : List ℕ) (fails : Option Bool)
   pub bad : Option BadLine
   pub outcomes : List Outcome
   pub front : bytes ≡ (before ++ last) ++ rest
-  pub read : InGave before last ⊎ ((last ≡ []) × (InEnded before ⊎ InFailed before))
+  pub read : InGave before last
+      ⊎ ((last ≡ [])
+      × (((rest ≡ []) × InEnded before) ⊎ (MayErr fails (Some rest) × InFailed before)))
   pub split : Splits bytes lines part
   pub lines_are : lines_given fails lines part ≡ first ++ later
   pub prompt : HoldFewer before (1 + length first)
@@ -176,9 +178,8 @@ pub record WritingFailed (bytes : List ℕ) (fails : Option Bool)
   pub answers : AreAnswered first bad outcomes
   pub replied : AreReplies outcomes out
 
--- From a source with these bytes, which then fails or ends (or that isn't known), the program
--- writes out and err. What its reads gave is named, and what the last of them gave; that they came
--- to the end, and that one failed where it says so.
+-- Of a source with these bytes: the program writes out and err, and ends with this status. InGave,
+-- InEnded and InFailed say what its reads gave, that one told the end, that one failed.
 abbrev pub Writes : List ℕ → Option Bool → (List ℕ → List ℕ → Type 0) → (List ℕ → Type 0)
     → (List ℕ → Type 0) → List ℕ → List ℕ → ℕ → Type 0
 Writes bytes fails InGave InEnded InFailed out err status =

@@ -16,8 +16,8 @@ ghost use Rattle.tera_replies.specs.Output.{BrokeOn};
 ghost use Rattle.tera_replies.specs.Reply.{IsFormOf, IsLentLine, IsListedLine};
 ghost use Rattle.tera_replies.specs.Reply.{IsReplyLine, order_name};
 ghost use Rattle.tera_replies.specs.Script.{ended};
-ghost use Rattle.tera_replies.specs.Stated.{outcome_stated};
-ghost use Rattle.tera_replies.specs.Stretch.{ReplyStops};
+ghost use Rattle.tera_replies.specs.inner.Stated.{outcome_stated};
+ghost use Rattle.tera_replies.specs.inner.Endings.{ReplyStops};
 
 use crate::fault::{Fault, WriteError, put, written};
 use crate::terse::Terse;
@@ -206,7 +206,7 @@ fn put_words<W: Sink>(error: &Error, out: &mut W) -> Result<(), WriteError>
 
 // Puts a text as it is behind a word, line feeds and all.
 #[inline(always)]
-pub(crate) fn put_line<W: Sink>(word: &str, text: &str, out: &mut W) -> Result<(), WriteError>
+fn put_line<W: Sink>(word: &str, text: &str, out: &mut W) -> Result<(), WriteError>
     ensures { PutsThese W.takes W.fails result (ended (word.now ++ text.now)) out.old out.new }
 {
     put(word, out)?;

@@ -1,4 +1,4 @@
-//! Why a replay ends before its input does.
+//! Why a line, or a replay, is not answered to its end.
 ghost use Rattle.std.specs.Prelude.{◌≡◌, Ok, Err, MatchResult};
 ghost use Rattle.tera_report.specs.Sink.{PutsThese};
 ghost use Rattle.tera_replies.specs.declared.fault.Fault.TheVariants.{ReadFailed, WriteFailed};
@@ -8,12 +8,12 @@ use std::alloc::{AllocError, AllocFailed};
 use tera_report::ReportError;
 use tera_report::sink::Sink;
 
-/// What ends a replay before its input ends.
+/// Why a line, or a replay, is not answered to its end.
 #[derive(Debug, Drop)]
 pub enum Fault {
     /// A line is bad, and this is its report.
     BadLine(Box<ReportError>),
-    /// A read failed.
+    /// A read failed. Of one line this is never said.
     ReadFailed,
     /// A write of an answer failed, or a flush behind it.
     WriteFailed,

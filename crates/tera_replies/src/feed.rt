@@ -2,6 +2,7 @@
 ghost use Rattle.std.specs.Prelude.{◌≡◌, ◌≢◌, ◌+◌, ◌^◌, ◌<◌, ◌≤◌, ℕ, Bool, ◌||◌, List, [], ◌∷◌};
 ghost use Rattle.std.specs.Prelude.{◌++◌};
 ghost use Rattle.std.specs.Prelude.{IfOk, OnOk, IfErr, IfSome, IfNone, IsOk, IsSome, length};
+ghost use Rattle.std.specs.Prelude.{MatchResult, false};
 ghost use Rattle.tera_report.specs.Sink.{Sends};
 ghost use Rattle.tera_report.specs.Errors.{report_of};
 ghost use Rattle.tera_meaning.specs.Outcome.{Outcome};
@@ -16,8 +17,8 @@ ghost use Rattle.tera_replies.specs.declared.fault.Fault.TheVariants.{OutOfMemor
 ghost use Rattle.tera_replies.specs.Output.{BrokeOn};
 ghost use Rattle.tera_replies.specs.Replay.{line_report, source_of, whole_line};
 ghost use Rattle.tera_replies.specs.Script.{HasNoLineFeed, without_return, last_line, ended};
-ghost use Rattle.tera_replies.specs.Stretch.{bad_at, Goes, IfWriteFailed, Runs, Stops, LineStops};
-ghost use Rattle.tera_replies.specs.Stretch.{start};
+ghost use Rattle.tera_replies.specs.Stretch.{bad_at, Runs, LineStops};
+ghost use Rattle.tera_replies.specs.inner.Stretches.{Goes, Stops, start};
 
 use crate::answer::{write_answer, write_lent};
 use crate::fault::Fault;
@@ -44,7 +45,7 @@ pub(crate) struct Feed {
 }
 
 impl Feed {
-    ghost use Rattle.tera_replies.specs.Place.{place_of};
+    ghost use Rattle.tera_replies.specs.inner.Place.{place_of};
 
     /// Before the first byte. Takes no memory.
     pub fn new(alloc: Global) -> Feed
@@ -96,7 +97,7 @@ impl Feed {
         ensures number { OnOk result (self.new.number ≡ self.old.number + 1) }
         ensures err { IfErr result
             (LineStops self.old.number self.old.context
-            (without_return (self.old.part.items ++ rest.now))
+            (without_return (self.old.part.items ++ rest.now)) self.new.context
             (Sends W.takes W.flushes out.old [] out.new)
             (λ text. BrokeOn W.takes W.fails W.flushes W.flush_fails out.old text out.new)) }
     {
@@ -120,7 +121,7 @@ impl Feed {
             × Sends W.takes W.flushes out.old text out.new) }
         ensures err { IfErr result
             (LineStops self.old.number self.old.context
-            (without_return (self.old.part.items ++ rest.now))
+            (without_return (self.old.part.items ++ rest.now)) self.new.context
             (Sends W.takes W.flushes out.old [] out.new)
             (λ text. BrokeOn W.takes W.fails W.flushes W.flush_fails out.old text out.new)) }
         ensures number { self.new.number ≡ self.old.number }
@@ -145,7 +146,7 @@ impl Feed {
             × Sends W.takes W.flushes out.old text out.new) }
         ensures err { IfErr result
             (λ fault. (last_line self.old.part.items ≡ self.old.part.items ∷ [])
-            × LineStops self.old.number self.old.context self.old.part.items
+            × LineStops self.old.number self.old.context self.old.part.items self.new.context
             (Sends W.takes W.flushes out.old [] out.new)
             (λ text. BrokeOn W.takes W.fails W.flushes W.flush_fails out.old text out.new) fault) }
         ensures number { self.new.number ≡ self.old.number }
@@ -165,7 +166,7 @@ impl Feed {
 ///
 /// `BadLine` where the line is bad, `OutOfMemory` where no memory is found to read it or to report
 /// it: then nothing has changed. `WriteFailed` where the sink refused a part of the reply: then
-/// the line was run.
+/// the line was run, and the context is as that run left it. Never `ReadFailed`.
 ///
 /// Takes memory for what the line names and brings, for what its step takes, and for its report. A
 /// line that is skipped takes none, nor does a look-up that the line says plainly, where `look_up`
@@ -180,16 +181,14 @@ pub fn answer_line<W: Sink>(
     ensures ok { IfOk result (λ wanted. (text : List ℕ)
         × Runs number context.old (line.now ∷ []) text wanted context.new
         × Sends W.takes W.flushes out.old text out.new) }
-    ensures err { IfErr result (LineStops number context.old line.now
+    ensures err { IfErr result (LineStops number context.old line.now context.new
         (Sends W.takes W.flushes out.old [] out.new)
         (λ text. BrokeOn W.takes W.fails W.flushes W.flush_fails out.old text out.new)) }
     ensures skipped { IsSkipped line.now → IsOk result }
     ensures lent { (asked : LookUp) → IsPlainLookUp line.now asked
         → IsSome (lent_at context.old (looked_up asked))
-        → IfErr result (λ fault. fault ≡ WriteFailed) }
+        → MatchResult result (λ wanted. wanted ≡ false) (λ fault. fault ≡ WriteFailed) }
     ensures unchanged { IfErr result (λ fault. fault ≢ WriteFailed → context.new ≡ context.old) }
-    ensures ran { IfErr result (IfWriteFailed ((text : List ℕ) × (wanted : Bool)
-        × Runs number context.old (line.now ∷ []) text wanted context.new)) }
 {
     if let Some(lent) = lent_for(context, line) {
         return write_lent(lent, out);

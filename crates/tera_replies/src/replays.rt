@@ -1,5 +1,5 @@
 //! From a script's bytes to the bytes of its answers.
-ghost use Rattle.std.specs.Prelude.{◌≡◌, ◌≤◌, IfSome, IfErr, IsOk, OnOk, Some};
+ghost use Rattle.std.specs.Prelude.{◌≡◌, ◌≤◌, IfSome, IfErr, IsOk, OnOk};
 ghost use Rattle.tera_report.specs.Sink.{Delivers, PutsThese, Sends};
 ghost use Rattle.tera_replies.specs.declared.fault.Fault.TheVariants.{WriteFailed};
 ghost use Rattle.tera_replies.specs.Output.{BrokeOn, Ended, Failed, Gave, TakesOrFails};
@@ -9,7 +9,7 @@ ghost use Rattle.tera_report.specs.Report.{report_text};
 ghost use Rattle.tera_replies.specs.Replay.{Replays};
 ghost use Rattle.tera_replies.specs.Script.{ended};
 ghost use Rattle.tera_replies.specs.Source.{ReadEnds, ReadFails, ReadsTo};
-ghost use Rattle.tera_replies.specs.Stretch.{Ends, EndsFlushed, status_at, told};
+ghost use Rattle.tera_replies.specs.inner.Endings.{Ends, EndsFlushed, status_at, told};
 
 use crate::fault::{Fault, WriteError, put, written};
 use crate::feed::Feed;
@@ -27,10 +27,14 @@ const PIECE: usize = 8192;
 /// is read. What ended it early is told to `err`.
 ///
 /// Answers the exit status. It is 0 where each line is answered and none of the answers is want of
-/// memory, 1 where one is, and 2 at a bad line, whose report is told. Else it is 1, and told is
-/// `error: reading failed`, `error: writing failed` where a write to `out` or a flush of it fails,
-/// or `error: Out of memory` where the replay itself finds none. A report that cannot be written
-/// changes nothing.
+/// memory, 1 where one is, and 2 at a bad line, whose report is told. Else it is 1, and told is one
+/// of these texts. A report that cannot be written changes nothing.
+///
+/// - `error: reading failed` where a read answers any error, an interrupted one too, or
+///   2^64 - 1 reads told no end.
+/// - `error: writing failed` where a write to `out` fails, or a flush of it does. A write that was
+///   interrupted is tried again.
+/// - `error: Out of memory` where the replay itself finds none.
 ///
 /// Takes memory for the line at hand, for what the names hold, for one answer or the text of its
 /// refusal, and for the report of a bad line.

@@ -12,8 +12,8 @@ use std::io::Read;
 #[derive(Debug, Drop)]
 pub struct ReadError;
 
-/// What bytes are read from, whether it fails once it has given them, and each read of it: each
-/// `Read` is one.
+/// What bytes are read from. It tells these, whether it fails behind them, and each read. Each
+/// `Read` is a source.
 ///
 /// What is proved over this trait holds whatever `gave` is. So a clause that says that a source
 /// went from one state to another by some reads says that just these reads were made, each with
@@ -55,8 +55,8 @@ impl<R: Read> Source for R {
     }
 }
 
-/// Pieces of bytes, which reads give in turn, and then an end or a failure. A piece for which there
-/// is no room is given in parts, and an empty one is passed over. Takes no memory.
+/// Pieces of bytes. Reads give these in their order, each some of them, and then an end or a
+/// failure. Takes no memory.
 #[derive(Drop)]
 pub struct InputPieces<'a> {
     pieces: &'a [&'a [u8]],
@@ -81,7 +81,7 @@ impl<'a> InputPieces<'a> {
     }
 }
 
-/// A read gives what is left of one piece, as far as there is room. Takes no memory.
+/// Takes no memory.
 impl Source for InputPieces<'_> {
     ghost left = { λ pieces. Some (bytes_left pieces) };
 

@@ -1,8 +1,9 @@
 //! A sink whose fault says nothing.
 ghost use Rattle.std.specs.Prelude.{◌≡◌};
-ghost use Rattle.tera_replies.specs.Terse.{lent_sink, sink_loan, TerseTakes, TerseFails};
-ghost use Rattle.tera_replies.specs.Terse.{TerseFlushes, TerseFlushFails};
-ghost use Rattle.tera_replies.specs.Terse.{terse_nothing, terse_joined, terse_early, terse_later};
+ghost use Rattle.tera_replies.specs.inner.Terse.{lent_sink, sink_loan, TerseTakes, TerseFails};
+ghost use Rattle.tera_replies.specs.inner.Terse.{TerseFlushes, TerseFlushFails};
+ghost use Rattle.tera_replies.specs.inner.Terse.{terse_nothing, terse_joined, terse_early};
+ghost use Rattle.tera_replies.specs.inner.Terse.{terse_later};
 
 use crate::fault::WriteError;
 use tera_report::sink::Sink;

@@ -1,5 +1,5 @@
 -- A line that is skipped says nothing, and one that says a call is answered by one reply.
-use Rattle.std.proofs.Common.{◌≡◌, ℕ, false, List, [], ◌∷◌, Result, inl, refl, ap}
+use Rattle.std.proofs.Common.{◌≡◌, ℕ, false, List, [], ◌∷◌, Result, inl, refl, ap, rules}
 use Rattle.tera_meaning.specs.{Outcome.Outcome, Outcome.is_want, Request.Command, State.State, Step.IsStep}
 use Rattle.tera_context.specs.Lent.{LentForm, StandsFor, found, printed, lent_form}
 use Rattle.tera_context.specs.{Call.command_of, Steps.ShowsOneOf, declared.call.Answer.Answer}
@@ -8,7 +8,7 @@ use Rattle.tera_report.proofs.SentLaws.{sends_nothing}
 use Rattle.tera_report.specs.declared.errors.Error.{Error}
 use Rattle.tera_script.specs.Line.{Says}
 use Rattle.tera_script.proofs.SaidLaws.{skipped_says_nothing}
-use Rattle.tera_replies.specs.{Reply.IsLentLine, Reply.IsReplyLine, Stated.outcome_stated, Stretch.Runs}
+use Rattle.tera_replies.specs.{Reply.IsLentLine, Reply.IsReplyLine, inner.Stated.outcome_stated, Stretch.Runs}
 use Rattle.tera_replies.proofs.{ReplyLemmas.line_answered, ReplyLemmas.reply_shown, ReplyLemmas.want_shown, StretchLemmas.Runs-silent, StretchLemmas.Runs-says}
 use Rattle.tera_replies.proofs.feed.answer_line.Goals as goal
 
@@ -49,7 +49,6 @@ returns-in-Some g c =
       skipped = λ skip. absurd (skipped_says_nothing c.args.line.now command skip says);
       lent = λ asked plain some. a.only;
       unchanged = a.unchanged;
-      ran = a.ran;
     }
 
 pub returns-in-Some-lend : goal.returns-in-Some-lend
@@ -65,7 +64,6 @@ returns-in-Some-lend g c =
       skipped = λ skip. absurd (skipped_says_nothing c.args.line.now _ skip says);
       lent = λ asked plain some. a.only;
       unchanged = a.unchanged;
-      ran = a.ran;
     }
 
 pub returns-in-None : goal.returns-in-None
@@ -77,7 +75,6 @@ returns-in-None g c =
       ok = a.ok;
       err = a.err;
       skipped = λ skip. absurd (skipped_says_nothing c.args.line.now _ skip says);
-      lent = λ asked plain some. a.only;
+      lent = λ asked plain some. search rules;
       unchanged = a.unchanged;
-      ran = a.ran;
     }

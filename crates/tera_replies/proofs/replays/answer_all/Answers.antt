@@ -1,8 +1,8 @@
 -- What the source gave so far is answered, also where a fault ends the loop.
 use Rattle.std.proofs.Common.{◌≡◌, ◌<◌, ◌≤◌, ◌++◌, [], inl, inr, length, length-append, take, ◌∙◌, subst, refl, rules, arith, append-nil}
 use Rattle.std.proofs.{lemmas.Result.err_from_is_err_and, lemmas.List.length-take-le}
-use Rattle.tera_replies.specs.{Source.EndIsTold, Source.Giving, Source.given_by, Source.ReadEnds, Source.ReadsTo, Stretch.start}
-use Rattle.tera_replies.proofs.InputLaws.{Ends-all, Ends-stops, at_failure, at_write, Consumes-none, Consumes-append, reads_all, where_known}
+use Rattle.tera_replies.specs.{Source.EndIsTold, Source.Giving, Source.given_by, Source.ReadEnds, Source.ReadsTo, inner.Stretches.start}
+use Rattle.tera_replies.proofs.InputLemmas.{Ends-all, Ends-stops, at_failure, at_write, Consumes-none, Consumes-append, reads_all, where_known}
 use Rattle.tera_replies.proofs.StretchLemmas.{Begins-all, went_flushed, went_nowhere, went_on}
 use Rattle.tera_replies.proofs.ReplyLemmas.{broke_on_flush}
 use Rattle.tera_replies.proofs.replays.answer_all.Goals as goal

@@ -1,7 +1,7 @@
 -- What the source gave so far is answered.
 use Rattle.std.proofs.Common.{◌≡◌, ℕ, ◌+◌, ◌*◌, ◌≤◌, List, ◌++◌, length}
 use Rattle.std.specs.Io.KnownBytes.{Consumes}
-use Rattle.tera_replies.specs.{Place.place_of, Source.ReadsTo, Stretch.start}
+use Rattle.tera_replies.specs.{inner.Place.place_of, Source.ReadsTo, inner.Stretches.start}
 use Rattle.tera_replies.proofs.StretchLemmas.{Went}
 use Rattle.tera_replies.proofs.replays.answer_all.Given as goal
 

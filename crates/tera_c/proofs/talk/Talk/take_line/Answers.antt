@@ -2,7 +2,7 @@
 use Rattle.std.proofs.Common.{rules, inl, inr, ap, ◌∙◌, refl}
 use Rattle.tera_report.specs.Errors.{report_of}
 use Rattle.tera_report.specs.Report.{report_text}
-use Rattle.tera_c.proofs.TalkLemmas.{reply_is, ran_where}
+use Rattle.tera_c.proofs.TalkLemmas.{reply_is}
 use Rattle.tera_c.proofs.talk.Talk.take_line.Goals as goal
 
 pub returns-then-wanted : goal.returns-then-wanted
@@ -24,4 +24,5 @@ returns-in-Err-BadLine c =
 
 pub returns-in-Err-WriteFailed : goal.returns-in-Err-WriteFailed
 returns-in-Err-WriteFailed c =
-    inr (inr (inr (ran_where _ _ c.in-Err-WriteFailed.field-0-is c.in-Err-WriteFailed.ensures.ran, c.new.ensures.bytes, refl)))
+    let (text, want, runs, broke) = rw c.in-Err-WriteFailed.field-0-is at c.in-Err-WriteFailed.ensures.err in
+    inr (inr (inr ((text, want, runs), c.new.ensures.bytes, refl)))

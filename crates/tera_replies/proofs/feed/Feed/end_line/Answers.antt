@@ -1,6 +1,6 @@
 -- The line at hand is whole, and one reply answers it, if any.
 use Rattle.std.proofs.Common.{◌≡◌, ◌||◌, rules}
-use Rattle.tera_replies.specs.Place.{place_of}
+use Rattle.tera_replies.specs.inner.Place.{place_of}
 use Rattle.tera_replies.proofs.StretchLemmas.{Goes-line}
 use Rattle.tera_replies.proofs.feed.Feed.end_line.Goals as goal
 use Rattle.tera_replies.proofs.feed.Feed.end_line.Goals.{then-self, else-self}

@@ -2,7 +2,7 @@
 use Rattle.std.proofs.Common.{◌≡◌, ◌+◌, ◌++◌, [], ◌∷◌, length, length-append, sym, ◌∙◌, ap, refl, append_assoc, arith}
 use Rattle.std.proofs.lemmas.Result.{err_from_is_err_and}
 use Rattle.tera_report.proofs.SentLaws.{sends_nothing}
-use Rattle.tera_replies.specs.{Place.place_of, Script.ended, Script.line_feed, declared.fault.Fault.TheVariants.OutOfMemory}
+use Rattle.tera_replies.specs.{inner.Place.place_of, Script.ended, Script.line_feed, declared.fault.Fault.TheVariants.OutOfMemory}
 use Rattle.tera_replies.proofs.StretchLemmas.{Goes-part, Begins-none, Halts-later, Halts-line, went_nowhere, went_on}
 use Rattle.tera_replies.proofs.feed.Feed.take_piece.Goals as goal
 
@@ -17,7 +17,7 @@ returns-in_err-end_line-clause-err g c =
     let before = c.lines.invariant in
     let (line_in, is) = c.in-Some.ensures.found in
     rw (p.1, p.2, before.piece_is, is) (Halts-later sink.takes sink.fails sink.flushes sink.flush_fails _ _ _ before.went
-    (Halts-line sink.takes sink.fails sink.flushes sink.flush_fails _ _ _ _ _ _ before.went.1.rest line_in c.in_err-end_line.ensures.err))
+    (Halts-line sink.takes sink.fails sink.flushes sink.flush_fails _ _ _ _ _ _ _ before.went.1.rest line_in c.in_err-end_line.ensures.err))
 
 pub lines-preserved : goal.lines-preserved
 lines-preserved g c =

@@ -1,6 +1,6 @@
 -- What stands before the rest of the piece is read and answered.
 use Rattle.std.proofs.Common.{ℕ, ◌≡◌, ◌+◌, ◌++◌, ◌≤◌, List, length}
-use Rattle.tera_replies.specs.Place.{place_of}
+use Rattle.tera_replies.specs.inner.Place.{place_of}
 use Rattle.tera_replies.proofs.StretchLemmas.{Went}
 use Rattle.tera_replies.proofs.feed.Feed.take_piece.Given as goal
 

@@ -9,7 +9,9 @@ use Rattle.tera_script.specs.Line.{IsBad}
 use Rattle.tera_report.specs.{Report.Report, Report.report_text, inner.WriterLaws.folds_joined, Sink.Sends}
 use Rattle.tera_report.proofs.SentLaws.{sends_joined}
 use Rattle.tera_replies.specs.declared.fault.Fault.TheVariants.{BadLine, ReadFailed, WriteFailed, OutOfMemory}
-use Rattle.tera_replies.specs.Stretch.{bad_at, Runs, Place, Goes, StopsAtBad, Begins, LineStops, Ends, start}
+use Rattle.tera_replies.specs.Stretch.{bad_at, Runs, LineStops}
+use Rattle.tera_replies.specs.inner.Stretches.{Place, Goes, StopsAtBad, Begins, start}
+use Rattle.tera_replies.specs.inner.Endings.{Ends}
 use Rattle.tera_replies.specs.Replay.{lines_given, AllAnswered, HoldFewer, IsBehind, IsWholeIn, ReadEnough, ReadingFailed, MemoryFailed}
 use Rattle.tera_replies.specs.Replay.{WritingFailed, AreAnswered, report}
 use Rattle.tera_replies.specs.{Script.Splits, Script.without_return, Script.last_line, Script.ended, Script.line_feed, Reply.AreReplies, Source.EndIsTold}
@@ -48,13 +50,14 @@ whole_given (Some false) lines part =
     omega (arith, length-map lines without_return, length-append (map without_return lines) (last_line part))
 whole_given None lines part = omega (arith, length-map lines without_return, length-append (map without_return lines) (last_line part))
 
-abbrev WasRead : (List ℕ → List ℕ → Type 0) → (List ℕ → Type 0) → (List ℕ → Type 0) → List ℕ → List ℕ → Type 0
-WasRead InGave InEnded InFailed before last = InGave before last ⊎ ((last ≡ []) × (InEnded before ⊎ InFailed before))
+abbrev WasRead : Option Bool → (List ℕ → List ℕ → Type 0) → (List ℕ → Type 0) → (List ℕ → Type 0) → List ℕ → List ℕ → List ℕ → Type 0
+WasRead fails InGave InEnded InFailed before last rest =
+    InGave before last ⊎ ((last ≡ []) × (((rest ≡ []) × InEnded before) ⊎ (MayErr fails (Some rest) × InFailed before)))
 
 module _ {InGave : List ℕ → List ℕ → Type 0} {InEnded InFailed : List ℕ → Type 0} where
   -- replies to the first lines of a beginning of the bytes
   among_given : (bytes given rest out : List ℕ) (fails : Option Bool) (lines first later : List (List ℕ)) (part : List ℕ) (outcomes : List Outcome)
-      (before last : List ℕ) → bytes ≡ given ++ rest → given ≡ before ++ last → WasRead InGave InEnded InFailed before last
+      (before last : List ℕ) → bytes ≡ given ++ rest → given ≡ before ++ last → WasRead fails InGave InEnded InFailed before last rest
       → HoldFewer before (1 + length first) → Splits given lines part → map without_return lines ≡ first ++ later
       → AreAnswered first None outcomes → AreReplies outcomes out
       → WritingFailed bytes fails InGave InEnded InFailed out
@@ -85,7 +88,7 @@ module _ {InGave : List ℕ → List ℕ → Type 0} {InEnded InFailed : List �
 
   -- replies to all lines up to the first bad one
   broke_whole : {bytes out err : List ℕ} {fails : Option Bool} {status : ℕ} (h : AllAnswered bytes fails InGave InEnded out err status)
-      (before last rest : List ℕ) → bytes ≡ (before ++ last) ++ rest → WasRead InGave InEnded InFailed before last
+      (before last rest : List ℕ) → bytes ≡ (before ++ last) ++ rest → WasRead fails InGave InEnded InFailed before last rest
       → HoldFewer before (1 + length h.lines) → IsBehind before h.bad → WritingFailed bytes fails InGave InEnded InFailed out
   broke_whole {bytes} {out} {err} {fails} h before last rest front read prompt fresh = record {
     before = before;
@@ -112,7 +115,8 @@ module _ {InGave : List ℕ → List ℕ → Type 0} {InEnded InFailed : List �
       → WritingFailed bytes fails InGave InEnded InFailed out
   broke_at_end {bytes} h = elim h.read [
     | inl (end, behind) ↦
-        broke_whole h bytes [] [] (sym (append-nil (bytes ++ []) ∙ append-nil bytes)) (inr (refl, inl end)) (h.lines, h.part, h.split, omega arith) behind
+        broke_whole h bytes [] [] (sym (append-nil (bytes ++ []) ∙ append-nil bytes)) (inr (refl, inl (refl, end)))
+        (h.lines, h.part, h.split, omega arith) behind
     | inr (before, last, rest, front, gave, behind, whole) ↦
         broke_whole h before last rest front (inl gave) (fewer_in_front (last ++ rest) h.split (front ∙ append_assoc before last rest)) behind
   ]
@@ -122,11 +126,11 @@ module _ {InGave : List ℕ → List ℕ → Type 0} {InEnded InFailed : List �
   broke_at_failure {bytes} {out} {err} {fails} h =
       let all = map without_return h.lines in
       let many = length-map h.lines without_return in
-      let broke = λ (before last : List ℕ) (are : h.given ≡ before ++ last) (read : WasRead InGave InEnded InFailed before last).
+      let broke = λ (before last : List ℕ) (are : h.given ≡ before ++ last) (read : WasRead fails InGave InEnded InFailed before last h.rest).
       among_given bytes h.given h.rest out fails h.lines all [] h.part h.outcomes before last h.front are read
       (fewer_yet (omega (arith, many)) (fewer_in_front last h.split are)) h.split (sym (append-nil all)) h.answers h.replied in
       elim h.cause [
-        | inl (may, failed) ↦ broke h.given [] (sym (append-nil h.given)) (inr (refl, inr failed))
+        | inl (may, failed) ↦ broke h.given [] (sym (append-nil h.given)) (inr (refl, inr (may, failed)))
         | inr (long, (before, last, are, gave)) ↦ broke before last are (inl gave)
       ]
 
@@ -134,7 +138,7 @@ module _ {InGave : List ℕ → List ℕ → Type 0} {InEnded InFailed : List �
       → WritingFailed bytes fails InGave InEnded InFailed out
   broke_at_memory {bytes} {out} fails h =
       among_given bytes (h.before ++ h.last) h.rest out fails h.lines h.first h.later h.part h.outcomes h.before h.last h.front refl
-      (elim h.read [ inl gave ↦ inl gave | inr (none, end) ↦ inr (none, inl end) ]) h.prompt h.split h.lines_are h.answers h.replied
+      (elim h.read [ inl gave ↦ inl gave | inr (none, all, end) ↦ inr (none, inl (all, end)) ]) h.prompt h.split h.lines_are h.answers h.replied
 
 -- ---- how the input ended
 
@@ -242,7 +246,7 @@ at_bad_end {p} fails InGave InEnded end told g whole bad =
 
 -- no memory was found
 at_memory : {bytes before last text : List ℕ} (rest more : List ℕ) (InGave : List ℕ → List ℕ → Type 0) (InEnded : List ℕ → Type 0)
-    → bytes ≡ (before ++ last) ++ rest → InGave before last ⊎ ((last ≡ []) × InEnded before) → (s : Begins start (before ++ last) text)
+    → bytes ≡ (before ++ last) ++ rest → InGave before last ⊎ ((last ≡ []) × (rest ≡ []) × InEnded before) → (s : Begins start (before ++ last) text)
     → s.read ≡ before ++ more → MemoryFailed bytes InGave InEnded text (codes "error: Out of memory\n") 1
 at_memory {bytes} {before} {last} rest more InGave InEnded e read s begins =
     let g = s.goes in
@@ -324,7 +328,7 @@ module _ {S : Type 0} (takes fails_on : S → List ℕ → S → Type 0) (flushe
       → InEnded bytes → EndIsTold fails
       → IfOk result (λ wanted. (text : List ℕ) × (last : Bool) × Runs now.number now.state (last_line now.part) text last new
       × (wanted ≡ (now.wanted || last)) × Sends takes flushes mid text after)
-      → IfErr result (λ fault. (last_line now.part ≡ now.part ∷ []) × LineStops now.number now.state now.part (Sends takes flushes mid [] after)
+      → IfErr result (λ fault. (last_line now.part ≡ now.part ∷ []) × LineStops now.number now.state now.part new (Sends takes flushes mid [] after)
       (λ text. BrokeOn takes fails_on flushes flush_fails mid text after) fault)
       → Ends bytes fails InGave InEnded InFailed (λ text. Sends takes flushes before text after)
       (λ text. BrokeOn takes fails_on flushes flush_fails before text after) result
@@ -334,13 +338,13 @@ module _ {S : Type 0} (takes fails_on : S → List ℕ → S → Type 0) (flushe
       let P : Report → Type 0 = λ said. AllAnswered bytes fails InGave InEnded front (ended (report_text said)) 2 in
       (front, subst P (sym is) (at_bad_end fails InGave InEnded end told goes whole bad), sent_still passed sent)
   Ends-all fails InGave InEnded InFailed new after (Err ReadFailed) p end told ok (whole, stops) = absurd stops
-  Ends-all fails InGave InEnded InFailed new after (Err WriteFailed) (front, goes, passed) end told ok (whole, (text, wanted, state, runs, broke)) =
-      (front ++ text, broke_at_end (at_end {v = wanted} {new = state} fails InGave InEnded end told goes (rw whole runs)), broke_on_later passed broke)
+  Ends-all fails InGave InEnded InFailed new after (Err WriteFailed) (front, goes, passed) end told ok (whole, (text, wanted, runs, broke)) =
+      (front ++ text, broke_at_end (at_end {v = wanted} {new = new} fails InGave InEnded end told goes (rw whole runs)), broke_on_later passed broke)
   Ends-all {bytes} {now} fails InGave InEnded InFailed new after (Err OutOfMemory) (front, goes, passed) end told ok (whole, sent) =
       let all : bytes ≡ (bytes ++ []) ++ [] = sym (append-nil (bytes ++ []) ∙ append-nil bytes) in
       let begins : Begins start (bytes ++ []) front =
       record { read = bytes; unread = []; place = now; bytes_are = refl; goes = goes } in
-      (front, at_memory [] [] InGave InEnded all (inr (refl, end)) begins (sym (append-nil bytes)), sent_still passed sent)
+      (front, at_memory [] [] InGave InEnded all (inr (refl, refl, end)) begins (sym (append-nil bytes)), sent_still passed sent)
 
 pub Consumes-none : (known : Option (List ℕ)) → Consumes known known []
 Consumes-none None = tt

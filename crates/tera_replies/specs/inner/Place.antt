@@ -1,6 +1,6 @@
 -- Where a feed stands.
 use Rattle.tera_replies.specs.declared.feed.Feed.{Feed}
-use Rattle.tera_replies.specs.Stretch.{Place}
+use Rattle.tera_replies.specs.inner.Stretches.{Place}
 
 abbrev pub place_of : Feed → Place
 place_of feed =

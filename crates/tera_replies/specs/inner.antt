@@ -1,0 +1,5 @@
+pub mod Stretches
+pub mod Endings
+pub mod Place
+pub mod Stated
+pub mod Terse

@@ -1,0 +1,61 @@
+-- How answering ended, and what is told of it.
+use Rattle.std.specs.Prelude.{◌≡◌, ◌≢◌, ℕ, ◌⊎◌, Bool, List, [], codes, Option, Result, Ok, Err}
+use Rattle.std.specs.Prelude.{if◌then◌else◌}
+use Rattle.tera_report.specs.Errors.{report_of}
+use Rattle.tera_report.specs.Report.{report_text}
+use Rattle.tera_replies.specs.declared.fault.Fault.{Fault}
+use Rattle.tera_replies.specs.declared.fault.Fault.TheVariants.{BadLine, ReadFailed, WriteFailed}
+use Rattle.tera_replies.specs.declared.fault.Fault.TheVariants.{OutOfMemory}
+use Rattle.tera_replies.specs.Replay.{AllAnswered, ReadingFailed, MemoryFailed, WritingFailed}
+use Rattle.tera_replies.specs.Script.{ended}
+
+-- what stands where a fault ended the writing of a reply: a failed write alone does
+abbrev pub ReplyStops : (List ℕ → Type 0) → (List ℕ → Type 0) → Fault → Type 0
+ReplyStops Replies OutBroke (BadLine report) = ⊥
+ReplyStops Replies OutBroke ReadFailed = ⊥
+ReplyStops Replies OutBroke WriteFailed = (line : List ℕ) × Replies line × OutBroke line
+ReplyStops Replies OutBroke OutOfMemory = ⊥
+
+-- how answering all of the input went: whether memory was wanted by an answer, or a fault
+abbrev pub Ends : List ℕ → Option Bool → (List ℕ → List ℕ → Type 0) → (List ℕ → Type 0)
+    → (List ℕ → Type 0) → (List ℕ → Type 0) → (List ℕ → Type 0) → Result Bool Fault → Type 0
+Ends bytes fails InGave InEnded InFailed OutGets OutBroke (Ok wanted) =
+    (out : List ℕ) × AllAnswered bytes fails InGave InEnded out [] (if wanted then 1 else 0)
+    × OutGets out
+Ends bytes fails InGave InEnded InFailed OutGets OutBroke (Err (BadLine report)) =
+    (out : List ℕ)
+    × AllAnswered bytes fails InGave InEnded out (ended (report_text (report_of report.value))) 2
+    × OutGets out
+Ends bytes fails InGave InEnded InFailed OutGets OutBroke (Err ReadFailed) =
+    (out : List ℕ)
+    × ReadingFailed bytes fails InGave InFailed out (codes "error: reading failed\n") 1
+    × OutGets out
+Ends bytes fails InGave InEnded InFailed OutGets OutBroke (Err WriteFailed) =
+    (out : List ℕ) × WritingFailed bytes fails InGave InEnded InFailed out × OutBroke out
+Ends bytes fails InGave InEnded InFailed OutGets OutBroke (Err OutOfMemory) =
+    (out : List ℕ) × MemoryFailed bytes InGave InEnded out (codes "error: Out of memory\n") 1
+    × OutGets out
+
+-- a last flush went well and left the ending as it was, or it failed; there is none where writing
+-- has failed
+abbrev pub EndsFlushed : {S : Type 0} → (S → S → Type 0) → (S → S → Type 0)
+    → Result Bool Fault → Result Bool Fault → S → S → Type 0
+EndsFlushed flushes flush_fails ending result old new =
+    ((result ≡ Err WriteFailed) × (ending ≡ Err WriteFailed) × (new ≡ old))
+    ⊎ (((result ≡ ending) × (ending ≢ Err WriteFailed) × flushes old new)
+    ⊎ ((result ≡ Err WriteFailed) × (ending ≢ Err WriteFailed) × flush_fails old new))
+
+-- what is written about the end
+abbrev pub told : Result Bool Fault → List ℕ
+told (Ok wanted) = []
+told (Err (BadLine report)) = ended (report_text (report_of report.value))
+told (Err ReadFailed) = codes "error: reading failed\n"
+told (Err WriteFailed) = codes "error: writing failed\n"
+told (Err OutOfMemory) = codes "error: Out of memory\n"
+
+abbrev pub status_at : Result Bool Fault → ℕ
+status_at (Ok wanted) = if wanted then 1 else 0
+status_at (Err (BadLine report)) = 2
+status_at (Err ReadFailed) = 1
+status_at (Err WriteFailed) = 1
+status_at (Err OutOfMemory) = 1
