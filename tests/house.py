@@ -12,8 +12,10 @@ behind a 'FAIL ..' each place that breaks it. The last line is 'house: end'.
   that tests/calls.py names for it; and each test that docs/TESTS.md names is there
 - lengths: no file of src/, specs/ or proofs/ is longer than its bound, and no line is wider
 - docs: each path, module and name that README.md and docs/ write as code is there
+- tour: the tour of README.md shows the lines and the answers of examples/tour.replay
 """
 import collections
+import itertools
 import os
 import random
 import re
@@ -72,7 +74,7 @@ def rows_in_specs():
 
 
 def words_told_to_keep(page, words):
-    """The words that the language's page lets end in a name for what is found; 'the six of two operands' are operators."""
+    """The words that the language's page lets end in a name for what is found; those from `add` to `pow` are operators."""
     told = re.search(r"(?s)\n- ([^.]*?) may end in\s+`-> NAME`", page)[1]
     operators = re.search(r"\| (`add NAME NAME`[^|]*)\|", page)[1]
     return {it for it in re.findall(r"`([a-z_]+)[ `]", told + operators) if it in words}
@@ -408,6 +410,16 @@ def is_there(code):
     return any(re.match(rf"(?:.*/)?{pattern}(?:\.\w+)?(?:/.*)?$", it) for it in FILES)
 
 
+def tour():
+    """Each line of README's tour, with its answer and behind two blanks a remark, is that of the example."""
+    shown = re.search(r"\n## A tour of the language\n(?:.*\n)*?\n((?:    .*\n)+)", read("README.md"))
+    rows = [it[4:] for it in shown[1].splitlines()] if shown else []
+    lines, answers = (read(f"examples/tour.{it}").splitlines() for it in ("replay", "answers"))
+    for row, line, answer in itertools.zip_longest(rows, lines, answers, fillvalue=""):
+        if row[:24].rstrip() != line or not f"{row[24:]}  ".startswith(f"{answer}  "):
+            yield f"README.md shows `{row}`, and examples/tour.replay `{line}` with the answer `{answer}`"
+
+
 RULES = {
     "each call has its scripts, its row and its lines": calls,
     "a lower crate's proofs are imported by their laws alone": imports,
@@ -415,6 +427,7 @@ RULES = {
     "each call that takes memory has a row that refuses it": memory,
     "files and lines keep their lengths": lengths,
     "what the documents name is there": docs,
+    "the tour of README.md is an example": tour,
 }
 
 

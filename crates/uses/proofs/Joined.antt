@@ -1,13 +1,16 @@
 -- Texts as they are shown, one after another.
-use Rattle.std.specs.Prelude.{◌≡◌, ◌<◌, ◌+◌, ◌++◌, ℕ, Bool, true, false, List, [], ◌∷◌, map, take, length, if◌then◌else◌, refl}
+use Rattle.std.specs.Prelude.{◌≡◌, ◌⊎◌, ◌<◌, ◌+◌, ◌++◌, ℕ, suc, Bool, true, false, List, [], ◌∷◌, map, take, length, if◌then◌else◌, refl}
+use Rattle.std.specs.List.{Contains}
 use Rattle.std.specs.Cow.{cow_str_bytes}
 use Rattle.std.specs.declared.borrow.CowStr.{CowStr}
-use Rattle.std.proofs.Common.{ap, sym, subst, ◌∙◌, get_or, arith}
+use Rattle.std.proofs.Common.{ap, sym, subst, ◌∙◌, get_or, arith, inl, inr}
 use Rattle.std.proofs.lemmas.List.{append_assoc, map-append, length-take-le}
 use Rattle.tera_arguments.proofs.ItemLaws.{up_to}
-use Rattle.tera_arguments.specs.Rendered.{Renders, is_shown_plain}
+use Rattle.tera_arguments.specs.Rendered.{Renders, RendersNot, is_shown_plain}
 use Rattle.tera_meaning.specs.Form.{MarkedText}
-use Rattle.uses.specs.Filters.{joined, shown}
+use Rattle.tera_report.specs.Errors.{IsOutOfMemory}
+use Rattle.tera_report.specs.declared.errors.Error.{Error}
+use Rattle.uses.specs.Filters.{EscapeRefuses, joined, shown}
 
 -- what is rendered is what is shown
 pub shown_as : {S Z : Type 0} (escapes : S → Bool) (escaped : S → List ℕ → List ℕ) (state : S) (t : MarkedText) (c : CowStr Z)
@@ -56,3 +59,17 @@ module _ {X : Type 0} (f : X → List ℕ) (between : List ℕ) where
       is_grown ∙ ap (λ t. (t ++ between) ++ f x) so
       ∙ behind (take i xs) x (subst (λ n. 0 < n) (sym (length-take-le i xs (omega (arith, below)))) past)
       ∙ ap (λ parts. joined between (map f parts)) (sym (up_to xs i x below is))
+
+-- an item is among a first one and the others
+pub is_among : {X : Type 0} (first : X) (xs : List X) (i : ℕ) (x : X) → i < length xs → x ≡ get_or xs i x → Contains (first ∷ xs) x
+is_among first xs i x below is = (suc i, omega (arith, below), sym is)
+
+pub is_first : {X : Type 0} (first : X) (xs : List X) → Contains (first ∷ xs) first
+is_first first xs = (0, omega arith, refl)
+
+module _ {S : Type 0} (escapes : S → Bool) (refuses : S → List ℕ → Error → Type 0) (state : S) where
+  -- what is refused of one text is refused of texts that it is among
+  pub refused_of : (texts : List MarkedText) (t : MarkedText) (e : Error) → Contains texts t
+      → IsOutOfMemory e ⊎ RendersNot escapes refuses state t e → EscapeRefuses escapes refuses state texts e
+  refused_of texts t e among (inl memory) = inl memory
+  refused_of texts t e among (inr refused) = inr (t, among, refused)

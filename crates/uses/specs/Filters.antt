@@ -2,10 +2,10 @@
 use Rattle.std.specs.Prelude.{◌≡◌, ◌≢◌, ◌⊎◌, ◌++◌, ℕ, pos, Bool, List, [], ◌∷◌, map, codes}
 use Rattle.std.specs.Prelude.{if◌then◌else◌}
 use Rattle.std.specs.Prelude.{Option, None, Some, Ok, MatchOption}
-use Rattle.std.specs.List.{AllZip}
+use Rattle.std.specs.List.{Contains}
 use Rattle.std.specs.Option.{IsSomeAnd}
-use Rattle.tera_arguments.specs.Rendered.{is_shown_plain}
-use Rattle.tera_arguments.specs.Taken.{Denies, DeniesItems, IsNoArray, as_marked_text}
+use Rattle.tera_arguments.specs.Rendered.{RendersNot, is_shown_plain}
+use Rattle.tera_arguments.specs.Taken.{Denies, DeniesItems, IsNoArray, TakesItems, as_marked_text}
 use Rattle.tera_meaning.specs.Conversion.{IntegerType, converted}
 use Rattle.tera_meaning.specs.Form.{Form, MarkedText}
 use Rattle.tera_meaning.specs.Kind.{kind_in, undefined_kind}
@@ -44,6 +44,13 @@ joined between [] = []
 joined between (t ∷ []) = t
 joined between (t ∷ (next ∷ texts)) = t ++ (between ++ joined between (next ∷ texts))
 
+-- these are the texts of an array, and this is the separator that is given
+abbrev pub AreTexts : Form → List MarkedText → Type 0
+AreTexts value parts = TakesItems items_in (λ item part. as_marked_text item ≡ Ok part) value parts
+
+abbrev pub IsSeparator : Option Form → MarkedText → Type 0
+IsSeparator given between = IsSomeAnd given (λ sep. as_marked_text sep ≡ Ok between)
+
 module _ {S : Type 0} (escapes : S → Bool) (escaped : S → List ℕ → List ℕ) (state : S) where
   -- a text as it is shown
   abbrev pub shown : MarkedText → List ℕ
@@ -51,10 +58,8 @@ module _ {S : Type 0} (escapes : S → Bool) (escaped : S → List ℕ → List 
 
   -- the texts of an array as they are shown, with the one that is given between them
   abbrev pub IsJoined : Form → Option Form → Form → Type 0
-  IsJoined value given v = (parts : List MarkedText) × (held : List Form) × (between : MarkedText)
-      × (items_in value ≡ Some held) × AllZip (λ item part. as_marked_text item ≡ Ok part) held
-      parts
-      × IsSomeAnd given (λ sep. as_marked_text sep ≡ Ok between)
+  IsJoined value given v = (parts : List MarkedText) × (between : MarkedText)
+      × AreTexts value parts × IsSeparator given between
       × (v ≡ marked (joined (shown between) (map shown parts)) (escapes state))
 
 -- the value is no array of texts
@@ -68,6 +73,16 @@ abbrev pub RefusesSeparator : Option Form → Error → Type 0
 RefusesSeparator given e = MatchOption given (Raises (missing_argument (codes "sep")) e)
     (λ sep. Denies (as_marked_text sep) e)
 
--- a text was not escaped, or there was no memory
-abbrev pub EscapeRefuses : {S : Type 0} → (S → List ℕ → Error → Type 0) → S → Error → Type 0
-EscapeRefuses refuses state e = IsOutOfMemory e ⊎ ((t : List ℕ) × refuses state t e)
+module _ {S : Type 0} (escapes : S → Bool) (refuses : S → List ℕ → Error → Type 0) (state : S) where
+  -- one of the texts that are escaped was not, or there was no memory
+  abbrev pub EscapeRefuses : List MarkedText → Error → Type 0
+  EscapeRefuses texts e = IsOutOfMemory e
+      ⊎ ((t : MarkedText) × Contains texts t × RendersNot escapes refuses state t e)
+
+  -- the value is no array of texts; or it is one, and then the separator is refused, or one of the
+  -- texts as it is escaped
+  abbrev pub RefusesJoined : Form → Option Form → Error → Type 0
+  RefusesJoined value given e = RefusesTexts value e
+      ⊎ ((parts : List MarkedText) × AreTexts value parts × (RefusesSeparator given e
+      ⊎ ((between : MarkedText) × IsSeparator given between
+      × EscapeRefuses (between ∷ parts) e)))

@@ -1,4 +1,5 @@
 pub mod Maps
+pub mod Lists
 pub mod Filters
 pub mod Render
 pub mod Nested

@@ -1,14 +1,11 @@
 //! A filter and a function of templates, as a user would write them.
-ghost use Rattle.std.specs.Prelude.{◌≡◌, ◌⊎◌, ◌++◌, codes, map, IfOk, IfErr, OnOk, MatchOption};
-ghost use Rattle.std.specs.Option.{IsSomeAnd};
+ghost use Rattle.std.specs.Prelude.{◌≡◌, ◌⊎◌, ◌++◌, ◌∷◌, codes, map, IfOk, IfErr, OnOk};
 ghost use Rattle.std.specs.String.{string_bytes};
-ghost use Rattle.tera_arguments.specs.Taken.{Denies};
-ghost use Rattle.tera_meaning.specs.Conversion.{IntegerType, converted};
+ghost use Rattle.tera_arguments.specs.Rendered.{RendersNot};
 ghost use Rattle.tera_meaning.specs.Lookup.{attr};
-ghost use Rattle.tera_report.specs.Errors.{IsOutOfMemory, Raises};
-ghost use Rattle.tera_report.specs.Refusal.{missing_argument};
+ghost use Rattle.tera_report.specs.Errors.{IsOutOfMemory};
 ghost use Rattle.uses.specs.Filters.{IsTruncated, IsJoined, RefusesLength, joined, shown};
-ghost use Rattle.uses.specs.Filters.{RefusesTexts, RefusesSeparator, EscapeRefuses};
+ghost use Rattle.uses.specs.Filters.{EscapeRefuses, RefusesJoined};
 ghost use Rattle.uses.specs.Filters.{IsOrDefault, LacksDefault};
 
 use std::alloc::Global;
@@ -50,9 +47,9 @@ pub fn or_default(alloc: Global, value: &Value, kwargs: &Kwargs) -> TeraResult<V
 /// A function: the texts of an array one after another, with the argument `sep` between them. Where
 /// texts are escaped, so are these, unless they are marked safe, and the whole is marked safe.
 ///
-/// Refuses what is no array of texts, a separator that is missing or is no text, and what the
-/// escaping refuses. Takes memory for the texts; want of it, `Out of memory`, may be answered in
-/// their place.
+/// Refuses what is no array of texts, then a separator that is missing or is no text, and then what
+/// the escaping refuses of one of these texts. Takes memory for the texts; want of it, `Out of
+/// memory`, may be answered in their place.
 pub fn join<S: Autoescape>(
     alloc: Global,
     array: &Value,
@@ -61,9 +58,8 @@ pub fn join<S: Autoescape>(
 ) -> TeraResult<Value>
     ensures ok { IfOk result (IsJoined S.escapes S.escaped state.now array.now
         (attr kwargs.now (codes "sep"))) }
-    ensures err { IfErr result (λ e. RefusesTexts array.now e
-        ⊎ RefusesSeparator (attr kwargs.now (codes "sep")) e
-        ⊎ EscapeRefuses S.refuses state.now e) }
+    ensures err { IfErr result (RefusesJoined S.escapes S.refuses state.now array.now
+        (attr kwargs.now (codes "sep"))) }
 {
     let parts = Vec::<StringInput<'_>>::from_value(alloc, array)?;
     let between = kwargs.must_get::<StringInput<'_>>(alloc, "sep")?;
@@ -85,7 +81,8 @@ fn joined<S: Autoescape>(
     ensures ok { IfOk result (λ t. string_bytes t
         ≡ joined (shown S.escapes S.escaped state.now between.now)
         (map (shown S.escapes S.escaped state.now) parts.now)) }
-    ensures err { IfErr result (EscapeRefuses S.refuses state.now) }
+    ensures err { IfErr result
+        (EscapeRefuses S.escapes S.refuses state.now (between.now ∷ parts.now)) }
 {
     let mut joined = String::new(alloc);
     for (place, part) in parts.iter().enumerate() {
@@ -107,7 +104,8 @@ fn put_shown<S: Autoescape>(
 ) -> TeraResult<()>
     ensures ok { OnOk result (string_bytes out.new
         ≡ string_bytes out.old ++ shown S.escapes S.escaped state.now text.now) }
-    ensures err { IfErr result (EscapeRefuses S.refuses state.now) }
+    ensures err { IfErr result (λ e. IsOutOfMemory e
+        ⊎ RendersNot S.escapes S.refuses state.now text.now e) }
 {
     let shown = text.rendered(alloc, state)?;
     out.push_str(shown.as_str())?;

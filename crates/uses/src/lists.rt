@@ -1,9 +1,12 @@
 //! The end of an array, by a slice.
 ghost use Rattle.std.specs.Prelude.{◌≡◌, ◌-◌, pos, neg_ℤ, List, length, drop, Some, IfOk, IfErr};
+ghost use Rattle.std.specs.Prelude.{Result, Ok};
 ghost use Rattle.tera_meaning.specs.Form.{Form};
 ghost use Rattle.tera_meaning.specs.Read.{items_in};
 ghost use Rattle.tera_meaning.specs.Tree.{array, items};
-ghost use Rattle.tera_report.specs.Errors.{IsOutOfMemory};
+ghost use Rattle.tera_report.specs.Errors.{IsOutOfMemory, Refuses};
+ghost use Rattle.tera_report.specs.Refusal.{Refusal};
+ghost use Rattle.uses.specs.Lists.{IsEnd};
 
 use std::alloc::Global;
 use tera_meaning::slices::slices_by_one_are_stretches;
@@ -19,6 +22,9 @@ pub fn last_items(alloc: Global, value: &Value, count: u64) -> TeraResult<Value>
     ensures ok { (xs : List Form) → items_in value.now ≡ Some xs
         → IfOk result (λ last. last ≡ array (items (drop (length xs - count) xs))) }
     ensures err { (xs : List Form) → items_in value.now ≡ Some xs → IfErr result IsOutOfMemory }
+    ensures any { IfOk result (λ last. IsEnd value.now count (Ok last)) }
+    ensures any_err { IfErr result (λ e. (outcome : Result Form Refusal)
+        × IsEnd value.now count outcome × Refuses outcome e) }
 {
     slices_by_one_are_stretches();
     if count == 0 {

@@ -1,12 +1,13 @@
 //! Maps: made of known pairs, filled in a loop, asked by a name, and read pair by pair.
 ghost use Rattle.std.specs.Prelude.{◌≡◌, [], ◌∷◌, pos, true, codes, IfOk, IfErr};
+ghost use Rattle.std.specs.Map.{values_of};
 ghost use Rattle.tera_meaning.specs.Integer.{u64 as kind_u64};
 ghost use Rattle.tera_meaning.specs.KeyMeaning.{text_key, borrowed, truth_key};
-ghost use Rattle.tera_meaning.specs.Pairs.{key_form_order, value_at};
+ghost use Rattle.tera_meaning.specs.Pairs.{key_form_order, put_all, value_at};
 ghost use Rattle.tera_meaning.specs.Tree.{none, array, object, items, members};
 ghost use Rattle.tera_report.specs.Errors.{IsOutOfMemory};
 ghost use Rattle.tera_values.specs.View.{integer};
-ghost use Rattle.uses.specs.Maps.{with_each, values_of, is_truthy};
+ghost use Rattle.uses.specs.Maps.{flagged, is_truthy};
 
 use std::alloc::Global;
 use tera_report::TeraResult;
@@ -27,7 +28,7 @@ pub fn settings(alloc: Global, depth: u64) -> TeraResult<Value>
 
 /// A map in which each of the numbers is a key of `true`. `Out of memory` is the only refusal.
 pub fn flags(alloc: Global, numbers: &[u64]) -> TeraResult<Map>
-    ensures ok { IfOk result (λ map. map ≡ with_each [] numbers.now) }
+    ensures ok { IfOk result (λ map. map ≡ put_all key_form_order [] (flagged numbers.now)) }
     ensures err { IfErr result IsOutOfMemory }
 {
     let mut map = Map::new(alloc);

@@ -1,11 +1,12 @@
 //! Steps over contexts: one before others, and others behind a value that is kept.
-ghost use Rattle.std.specs.Prelude.{◌≡◌, List, ◌∷◌, map, IfOk, IfErr};
+ghost use Rattle.std.specs.Prelude.{◌≡◌, ◌⊎◌, List, ◌∷◌, map, IfOk, IfErr, OnErr};
 ghost use Rattle.std.specs.FinMap.{insert};
 ghost use Rattle.std.specs.List.{AllZip};
 ghost use Rattle.tera_context.specs.Call.{command_of};
 ghost use Rattle.tera_context.specs.Steps.{ShowsOutcome};
 ghost use Rattle.tera_meaning.specs.Outcome.{Outcome};
 ghost use Rattle.tera_meaning.specs.Run.{IsRun, NoneWantsMemory, state_after_all};
+ghost use Rattle.tera_meaning.specs.Step.{IsStep};
 ghost use Rattle.tera_report.specs.Errors.{IsOutOfMemory};
 
 use tera_context::{Answer, Context, Step, run, step};
@@ -27,6 +28,8 @@ pub fn step_and_run(
         × IsRun context.old (command_of first ∷ map command_of later.items) (outcome ∷ outcomes)
         context.new) }
     ensures err { IfErr result IsOutOfMemory }
+    ensures done { OnErr result ((outcome : Outcome)
+        × IsStep context.old (command_of first) outcome context.new) }
 {
     let answer = step(context, first);
     let answers = run(context, later)?;
@@ -37,7 +40,7 @@ pub fn step_and_run(
 /// context is what they leave of that.
 ///
 /// Takes memory; want of it for the value or for the list of answers, `Out of memory`, is the only
-/// refusal.
+/// refusal. It leaves the context as it was, or with that value.
 pub fn run_with(
     context: &mut Context,
     name: &str,
@@ -46,9 +49,13 @@ pub fn run_with(
 ) -> TeraResult<Vec<TeraResult<Answer>>>
     ensures run { IfOk result (λ answers. (outcomes : List Outcome)
         × AllZip ShowsOutcome answers.items outcomes
+        × IsRun (insert context.old name.now value) (map command_of steps.items) outcomes
+        context.new
         × (NoneWantsMemory outcomes → context.new
         ≡ state_after_all (insert context.old name.now value) (map command_of steps.items))) }
     ensures err { IfErr result IsOutOfMemory }
+    ensures left { OnErr result ((context.new ≡ context.old)
+        ⊎ (context.new ≡ insert context.old name.now value)) }
 {
     runs_give_their_outcomes();
     context.insert_value(name, value)?;

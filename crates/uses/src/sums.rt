@@ -77,6 +77,9 @@ pub fn average(alloc: Global, values: &[Value]) -> TeraResult<Value>
         × (average ≡ as_i128 (int_div_euclid (sum_of zs) (pos (length values.now))))) }
     ensures err { IfErr result (Refuses (and_then (added_up nothing_yet values.now)
         (λ sum. calculated floor_division sum (integer kind_u64 (pos (length values.now)))))) }
+    ensures succeeds { IsOk (and_then (added_up nothing_yet values.now)
+        (λ sum. calculated floor_division sum (integer kind_u64 (pos (length values.now)))))
+        → IsOk result }
 {
     calculations_are_of_numbers();
     operators_compute_what_they_stand_for();

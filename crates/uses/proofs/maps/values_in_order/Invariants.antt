@@ -1,5 +1,5 @@
 use Rattle.std.proofs.Common.{◌≡◌, ◌++◌}
-use Rattle.uses.specs.Maps.{values_of}
+use Rattle.std.specs.Map.{values_of}
 use Rattle.uses.proofs.maps.values_in_order.Given as goal
 
 -- the values so far and those of the pairs that are left are all of them
