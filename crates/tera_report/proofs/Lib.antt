@@ -9,3 +9,4 @@ mod ReportLemmas
 pub mod SentLaws
 pub mod TellLaws
 mod WatchLemmas
+mod WriterLemmas

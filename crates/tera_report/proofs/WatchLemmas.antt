@@ -1,5 +1,5 @@
 -- What several writes of a watched writer did, one after another.
-use Rattle.std.proofs.Common.{◌≡◌, ◌≢◌, ℕ, ◌+◌, ◌-◌, ◌^◌, ◌≤◌, true, ◌||◌, IsTrue, List, [], ◌∷◌, ◌++◌, length, take, drop, refl, sym, ap, subst, ◌∙◌}
+use Rattle.std.proofs.Common.{◌≡◌, ◌≢◌, ℕ, ◌+◌, ◌-◌, ◌^◌, ◌<◌, ◌≤◌, true, ◌||◌, IsTrue, List, [], ◌∷◌, ◌++◌, length, take, drop, refl, sym, ap, subst, ◌∙◌}
 use Rattle.std.proofs.Common.{append_assoc, append-nil, take-append-drop, arith, length-drop, Option, Result, Ok}
 use Rattle.std.proofs.Math.Bool.{or_assoc, or-false}
 use Rattle.std.proofs.lemmas.List.{take_rest}
@@ -8,7 +8,7 @@ use Rattle.std.specs.Io.KnownBytes.{Appends}
 use Rattle.std.specs.List.{AllByRecursion}
 use Rattle.std.specs.declared.io.Error.{Error}
 use Rattle.tera_report.specs.Watch.{has_failed, held, SameWriter, watched_writer, WatchedTakes, WatchedFails}
-use Rattle.tera_report.specs.Writer.{Attempt, once, is_fault, bytes_taken, all_taken, has_fault, GoesOn, Tries}
+use Rattle.tera_report.specs.Writer.{Attempt, once, is_fault, bytes_taken, all_taken, has_fault, GoesOn, Stops, Tries}
 use Rattle.tera_report.specs.inner.WriterLaws.{tries_more, taken_more, faults_more, or_later}
 use Rattle.tera_report.specs.declared.watch.Watched.{Watched}
 
@@ -46,7 +46,7 @@ module _ {W : Type 0} (contents : W → Option (List ℕ)) (wrote : W → List �
 
     pub tried_fails : IsTrue (has_fault attempts) → (rest : List ℕ) → all_taken attempts ++ rest ≡ buf → rest ≢ []
         → (before : List Attempt) (last : Attempt) → attempts ≡ before ++ last ∷ [] → AllByRecursion GoesOn before
-        → (GoesOn last → 2 ^ 64 - 1 ≤ length attempts) → WatchedFails contents wrote old buf new
+        → (length attempts < 2 ^ 64 - 1 → Stops last) → WatchedFails contents wrote old buf new
     tried_fails fault rest part left before last ended steady stops = record {
       same = h.same;
       told = subst IsTrue (sym h.told) (or_later _ _ fault);
@@ -82,11 +82,11 @@ module _ {W : Type 0} (contents : W → Option (List ℕ)) (wrote : W → List �
 
     -- it failed, and took nothing
     pub failed_here : (buf : List ℕ) → all_taken attempts ++ rest ≡ buf → is_fault answer rest ≡ true → bytes_taken answer rest ≡ []
-        → rest ≢ [] → AllByRecursion GoesOn attempts → (GoesOn (record { given = rest; answer = answer }) → ⊥) → WatchedFails contents wrote old buf new
+        → rest ≢ [] → AllByRecursion GoesOn attempts → Stops (record { given = rest; answer = answer }) → WatchedFails contents wrote old buf new
     failed_here buf split fault none left steady stops =
         let nothing = taken_more attempts rest answer ∙ ap (λ l. all_taken attempts ++ l) none ∙ append-nil (all_taken attempts) in
         tried_fails new (attempts ++ once rest answer) buf one_more (subst IsTrue (sym (faults_more attempts rest answer)) (or_later _ _ fault)) rest
-        (ap (λ l. l ++ rest) nothing ∙ split) left attempts (record { given = rest; answer = answer }) refl steady (λ on. absurd (stops on))
+        (ap (λ l. l ++ rest) nothing ∙ split) left attempts (record { given = rest; answer = answer }) refl steady (λ few. stops)
 
 -- bytes of which none can be taken without a fault
 pub some_if_fault : (bytes : List ℕ) → is_fault {E = Error} (Ok 0) bytes ≡ true → bytes ≢ []

@@ -1,5 +1,5 @@
 -- Writes of a writer in turn: what each was given, and what it answered.
-use Rattle.std.specs.Prelude.{◌≡◌, ◌≢◌, ℕ, ◌^◌, ◌-◌, ◌<◌, ◌≤◌, Bool, true, false, ◌&&◌, ◌||◌}
+use Rattle.std.specs.Prelude.{◌≡◌, ◌≢◌, ℕ, ◌^◌, ◌-◌, ◌<◌, Bool, true, false, ◌&&◌, ◌||◌}
 use Rattle.std.specs.Prelude.{◌==◌, not, IsTrue, List, [], ◌∷◌, ◌++◌, length, take}
 use Rattle.std.specs.Prelude.{Result, Ok, Err, MatchResult}
 use Rattle.std.specs.List.{AllByRecursion, FoldsTo, flat_map}
@@ -39,6 +39,12 @@ has_fault (a ∷ rest) = is_fault a.answer a.given || has_fault rest
 abbrev pub GoesOn : Attempt → Type 0
 GoesOn a = MatchResult a.answer (λ taken. 0 < taken) (λ e. error_kind e ≡ Interrupted)
 
+-- no more is written after this write: it took no byte of some, or answered an error and was not
+-- interrupted
+abbrev pub Stops : Attempt → Type 0
+Stops a = MatchResult a.answer (λ taken. (taken ≡ 0) × (a.given ≢ []))
+    (λ e. error_kind e ≢ Interrupted)
+
 -- the writer went from old to new by these writes, in turn
 abbrev pub Tries : {W : Type 0} → (W → List ℕ → Result ℕ Error → W → Type 0)
     → W → List Attempt → W → Type 0
@@ -53,9 +59,10 @@ pub record Passes {W : Type 0} (wrote : W → List ℕ → Result ℕ Error → 
   pub whole : all_taken attempts ≡ bytes
   pub steady : AllByRecursion GoesOn attempts
 
--- the writer went from old to new by writes that took some of these bytes and not all, and one of
--- them answered an error or took no byte of some; each but the last took a byte or was interrupted,
--- and so may the last where there are so many
+-- the writer went from old to new by writes that took a beginning of these bytes and not all, and
+-- one of them answered an error or took no byte of some. Each but the last took a byte or was
+-- interrupted. After the last no more is written: because of what it answered, or because there are
+-- 2^64 - 1 of them or more
 pub record Breaks {W : Type 0} (wrote : W → List ℕ → Result ℕ Error → W → Type 0) (old : W)
     (bytes : List ℕ) (new : W) : Type 0 where
   pub attempts : List Attempt
@@ -68,7 +75,7 @@ pub record Breaks {W : Type 0} (wrote : W → List ℕ → Result ℕ Error → 
   pub last : Attempt
   pub ended : attempts ≡ before ++ last ∷ []
   pub steady : AllByRecursion GoesOn before
-  pub stops : GoesOn last → 2 ^ 64 - 1 ≤ length attempts
+  pub stops : length attempts < 2 ^ 64 - 1 → Stops last
 
 -- a flush of the writer that went well, and one that failed, led from old to new
 abbrev pub Flushes : {W : Type 0} → (W → Result (Unit {0}) Error → W → Type 0) → W → W → Type 0

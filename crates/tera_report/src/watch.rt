@@ -8,7 +8,9 @@ ghost use Rattle.tera_report.specs.Sink.{Sends};
 ghost use Rattle.tera_report.specs.Watch.{SameWriter, WatchedTakes, WatchedFails, WatchedFlushes};
 ghost use Rattle.tera_report.specs.Writer.{is_fault};
 
-pub use crate::writer::Writer;
+pub use crate::writer::{
+    Writer, one_write_passes_or_breaks, what_breaks_is_cut_short, what_passes_is_taken_whole,
+};
 use std::io;
 use std::io::{ErrorKind, Write};
 

@@ -1,8 +1,13 @@
 //! A writer of which a clause can name each write, with the bytes that it was given and its answer.
-ghost use Rattle.std.specs.Prelude.{ℕ, List, Option, Result};
+ghost use Rattle.std.specs.Prelude.{◌≡◌, ◌≢◌, ◌<◌, ◌-◌, ◌^◌, ℕ, List, [], Option, Result, Ok, Err};
+ghost use Rattle.std.specs.Prelude.{IsErrAnd, IsTrue, length};
 ghost use Rattle.std.specs.Io.{WritesAtMost};
 ghost use Rattle.std.specs.Io.KnownBytes.{Keeps, WriteAppends};
+ghost use Rattle.std.specs.IoError.{error_kind};
+ghost use Rattle.std.specs.List.{AllByRecursion};
 ghost use Rattle.std.specs.declared.io.Error.{Error};
+ghost use Rattle.std.specs.declared.io.ErrorKind.TheVariants.{Interrupted};
+ghost use Rattle.tera_report.specs.Writer.{Passes, Breaks, all_taken, is_fault};
 
 use std::io;
 use std::io::Write;
@@ -54,3 +59,38 @@ impl<W: Write> Writer for W {
         self.flush()
     }
 }
+
+/// What passes is taken whole, and a write of it answered an error, or took no byte of some, only
+/// where it was interrupted.
+pub fn what_passes_is_taken_whole<W: Writer>()
+    ensures whole { (old : W) (bytes : List ℕ) (new : W) (passed : Passes W.wrote old bytes new)
+        → all_taken passed.attempts ≡ bytes }
+    ensures faults { (old : W) (bytes : List ℕ) (new : W) (passed : Passes W.wrote old bytes new)
+        → AllByRecursion (λ a. IsTrue (is_fault a.answer a.given)
+        → IsErrAnd a.answer (λ e. error_kind e ≡ Interrupted)) passed.attempts }
+{}
+
+/// What breaks is cut short: its writes took fewer bytes than it has. Where there are fewer than
+/// 2^64 - 1 of them, the last answered an error or took no byte of some.
+pub fn what_breaks_is_cut_short<W: Writer>()
+    ensures short { (old : W) (bytes : List ℕ) (new : W) (broke : Breaks W.wrote old bytes new)
+        → length (all_taken broke.attempts) < length bytes }
+    ensures fault { (old : W) (bytes : List ℕ) (new : W) (broke : Breaks W.wrote old bytes new)
+        → length broke.attempts < 2 ^ 64 - 1
+        → IsTrue (is_fault broke.last.answer broke.last.given) }
+{}
+
+/// Some bytes that one write took whole passed. Where it took none, or answered an error and was
+/// not interrupted, they broke. Where it was interrupted, they pass where later writes pass them.
+pub fn one_write_passes_or_breaks<W: Writer>()
+    ensures whole { (old : W) (bytes : List ℕ) (new : W) → bytes ≢ []
+        → W.wrote old bytes (Ok (length bytes)) new → Passes W.wrote old bytes new }
+    ensures none { (old : W) (bytes : List ℕ) (new : W) → bytes ≢ []
+        → W.wrote old bytes (Ok 0) new → Breaks W.wrote old bytes new }
+    ensures refused { (old : W) (bytes : List ℕ) (e : Error) (new : W) → bytes ≢ []
+        → error_kind e ≢ Interrupted → W.wrote old bytes (Err e) new
+        → Breaks W.wrote old bytes new }
+    ensures again { (old : W) (bytes : List ℕ) (e : Error) (mid new : W)
+        → error_kind e ≡ Interrupted → W.wrote old bytes (Err e) mid
+        → Passes W.wrote mid bytes new → Passes W.wrote old bytes new }
+{}

@@ -110,7 +110,5 @@ module _ {W : Type 0} (wrote : W → List ℕ → Result ℕ Error → W → Typ
         ap (λ l. p.attempts ++ l) q.ended
         ∙ sym (append_assoc p.attempts q.before (q.last ∷ []));
     steady = all_joined _ p.attempts q.before p.steady q.steady;
-    stops = λ more.
-        let most = q.stops more in
-        omega (arith, length-append p.attempts q.attempts, most);
+    stops = λ few. q.stops (omega (arith, length-append p.attempts q.attempts, few));
   }

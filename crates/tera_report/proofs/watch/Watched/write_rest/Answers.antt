@@ -33,7 +33,7 @@ returns-in-Ok-eq0 g c =
     failed_here g.W.Writer.contents g.W.Writer.wrote _ _ _ attempts c.loop-turn.rest.now (Ok c.in-Ok-eq0.field-0) h e.wrote e.bytes e.same e.told _ split
     (subst (λ n. is_fault {E = Error} (Ok n) c.loop-turn.rest.now ≡ true) (sym c.in-Ok-eq0.field-0-test) some)
     (subst (λ n. take n c.loop-turn.rest.now ≡ []) (sym c.in-Ok-eq0.field-0-test) refl) (some_if_fault _ some) steady
-    (λ on. omega (arith, on, c.in-Ok-eq0.field-0-test))
+    (c.in-Ok-eq0.field-0-test, some_if_fault _ some)
 
 pub returns-then-not-matches : goal.returns-then-not-matches
 returns-then-not-matches g c =
@@ -92,4 +92,4 @@ returns g c =
     let late : 2 ^ 64 - 1 ≤ length attempts = omega (arith, turns, c.loop-turn-test.false) in
     let (before, last, ended, gone_on) = ended_late attempts late steady in
     tried_fails g.W.Writer.contents g.W.Writer.wrote _ _ attempts _ h fault c.loop-turn.rest.now split
-    (λ none. let is = ap length none in search rules) before last ended gone_on (λ on. late)
+    (λ none. let is = ap length none in search rules) before last ended gone_on (λ few. absurd (omega (arith, few, late)))

@@ -27,7 +27,7 @@ returns-in-Ok-eq0-clause-told g c =
     failed_here g.W.Writer.contents g.W.Writer.wrote _ _ _ [] buf (Ok c.in-Ok-eq0.field-0) (none_tried _ _ _) e.wrote e.bytes e.same e.told buf refl
     (subst (λ n. is_fault {E = Error} (Ok n) buf ≡ true) (sym c.in-Ok-eq0.field-0-test) some)
     (subst (λ n. take n buf ≡ []) (sym c.in-Ok-eq0.field-0-test) refl) (some_if_fault _ some) tt
-    (λ on. omega (arith, on, c.in-Ok-eq0.field-0-test))
+    (c.in-Ok-eq0.field-0-test, some_if_fault _ some)
 
 pub returns-in-Ok-clause-told : goal.returns-in-Ok-clause-told
 returns-in-Ok-clause-told g c =
