@@ -7,7 +7,8 @@ use Rattle.std.proofs.lemmas.List.Concat.{flat_map-append}
 use Rattle.std.proofs.lemmas.List.{length-take, get_or-take, take-append-drop}
 use Rattle.std.specs.List.{flat_map, AllByRecursion}
 use Rattle.tera_report.specs.Escaping.{Token, itself, ampersand, less_than, greater_than, double_quote, single_quote, spelling, decoding, is_special, IsToken}
-use Rattle.tera_report.specs.Escaping.{Spells, token_of, escaped, IsPlain}
+use Rattle.tera_report.specs.Escaping.{Spells, token_of, escaped}
+use Rattle.tera_report.specs.inner.Pieces.{IsPlain}
 
 -- an ordinary byte's token is the byte itself
 pub token_of-plain : (byte : ℕ) → is_special byte ≡ false → token_of byte ≡ itself byte

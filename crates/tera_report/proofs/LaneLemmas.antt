@@ -8,7 +8,8 @@ use Rattle.std.proofs.lemmas.Bool.{cases_lt}
 use Rattle.std.specs.List.{position_or_len}
 use Rattle.std.specs.Simd.Lanes.{zip2, mask_l, top, chunk}
 use lib.Count.{count_trailing_zeros}
-use Rattle.tera_report.specs.Escaping.{is_special, IsPlain}
+use Rattle.tera_report.specs.Escaping.{is_special}
+use Rattle.tera_report.specs.inner.Pieces.{IsPlain}
 
 -- all ones where the test passes
 abbrev pub ones : Bool → ℕ

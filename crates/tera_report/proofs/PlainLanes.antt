@@ -7,7 +7,7 @@ use Rattle.std.proofs.lemmas.Simd.{zip2_splat, zip2_splat_left, zip2_of_maps, ma
 use Rattle.std.proofs.lemmas.List.{length-map}
 use Rattle.std.specs.Bool.{OnTrue}
 use Rattle.std.specs.Simd.Lanes.{zip2, mask_l, top, chunk}
-use Rattle.tera_report.specs.Quoted.{is_marked, PlainBetween}
+use Rattle.tera_report.specs.inner.Quoted.{is_marked, PlainBetween}
 use Rattle.tera_report.proofs.LaneLemmas.{ones, hit, either, top_ones}
 
 abbrev below : ℕ → ℕ → ℕ

@@ -16,8 +16,8 @@ use Rattle.std.specs.Char.Escape.{IsEscapeDebug, escape_default}
 use Rattle.std.specs.Cmp.Lexicographic.{bytes_decides}
 use Rattle.std.specs.Fmt.{◌++?◌, debug_escape, debug_str, debug_items, comma_space, digits}
 use Rattle.std.specs.List.{list_all}
-use Rattle.tera_report.specs.Quoted.{IsText, is_ascii_text, is_marked, escapes, quoted, Quotes, QuotesItems, Cuts, SkipsPlain, PlainBetween, Escapes}
-use Rattle.tera_report.specs.Quoted.{EscapesMarked}
+use Rattle.tera_report.specs.Quoted.{IsText, is_ascii_text, escapes, quoted, Quotes}
+use Rattle.tera_report.specs.inner.Quoted.{is_marked, QuotesItems, Cuts, SkipsPlain, PlainBetween, Escapes, EscapesMarked}
 use Rattle.tera_report.proofs.PutLaws.{texts_joined}
 
 -- what `escape_debug` gives for an ASCII character

@@ -11,8 +11,9 @@ use Rattle.std.specs.Fmt.{decimal}
 use Rattle.std.specs.List.{flat_map, join_with_byte, sum}
 use Rattle.tera_report.specs.declared.span.Span.{Span}
 use Rattle.tera_report.specs.Parts.{line_feed}
-use Rattle.tera_report.specs.Report.{Note, Report, space, error_lines, frame_text, line_of, line_of_note, margin, note_text, numbered_line, place_text}
-use Rattle.tera_report.specs.Report.{shown_lines, shown_place, underline, width}
+use Rattle.tera_report.specs.Report.{Note, Report, space, error_lines, line_of, line_of_note, margin, note_text, numbered_line, place_text, shown_lines}
+use Rattle.tera_report.specs.Report.{underline, width}
+use Rattle.tera_report.specs.inner.Report.{frame_text, shown_place}
 
 -- a run of one ASCII character may be cut at any place, and its front is a run
 pub run_cut : (n k c : ℕ) → c < 128 → k ≤ n → IsCharBoundary (replicate n c) k

@@ -8,8 +8,8 @@ use Rattle.std.specs.Io.KnownBytes.{Appends}
 use Rattle.std.specs.List.{AllByRecursion}
 use Rattle.std.specs.declared.io.Error.{Error}
 use Rattle.tera_report.specs.Watch.{has_failed, held, SameWriter, watched_writer, WatchedTakes, WatchedFails}
-use Rattle.tera_report.specs.Writer.{Attempt, once, is_fault, bytes_taken, all_taken, has_fault, GoesOn, Stops, Tries}
-use Rattle.tera_report.specs.inner.WriterLaws.{tries_more, taken_more, faults_more, or_later}
+use Rattle.tera_report.specs.Writer.{Attempt, is_fault, bytes_taken, all_taken, has_fault, GoesOn, Stops, Tries}
+use Rattle.tera_report.specs.inner.WriterLaws.{once, tries_more, taken_more, faults_more, or_later}
 use Rattle.tera_report.specs.declared.watch.Watched.{Watched}
 
 -- what a slice from n on holds

@@ -8,8 +8,8 @@ use Rattle.std.specs.List.{AllByRecursion}
 use Rattle.std.specs.Prelude.{IsErrAnd, MatchResult}
 use Rattle.std.specs.declared.io.Error.{Error}
 use Rattle.std.specs.declared.io.ErrorKind.TheVariants.{Interrupted}
-use Rattle.tera_report.specs.Writer.{Attempt, once, is_fault, bytes_taken, all_taken, GoesOn, Stops, Passes, Breaks}
-use Rattle.tera_report.specs.inner.WriterLaws.{passes_joined}
+use Rattle.tera_report.specs.Writer.{Attempt, is_fault, bytes_taken, all_taken, GoesOn, Stops, Passes, Breaks}
+use Rattle.tera_report.specs.inner.WriterLaws.{once, passes_joined}
 
 pub some_length : (bytes : List ℕ) → bytes ≢ [] → 0 < length bytes
 some_length [] some = absurd (some refl)

@@ -1,6 +1,6 @@
 -- Escaped text: a grammar of tokens, each with its spelling and the byte that it stands for.
 use Rattle.std.specs.Prelude.{◌≡◌, ℕ, Bool, false, ◌||◌, ◌==◌, List, [], ◌∷◌, codes, map}
-use Rattle.std.specs.Prelude.{slice_index, ◌≤◌, ◌<◌, Option, Result, ⊤, if◌then◌else◌}
+use Rattle.std.specs.Prelude.{Option, Result, ⊤, if◌then◌else◌}
 use Rattle.std.specs.List.{flat_map, AllByRecursion}
 use Rattle.std.specs.Io.KnownBytes.{Appends}
 use Rattle.std.specs.declared.io.Error.{Error}
@@ -80,7 +80,3 @@ token_of byte =
 -- the spelling of the tokens that stand for the bytes of a text
 abbrev pub escaped : List ℕ → List ℕ
 escaped text = flat_map (λ byte. spelling (token_of byte)) text
-
--- no byte from start on and before end is special
-abbrev pub IsPlain : List ℕ → ℕ → ℕ → Type 0
-IsPlain bytes start end = (k : ℕ) → start ≤ k → k < end → is_special (slice_index bytes k) ≡ false

@@ -2,7 +2,6 @@ pub mod Errors
 pub mod Escaping
 pub mod Growing
 pub mod Parts
-pub mod Pieces
 pub mod Quoted
 pub mod Refusal
 pub mod Report

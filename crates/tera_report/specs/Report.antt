@@ -1,7 +1,6 @@
 -- What a report says of an error: where it stands in its source, and where its notes stand.
 use Rattle.std.specs.Prelude.{ℕ, zero, suc, ◌+◌, ◌-◌, ◌==◌, nat_lt, if◌then◌else◌, List, [], ◌∷◌}
-use Rattle.std.specs.Prelude.{◌++◌, map, take}
-use Rattle.std.specs.Prelude.{◌^◌, length, min, replicate, codes, slice_get, unwrap_or}
+use Rattle.std.specs.Prelude.{◌++◌, map, take, length, replicate, codes, slice_get, unwrap_or}
 use Rattle.std.specs.Fmt.{decimal}
 use Rattle.std.specs.List.{flat_map, join_with_byte}
 use Rattle.std.specs.Str.{chars}
@@ -69,19 +68,6 @@ shown_lines line span =
     ∷ (decimal span.start_line ++ (codes " | " ++ line))
     ∷ (margin span ++ (codes " | " ++ underline line span)) ∷ []
 
--- a place, and below it its line
-abbrev pub shown_place : (file line : List ℕ) → Span → List ℕ
-shown_place file line span =
-    place_text file span ++ line_feed ∷ join_with_byte line_feed (shown_lines line span)
-
--- what a place and its lines begin with, from the name of the file up to what stands under the line
-abbrev pub frame_text : (file number column line : List ℕ) → List ℕ
-frame_text file number column line =
-    let margin = replicate (length number) space in
-    file ++ (codes ":" ++ (number
-    ++ (codes ":" ++ (column ++ (codes "\n" ++ (margin ++ (codes " |\n"
-    ++ (number ++ (codes " | " ++ (line ++ (codes "\n" ++ (margin ++ codes " | "))))))))))))
-
 -- the line of its source that a note shows
 abbrev pub line_of_note : Note → List ℕ
 line_of_note note = numbered_line note.source note.span.start_line
@@ -111,7 +97,3 @@ note_text note = line_feed ∷ line_feed ∷ join_with_byte line_feed (note_line
 abbrev pub report_text : Report → List ℕ
 report_text report =
     join_with_byte line_feed (error_lines report) ++ flat_map note_text report.notes
-
--- a length, or usize's greatest where it is more
-abbrev pub capped : ℕ → ℕ
-capped n = min (2 ^ 64 - 1) n

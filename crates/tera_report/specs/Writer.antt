@@ -12,10 +12,6 @@ pub record Attempt : Type 0 where
   pub given : List ℕ
   pub answer : Result ℕ Error
 
--- one write alone
-abbrev pub once : List ℕ → Result ℕ Error → List Attempt
-once bytes answer = record { given = bytes; answer = answer } ∷ []
-
 -- a write of these bytes with this answer: an error, or no byte taken of some
 abbrev pub is_fault : {E : Type 0} → Result ℕ E → List ℕ → Bool
 is_fault (Ok taken) bytes = taken == 0 && not (length bytes == 0)

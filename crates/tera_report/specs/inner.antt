@@ -1,2 +1,5 @@
+pub mod Pieces
+pub mod Quoted
+pub mod Report
 pub mod SinkLaws
 pub mod WriterLaws

@@ -1,9 +1,9 @@
 //! From a text to HTML: five bytes become entities, every other byte stays.
 ghost use Rattle.std.specs.Prelude.{◌≡◌, ℕ, List, [], IsOk, IfOk, IfErr, OnOk, OnErr, string_bytes};
 ghost use Rattle.tera_report.specs.Errors.{IsOutOfMemory};
-ghost use Rattle.tera_report.specs.Escaping.{Spells, escaped};
-ghost use Rattle.tera_report.specs.Escaping.{WritesEscaped, PassesEscaped, BreaksEscaped};
-ghost use Rattle.tera_report.specs.Pieces.{written};
+ghost use Rattle.tera_report.specs.Escaping.{Spells, escaped, WritesEscaped, PassesEscaped};
+ghost use Rattle.tera_report.specs.Escaping.{BreaksEscaped};
+ghost use Rattle.tera_report.specs.inner.Pieces.{written};
 ghost use Rattle.tera_report.specs.Room.{RoomTakes, RoomFails, IsDecided};
 ghost use Rattle.tera_report.specs.Sink.{Puts, PutsThese};
 ghost use Rattle.tera_report.specs.Watch.{WatchedTakes, WatchedFails};

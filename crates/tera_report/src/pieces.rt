@@ -2,8 +2,8 @@
 ghost use Rattle.std.specs.Prelude.{◌≡◌, ◌++◌, ◌<◌, ◌≤◌, true, false, [], length, IfNone};
 ghost use Rattle.std.specs.Prelude.{IfSome, slice_index};
 ghost use Rattle.std.specs.List.{position_or_len};
-ghost use Rattle.tera_report.specs.Escaping.{IsPlain, is_special, escaped, spelling, token_of};
-ghost use Rattle.tera_report.specs.Pieces.{written};
+ghost use Rattle.tera_report.specs.Escaping.{is_special, escaped, spelling, token_of};
+ghost use Rattle.tera_report.specs.inner.Pieces.{IsPlain, written};
 
 use std::simd::prelude::*;
 

@@ -2,9 +2,9 @@
 ghost use Rattle.std.specs.Prelude.{◌≡◌, ◌<◌, ◌≤◌, true, false, ℕ, [], length, slice_index, IsTrue};
 ghost use Rattle.std.specs.Prelude.{IfSome, IfNone, map, string_bytes, ◌+◌};
 ghost use Rattle.std.specs.Bool.{OnTrue};
-ghost use Rattle.tera_report.specs.Quoted.{Quotes, QuotesItems, QuotesList, Escapes, EscapesMarked};
-ghost use Rattle.tera_report.specs.Quoted.{Cuts, SkipsPlain, PlainBetween};
-ghost use Rattle.tera_report.specs.Quoted.{is_ascii_text, is_marked, escapes};
+ghost use Rattle.tera_report.specs.Quoted.{Quotes, QuotesList, is_ascii_text, escapes};
+ghost use Rattle.tera_report.specs.inner.Quoted.{QuotesItems, Escapes, EscapesMarked, Cuts};
+ghost use Rattle.tera_report.specs.inner.Quoted.{SkipsPlain, PlainBetween, is_marked};
 ghost use Rattle.tera_report.specs.Sink.{Puts};
 
 use crate::sink::Sink;

@@ -6,8 +6,12 @@ use Rattle.std.proofs.Math.Bool.{or_assoc, or-false}
 use Rattle.std.proofs.lemmas.List.Concat.{flat_map-append}
 use Rattle.std.specs.declared.io.Error.{Error}
 use Rattle.std.specs.List.{AllByRecursion, FoldsTo}
-use Rattle.tera_report.specs.Writer.{Attempt, once, is_fault, bytes_taken, all_taken, has_fault}
+use Rattle.tera_report.specs.Writer.{Attempt, is_fault, bytes_taken, all_taken, has_fault}
 use Rattle.tera_report.specs.Writer.{Tries, Passes, Breaks}
+
+-- one write alone
+abbrev pub once : List ℕ → Result ℕ Error → List Attempt
+once bytes answer = record { given = bytes; answer = answer } ∷ []
 
 -- some turns, and then some more
 pub folds_joined : {P A : Type 0} (R : P → A → P → Type 0) (p : P) (xs : List A) (q : P)

@@ -2,7 +2,8 @@
 ghost use Rattle.std.specs.Prelude.{◌≡◌, length, map};
 ghost use Rattle.std.specs.List.{flat_map, sum};
 ghost use Rattle.tera_report.specs.Errors.{note_of, report_of};
-ghost use Rattle.tera_report.specs.Report.{capped, line_of, note_text, report_text, shown_place};
+ghost use Rattle.tera_report.specs.Report.{line_of, note_text, report_text};
+ghost use Rattle.tera_report.specs.inner.Report.{capped, shown_place};
 
 use super::source::numbered_line;
 use super::text::width;

@@ -4,8 +4,9 @@ ghost use Rattle.std.specs.Prelude.{take};
 ghost use Rattle.std.specs.List.{flat_map};
 ghost use Rattle.std.specs.Str.{chars};
 ghost use Rattle.tera_report.specs.Errors.{note_of, report_of};
-ghost use Rattle.tera_report.specs.Report.{caret, frame_text, line_of, note_text, report_text};
-ghost use Rattle.tera_report.specs.Report.{shown_place, space, under, underline, width};
+ghost use Rattle.tera_report.specs.Report.{caret, line_of, note_text, report_text, space, under};
+ghost use Rattle.tera_report.specs.Report.{underline, width};
+ghost use Rattle.tera_report.specs.inner.Report.{frame_text, shown_place};
 ghost use Rattle.tera_report.specs.Sink.{PutsThese};
 
 use super::source::numbered_line;

@@ -1,6 +1,6 @@
 -- No byte before `at`, or before `end`, is special.
 use Rattle.std.proofs.Common.{◌-◌, ◌≤◌, length}
-use Rattle.tera_report.specs.Escaping.{IsPlain}
+use Rattle.tera_report.specs.inner.Pieces.{IsPlain}
 use Rattle.tera_report.proofs.pieces.ordinary_len.Given as goal
 
 abbrev pub invariant-loop-at : goal.invariant-loop-at

@@ -1,6 +1,6 @@
 -- No byte before `at` is marked.
 use Rattle.std.proofs.Common.{◌-◌, ◌≤◌, length}
-use Rattle.tera_report.specs.Quoted.{PlainBetween}
+use Rattle.tera_report.specs.inner.Quoted.{PlainBetween}
 use Rattle.tera_report.proofs.quote.is_plain_long.Given as goal
 
 abbrev pub invariant-loop-at : goal.invariant-loop-at

@@ -1,5 +1,5 @@
 use Rattle.std.proofs.Common.{◌≡◌, ◌<◌, ℕ, false, slice_index}
-use Rattle.tera_report.specs.Quoted.{is_marked}
+use Rattle.tera_report.specs.inner.Quoted.{is_marked}
 use Rattle.tera_report.proofs.quote.plain_len.Given as goal
 
 abbrev pub invariant-loop-at : goal.invariant-loop-at

@@ -1,6 +1,6 @@
 use Rattle.std.proofs.Common.{sym, subst, length}
 use Rattle.std.specs.Bool.{OnTrue}
-use Rattle.tera_report.specs.Quoted.{Escapes, PlainBetween}
+use Rattle.tera_report.specs.inner.Quoted.{Escapes, PlainBetween}
 use Rattle.tera_report.proofs.PutLaws.{puts_these}
 use Rattle.tera_report.proofs.QuoteLemmas.{escapes_between}
 use Rattle.tera_report.proofs.quote.put_escaped.Goals as goal

@@ -1,7 +1,7 @@
 -- What was put and what the rest of the escape gives are the whole escape.
 use Rattle.std.proofs.Common.{◌≡◌, ◌≤◌, encode_utf8_all}
 use Rattle.std.specs.Char.Iter.{escape_rest, escape_end}
-use Rattle.tera_report.specs.Quoted.{EscapesMarked}
+use Rattle.tera_report.specs.inner.Quoted.{EscapesMarked}
 use Rattle.tera_report.proofs.PutLaws.{Leads}
 use Rattle.tera_report.proofs.quote.put_marked.Given as goal
 

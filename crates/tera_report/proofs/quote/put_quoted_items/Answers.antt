@@ -1,7 +1,8 @@
 use Rattle.std.proofs.Common.{rules, refl, ◌+◌, ◌∷◌, [], map, string_bytes, drop, sym, ap, ◌∙◌, subst}
 use Rattle.std.proofs.lemmas.List.{drop_more, drop_all}
 use Rattle.std.specs.Fmt.{debug_str, debug_items, comma_space}
-use Rattle.tera_report.specs.Quoted.{Quotes, QuotesItems, quoted}
+use Rattle.tera_report.specs.Quoted.{Quotes, quoted}
+use Rattle.tera_report.specs.inner.Quoted.{QuotesItems}
 use Rattle.tera_report.proofs.PutLaws.{some_text, leads_on, leads_more, leads_broke, leads_done}
 use Rattle.tera_report.proofs.QuoteLemmas.{items_more}
 use Rattle.tera_report.proofs.quote.put_quoted_items.Goals as goal

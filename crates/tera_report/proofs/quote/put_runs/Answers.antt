@@ -1,6 +1,7 @@
 use Rattle.std.proofs.Common.{rules, refl, ◌++◌, [], sym}
 use Rattle.std.specs.Fmt.{debug_escape}
-use Rattle.tera_report.specs.Quoted.{Escapes, escapes}
+use Rattle.tera_report.specs.Quoted.{escapes}
+use Rattle.tera_report.specs.inner.Quoted.{Escapes}
 use Rattle.tera_report.proofs.PutLaws.{leads_on, leads_more, leads_broke, leads_last, puts_these}
 use Rattle.tera_report.proofs.QuoteLemmas.{run_stands}
 use Rattle.tera_report.proofs.quote.put_runs.Goals as goal

@@ -1,5 +1,5 @@
 use Rattle.std.proofs.Common.{◌≡◌, ◌<◌, ℕ, true, false, length, get_or, subst, arith}
-use Rattle.tera_report.specs.Quoted.{is_marked}
+use Rattle.tera_report.specs.inner.Quoted.{is_marked}
 use Rattle.tera_report.proofs.QuoteLemmas.{boundary_after_plain, past_plain}
 use Rattle.tera_report.proofs.quote.skip_plain.Goals as goal
 

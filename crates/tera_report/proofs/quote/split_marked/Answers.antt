@@ -1,6 +1,7 @@
 use Rattle.std.proofs.Common.{◌≡◌, ◌++◌, ◌-◌, length, take, IsTrue, subst, sym, ap, ◌∙◌, arith}
 use Rattle.std.specs.Char.{encode_utf8}
-use Rattle.tera_report.specs.Quoted.{SkipsPlain, is_ascii_text}
+use Rattle.tera_report.specs.Quoted.{is_ascii_text}
+use Rattle.tera_report.specs.inner.Quoted.{SkipsPlain}
 use Rattle.tera_report.proofs.QuoteLemmas.{boundary_before, ends_later, none_past_ascii, cut_here}
 use Rattle.tera_report.proofs.quote.split_marked.Goals as goal
 

@@ -1,6 +1,6 @@
 use Rattle.std.proofs.Common.{length, take, refl, ◌∙◌, append-nil, Ok}
 use Rattle.std.proofs.Math.Seq.{take-length}
-use Rattle.tera_report.specs.Writer.{once}
+use Rattle.tera_report.specs.inner.WriterLaws.{once}
 use Rattle.tera_report.proofs.WriterLemmas.{some_length, breaks_on_none, breaks_on_error, passes_again}
 use Rattle.tera_report.proofs.writer.one_write_passes_or_breaks.Goals as goal
 

@@ -2,7 +2,8 @@ use Rattle.std.proofs.Common.{rules, refl, subst, ap, ◌∙◌, ◌++◌, map, 
 use Rattle.std.specs.List.{flat_map, join_with_byte}
 use Rattle.tera_report.specs.Errors.{note_of, report_of}
 use Rattle.tera_report.specs.Parts.{line_feed}
-use Rattle.tera_report.specs.Report.{error_lines, line_of, note_text, shown_place, space}
+use Rattle.tera_report.specs.Report.{error_lines, line_of, note_text, space}
+use Rattle.tera_report.specs.inner.Report.{shown_place}
 use Rattle.tera_report.proofs.PutLaws.{puts_after}
 use Rattle.tera_report.proofs.ReportLemmas.{head_whole}
 use Rattle.tera_report.proofs.report.ReportError.tell_with.Goals as goal

@@ -1,6 +1,7 @@
 use Rattle.std.proofs.Common.{rules, refl, subst, ap, ◌∙◌}
 use Rattle.tera_report.specs.Errors.{note_of}
-use Rattle.tera_report.specs.Report.{line_of_note, numbered_line, shown_place}
+use Rattle.tera_report.specs.Report.{line_of_note, numbered_line}
+use Rattle.tera_report.specs.inner.Report.{shown_place}
 use Rattle.tera_report.proofs.PutLaws.{puts_after}
 use Rattle.tera_report.proofs.ReportLemmas.{note_whole}
 use Rattle.tera_report.proofs.report.text.put_note.Goals as goal

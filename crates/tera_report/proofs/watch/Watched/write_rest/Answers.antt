@@ -4,8 +4,8 @@ use Rattle.std.proofs.Common.{◌≡◌, ◌+◌, ◌-◌, ◌^◌, ◌≤◌, �
 use Rattle.std.proofs.Common.{append-nil, length-append, rules, arith, IsTrue}
 use Rattle.std.specs.declared.io.Error.{Error}
 use Rattle.tera_report.specs.inner.SinkLaws.{keeps_appends}
-use Rattle.tera_report.specs.inner.WriterLaws.{all_joined, taken_more, faults_more}
-use Rattle.tera_report.specs.Writer.{is_fault, once, all_taken, has_fault}
+use Rattle.tera_report.specs.inner.WriterLaws.{all_joined, taken_more, faults_more, once}
+use Rattle.tera_report.specs.Writer.{is_fault, all_taken, has_fault}
 use Rattle.tera_report.proofs.WatchLemmas.{none_tried, one_more, tried_takes, tried_fails, failed_here, split_later, turn_took_one, some_if_fault, ended_late}
 use Rattle.tera_report.proofs.watch.Watched.write_rest.Goals as goal
 use Rattle.tera_report.proofs.watch.Watched.write_rest.Goals.{in-Ok, in-Err+else-not-matches, in-Interrupted, in_default}

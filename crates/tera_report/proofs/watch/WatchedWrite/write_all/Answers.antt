@@ -8,7 +8,8 @@ use Rattle.std.specs.declared.io.Error.{Error}
 use Rattle.std.specs.declared.io.ErrorKind.TheVariants.{Interrupted}
 use Rattle.tera_report.specs.inner.SinkLaws.{keeps_appends, watched_joined, watched_later}
 use Rattle.tera_report.specs.Watch.{WatchedTakes, WatchedFails}
-use Rattle.tera_report.specs.Writer.{is_fault, once}
+use Rattle.tera_report.specs.Writer.{is_fault}
+use Rattle.tera_report.specs.inner.WriterLaws.{once}
 use Rattle.tera_report.proofs.PutLaws.{puts_after}
 use Rattle.tera_report.proofs.WatchLemmas.{none_tried, one_more, tried_takes, failed_here, some_if_fault}
 use Rattle.tera_report.proofs.watch.WatchedWrite.write_all.Goals as goal
