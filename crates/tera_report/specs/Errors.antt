@@ -38,12 +38,25 @@ out_of_memory = plain_error OutOfMemory
 abbrev pub IsOutOfMemory : Error → Type 0
 IsOutOfMemory e = e ≡ out_of_memory
 
--- the kind holds no text, so a copy of it takes no memory
+-- the kind holds no text but empty ones, and no report, so a copy of it takes no memory
 abbrev pub HoldsNoText : ErrorKind → Type 0
+HoldsNoText (Msg text) = string_bytes text ≡ []
+HoldsNoText (SyntaxError report) = ⊥
+HoldsNoText (RenderingError report) = ⊥
+HoldsNoText (CircularExtend tpl chain) = (string_bytes tpl ≡ []) × (chain.items ≡ [])
+HoldsNoText (CircularInclude tpl chain) = (string_bytes tpl ≡ []) × (chain.items ≡ [])
+HoldsNoText (MissingParent current parent) =
+    (string_bytes current ≡ []) × (string_bytes parent ≡ [])
+HoldsNoText (TemplateNotFound name) = string_bytes name ≡ []
+HoldsNoText (ComponentNotFound name) = string_bytes name ≡ []
+HoldsNoText (InvalidArgument expected actual) =
+    (string_bytes expected ≡ []) × (string_bytes actual ≡ [])
+HoldsNoText (MissingArgument name) = string_bytes name ≡ []
+HoldsNoText (OutOfRangeArgument value target) =
+    (string_bytes value ≡ []) × (string_bytes target ≡ [])
 HoldsNoText (Io kind) = ⊤
 HoldsNoText Utf8Conversion = ⊤
 HoldsNoText OutOfMemory = ⊤
-HoldsNoText kind = ⊥
 
 -- what a note and a report hold
 abbrev pub note_of : NoteHeld → Note

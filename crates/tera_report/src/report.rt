@@ -1,6 +1,6 @@
 //! An error with its place in a source, and notes on other places.
 ghost use Rattle.std.specs.Prelude.{◌≡◌, ◌↔◌, [], ◌++◌, ◌∷◌, IfOk, IfErr, OnOk, OnErr, IsTrue, map};
-ghost use Rattle.std.specs.Prelude.{codes, string_bytes};
+ghost use Rattle.std.specs.Prelude.{IsOk, codes, string_bytes};
 ghost use Rattle.tera_report.specs.Errors.{IsOutOfMemory, report_of, note_of};
 ghost use Rattle.tera_report.specs.Report.{report_text};
 ghost use Rattle.tera_report.specs.declared.report.ReportError.{ReportError};
@@ -13,6 +13,7 @@ mod text;
 use crate::errors::TeraResult;
 use crate::growing::Growing;
 use crate::span::Span;
+use crate::words::text_of;
 pub use source::from_line;
 use std::alloc::{AllocError, Global};
 
@@ -37,8 +38,8 @@ struct Note {
 }
 
 impl ReportError {
-    /// A report without notes. `Out of memory` where the name and the source find none. Mirrors
-    /// `ReportError::new`.
+    /// A report without notes. `Out of memory` where the name and the source find none; empty ones
+    /// take none. Mirrors `ReportError::new`.
     pub fn new(
         alloc: Global,
         message: String,
@@ -54,6 +55,7 @@ impl ReportError {
           notes = [];
         }) }
         ensures err { IfErr result IsOutOfMemory }
+        ensures succeeds { filename.now ≡ [] → source.now ≡ [] → IsOk result }
     {
         let mut made = ReportError::new_without_source(alloc, message, span);
         made.set_source(alloc, filename, source)?;
@@ -97,15 +99,17 @@ impl ReportError {
     }
 
     /// Puts the file name and the source in the place of those that it has. `Out of memory` where
-    /// they find none; the report is then as it was. Mirrors `ReportError::set_source`.
+    /// they find none, and the report is then as it was; empty ones take none. Mirrors
+    /// `ReportError::set_source`.
     pub fn set_source(&mut self, alloc: Global, filename: &str, source: &str) -> TeraResult<()>
         ensures ok { OnOk result (report_of self.new
             ≡ record (report_of self.old) { file = filename.now; source = source.now }) }
         ensures unchanged { OnErr result (self.new ≡ self.old) }
         ensures err { IfErr result IsOutOfMemory }
+        ensures succeeds { filename.now ≡ [] → source.now ≡ [] → IsOk result }
     {
-        let filename = String::from_str(alloc, filename)?;
-        let source = String::from_str(alloc, source)?;
+        let filename = text_of(alloc, filename)?;
+        let source = text_of(alloc, source)?;
         self.filename = filename;
         self.source = source;
         Ok(())

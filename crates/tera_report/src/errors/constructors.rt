@@ -1,6 +1,7 @@
 //! A constructor for each kind that holds texts, and what other errors become.
 ghost use Rattle.anyhow.specs.Error.{IsMadeOf};
-ghost use Rattle.std.specs.Prelude.{◌≡◌, ◌⊎◌, [], Some, IfOk, IsSomeAnd, map, string_bytes};
+ghost use Rattle.std.specs.Prelude.{◌≡◌, ◌⊎◌, [], Some, None, IfOk, IsOk, IsSomeAnd, map};
+ghost use Rattle.std.specs.Prelude.{string_bytes};
 ghost use Rattle.std.specs.IoError.{error_kind as io_kind};
 ghost use Rattle.tera_report.specs.Errors.{kind_of, source_of, refusal_of, joined, Raises};
 ghost use Rattle.tera_report.specs.Errors.{States, IsOutOfMemory};
@@ -13,17 +14,22 @@ ghost use Rattle.tera_report.specs.Refusal.{not_utf8};
 use super::{Error, ErrorKind};
 use crate::report::ReportError;
 use crate::span::Span;
+use crate::words::text_of;
 use std::alloc::{AllocError, Global};
 use std::string::FromUtf8Error;
 use std::{fmt, io};
 
 impl Error {
-    /// Kind `Msg` with that text. `Out of memory` where the text finds none. Mirrors
-    /// `Error::message`.
+    /// Kind `Msg` with that text. `Out of memory` where the text finds none; an empty text takes
+    /// none. Mirrors `Error::message`.
     pub fn message(alloc: Global, text: &str) -> Error
-        ensures { Raises (message text.now) result }
+        ensures raises { Raises (message text.now) result }
+        ensures empty { text.now ≡ [] → States (message []) None result }
     {
-        Error::message_of(alloc, &[text])
+        match text_of(alloc, text) {
+            Ok(text) => Error::new(ErrorKind::Msg(text)),
+            Err(refused) => Error::from(refused),
+        }
     }
 
     /// Kind `Msg` with the text of these pieces, one behind another. `Out of memory` where the text
@@ -38,11 +44,13 @@ impl Error {
     }
 
     /// Kind `Msg` with that text and that cause, whose own text `anyhow` cuts at 120 bytes. `Out of
-    /// memory`, without the cause, where the text finds none. Mirrors `Error::chain`.
+    /// memory`, without the cause, where the text finds none; an empty text takes none. Mirrors
+    /// `Error::chain`.
     pub fn chain(alloc: Global, text: &str, source: anyhow::Error) -> Error
-        ensures { States (message text.now) (Some source) result ⊎ IsOutOfMemory result }
+        ensures raises { States (message text.now) (Some source) result ⊎ IsOutOfMemory result }
+        ensures empty { text.now ≡ [] → States (message []) (Some source) result }
     {
-        match String::from_str(alloc, text) {
+        match text_of(alloc, text) {
             Ok(text) => Error {
                 kind: ErrorKind::Msg(text),
                 source: Some(source),
@@ -69,13 +77,15 @@ impl Error {
         }
     }
 
-    /// Kind `CircularExtend`. `Out of memory` where the name finds none. Mirrors
-    /// `Error::circular_extend`.
+    /// Kind `CircularExtend`. `Out of memory` where the name finds none; an empty name takes none.
+    /// Mirrors `Error::circular_extend`.
     pub fn circular_extend(alloc: Global, tpl: &str, inheritance_chain: Vec<String>) -> Error
-        ensures { Raises
+        ensures raises { Raises
             (circular_extend tpl.now (map string_bytes inheritance_chain.items)) result }
+        ensures empty { tpl.now ≡ [] → States
+            (circular_extend [] (map string_bytes inheritance_chain.items)) None result }
     {
-        match String::from_str(alloc, tpl) {
+        match text_of(alloc, tpl) {
             Ok(tpl) => Error::new(ErrorKind::CircularExtend {
                 tpl,
                 inheritance_chain,
@@ -84,21 +94,26 @@ impl Error {
         }
     }
 
-    /// Kind `CircularInclude`. `Out of memory` where the name finds none. Mirrors
-    /// `Error::circular_include`.
+    /// Kind `CircularInclude`. `Out of memory` where the name finds none; an empty name takes none.
+    /// Mirrors `Error::circular_include`.
     pub fn circular_include(alloc: Global, tpl: &str, include_chain: Vec<String>) -> Error
-        ensures { Raises (circular_include tpl.now (map string_bytes include_chain.items)) result }
+        ensures raises { Raises
+            (circular_include tpl.now (map string_bytes include_chain.items)) result }
+        ensures empty { tpl.now ≡ [] → States
+            (circular_include [] (map string_bytes include_chain.items)) None result }
     {
-        match String::from_str(alloc, tpl) {
+        match text_of(alloc, tpl) {
             Ok(tpl) => Error::new(ErrorKind::CircularInclude { tpl, include_chain }),
             Err(refused) => Error::from(refused),
         }
     }
 
-    /// Kind `MissingParent`. `Out of memory` where the names find none. Mirrors
-    /// `Error::missing_parent`.
+    /// Kind `MissingParent`. `Out of memory` where the names find none; empty names take none.
+    /// Mirrors `Error::missing_parent`.
     pub fn missing_parent(alloc: Global, current: &str, parent: &str) -> Error
-        ensures { Raises (missing_parent current.now parent.now) result }
+        ensures raises { Raises (missing_parent current.now parent.now) result }
+        ensures empty { current.now ≡ [] → parent.now ≡ []
+            → States (missing_parent [] []) None result }
     {
         match two_texts(alloc, current, parent) {
             Ok((current, parent)) => Error::new(ErrorKind::MissingParent { current, parent }),
@@ -106,32 +121,36 @@ impl Error {
         }
     }
 
-    /// Kind `TemplateNotFound`. `Out of memory` where the name finds none. Mirrors
-    /// `Error::template_not_found`.
+    /// Kind `TemplateNotFound`. `Out of memory` where the name finds none; an empty name takes
+    /// none. Mirrors `Error::template_not_found`.
     pub fn template_not_found(alloc: Global, name: &str) -> Error
-        ensures { Raises (template_not_found name.now) result }
+        ensures raises { Raises (template_not_found name.now) result }
+        ensures empty { name.now ≡ [] → States (template_not_found []) None result }
     {
-        match String::from_str(alloc, name) {
+        match text_of(alloc, name) {
             Ok(name) => Error::new(ErrorKind::TemplateNotFound(name)),
             Err(refused) => Error::from(refused),
         }
     }
 
-    /// Kind `ComponentNotFound`. `Out of memory` where the name finds none. Mirrors
-    /// `Error::component_not_found`.
+    /// Kind `ComponentNotFound`. `Out of memory` where the name finds none; an empty name takes
+    /// none. Mirrors `Error::component_not_found`.
     pub fn component_not_found(alloc: Global, name: &str) -> Error
-        ensures { Raises (component_not_found name.now) result }
+        ensures raises { Raises (component_not_found name.now) result }
+        ensures empty { name.now ≡ [] → States (component_not_found []) None result }
     {
-        match String::from_str(alloc, name) {
+        match text_of(alloc, name) {
             Ok(name) => Error::new(ErrorKind::ComponentNotFound(name)),
             Err(refused) => Error::from(refused),
         }
     }
 
-    /// Kind `InvalidArgument`. `Out of memory` where the names find none. Mirrors
-    /// `Error::invalid_arg_type`.
+    /// Kind `InvalidArgument`. `Out of memory` where the names find none; empty names take none.
+    /// Mirrors `Error::invalid_arg_type`.
     pub fn invalid_arg_type(alloc: Global, expected: &str, actual: &str) -> Error
-        ensures { Raises (invalid_argument expected.now actual.now) result }
+        ensures raises { Raises (invalid_argument expected.now actual.now) result }
+        ensures empty { expected.now ≡ [] → actual.now ≡ []
+            → States (invalid_argument [] []) None result }
     {
         match two_texts(alloc, expected, actual) {
             Ok((expected_type, actual_type)) => Error::new(ErrorKind::InvalidArgument {
@@ -142,10 +161,12 @@ impl Error {
         }
     }
 
-    /// Kind `OutOfRangeArgument`. `Out of memory` where the texts find none. Mirrors
-    /// `Error::out_of_range_arg`.
+    /// Kind `OutOfRangeArgument`. `Out of memory` where the texts find none; empty texts take none.
+    /// Mirrors `Error::out_of_range_arg`.
     pub fn out_of_range_arg(alloc: Global, value: &str, target: &str) -> Error
-        ensures { Raises (out_of_range value.now target.now) result }
+        ensures raises { Raises (out_of_range value.now target.now) result }
+        ensures empty { value.now ≡ [] → target.now ≡ []
+            → States (out_of_range [] []) None result }
     {
         match two_texts(alloc, value, target) {
             Ok((value, target_type)) => {
@@ -155,12 +176,13 @@ impl Error {
         }
     }
 
-    /// Kind `MissingArgument`. `Out of memory` where the name finds none. Mirrors
-    /// `Error::missing_arg`.
+    /// Kind `MissingArgument`. `Out of memory` where the name finds none; an empty name takes none.
+    /// Mirrors `Error::missing_arg`.
     pub fn missing_arg(alloc: Global, name: &str) -> Error
-        ensures { Raises (missing_argument name.now) result }
+        ensures raises { Raises (missing_argument name.now) result }
+        ensures empty { name.now ≡ [] → States (missing_argument []) None result }
     {
-        match String::from_str(alloc, name) {
+        match text_of(alloc, name) {
             Ok(arg_name) => Error::new(ErrorKind::MissingArgument { arg_name }),
             Err(refused) => Error::from(refused),
         }
@@ -214,13 +236,11 @@ impl From<FromUtf8Error> for Error {
     }
 }
 
-// Two texts of their own.
+// Two texts of their own. Empty ones take no memory.
 fn two_texts(alloc: Global, first: &str, second: &str) -> Result<(String, String), AllocError>
-    ensures { IfOk result (λ both.
+    ensures ok { IfOk result (λ both.
         (string_bytes both.0 ≡ first.now) × (string_bytes both.1 ≡ second.now)) }
+    ensures succeeds { first.now ≡ [] → second.now ≡ [] → IsOk result }
 {
-    Ok((
-        String::from_str(alloc, first)?,
-        String::from_str(alloc, second)?,
-    ))
+    Ok((text_of(alloc, first)?, text_of(alloc, second)?))
 }
