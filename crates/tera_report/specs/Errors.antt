@@ -1,5 +1,5 @@
 -- What an `Error` holds, and which refusal it is.
-use Rattle.std.specs.Prelude.{◌≡◌, ℕ, List, [], ◌∷◌, ◌++◌, map, Option, None, Result, Ok, Err}
+use Rattle.std.specs.Prelude.{◌≡◌, [], map, Option, None, Result, Ok, Err}
 use Rattle.std.specs.Prelude.{string_bytes, ◌⊎◌, ⊤}
 use Rattle.anyhow.specs.declared.error.Error.{Error as Cause}
 use Rattle.tera_report.specs.declared.errors.ErrorKind.{ErrorKind}
@@ -99,12 +99,6 @@ refusal_of (OutOfRangeArgument value target) =
 refusal_of (Io kind) = Refusal.writing_failed kind
 refusal_of Utf8Conversion = Refusal.not_utf8
 refusal_of OutOfMemory = Refusal.memory_refused
-
--- texts one behind another
-abbrev pub joined : List (List ℕ) → List ℕ
-joined [] = []
-joined (text ∷ []) = text
-joined (text ∷ (next ∷ texts)) = text ++ joined (next ∷ texts)
 
 -- the error states this refusal, and this error caused it
 pub record States (refusal : Refusal.Refusal) (cause : Option Cause) (e : Error) : Type 0 where

@@ -3,7 +3,8 @@ ghost use Rattle.anyhow.specs.Error.{IsMadeOf};
 ghost use Rattle.std.specs.Prelude.{◌≡◌, ◌⊎◌, [], Some, None, IfOk, IsOk, IsSomeAnd, map};
 ghost use Rattle.std.specs.Prelude.{string_bytes};
 ghost use Rattle.std.specs.IoError.{error_kind as io_kind};
-ghost use Rattle.tera_report.specs.Errors.{kind_of, source_of, refusal_of, joined, Raises};
+ghost use Rattle.std.specs.List.{flat_map};
+ghost use Rattle.tera_report.specs.Errors.{kind_of, source_of, refusal_of, Raises};
 ghost use Rattle.tera_report.specs.Errors.{States, IsOutOfMemory};
 ghost use Rattle.tera_report.specs.Refusal.{message, syntax_error, circular_extend};
 ghost use Rattle.tera_report.specs.Refusal.{circular_include, missing_parent, template_not_found};
@@ -35,7 +36,7 @@ impl Error {
     /// Kind `Msg` with the text of these pieces, one behind another. `Out of memory` where the text
     /// finds none.
     pub fn message_of(alloc: Global, pieces: &[&str]) -> Error
-        ensures { Raises (message (joined (map (λ piece. piece.now) pieces.now))) result }
+        ensures { Raises (message (flat_map (λ piece. piece.now) pieces.now)) result }
     {
         match pieces.concat(alloc) {
             Ok(text) => Error::new(ErrorKind::Msg(text)),
