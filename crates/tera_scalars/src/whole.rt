@@ -1,7 +1,6 @@
 //! Whole numbers of any kind, by their value alone, and how they are put.
 ghost use Rattle.std.specs.Prelude.{◌≡◌, pos};
 ghost use Rattle.std.specs.Ordering.{int_cmp};
-ghost use Rattle.tera_meaning.specs.Read.{is_nonzero};
 ghost use Rattle.tera_report.specs.Sink.{PutsThese};
 ghost use Rattle.tera_scalars.specs.Whole.{whole_value};
 
@@ -30,16 +29,6 @@ impl Whole {
                 Whole::Signed(z) => signed_to_unsigned(z, m).reverse(),
                 Whole::Unsigned(n) => m.cmp(&n),
             },
-        }
-    }
-
-    /// Whether it is another number than zero. Takes no memory.
-    pub fn is_nonzero(self) -> bool
-        ensures { result ≡ is_nonzero (whole_value self) }
-    {
-        match self {
-            Whole::Signed(z) => z != 0,
-            Whole::Unsigned(n) => n != 0,
         }
     }
 }
