@@ -20,11 +20,11 @@ operator_of FloorDiv = floor_division
 operator_of Pow = power
 
 -- the refusal of two numbers that have no result
-abbrev pub refusal_of : Operator → ℤ → ℤ → NoResult → Refusal
-refusal_of operator left right DividedByZero = divided_by_zero
-refusal_of operator left right ExponentOutsideU32 = exponent_outside_u32 right
-refusal_of operator left right NotExact = not_exact left operator right
+abbrev pub no_result : Operator → ℤ → ℤ → NoResult → Refusal
+no_result operator left right DividedByZero = divided_by_zero
+no_result operator left right ExponentOutsideU32 = exponent_outside_u32 right
+no_result operator left right NotExact = not_exact left operator right
 
 -- what the code answers of two numbers, with its refusal
 abbrev pub told : Operator → ℤ → ℤ → Result ℤ NoResult → Result ℤ Refusal
-told operator left right result = result_map_both (λ z. z) (refusal_of operator left right) result
+told operator left right result = result_map_both (λ z. z) (no_result operator left right) result

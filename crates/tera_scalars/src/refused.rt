@@ -4,7 +4,7 @@ ghost use Rattle.tera_report.specs.Errors.{Raises};
 ghost use Rattle.tera_report.specs.Refusal.{stated, not_a_number, not_exact};
 ghost use Rattle.tera_report.specs.Refusal.{operand_outside_i128, exponent_outside_u32};
 ghost use Rattle.tera_report.specs.Refusal.{negated_no_number, negation_outside_i128};
-ghost use Rattle.tera_scalars.specs.Operation.{operator_of, refusal_of};
+ghost use Rattle.tera_scalars.specs.Operation.{operator_of, no_result};
 ghost use Rattle.tera_scalars.specs.Whole.{whole_value};
 
 use crate::Whole;
@@ -36,7 +36,7 @@ pub fn operand_outside_i128(alloc: Global, operand: u128) -> Error
 /// for integer ** (must fit in u32)`, or `Unable to perform LEFT OPERATOR RIGHT`. `Out of memory`
 /// where the text finds none.
 pub fn no_result(alloc: Global, op: BinaryOp, left: i128, right: i128, why: NoResult) -> Error
-    ensures { Raises (stated (refusal_of (operator_of op) left right why)) result }
+    ensures { Raises (stated (no_result (operator_of op) left right why)) result }
 {
     match why {
         NoResult::DividedByZero => Error::message(alloc, "Cannot divide by 0"),

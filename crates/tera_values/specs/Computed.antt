@@ -1,6 +1,6 @@
 -- What the refusals of arithmetic tell.
 use Rattle.std.specs.Prelude.{◌≡◌, pos, Some, ⊤}
-use Rattle.tera_scalars.specs.Operation.{operator_of, refusal_of}
+use Rattle.tera_scalars.specs.Operation.{operator_of, no_result}
 use Rattle.tera_meaning.specs.Form.{Form}
 use Rattle.tera_meaning.specs.Read.{number_in}
 use Rattle.tera_report.specs.Refusal.{Refusal, not_a_number, operand_outside_i128}
@@ -12,7 +12,7 @@ use Rattle.tera_values.specs.declared.number.NotComputed.TheVariants as not_comp
 abbrev pub refusal_told : NotComputed → Refusal
 refusal_told (not_computed.NotANumber kind) = not_a_number kind.now
 refusal_told (not_computed.OperandOutsideI128 operand) = operand_outside_i128 (pos operand)
-refusal_told (not_computed.NoResult op left right why) = refusal_of (operator_of op) left right why
+refusal_told (not_computed.NoResult op left right why) = no_result (operator_of op) left right why
 
 -- where two numbers have no result, the operator and the numbers told are those of the call
 abbrev pub TellsCall : BinaryOp → Form → Form → NotComputed → Type 0
