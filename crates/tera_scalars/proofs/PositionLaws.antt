@@ -6,7 +6,7 @@ use Rattle.std.proofs.{Math.Nat.mul-le-mul_left, lemmas.Bool.cases_lt, lemmas.Bo
 use Rattle.tera_meaning.specs.Slice.{IsStrided, directed, pause, place_behind, walked}
 use Rattle.tera_meaning.specs.SliceRule.{IsSliceOf, start_place, end_place}
 use Rattle.tera_meaning.proofs.SliceLaws.{strided_is_slice, walked_strides, length_directed}
-use Rattle.tera_scalars.specs.Positions.{counts_from_afar}
+use Rattle.tera_scalars.specs.inner.Positions.{counts_from_afar}
 
 module _ {X : Type 0} where
   -- a step that passes the end wherever it starts takes the same as a greater one

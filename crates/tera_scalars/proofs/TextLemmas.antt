@@ -11,7 +11,7 @@ use Rattle.std.proofs.{str.Laws.order, str.Laws.one, str.Laws.two, str.Laws.thre
 use Rattle.std.proofs.{lemmas.List.take_at, lemmas.List.drop_at, lemmas.List.drop_all, lemmas.Iterator.Splits.YieldsList-from_shown_while}
 use Rattle.std.proofs.{lemmas.Grind.common_steps, lemmas.Grind.elements, lemmas.Iterator.Consumers.nth_from_yields_List, lemmas.Iterator.YieldsList-from_chars}
 use Rattle.std.proofs.{lemmas.Iterator.Adapters.option_map_id, lemmas.Bool.cases_lt}
-use Rattle.tera_scalars.specs.{Ends.chars_from, Ends.near, Ends.far, Positions.turned}
+use Rattle.tera_scalars.specs.{inner.Ends.chars_from, inner.Ends.near, inner.Ends.far, Positions.turned}
 use Rattle.tera_meaning.specs.Slice.{directed, walked}
 use Rattle.tera_scalars.proofs.PositionLaws.{walked_on, walked_whole}
 

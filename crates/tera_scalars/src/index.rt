@@ -2,8 +2,8 @@
 ghost use Rattle.std.specs.Prelude.{◌≡◌, slice_get};
 ghost use Rattle.std.specs.Str.{chars};
 ghost use Rattle.tera_meaning.specs.Lookup.{place_of, part_at};
-ghost use Rattle.tera_scalars.specs.Ends.{chars_from};
-ghost use Rattle.tera_scalars.specs.Index.{index_value};
+ghost use Rattle.tera_scalars.specs.inner.Ends.{chars_from};
+ghost use Rattle.tera_scalars.specs.inner.Index.{index_value};
 ghost use Rattle.tera_scalars.specs.Whole.{whole_value};
 
 use crate::Whole;

@@ -2,7 +2,7 @@
 ghost use Rattle.std.specs.Prelude.{◌≡◌};
 ghost use Rattle.std.specs.Str.Lossy.{utf8_lossy};
 ghost use Rattle.tera_report.specs.Sink.{PutsThese};
-ghost use Rattle.tera_scalars.specs.Lossy.{stand_in};
+ghost use Rattle.tera_scalars.specs.inner.Lossy.{stand_in};
 
 use bstr::ByteSlice;
 use tera_report::sink::Sink;

@@ -3,7 +3,7 @@ ghost use Rattle.std.specs.Prelude.{◌≡◌, ◌<◌, ◌≤◌, ◌-◌, ◌^
 ghost use Rattle.std.specs.Int.{div_ceil};
 ghost use Rattle.tera_meaning.specs.SliceRule.{start_place, end_place, place_of_bound};
 ghost use Rattle.tera_meaning.specs.Slice.{pause, place_behind};
-ghost use Rattle.tera_scalars.specs.Positions.{counts_from_afar};
+ghost use Rattle.tera_scalars.specs.inner.Positions.{counts_from_afar};
 
 /// A walk over items in the direction of a step: each `by`-th of them, from one up to another, both
 /// counted from where the step begins.

@@ -9,8 +9,9 @@ ghost use Rattle.std.specs.Str.Iter.{chars_rest};
 ghost use Rattle.std.specs.String.{string_bytes};
 ghost use Rattle.tera_meaning.specs.SliceRule.{IsSliceOf};
 ghost use Rattle.tera_meaning.specs.Slice.{walked};
-ghost use Rattle.tera_scalars.specs.Ends.{chars_from, far, near};
-ghost use Rattle.tera_scalars.specs.Positions.{counts_from_afar, turned};
+ghost use Rattle.tera_scalars.specs.inner.Ends.{chars_from, far, near};
+ghost use Rattle.tera_scalars.specs.inner.Positions.{counts_from_afar};
+ghost use Rattle.tera_scalars.specs.Positions.{turned};
 
 use crate::Stride;
 use crate::positions::needs_count;

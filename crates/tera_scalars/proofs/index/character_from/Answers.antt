@@ -1,7 +1,7 @@
 use Rattle.std.proofs.Common.{◌≤◌, arith, sym, length}
 use Rattle.std.proofs.lemmas.Option.{slice_get_past}
 use Rattle.tera_scalars.proofs.TextLemmas.{nth_forwards, nth_backwards, chars_le_bytes}
-use Rattle.tera_scalars.specs.Ends.{chars_from}
+use Rattle.tera_scalars.specs.inner.Ends.{chars_from}
 use Rattle.tera_scalars.proofs.index.character_from.Goals as goal
 
 pub returns-then-n-text : goal.returns-then-n-text

@@ -5,7 +5,7 @@ use Rattle.std.specs.{Str.IsValidUpTo, Str.Lossy.utf8_lossy, Str.Lossy.utf8_vali
 use Rattle.bstr.specs.Utf8.{decoded}
 use Rattle.bstr.proofs.{lemmas.LossyLemmas.utf8_invalid_len-decoded, lemmas.UnicodeLemmas.none_after_valid}
 use Rattle.tera_report.proofs.PutLaws.{none_so_far, more_so_far, all_so_far, broke_so_far}
-use Rattle.tera_scalars.specs.Lossy.{stand_in}
+use Rattle.tera_scalars.specs.inner.Lossy.{stand_in}
 use Rattle.tera_scalars.proofs.lossy.put_lossy.Goals as goal
 
 chunk_text : (bs valid invalid rest : List ℕ) → bs ≡ valid ++ (invalid ++ rest) → IsUtf8 valid

@@ -1,7 +1,7 @@
 use Rattle.std.proofs.Common.{[], ◌≡◌, refl, sym, ap, subst, ◌∙◌, drop, arith}
 use Rattle.std.proofs.lemmas.List.{drop_all, drop-drop}
 use Rattle.std.specs.{Str.IsAscii, Str.Iter.chars_rest}
-use Rattle.tera_scalars.specs.Ends.{chars_from}
+use Rattle.tera_scalars.specs.inner.Ends.{chars_from}
 use Rattle.tera_scalars.proofs.TextLemmas.{no_chars, chars_le_bytes, ascii_near, none_left}
 use Rattle.tera_scalars.proofs.text.behind.Goals as goal
 use Rattle.tera_scalars.proofs.text.behind.Goals.{else-loop-turn-test, then-loop-turn-test+in_default}

@@ -1,7 +1,7 @@
 -- What is left are the characters behind those of the turns.
 use Rattle.std.proofs.Common.{◌≡◌, drop}
 use Rattle.std.specs.Str.Iter.{chars_rest}
-use Rattle.tera_scalars.specs.Ends.{chars_from}
+use Rattle.tera_scalars.specs.inner.Ends.{chars_from}
 use Rattle.tera_scalars.proofs.text.behind.Given as goal
 
 abbrev pub invariant-loop-turn : goal.invariant-loop-turn

@@ -2,7 +2,7 @@ use Rattle.std.proofs.Common.{◌≡◌, ◌⊎◌, ◌++◌, ◌-◌, ◌+◌, 
 use Rattle.std.proofs.lemmas.Str.{IsUtf8-append, IsUtf8-nil}
 use Rattle.std.specs.{Str.IsUtf8, Str.encode_utf8_all, Str.Iter.chars_rest}
 use Rattle.tera_meaning.specs.Slice.{walked}
-use Rattle.tera_scalars.specs.Ends.{chars_from}
+use Rattle.tera_scalars.specs.inner.Ends.{chars_from}
 use Rattle.tera_scalars.proofs.TextLemmas.{passes, takes, all_put}
 use Rattle.tera_scalars.proofs.text.strided.Goals as goal
 use Rattle.tera_scalars.proofs.text.strided.Goals.{then-waits-gt0, else-waits-gt0+in_ok-put_bytes, else-loop-turn-test, then-loop-turn-test+in_default}

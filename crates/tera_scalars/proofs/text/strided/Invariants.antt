@@ -2,7 +2,7 @@
 use Rattle.std.proofs.Common.{◌-◌, take}
 use Rattle.std.specs.{Str.IsUtf8, Str.encode_utf8_all, Str.Iter.chars_rest}
 use Rattle.tera_meaning.specs.Slice.{walked}
-use Rattle.tera_scalars.specs.Ends.{chars_from}
+use Rattle.tera_scalars.specs.inner.Ends.{chars_from}
 use Rattle.tera_scalars.proofs.TextLemmas.{Remains}
 use Rattle.tera_scalars.proofs.text.strided.Given as goal
 

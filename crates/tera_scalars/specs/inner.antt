@@ -1,0 +1,4 @@
+pub mod Lossy
+pub mod Positions
+pub mod Ends
+pub mod Index
