@@ -9,7 +9,6 @@ ghost use Rattle.tera_scalars.specs.Whole.{whole_value};
 use crate::Whole;
 
 /// How many parts stand before the one that is named, or behind it.
-#[derive(Drop)]
 pub(crate) enum Index {
     FromFront(u128),
     FromBack(u128),
@@ -39,7 +38,7 @@ pub fn place(number: Whole, count: usize) -> Option<usize>
     match as_index(number) {
         Index::FromFront(n) if n < count as u128 => Some(n as usize),
         Index::FromBack(n) if n < count as u128 => Some(count - 1 - n as usize),
-        _ => None,
+        Index::FromFront(_) | Index::FromBack(_) => None,
     }
 }
 
