@@ -13,7 +13,7 @@ use Rattle.std.proofs.{lemmas.Grind.common_steps, lemmas.Grind.elements, lemmas.
 use Rattle.std.proofs.{lemmas.Iterator.Adapters.option_map_id, lemmas.Bool.cases_lt}
 use Rattle.tera_scalars.specs.{inner.Ends.chars_from, inner.Ends.near, inner.Ends.far, Positions.turned}
 use Rattle.tera_meaning.specs.Slice.{directed, walked}
-use Rattle.tera_scalars.proofs.PositionLaws.{walked_on, walked_whole}
+use Rattle.tera_scalars.proofs.PositionLaws.{walked_on}
 
 -- ---- characters at an end
 
@@ -174,14 +174,34 @@ drop-taken from until xs = grind (arith, elements)
 
 -- to walk behind the first ones is to wait for them
 pub walks_behind : (p from until count : ℕ) (rest all : List ℕ) → count ≡ until - from → rest ≡ drop from all
-    → encode_utf8_all (walked p 0 (take count rest)) ≡ encode_utf8_all (walked p from (take until all))
+    → walked p 0 (take count rest) ≡ walked p from (take until all)
 walks_behind p from until count rest all many behind = rw (many, behind, ← drop-taken from until all, walked_on p from (take until all))
 
--- the same of a walk by one, which takes each
-pub whole_behind : (from until count by : ℕ) (rest all : List ℕ) → count ≡ until - from → rest ≡ drop from all → by ≡ 1
-    → encode_utf8_all (take count rest) ≡ encode_utf8_all (walked (by - 1) from (take until all))
-whole_behind from until count by rest all many behind one =
-    rw one (ap encode_utf8_all (sym (walked_whole (take count rest))) ∙ walks_behind 0 from until count rest all many behind)
+nothing_taken : (p count : ℕ) (xs : List ℕ) → walked p 0 (take count xs) ≡ [] → (count ≡ 0) ⊎ (xs ≡ [])
+nothing_taken p zero xs none = inl refl
+nothing_taken p (suc n) [] none = inr refl
+nothing_taken p (suc n) (x ∷ xs) none = absurd cc
+
+no_characters : (backwards : Bool) (bs : List ℕ) → IsUtf8 bs → chars_from backwards bs ≡ [] → bs ≡ []
+no_characters backwards bs utf8 none =
+    let empty = nil_from_length (chars bs) (sym (length_turned backwards (chars bs)) ∙ ap length none) in
+    sym (encodes-chars bs utf8) ∙ ap encode_utf8_all empty
+
+-- a walk takes nothing of a text just where it takes none of its characters, or where the text is empty
+pub none_walked : (p count : ℕ) (backwards : Bool) (bs : List ℕ) → IsUtf8 bs
+    → walked p 0 (take count (chars_from backwards bs)) ≡ [] → (count ≡ 0) ⊎ (length bs ≡ 0)
+none_walked p count backwards bs utf8 none = elim (nothing_taken p count (chars_from backwards bs) none) [
+  | inl zero_taken ↦ inl zero_taken
+  | inr empty ↦ inr (ap length (no_characters backwards bs utf8 empty))
+]
+
+pub walks_none : (p count : ℕ) (backwards : Bool) (bs : List ℕ) → (count ≡ 0) ⊎ (length bs ≡ 0)
+    → walked p 0 (take count (chars_from backwards bs)) ≡ []
+walks_none p count backwards bs (inl zero_taken) = rw zero_taken refl
+walks_none p count backwards bs (inr empty) =
+    let none : chars_from backwards bs ≡ [] = nil_from_length _ (length_turned backwards (chars bs)
+    ∙ ap length (ap chars (nil_from_length bs empty) ∙ chars-nil)) in
+    ap (walked p 0) (taken_none count (chars_from backwards bs) (inr none))
 
 -- ---- a walk over ASCII bytes
 

@@ -1,7 +1,7 @@
 //! The characters of a text: slices of them, and their reversal.
 ghost use Rattle.std.specs.Prelude.{◌≡◌, ◌≢◌, ◌⊎◌, ◌≤◌, ◌-◌, ◌||◌, false, List, ℕ, IfOk, Some};
 ghost use Rattle.std.specs.Prelude.{length, take, drop, [], ◌∷◌, ◌++◌, ◌+◌, OnErr, MatchOption};
-ghost use Rattle.std.specs.Prelude.{is_ok, if◌then◌else◌, vec_len, vec_capacity};
+ghost use Rattle.std.specs.Prelude.{IsOk, is_ok, if◌then◌else◌, vec_len, vec_capacity};
 ghost use Rattle.std.specs.Prelude.{◌<◌, reverse, pos, slice_get};
 ghost use Rattle.std.specs.Char.{encode_utf8};
 ghost use Rattle.std.specs.Str.{chars, encode_utf8_all, IsAscii, IsUtf8};
@@ -19,11 +19,15 @@ use std::alloc::{AllocError, Global};
 use std::str::Chars;
 use tera_report::words::characters;
 
-/// The characters of a text in the opposite order. Takes memory for the answer; the only refusal is
-/// want of it.
+/// The characters of a text in the opposite order. Takes memory for the answer, unless the text is
+/// empty; the only refusal is want of it.
 pub fn reversed_text(alloc: Global, text: &str) -> Result<String, AllocError>
-    ensures { IfOk result (λ t. string_bytes t ≡ encode_utf8_all (reverse (chars text.now))) }
+    ensures ok { IfOk result (λ t. string_bytes t ≡ encode_utf8_all (reverse (chars text.now))) }
+    ensures succeeds { text.now ≡ [] → IsOk result }
 {
+    if text.is_empty() {
+        return Ok(String::new(alloc));
+    }
     last_turned(alloc, text, text.len())
 }
 
@@ -276,26 +280,46 @@ fn byte_from(bytes: &[u8], backwards: bool, at: usize) -> u8
     }
 }
 
+// Each by-th of a text's characters, so many or all, from an end on, in the way that is quickest.
+fn taken(
+    alloc: Global,
+    text: &str,
+    backwards: bool,
+    count: usize,
+    by: usize,
+) -> Result<String, AllocError>
+    requires { 0 < by }
+    ensures { IfOk result (λ t. string_bytes t
+        ≡ encode_utf8_all (walked (by - 1) 0 (take count (chars_from backwards text.now)))) }
+{
+    if by == 1 {
+        if backwards {
+            return last_turned(alloc, text, count);
+        }
+        return first_copied(alloc, text, count);
+    }
+    let bytes = bytes_near(text, backwards, count.min(text.len()));
+    if bytes.is_ascii() {
+        strided_ascii(alloc, bytes, backwards, by)
+    } else {
+        strided(alloc, text, backwards, count, by)
+    }
+}
+
 // The slice of a text's characters by a walk from an end.
 fn sliced(alloc: Global, text: &str, backwards: bool, stride: Stride) -> Result<String, AllocError>
     requires { 0 < stride.by }
-    ensures { IfOk result (λ t. string_bytes t ≡ encode_utf8_all (walked (stride.by - 1)
+    ensures ok { IfOk result (λ t. string_bytes t ≡ encode_utf8_all (walked (stride.by - 1)
         stride.from (take stride.until (chars_from backwards text.now)))) }
+    ensures succeeds { walked (stride.by - 1) stride.from
+        (take stride.until (chars_from backwards text.now)) ≡ [] → IsOk result }
 {
     let rest = behind(text, backwards, stride.from);
     let count = stride.until.saturating_sub(stride.from);
-    if stride.by == 1 {
-        if backwards {
-            return last_turned(alloc, rest, count);
-        }
-        return first_copied(alloc, rest, count);
+    if rest.is_empty() || count == 0 {
+        return Ok(String::new(alloc));
     }
-    let bytes = bytes_near(rest, backwards, count.min(rest.len()));
-    if bytes.is_ascii() {
-        strided_ascii(alloc, bytes, backwards, stride.by)
-    } else {
-        strided(alloc, rest, backwards, count, stride.by)
-    }
+    taken(alloc, rest, backwards, count, stride.by)
 }
 
 // How many places a slice has to reckon with: as many as the text has characters, or more where no
@@ -315,7 +339,7 @@ fn length_to_reckon_with(text: &str, start: Option<i128>, end: Option<i128>, ste
 /// The slice of a text's characters between two bounds, by a step other than 0; of a step of 0
 /// nothing is said.
 ///
-/// Takes memory for the answer; the only refusal is want of it.
+/// Takes memory for the answer, unless that is empty; the only refusal is want of it.
 pub fn sliced_text(
     alloc: Global,
     text: &str,
@@ -323,8 +347,9 @@ pub fn sliced_text(
     end: Option<i128>,
     step: i128,
 ) -> Result<String, AllocError>
-    ensures { IfOk result (λ t. step ≢ pos 0 → (cs : List ℕ)
+    ensures ok { IfOk result (λ t. step ≢ pos 0 → (cs : List ℕ)
         × IsSliceOf (chars text.now) start end step cs × (string_bytes t ≡ encode_utf8_all cs)) }
+    ensures succeeds { step ≢ pos 0 → IsSliceOf (chars text.now) start end step [] → IsOk result }
 {
     let stride = Stride::new(
         length_to_reckon_with(text, start, end, step),

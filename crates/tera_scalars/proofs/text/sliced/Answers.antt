@@ -1,27 +1,27 @@
-use Rattle.std.proofs.Common.{ap, ◌-◌, ◌∙◌, List, ℕ}
+use Rattle.std.proofs.Common.{◌≡◌, ◌⊎◌, ◌-◌, ◌∙◌, ap, arith, inl, inr, length, rules, sym}
 use Rattle.std.specs.Str.{encode_utf8_all}
-use Rattle.tera_meaning.specs.Slice.{walked}
-use Rattle.tera_scalars.proofs.TextLemmas.{bytes_taken, walks_behind, whole_behind}
+use Rattle.tera_scalars.proofs.TextLemmas.{none_walked, walks_behind, walks_none}
 use Rattle.tera_scalars.proofs.text.sliced.Goals as goal
+use Rattle.tera_scalars.proofs.text.sliced.Goals.{then-is_empty-via-then-is_empty, then-is_empty-via-else-is_empty+then-count-eq0}
 
-pub returns-then-backwards : goal.returns-then-backwards
-returns-then-backwards c =
-    let same = whole_behind _ _ _ _ _ _ c.saturating_sub-count.ensures (rw c.if-backwards.true at c.behind-rest.ensures) c.if-stride-eq1.true in
-    rw (c.if-backwards.true, ← same) c.last_turned.ensures
+pub returns-then-is_empty-clause-ok : goal.returns-then-is_empty-clause-ok
+returns-then-is_empty-clause-ok c =
+    let ended : (c.saturating_sub-count.result ≡ 0) ⊎ (length c.behind-rest.result.now ≡ 0) = elim c.then-is_empty.branch [
+      | then-is_empty-via-then-is_empty w ↦ inr (search rules)
+      | then-is_empty-via-else-is_empty+then-count-eq0 w ↦ inl (omega (arith, w.if-count-eq0.true))
+    ] in
+    let same = walks_behind (c.args.stride.by - 1) _ _ _ _ _ c.saturating_sub-count.ensures c.behind-rest.ensures in
+    c.new.ensures.bytes ∙ ap encode_utf8_all (sym (walks_none (c.args.stride.by - 1) _ c.args.backwards _ ended) ∙ same)
 
-pub returns-then-stride-eq1 : goal.returns-then-stride-eq1
-returns-then-stride-eq1 c =
-    let same = whole_behind _ _ _ _ _ _ c.saturating_sub-count.ensures (rw c.if-backwards.false at c.behind-rest.ensures) c.if-stride-eq1.true in
-    rw (c.if-backwards.false, ← same) c.first_copied.ensures
+pub returns-clause-ok : goal.returns-clause-ok
+returns-clause-ok c =
+    let same = walks_behind (c.args.stride.by - 1) _ _ _ _ _ c.saturating_sub-count.ensures c.behind-rest.ensures in
+    rw (← same) c.taken.ensures
 
-pub returns-then-is_ascii : goal.returns-then-is_ascii
-returns-then-is_ascii c =
-    let by = c.args.stride.by - 1 in
-    let are = bytes_taken c.args.backwards _ _ _ _ c.behind-rest.utf8 c.min.ensures c.bytes_near-bytes.ensures c.if-is_ascii.ensures.cases in
-    let same = ap (λ (ds : List ℕ). encode_utf8_all (walked by 0 ds)) are
-    ∙ walks_behind by _ _ _ _ _ c.saturating_sub-count.ensures c.behind-rest.ensures in
-    rw (← same) c.strided_ascii.ensures
-
-pub returns-else-is_ascii : goal.returns-else-is_ascii
-returns-else-is_ascii c =
-    let same = walks_behind (c.args.stride.by - 1) _ _ _ _ _ c.saturating_sub-count.ensures c.behind-rest.ensures in rw (← same) c.strided.ensures
+pub returns-clause-succeeds : goal.returns-clause-succeeds
+returns-clause-succeeds c = λ none.
+    let same = walks_behind (c.args.stride.by - 1) _ _ _ _ _ c.saturating_sub-count.ensures c.behind-rest.ensures in
+    elim (none_walked (c.args.stride.by - 1) _ c.args.backwards _ c.behind-rest.utf8 (same ∙ none)) [
+      | inl ended ↦ absurd (omega (arith, ended, c.if-count-eq0.false))
+      | inr ended ↦ search rules
+    ]

@@ -17,7 +17,7 @@ pub returns-in_ok-part-in-String-clause-ok : goal.returns-in_ok-part-in-String-c
 returns-in_ok-part-in-String-clause-ok c =
     text_cut c.args.start c.args.end _ c.args.step (to_z-of_z w128 c.args.step c.ranges.step) c.args.self.now _ _ c.in-String.safe
     (ap (λ (bs : List ℕ). marked bs c.in-String.safe) c.as_str.ensures.value ∙ sym (ap form_of c.in-String.is) ∙ c.self.view_is)
-    c.in_ok-part-in-String.ensures
+    c.in_ok-part-in-String.ensures.ok
 
 pub returns-in_err-part-in-Array-clause-succeeds : goal.returns-in_err-part-in-Array-clause-succeeds
 returns-in_err-part-in-Array-clause-succeeds c nonzero none =
