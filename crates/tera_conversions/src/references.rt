@@ -1,5 +1,5 @@
 //! What is lent and can be made a value of: as what it points to.
-ghost use Rattle.std.specs.Prelude.{◌≡◌, pos, true, false};
+ghost use Rattle.std.specs.Prelude.{◌≡◌, ◌<◌, length, pos, true, false};
 ghost use Rattle.std.specs.Char.{encode_utf8};
 ghost use Rattle.std.specs.String.{string_bytes};
 ghost use Rattle.tera_meaning.specs.Integer.{u64, i64, u128, i128};
@@ -36,24 +36,24 @@ impl ToValue for &char {
     }
 }
 
-/// A copy of the text, not marked safe. Takes memory; the only refusal is want of it,
-/// `Out of memory`.
+/// A copy of the text, not marked safe. Takes memory, unless it is empty; the only refusal is want
+/// of it, `Out of memory`.
 impl ToValue for &String {
     ghost gives = { λ t v. v ≡ marked (string_bytes t.now) false };
 
-    ghost refuses = { λ _ e. IsOutOfMemory e };
+    ghost refuses = { λ t e. (0 < length (string_bytes t.now)) × IsOutOfMemory e };
 
     fn to_value(self, alloc: Global) -> TeraResult<Value> {
         Value::normal_string(alloc, self.as_str())
     }
 }
 
-/// A copy of the text, not marked safe. Takes memory; the only refusal is want of it,
-/// `Out of memory`.
+/// A copy of the text, not marked safe. Takes memory, unless it is empty; the only refusal is want
+/// of it, `Out of memory`.
 impl ToValue for &&str {
     ghost gives = { λ t v. v ≡ marked t.now.now false };
 
-    ghost refuses = { λ _ e. IsOutOfMemory e };
+    ghost refuses = { λ t e. (0 < length t.now.now) × IsOutOfMemory e };
 
     fn to_value(self, alloc: Global) -> TeraResult<Value> {
         Value::normal_string(alloc, *self)

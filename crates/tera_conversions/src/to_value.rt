@@ -1,5 +1,5 @@
 //! What can be made a value of.
-ghost use Rattle.std.specs.Prelude.{◌≡◌, pos, false, None, IfOk, IfErr};
+ghost use Rattle.std.specs.Prelude.{◌≡◌, ◌<◌, length, pos, false, None, IfOk, IfErr};
 ghost use Rattle.std.specs.Char.{encode_utf8};
 ghost use Rattle.std.specs.Cow.{cow_str_bytes, IsOwnedStr};
 ghost use Rattle.std.specs.String.{string_bytes};
@@ -205,11 +205,12 @@ impl ToValue for char {
     }
 }
 
-/// A text, not marked safe. Takes memory; the only refusal is want of it, `Out of memory`.
+/// A text, not marked safe. Takes memory, unless it is empty; the only refusal is want of it,
+/// `Out of memory`.
 impl ToValue for &str {
     ghost gives = { λ t v. v ≡ marked t.now false };
 
-    ghost refuses = { λ _ e. IsOutOfMemory e };
+    ghost refuses = { λ t e. (0 < length t.now) × IsOutOfMemory e };
 
     fn to_value(self, alloc: Global) -> TeraResult<Value> {
         Value::normal_string(alloc, self)
@@ -227,15 +228,18 @@ impl ToValue for String {
     }
 }
 
-/// A text, not marked safe. Takes memory where the text is lent; the only refusal is want of it,
-/// `Out of memory`.
+/// A text, not marked safe. Takes memory where the text is lent and is not empty; the only refusal
+/// is want of it, `Out of memory`.
 impl ToValue for CowStr<'_> {
     ghost gives = { λ t v. v ≡ marked (cow_str_bytes t) false };
 
-    ghost refuses = { λ t e. ¬ IsOwnedStr t × IsOutOfMemory e };
+    ghost refuses = { λ t e. ¬ IsOwnedStr t × (0 < length (cow_str_bytes t)) × IsOutOfMemory e };
 
     fn to_value(self, alloc: Global) -> TeraResult<Value> {
-        Ok(Value::from(self.into_owned(alloc)?))
+        match self {
+            CowStr::Borrowed(text) => Value::normal_string(alloc, text),
+            CowStr::Owned(text) => Ok(Value::from(text)),
+        }
     }
 }
 
