@@ -10,7 +10,7 @@ ghost use Rattle.tera_values.specs.inner.Map.{keys_tie, keys_held, AreListsOf};
 
 use crate::copy::copies;
 use crate::keys::{
-    FIRST, Keys, copied_keys, first_key, insert_key, key_slice, more_than, place_of,
+    FIRST, Keys, copied_keys, first_key, insert_key, key_slice, more_room, place_of,
 };
 use crate::{Key, Value};
 use std::alloc::{AllocError, Global};
@@ -145,5 +145,5 @@ fn make_room(keys: &Keys, values: &mut Vec<Value>, key: &Key<'_>) -> Result<(), 
     if values.len() < values.capacity() || place_of(keys, key).is_some() {
         return Ok(());
     }
-    values.reserve(more_than(values.len()))
+    values.reserve(more_room(values.len()))
 }

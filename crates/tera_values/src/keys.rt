@@ -157,10 +157,10 @@ pub(crate) fn insert_key(
     }
 }
 
-/// For how many more keys or values room is made, where there are so many and no room: up to `FEW`,
-/// and behind that for one more, where std makes at least twice the room.
-pub(crate) fn more_than(len: usize) -> usize
-    ensures { result ≡ max (12 - len) 1 }
+/// For how many more keys or values room is made, where there are `len` of them and no room: for
+/// `FEW` in all, and behind that for one more, where std makes at least twice the room.
+pub(crate) fn more_room(len: usize) -> usize
+    ensures { result ≡ max (FEW - len) 1 }
 {
     FEW.saturating_sub(len).max(1)
 }
@@ -171,7 +171,7 @@ fn push_key(few: &mut Vec<Key<'static>>, key: Key<'static>) -> Result<(), AllocE
     ensures err { OnErr result (few.new.items ≡ few.old.items) }
 {
     if few.len() == few.capacity() {
-        few.reserve(more_than(few.len()))?;
+        few.reserve(more_room(few.len()))?;
     }
     few.push_reserved(key);
     Ok(())
