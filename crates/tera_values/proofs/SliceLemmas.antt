@@ -2,10 +2,13 @@
 use Rattle.std.specs.Prelude.{◌≡◌, ◌≢◌, ◌<◌, ◌≤◌, ◌+◌, ◌-◌, ◌*◌, ◌^◌, min, ℕ, zero, suc, ℤ, pos, negsuc, int_lt, Bool, true, false, List, [], ◌∷◌, ◌++◌, length}
 use Rattle.std.specs.Prelude.{slice_get, Option, Some, Result, Ok, Err, IfOk, IfErr}
 use Rattle.std.proofs.Common.{refl, sym, ap, ◌∙◌, subst, arith, inl, inr, length-append, ltb-true, reverse, take}
+use Rattle.std.proofs.Math.Nat.{lt_of_mul-lt-mul_right}
 use Rattle.std.proofs.lemmas.Bool.{cases_lt}
+use Rattle.std.proofs.lemmas.Grind.{div_ceil_times}
 use Rattle.std.proofs.lemmas.Int.{ints}
 use Rattle.std.proofs.lemmas.List.{length-reverse, take_more}
 use Rattle.std.proofs.lemmas.Option.{get_or_from_slice_get}
+use Rattle.std.specs.Int.{div_ceil}
 use Rattle.std.specs.Str.{chars, encode_utf8_all}
 use Rattle.std.specs.Option.{unwrap_or}
 use Rattle.tera_report.specs.Errors.{Refuses}
@@ -67,6 +70,18 @@ module _ {X : Type 0} where
               (get_last ys x ∙ sym is ∙ ap (slice_get xs) here)
         ];
       }
+
+  -- while the walk goes on, there is room for one more
+  pub room_left : (xs ys : List X) (from until by place room : ℕ) → place < until → until < 2 ^ 64 → 0 < by
+      → div_ceil (until - from) by ≤ room → IsSoFar xs from until by place ys → length ys < room
+  room_left xs ys from until by place room inside fits moves most h =
+      fewer (length ys) (div_ceil (until - from) by) (omega (arith, h.next)) ((div_ceil_times (until - from) by moves).0) most
+    where
+      fewer : (taken count : ℕ) → place ≡ from + taken * by → until - from ≤ count * by → count ≤ room → taken < room
+      fewer taken count here enough most =
+          let less : taken * by < count * by = omega arith in
+          let below = lt_of_mul-lt-mul_right by less in
+          omega arith
 
   -- the same where a copy of the item was put, and the next place was reckoned
   pub copied : (xs ys made : List X) (x y : X) (from until by place next : ℕ) → place < until → until < 2 ^ 64

@@ -17,7 +17,7 @@ ghost use Rattle.tera_scalars.specs.Whole.{whole_value};
 use crate::equal::equal;
 use crate::unlike::{Unlike, goes_on, least_difference};
 use crate::value::ValueInner;
-use crate::{Map, Value};
+use crate::{Map, Value, ranks};
 use std::cmp::Ordering;
 use tera_scalars::Whole;
 
@@ -74,8 +74,8 @@ pub(crate) fn order(left: &Value, right: &Value) -> Ordering
     ensures { result ≡ compare (meaning left.now) (meaning right.now) }
 {
     match &left.inner {
-        ValueInner::Undefined => 7.cmp(&rank(right)),
-        ValueInner::None => 6.cmp(&rank(right)),
+        ValueInner::Undefined => ranks::UNDEFINED.cmp(&rank(right)),
+        ValueInner::None => ranks::NONE.cmp(&rank(right)),
         ValueInner::Bool(b) => truth_order(*b, right),
         ValueInner::U64(n) => number_order(Whole::Unsigned(u128::from(*n)), right),
         ValueInner::I64(z) => number_order(Whole::Signed(i128::from(*z)), right),
@@ -95,7 +95,7 @@ fn array_order(left: &[Value], right: &Value) -> Ordering
 {
     match right.as_array() {
         Some(all) => items_order(left, all),
-        None => 3.cmp(&rank(right)),
+        None => ranks::ARRAY.cmp(&rank(right)),
     }
 }
 
@@ -136,7 +136,7 @@ fn map_order(left: &Map, right: &Value) -> Ordering
 {
     match right.as_map() {
         Some(all) => pairs_order(left, all),
-        None => 4.cmp(&rank(right)),
+        None => ranks::MAP.cmp(&rank(right)),
     }
 }
 
@@ -182,7 +182,7 @@ fn truth_order(b: bool, other: &Value) -> Ordering
 {
     match other.as_bool() {
         Some(c) => b.cmp(&c),
-        None => 0.cmp(&rank(other)),
+        None => ranks::TRUTH.cmp(&rank(other)),
     }
 }
 
@@ -192,7 +192,7 @@ fn number_order(n: Whole, other: &Value) -> Ordering
 {
     match other.whole() {
         Some(m) => n.order(m),
-        None => 1.cmp(&rank(other)),
+        None => ranks::NUMBER.cmp(&rank(other)),
     }
 }
 
@@ -202,7 +202,7 @@ fn text_order(left: &str, other: &Value) -> Ordering
 {
     match other.as_str() {
         Some(t) => left.cmp(t),
-        None => 2.cmp(&rank(other)),
+        None => ranks::TEXT.cmp(&rank(other)),
     }
 }
 
@@ -212,7 +212,7 @@ fn bytes_order(left: &[u8], other: &Value) -> Ordering
 {
     match other.as_bytes() {
         Some(held) => left.cmp(held),
-        None => 5.cmp(&rank(other)),
+        None => ranks::BYTES.cmp(&rank(other)),
     }
 }
 
@@ -221,16 +221,16 @@ pub(crate) fn rank(value: &Value) -> u8
     ensures { result ≡ rank (meaning value.now) }
 {
     match &value.inner {
-        ValueInner::Bool(_) => 0,
-        ValueInner::U64(_) => 1,
-        ValueInner::I64(_) => 1,
-        ValueInner::U128(_) => 1,
-        ValueInner::I128(_) => 1,
-        ValueInner::String(_, _) => 2,
-        ValueInner::Array(_) => 3,
-        ValueInner::Map(_) => 4,
-        ValueInner::Bytes(_) => 5,
-        ValueInner::None => 6,
-        ValueInner::Undefined => 7,
+        ValueInner::Bool(_) => ranks::TRUTH,
+        ValueInner::U64(_) => ranks::NUMBER,
+        ValueInner::I64(_) => ranks::NUMBER,
+        ValueInner::U128(_) => ranks::NUMBER,
+        ValueInner::I128(_) => ranks::NUMBER,
+        ValueInner::String(_, _) => ranks::TEXT,
+        ValueInner::Array(_) => ranks::ARRAY,
+        ValueInner::Map(_) => ranks::MAP,
+        ValueInner::Bytes(_) => ranks::BYTES,
+        ValueInner::None => ranks::NONE,
+        ValueInner::Undefined => ranks::UNDEFINED,
     }
 }

@@ -19,8 +19,8 @@ ghost use Rattle.tera_values.specs.Key.{owned_in_key, number_in_key, key_value, 
 ghost use Rattle.tera_values.specs.Key.{fed_number, fed, FitsInline};
 ghost use Rattle.tera_scalars.specs.Whole.{whole_value};
 
-use crate::Value;
 use crate::print::truth_text;
+use crate::{Value, ranks};
 use arrayvec::ArrayString;
 use std::alloc::{AllocError, Global};
 use std::cmp::Ordering;
@@ -179,14 +179,14 @@ impl<'a> Key<'a> {
         ensures { result ≡ key_rank (meaning_of_key self.now) }
     {
         match self {
-            Key::Bool(_) => 0,
-            Key::U64(_) => 1,
-            Key::I64(_) => 1,
-            Key::U128(_) => 1,
-            Key::I128(_) => 1,
-            Key::String(_) => 2,
-            Key::Str(_) => 2,
-            Key::Inline(_) => 2,
+            Key::Bool(_) => ranks::TRUTH,
+            Key::U64(_) => ranks::NUMBER,
+            Key::I64(_) => ranks::NUMBER,
+            Key::U128(_) => ranks::NUMBER,
+            Key::I128(_) => ranks::NUMBER,
+            Key::String(_) => ranks::TEXT,
+            Key::Str(_) => ranks::TEXT,
+            Key::Inline(_) => ranks::TEXT,
         }
     }
 }
@@ -262,7 +262,7 @@ fn truth_order(b: bool, other: &Key<'_>) -> Ordering
 {
     match other {
         Key::Bool(c) => b.cmp(c),
-        _ => 0.cmp(&other.rank()),
+        _ => ranks::TRUTH.cmp(&other.rank()),
     }
 }
 
@@ -272,7 +272,7 @@ fn number_order(n: Whole, other: &Key<'_>) -> Ordering
 {
     match other.whole() {
         Some(m) => n.order(m),
-        None => 1.cmp(&other.rank()),
+        None => ranks::NUMBER.cmp(&other.rank()),
     }
 }
 
@@ -282,7 +282,7 @@ fn text_order(left: &str, other: &Key<'_>) -> Ordering
 {
     match other.as_str() {
         Some(t) => left.cmp(t),
-        None => 2.cmp(&other.rank()),
+        None => ranks::TEXT.cmp(&other.rank()),
     }
 }
 

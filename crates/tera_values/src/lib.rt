@@ -20,6 +20,7 @@ mod new_key;
 pub mod number;
 mod path;
 mod print;
+mod ranks;
 mod read;
 mod refused;
 mod slice;

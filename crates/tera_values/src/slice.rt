@@ -150,7 +150,6 @@ fn strided_items(
     let mut made = Vec::with_capacity(alloc, stride.count())?;
     let mut at = stride.from;
     while at < stride.until {
-        made.reserve(1)?;
         push_copy(alloc, &mut made, item_from(all, backwards, at))?;
         at = at.saturating_add(stride.by);
     }
