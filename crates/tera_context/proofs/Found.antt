@@ -7,7 +7,7 @@ use Rattle.tera_report.specs.Refusal.{Refusal, stated}
 use Rattle.tera_meaning.specs.Form.{Form}
 use Rattle.tera_meaning.specs.Outcome.{Outcome}
 use Rattle.tera_meaning.specs.Request.{find}
-use Rattle.tera_meaning.specs.Search.{Search, Found, found_at, one_found, CopyTakes, FoundTakes}
+use Rattle.tera_meaning.specs.Search.{Search, Found, found_at, one_found, FoundTakes, MadeTakes}
 use Rattle.tera_meaning.specs.State.{State}
 use Rattle.tera_meaning.specs.Step.{found_or_kept, keeping, IsStep}
 use Rattle.tera_meaning.proofs.StepLaws.{refused_answer, refused_left}
@@ -48,10 +48,10 @@ pub given_refused : (e : Error) (given : Result Form Refusal) (found : Found) �
 given_refused e (Ok value) found refuses is = subst (λ (f : Found). Refuses f e) (sym is) refuses
 given_refused e (Err refusal) found refuses is = subst (λ (f : Found). Refuses f e) (sym is) refuses
 
--- what is made takes memory where every such thing does
-pub made_takes : (search : Search) (given : Result Form Refusal) (found : Found) → found ≡ one_found given → ((value : Form) → CopyTakes search value)
-    → FoundTakes search found
-made_takes search (Ok value) found is takes = subst (FoundTakes search) (sym is) (takes value)
+-- what is found takes memory where what is given does
+pub made_takes : (search : Search) (given : Result Form Refusal) (found : Found) → found ≡ one_found given
+    → ((value : Form) → given ≡ Ok value → MadeTakes search value) → FoundTakes search found
+made_takes search (Ok value) found is takes = subst (FoundTakes search) (sym is) (takes value refl)
 made_takes search (Err refusal) found is takes = subst (FoundTakes search) (sym is) tt
 
 -- a refused search that takes memory for a refusal's text alone changes nothing

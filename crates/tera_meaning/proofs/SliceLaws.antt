@@ -11,7 +11,8 @@ use Rattle.std.proofs.lemmas.Str.{encodes-chars}
 use Rattle.std.specs.Option.{unwrap_or}
 use Rattle.std.specs.Str.{chars, encode_utf8_all, IsUtf8}
 use Rattle.tera_meaning.specs.Form.{Form, MarkedText}
-use Rattle.tera_meaning.specs.Tree.{text, array, items, items_list}
+use Rattle.tera_meaning.specs.Read.{items_in}
+use Rattle.tera_meaning.specs.Tree.{text, array, items, items_list, no_items}
 use Rattle.tera_meaning.proofs.TreeLaws.{list_of_items}
 use Rattle.tera_report.specs.Refusal.{Refusal}
 use Rattle.std.proofs.lemmas.Grind.{common_steps}
@@ -186,3 +187,16 @@ backward_array xs = (reverse (items_list (items xs)), backward_slice (items_list
 pub backward_text : (t : MarkedText) → IsSliced (text t) None None (Some (negsuc 0))
     (Ok (text (record { spelled = encode_utf8_all (reverse (chars t.spelled)); safe = t.safe })))
 backward_text t = (reverse (chars t.spelled), backward_slice (chars t.spelled), refl)
+
+-- what is reversed to an array of no items is one
+pub none_turned : (value : Form) → reversed value ≡ Ok (array no_items) → items_in value ≡ Some []
+none_turned (array xs) e = ap Some (none_behind (items_list xs) (none_kept (reverse (items_list xs)) cc))
+  where
+    none_kept : (ys : List Form) → items ys ≡ no_items → ys ≡ []
+    none_kept [] e = refl
+    none_kept (y ∷ ys) e = cc
+
+    none_behind : (ys : List Form) → reverse ys ≡ [] → ys ≡ []
+    none_behind [] e = refl
+    none_behind (y ∷ ys) e = absurd (omega (arith, length-reverse (y ∷ ys), ap length e))
+none_turned x0 e = cc

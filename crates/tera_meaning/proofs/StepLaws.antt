@@ -1,5 +1,6 @@
 -- What single steps answer and leave.
-use Rattle.std.specs.Prelude.{◌≡◌, ℕ, ℤ, Bool, true, false, cond, List, [], Option, Some, None, Result, Ok, Err}
+use Rattle.std.specs.Prelude.{◌≡◌, ◌≢◌, ℕ, ℤ, Bool, false, cond, List, [], Option, Some, None, Result, Ok, Err}
+use Rattle.std.proofs.lemmas.Bool.{false≢true}
 use Rattle.std.proofs.Common.{sym, ◌∙◌, ap, subst, inl, inr, rules}
 use Rattle.std.specs.Option.{option_map, unwrap_or}
 use Rattle.std.specs.Ordering.{nat_cmp, eq_by_cmp}
@@ -12,9 +13,9 @@ use Rattle.tera_report.proofs.EscapeLaws.{escaped_from_spelling}
 use Rattle.tera_meaning.specs.Form.{Form}
 use Rattle.tera_meaning.specs.Meaning.{layout, meaning}
 use Rattle.tera_meaning.specs.Printed.{printed, IsExact, PrintsNothing}
-use Rattle.tera_meaning.specs.Read.{iterable_in, marked_safe}
+use Rattle.tera_meaning.specs.Read.{iterable_in, marked_safe, truthy_in}
 use Rattle.tera_meaning.specs.Arithmetic.{each_ok, negated}
-use Rattle.tera_meaning.specs.Search.{Search, found_at, FoundTakes}
+use Rattle.tera_meaning.specs.Search.{Search, found_at, CopyTakes, FoundTakes, get, path, attr, item, slice, reverse, calculate, negate, read}
 use Rattle.tera_meaning.specs.State.{State, layout_at, meaning_at}
 use Rattle.tera_meaning.proofs.StateLaws.{get_set, meaning_set, name_exact, get_other}
 use Rattle.tera_meaning.specs.Alike.{MeanTheSame, meaning_held}
@@ -23,7 +24,7 @@ use Rattle.tera_meaning.specs.Question
 use Rattle.tera_meaning.specs.Request.{mark_safe, ask, asking, asking_into}
 use Rattle.tera_meaning.specs.Step.{marking, found_or_kept, keeping, ComesOnlyTo, state_after}
 use Rattle.tera_meaning.specs.Steps.{StepsOnlyTo}
-use Rattle.tera_meaning.specs.Tree.{undefined}
+use Rattle.tera_meaning.specs.Tree.{undefined, array, no_items}
 
 -- what is escaped of a name that holds this form
 pub escapes : (state : State) (name : List ℕ) (o : Option Form) → held_at state name ≡ o
@@ -85,9 +86,24 @@ each_number f x1 x h e = search rules
 negated_number : (v x : Form) → negated v ≡ Ok x → iterable_in x ≡ false
 negated_number v x e = search rules
 
--- where what is found has parts, a copy of it takes memory
+-- what takes memory to be copied is no array of no items
+copy_filled : (value : Form) → CopyTakes value → value ≢ array no_items
+copy_filled value (parts, some) is = false≢true (ap (λ v. truthy_in (meaning v)) (sym is) ∙ some)
+
+-- where a copy of what is found takes memory, what is made does
 pub copy_takes : (state : State) (search : Search) (value : Form) → found_at state search ≡ Ok (Some value)
-    → iterable_in value ≡ true → FoundTakes search (found_at state search)
-copy_takes state x1 value e h = search (rules, each_number, negated_number)
+    → CopyTakes value → FoundTakes search (found_at state search)
+copy_takes state (get name) value e h = subst (FoundTakes (get name)) (sym e) h
+copy_takes state (path name p) value e h = subst (FoundTakes (path name p)) (sym e) h
+copy_takes state (attr name t) value e h = subst (FoundTakes (attr name t)) (sym e) h
+copy_takes state (item name i) value e h = subst (FoundTakes (item name i)) (sym e) h
+copy_takes state (slice name start end step) value e h = subst (FoundTakes (slice name start end step)) (sym e) (copy_filled value h)
+copy_takes state (reverse name) value e h = subst (FoundTakes (reverse name)) (sym e) (copy_filled value h)
+copy_takes state (calculate operator left right) value e (parts, some) =
+    let none : iterable_in value ≡ false = search (rules, each_number) in absurd (false≢true (sym none ∙ parts))
+copy_takes state (negate name) value e (parts, some) =
+    let none : iterable_in value ≡ false = search (rules, negated_number) in absurd (false≢true (sym none ∙ parts))
+copy_takes state (read type name) value e (parts, some) =
+    let none : iterable_in value ≡ false = search (rules, each_number) in absurd (false≢true (sym none ∙ parts))
 
 pub ruleset marks = (marked_alike, marked_meaning, marked_absent, get_set, get_other)

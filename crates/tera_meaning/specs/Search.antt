@@ -1,16 +1,18 @@
 -- What is found in a state.
-use Rattle.std.specs.Prelude.{⊤, ℕ, ℤ, IsTrue, List, Option, Some, None, Result, Ok, Err}
+use Rattle.std.specs.Prelude.{◌≢◌, ⊤, ℕ, ℤ, IsTrue, List, Option, Some, None, Result, Ok, Err}
 use Rattle.std.specs.FinMap.{get as held_at}
 use Rattle.tera_report.specs.Refusal.{Refusal, Operator}
 use Rattle.tera_meaning.specs.Arithmetic.{calculated, negated}
 use Rattle.tera_meaning.specs.Conversion.{IntegerType, read_as}
 use Rattle.tera_meaning.specs.Form.{Form}
 use Rattle.tera_meaning.specs.Lookup
+use Rattle.tera_meaning.specs.Meaning.{meaning}
 use Rattle.tera_meaning.specs.Path
-use Rattle.tera_meaning.specs.Read.{iterable_in}
+use Rattle.tera_meaning.specs.Read.{iterable_in, truthy_in}
 use Rattle.tera_meaning.specs.SliceRule.{reversed}
 use Rattle.tera_meaning.specs.State.{State, form_at}
 use Rattle.tera_meaning.specs.Slice.{sliced}
+use Rattle.tera_meaning.specs.Tree.{array, no_items}
 
 -- a value, or a part of one, or what is made of it
 pub data Search : Type 0 where
@@ -45,21 +47,25 @@ found_at state (calculate operator left right) =
 found_at state (negate name) = one_found (negated (form_at state name))
 found_at state (read type name) = one_found (read_as type (form_at state name))
 
--- what a search makes takes memory: a slice, a reversal, and the copy of a text, of bytes, of an
--- array or of a map. A number takes none
-abbrev pub CopyTakes : Search → Form → Type 0
-CopyTakes (get name) value = IsTrue (iterable_in value)
-CopyTakes (path name p) value = IsTrue (iterable_in value)
-CopyTakes (attr name t) value = IsTrue (iterable_in value)
-CopyTakes (item name i) value = IsTrue (iterable_in value)
-CopyTakes (slice name start end step) value = ⊤
-CopyTakes (reverse name) value = ⊤
-CopyTakes (calculate operator left right) value = ⊥
-CopyTakes (negate name) value = ⊥
-CopyTakes (read type name) value = ⊥
+-- a copy takes memory: of a text, of bytes, of an array or of a map, where it is not empty
+abbrev pub CopyTakes : Form → Type 0
+CopyTakes value = IsTrue (iterable_in value) × IsTrue (truthy_in (meaning value))
+
+-- what a search makes takes memory: a copy that does, and a slice or a reversal but an array of no
+-- items. A number takes none
+abbrev pub MadeTakes : Search → Form → Type 0
+MadeTakes (get name) value = CopyTakes value
+MadeTakes (path name p) value = CopyTakes value
+MadeTakes (attr name t) value = CopyTakes value
+MadeTakes (item name i) value = CopyTakes value
+MadeTakes (slice name start end step) value = value ≢ array no_items
+MadeTakes (reverse name) value = value ≢ array no_items
+MadeTakes (calculate operator left right) value = ⊥
+MadeTakes (negate name) value = ⊥
+MadeTakes (read type name) value = ⊥
 
 -- what a search comes to takes memory: the text of a refusal does, and what is made
 abbrev pub FoundTakes : Search → Found → Type 0
 FoundTakes search (Ok None) = ⊥
-FoundTakes search (Ok (Some value)) = CopyTakes search value
+FoundTakes search (Ok (Some value)) = MadeTakes search value
 FoundTakes search (Err refusal) = ⊤

@@ -1,12 +1,12 @@
 -- One step of the model: what a request comes to, and what it leaves.
-use Rattle.std.specs.Prelude.{◌≡◌, ◌⊎◌, ⊤, ℕ, List, Option, Some, None, Ok, Err, IsErr, IsTrue}
+use Rattle.std.specs.Prelude.{◌≡◌, ◌⊎◌, ⊤, ℕ, List, Option, Some, None, Ok, Err, IsErr}
 use Rattle.std.specs.FinMap.{get as held_at, insert, remove as without}
 use Rattle.tera_meaning.specs.Answer
-use Rattle.tera_meaning.specs.Search.{Found, found_at, FoundTakes}
+use Rattle.tera_meaning.specs.Search.{Found, found_at, CopyTakes, FoundTakes}
 use Rattle.tera_meaning.specs.Form.{Form}
 use Rattle.tera_meaning.specs.Outcome.{Outcome, out_of_memory}
 use Rattle.tera_meaning.specs.Question.{IsAnswered, IsFixedAnswer, TakesMemory}
-use Rattle.tera_meaning.specs.Read.{iterable_in, marked_safe}
+use Rattle.tera_meaning.specs.Read.{marked_safe}
 use Rattle.tera_meaning.specs.Request.{Request, set, extend, remove, mark_safe, ask, weigh, find}
 use Rattle.tera_meaning.specs.Request.{Command, asking}
 use Rattle.tera_meaning.specs.State.{State, form_at, layout_at, extended, IsProperBeginning}
@@ -93,7 +93,7 @@ MayWant state (extend source) into = ⊤
 MayWant state (remove name) into = ⊥
 MayWant state (mark_safe name) None = ⊥
 MayWant state (mark_safe name) (Some into) =
-    IsTrue (iterable_in (form_at state name)) ⊎ KeepTakes state into
+    CopyTakes (form_at state name) ⊎ KeepTakes state into
 MayWant state (ask question name) into = TakesMemory question (form_at state name)
 MayWant state (weigh weighing left right) into =
     IsErr (weighed weighing (form_at state left) (form_at state right))

@@ -1,0 +1,26 @@
+use Rattle.std.proofs.Common.{◌≡◌, ◌≢◌, ◌∙◌, Ok, ap, rules}
+use Rattle.std.specs.Option.{option_map}
+use Rattle.std.specs.String.{string_bytes}
+use Rattle.tera_meaning.specs.Form.{Form}
+use Rattle.tera_meaning.specs.Search
+use Rattle.tera_meaning.specs.Search.{found_at, one_found}
+use Rattle.tera_meaning.specs.SliceRule.{reversed}
+use Rattle.tera_meaning.specs.State.{form_at}
+use Rattle.tera_meaning.specs.Tree.{array, no_items}
+use Rattle.tera_meaning.proofs.SliceLaws.{none_turned}
+use Rattle.tera_context.proofs.Found.{given_refused, made_takes}
+use Rattle.tera_context.proofs.ShownLaws.{not_refused}
+use Rattle.tera_context.proofs.finds.reverse.Goals as goal
+
+pub returns-in-Err : goal.returns-in-Err
+returns-in-Err c =
+    let state = c.args.context.now in
+    let value : form_at state c.args.of.now ≡ c.value_at.result.now = search rules in
+    let wanted = Search.reverse c.args.of.now in
+    let given = reversed c.value_at.result.now in
+    let found : found_at state wanted ≡ one_found given = ap (λ v. one_found (reversed v)) value in
+    let filled : (v : Form) → given ≡ Ok v → v ≢ array no_items =
+    λ v is none. not_refused c.reverse.result c.in-Err.error c.in-Err.is
+    (c.reverse.ensures.succeeds (none_turned c.value_at.result.now (is ∙ ap (λ (u : Form). Ok u) none))) in
+    c.refused.ensures state wanted (option_map string_bytes c.args.into) (made_takes wanted given (found_at state wanted) found filled)
+    (given_refused c.in-Err.error given (found_at state wanted) c.in-Err.ensures.err found)
