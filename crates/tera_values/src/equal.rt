@@ -28,7 +28,9 @@ pub(crate) fn equal(left: &Value, right: &Value) -> bool
     }
 }
 
-// Whether an array of these items and a value mean the same.
+// Whether an array of these items and a value mean the same. It stands apart, so that `equal` stays
+// short where it is inlined.
+#[inline(never)]
 #[cycle(equal)]
 fn array_equal(left: &[Value], right: &Value) -> bool
     ensures { result ≡ same (meaning (array (items left.now))) (meaning right.now) }
