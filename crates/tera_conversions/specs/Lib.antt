@@ -1,3 +1,2 @@
-pub mod Apart
 pub mod Given
 pub mod inner

@@ -3,7 +3,7 @@ ghost use Rattle.std.specs.Prelude.{◌≡◌, pos, true, IfOk, IfErr};
 ghost use Rattle.std.specs.Cow.{cow_str_bytes};
 ghost use Rattle.std.proofs.Common.{rules};
 ghost use Rattle.std.specs.String.{string_bytes};
-ghost use Rattle.tera_conversions.specs.Apart.{key_apart};
+ghost use Rattle.tera_conversions.specs.inner.Apart.{key_apart};
 ghost use Rattle.tera_meaning.specs.Integer.{u128, i128};
 ghost use Rattle.tera_meaning.specs.KeyMeaning.{KeyForm, key_meaning, text_key, borrowed, owned};
 ghost use Rattle.tera_report.specs.Errors.{IsOutOfMemory};
