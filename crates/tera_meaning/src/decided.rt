@@ -9,6 +9,7 @@ ghost use Rattle.tera_meaning.specs.Integer.{u64, i64};
 ghost use Rattle.tera_meaning.specs.KeyMeaning.{KeyMeaning, truth_key, number_key, text_key};
 ghost use Rattle.tera_meaning.specs.Meaning.{Meaning, map_meaning};
 ghost use Rattle.tera_meaning.specs.Order.{compare, rank};
+ghost use Rattle.tera_meaning.specs.Read.{items_in, members_in};
 ghost use Rattle.tera_meaning.specs.Rows.{count, list_of, map_of, normal, marked, key_of};
 ghost use Rattle.tera_meaning.specs.Rows.{ComparesUndecided, undecided};
 ghost use Rattle.tera_meaning.specs.Tree.{none, undefined, truth, text, bytes, array, object};
@@ -26,7 +27,7 @@ pub fn maps_and_ranks_are_not_decided()
     ensures ranks { (x y : Meaning) → rank x ≢ rank y → decided x y ≡ None }
     ensures arrays { (xs ys : List Meaning)
         → decided (array (items xs)) (array (items ys)) ≡ slice_partial_cmp decided xs ys }
-    ensures others { (x y : Meaning) → rank x ≡ rank y → rank x ≢ 3 → rank x ≢ 4
+    ensures others { (x y : Meaning) → rank x ≡ rank y → items_in x ≡ None → members_in x ≡ None
         → decided x y ≡ Some (compare x y) }
 {}
 

@@ -62,8 +62,8 @@ impl Value {
     /// Refuses an item of a map that is no key with ``Map keys must be strings, integers, or bools,
     /// got `N`.``, where N is the name of the item's kind. Refuses one of an array that is no
     /// integer with ``Array index must be an integer, got `N`.``, and one of a text with ``String
-    /// index must be an integer, got `N`.``. Takes memory for the copy and for a refusal's text;
-    /// want of it, `Out of memory`, is answered in the place of either.
+    /// index must be an integer, got `N`.``. Takes memory for the copy, as `clone` does, and for a
+    /// refusal's text; want of it, `Out of memory`, is answered in the place of either.
     pub fn get_item(&self, alloc: Global, at: &Value) -> TeraResult<Value>
         ensures ok { IfOk result (λ part. item self.now at.now ≡ Ok part) }
         ensures err { IfErr result (Refuses (item self.now at.now)) }

@@ -4,8 +4,7 @@ ghost use Rattle.std.specs.Option.{option_copied, option_map};
 ghost use Rattle.tera_meaning.specs.Pairs.{key_form_order, value_at, goes_on, HasDistinctKeys};
 ghost use Rattle.tera_values.specs.Key.{key_form};
 ghost use Rattle.tera_values.specs.inner.Unlike.{IsLeastUnlike, least_met, unlike, lacking};
-ghost use Rattle.tera_values.specs.inner.Unlike.{is_before};
-ghost use Rattle.tera_values.specs.inner.Unlike.{difference_at};
+ghost use Rattle.tera_values.specs.inner.Unlike.{is_before, difference_at};
 
 use crate::compare::unlike;
 use crate::{Key, Map, Value};
