@@ -22,15 +22,24 @@ pub(crate) fn equal(left: &Value, right: &Value) -> bool
     match (&left.inner, &right.inner) {
         (ValueInner::U64(n), ValueInner::U64(m)) => n == m,
         (ValueInner::I64(z), ValueInner::I64(y)) => z == y,
-        (ValueInner::Array(all), _) => array_equal(all.as_slice(), right),
-        (ValueInner::Map(all), _) => map_equal(all, right),
+        _ => others_equal(left, right),
+    }
+}
+
+// The same of all other values. It stands apart, so that `equal` stays short where it is inlined.
+#[inline(never)]
+#[cycle(equal)]
+fn others_equal(left: &Value, right: &Value) -> bool
+    ensures { result ≡ same (meaning left.now) (meaning right.now) }
+{
+    match &left.inner {
+        ValueInner::Array(all) => array_equal(all.as_slice(), right),
+        ValueInner::Map(all) => map_equal(all, right),
         _ => order(left, right).is_eq(),
     }
 }
 
-// Whether an array of these items and a value mean the same. It stands apart, so that `equal` stays
-// short where it is inlined.
-#[inline(never)]
+// Whether an array of these items and a value mean the same.
 #[cycle(equal)]
 fn array_equal(left: &[Value], right: &Value) -> bool
     ensures { result ≡ same (meaning (array (items left.now))) (meaning right.now) }
