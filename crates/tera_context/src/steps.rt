@@ -27,11 +27,10 @@ use tera_values::Value;
 ///
 /// Memory is taken, and `Out of memory` may be answered: by `Set` for a name that is new, and by
 /// `Extend`; by `Print`, `Escape`, `Fields` and `Walk` for the texts that they answer, if there are
-/// some; by `Get` and the calls that answer as it does, and by `MarkSafe` with `into`, for a text,
-/// bytes, an array or a map that is copied, if it is not empty, for what is kept under a name that
-/// is new, and for the text of a refusal. `Slice` and `Reverse` may take some for an empty text and
-/// for empty bytes too. `Binary`, `Negate`, `Read` and `Contains` copy none of these, and the other
-/// calls take none.
+/// some; by `Get` and the calls that answer as it does, and by `MarkSafe` with `into`, for a copy,
+/// a slice or a reversal that is a text, bytes, an array or a map, if it is not empty, for what is
+/// kept under a name that is new, and for the text of a refusal. `Binary`, `Negate`, `Read` and
+/// `Contains` make none of these, and the other calls take none.
 pub fn step(context: &mut Context, step: Step) -> TeraResult<Answer>
     ensures { ShowsOneOf result (λ outcome.
         IsStep context.old (command_of step) outcome context.new) }

@@ -1,7 +1,7 @@
 -- From a walk over items to a slice of them, and slices as the walk gives them.
 use Rattle.std.specs.Prelude.{◌≡◌, ◌≢◌, ◌<◌, ◌≤◌, ◌+◌, ◌*◌, ◌-◌, min, ℕ, zero, suc, ℤ, pos, negsuc, ◌-ℤ◌, ◌≤ℤ◌, List, [], ◌∷◌, reverse, length, take, slice_get}
 use Rattle.std.specs.Prelude.{Option, None, Some, Result, Ok, refl, unwrap_or}
-use Rattle.std.proofs.Common.{refl, sym, ap, ◌∙◌, subst, arith, rules}
+use Rattle.std.proofs.Common.{refl, true, sym, ap, ◌∙◌, subst, arith, rules}
 use Rattle.std.proofs.lemmas.Int.{ints}
 use Rattle.std.proofs.lemmas.List.{get_or-reverse, length-reverse}
 use Rattle.std.proofs.lemmas.Option.{slice_get-get_or}
@@ -11,8 +11,8 @@ use Rattle.std.proofs.lemmas.Str.{encodes-chars}
 use Rattle.std.specs.Option.{unwrap_or}
 use Rattle.std.specs.Str.{chars, encode_utf8_all, IsUtf8}
 use Rattle.tera_meaning.specs.Form.{Form, MarkedText}
-use Rattle.tera_meaning.specs.Read.{items_in}
-use Rattle.tera_meaning.specs.Tree.{text, array, items, items_list, no_items}
+use Rattle.tera_meaning.specs.Read.{iterable_in}
+use Rattle.tera_meaning.specs.Tree.{text, bytes, array, items, items_list}
 use Rattle.tera_meaning.proofs.TreeLaws.{list_of_items}
 use Rattle.tera_report.specs.Refusal.{Refusal}
 use Rattle.std.proofs.lemmas.Grind.{common_steps}
@@ -188,15 +188,23 @@ pub backward_text : (t : MarkedText) → IsSliced (text t) None None (Some (negs
     (Ok (text (record { spelled = encode_utf8_all (reverse (chars t.spelled)); safe = t.safe })))
 backward_text t = (reverse (chars t.spelled), backward_slice (chars t.spelled), refl)
 
--- what is reversed to an array of no items is one
-pub none_turned : (value : Form) → reversed value ≡ Ok (array no_items) → items_in value ≡ Some []
-none_turned (array xs) e = ap Some (none_behind (items_list xs) (none_kept (reverse (items_list xs)) cc))
-  where
-    none_kept : (ys : List Form) → items ys ≡ no_items → ys ≡ []
-    none_kept [] e = refl
-    none_kept (y ∷ ys) e = cc
+-- what is sliced, or reversed, has parts
+cut_parts : (v w : Form) (start end : Option ℤ) (step : ℤ) → cut v start end step ≡ Ok w → iterable_in w ≡ true
+cut_parts (array xs) w start end step e = cc
+cut_parts (text t) w start end step e = cc
+cut_parts v w start end step e = cc
 
-    none_behind : (ys : List Form) → reverse ys ≡ [] → ys ≡ []
-    none_behind [] e = refl
-    none_behind (y ∷ ys) e = absurd (omega (arith, length-reverse (y ∷ ys), ap length e))
-none_turned x0 e = cc
+cut_by_parts : (step : ℤ) (v w : Form) (start end : Option ℤ) → cut_by step v start end ≡ Ok w → iterable_in w ≡ true
+cut_by_parts (pos zero) v w start end e = cc
+cut_by_parts (pos (suc n)) v w start end e = cut_parts v w start end (pos (suc n)) e
+cut_by_parts (negsuc n) v w start end e = cut_parts v w start end (negsuc n) e
+
+pub sliced_parts : (v w : Form) (start end step : Option ℤ) → IsSliced v start end step (Ok w) → iterable_in w ≡ true
+sliced_parts v w start end step h =
+    cut_by_parts (unwrap_or step (pos 1)) v w start end (sym (sliced_only v start end step (Ok w) h))
+
+pub reversed_parts : (v w : Form) → reversed v ≡ Ok w → iterable_in w ≡ true
+reversed_parts (array xs) w e = cc
+reversed_parts (text t) w e = cc
+reversed_parts (bytes bs) w e = cc
+reversed_parts v w e = cc

@@ -13,7 +13,7 @@ use Rattle.tera_report.proofs.EscapeLaws.{escaped_from_spelling}
 use Rattle.tera_meaning.specs.Form.{Form}
 use Rattle.tera_meaning.specs.Meaning.{layout, meaning}
 use Rattle.tera_meaning.specs.Printed.{printed, IsExact, PrintsNothing}
-use Rattle.tera_meaning.specs.Read.{iterable_in, marked_safe, truthy_in}
+use Rattle.tera_meaning.specs.Read.{iterable_in, marked_safe}
 use Rattle.tera_meaning.specs.Arithmetic.{each_ok, negated}
 use Rattle.tera_meaning.specs.Search.{Search, found_at, CopyTakes, FoundTakes, get, path, attr, item, slice, reverse, calculate, negate, read}
 use Rattle.tera_meaning.specs.State.{State, layout_at, meaning_at}
@@ -24,7 +24,7 @@ use Rattle.tera_meaning.specs.Question
 use Rattle.tera_meaning.specs.Request.{mark_safe, ask, asking, asking_into}
 use Rattle.tera_meaning.specs.Step.{marking, found_or_kept, keeping, ComesOnlyTo, state_after}
 use Rattle.tera_meaning.specs.Steps.{StepsOnlyTo}
-use Rattle.tera_meaning.specs.Tree.{undefined, array, no_items}
+use Rattle.tera_meaning.specs.Tree.{undefined}
 
 -- what is escaped of a name that holds this form
 pub escapes : (state : State) (name : List ℕ) (o : Option Form) → held_at state name ≡ o
@@ -86,10 +86,6 @@ each_number f x1 x h e = search rules
 negated_number : (v x : Form) → negated v ≡ Ok x → iterable_in x ≡ false
 negated_number v x e = search rules
 
--- what takes memory to be copied is no array of no items
-copy_filled : (value : Form) → CopyTakes value → value ≢ array no_items
-copy_filled value (parts, some) is = false≢true (ap (λ v. truthy_in (meaning v)) (sym is) ∙ some)
-
 -- where a copy of what is found takes memory, what is made does
 pub copy_takes : (state : State) (search : Search) (value : Form) → found_at state search ≡ Ok (Some value)
     → CopyTakes value → FoundTakes search (found_at state search)
@@ -97,8 +93,8 @@ copy_takes state (get name) value e h = subst (FoundTakes (get name)) (sym e) h
 copy_takes state (path name p) value e h = subst (FoundTakes (path name p)) (sym e) h
 copy_takes state (attr name t) value e h = subst (FoundTakes (attr name t)) (sym e) h
 copy_takes state (item name i) value e h = subst (FoundTakes (item name i)) (sym e) h
-copy_takes state (slice name start end step) value e h = subst (FoundTakes (slice name start end step)) (sym e) (copy_filled value h)
-copy_takes state (reverse name) value e h = subst (FoundTakes (reverse name)) (sym e) (copy_filled value h)
+copy_takes state (slice name start end step) value e h = subst (FoundTakes (slice name start end step)) (sym e) h
+copy_takes state (reverse name) value e h = subst (FoundTakes (reverse name)) (sym e) h
 copy_takes state (calculate operator left right) value e (parts, some) =
     let none : iterable_in value ≡ false = search (rules, each_number) in absurd (false≢true (sym none ∙ parts))
 copy_takes state (negate name) value e (parts, some) =

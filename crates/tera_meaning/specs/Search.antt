@@ -1,5 +1,5 @@
 -- What is found in a state.
-use Rattle.std.specs.Prelude.{◌≢◌, ⊤, ℕ, ℤ, IsTrue, List, Option, Some, None, Result, Ok, Err}
+use Rattle.std.specs.Prelude.{⊤, ℕ, ℤ, IsTrue, List, Option, Some, None, Result, Ok, Err}
 use Rattle.std.specs.FinMap.{get as held_at}
 use Rattle.tera_report.specs.Refusal.{Refusal, Operator}
 use Rattle.tera_meaning.specs.Arithmetic.{calculated, negated}
@@ -12,7 +12,6 @@ use Rattle.tera_meaning.specs.Read.{iterable_in, truthy_in}
 use Rattle.tera_meaning.specs.SliceRule.{reversed}
 use Rattle.tera_meaning.specs.State.{State, form_at}
 use Rattle.tera_meaning.specs.Slice.{sliced}
-use Rattle.tera_meaning.specs.Tree.{array, no_items}
 
 -- a value, or a part of one, or what is made of it
 pub data Search : Type 0 where
@@ -51,15 +50,15 @@ found_at state (read type name) = one_found (read_as type (form_at state name))
 abbrev pub CopyTakes : Form → Type 0
 CopyTakes value = IsTrue (iterable_in value) × IsTrue (truthy_in (meaning value))
 
--- what a search makes takes memory: a copy that does, and a slice or a reversal but an array of no
--- items. A number takes none
+-- what a search makes takes memory: a copy, a slice or a reversal as a copy of it does. A number
+-- takes none
 abbrev pub MadeTakes : Search → Form → Type 0
 MadeTakes (get name) value = CopyTakes value
 MadeTakes (path name p) value = CopyTakes value
 MadeTakes (attr name t) value = CopyTakes value
 MadeTakes (item name i) value = CopyTakes value
-MadeTakes (slice name start end step) value = value ≢ array no_items
-MadeTakes (reverse name) value = value ≢ array no_items
+MadeTakes (slice name start end step) value = CopyTakes value
+MadeTakes (reverse name) value = CopyTakes value
 MadeTakes (calculate operator left right) value = ⊥
 MadeTakes (negate name) value = ⊥
 MadeTakes (read type name) value = ⊥

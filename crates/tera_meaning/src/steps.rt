@@ -1,5 +1,5 @@
 //! The laws of single steps. Each function here does nothing: its clauses are the law.
-ghost use Rattle.std.specs.Prelude.{◌≡◌, ◌≢◌, ℕ, ℤ, true, false, [], List, Option, Some, None, Ok};
+ghost use Rattle.std.specs.Prelude.{◌≡◌, ◌≢◌, ℕ, true, false, [], List, Option, Some, None, Ok};
 ghost use Rattle.std.specs.Prelude.{◌↔◌, Err, IsErr, IsOk, IsSome};
 ghost use Rattle.std.specs.FinMap.{contains_key, get as held_at, insert, remove as without};
 ghost use Rattle.tera_report.specs.Escaping.{escaped};
@@ -8,7 +8,7 @@ ghost use Rattle.tera_meaning.specs.Answer;
 ghost use Rattle.tera_meaning.specs.Arithmetic.{calculated, negated};
 ghost use Rattle.tera_meaning.specs.Conversion.{IntegerType, read_as};
 ghost use Rattle.tera_meaning.specs.Search;
-ghost use Rattle.tera_meaning.specs.Search.{Search, found_at, CopyTakes, slice, reverse};
+ghost use Rattle.tera_meaning.specs.Search.{Search, found_at, CopyTakes};
 ghost use Rattle.tera_meaning.specs.Fields.{fields, shown_in};
 ghost use Rattle.tera_meaning.specs.Form.{Form};
 ghost use Rattle.tera_meaning.specs.Kind.{kind_in, undefined_kind};
@@ -29,7 +29,7 @@ ghost use Rattle.tera_meaning.specs.Step.{state_after};
 ghost use Rattle.tera_meaning.specs.Steps.{AbsentAnswers, BothAbsentAnswer, ExactAnswers};
 ghost use Rattle.tera_meaning.specs.Steps.{HasOneAnswer, HasOneStep, HeldAnswers, OnlyFinds};
 ghost use Rattle.tera_meaning.specs.Steps.{StepsOnlyTo};
-ghost use Rattle.tera_meaning.specs.Tree.{undefined, array, no_items};
+ghost use Rattle.tera_meaning.specs.Tree.{undefined};
 ghost use Rattle.tera_meaning.specs.Weighing;
 ghost use Rattle.tera_meaning.specs.Weighing.{Weighing, weighed};
 
@@ -215,9 +215,8 @@ pub fn these_requests_never_want_memory()
 {}
 
 /// What takes no memory wants none. A value is set under a name that is held. Nothing is found.
-/// What is found is no text, no bytes, no array and no map, or an array of no items, or it is what
-/// a name holds, and empty. What is marked takes none to be copied. It is answered, or kept under a
-/// name that is held. Nothing is printed, and there are no names to tell.
+/// What is found, or marked, is no text, no bytes, no array and no map, or it is empty; and it is
+/// answered, or kept under a name that is held. Nothing is printed, and there are no names to tell.
 pub fn what_takes_no_memory_wants_none()
     ensures set { (state : State) (name : List ℕ) (value : Form) (into : Option (List ℕ))
         → IsSome (held_at state name)
@@ -228,14 +227,11 @@ pub fn what_takes_no_memory_wants_none()
     ensures found { (state : State) (search : Search) (value : Form)
         → found_at state search ≡ Ok (Some value) → iterable_in value ≡ false
         → OnlyFinds state search value }
-    ensures none { (state : State) (search : Search)
-        → found_at state search ≡ Ok (Some (array no_items))
-        → OnlyFinds state search (array no_items) }
-    ensures empty { (state : State) (name : List ℕ) (value : Form)
-        → held_at state name ≡ Some value → truthy_in (meaning value) ≡ false
-        → OnlyFinds state (Search.get name) value }
+    ensures empty { (state : State) (search : Search) (value : Form)
+        → found_at state search ≡ Ok (Some value) → truthy_in (meaning value) ≡ false
+        → OnlyFinds state search value }
     ensures kept { (state : State) (search : Search) (into : List ℕ) (value : Form)
-        → found_at state search ≡ Ok (Some value) → iterable_in value ≡ false
+        → found_at state search ≡ Ok (Some value) → ¬ CopyTakes value
         → IsSome (held_at state into)
         → StepsOnlyTo state (find search) (Some into) Answer.done (insert state into value) }
     ensures marked { (state : State) (name into : List ℕ)
@@ -257,9 +253,8 @@ pub fn what_takes_no_memory_wants_none()
 {}
 
 /// These may want memory: a value for a name that is new, and what a source holds; a text, bytes,
-/// an array or a map that is found or marked, where it is not empty; a slice and a reversal but an
-/// array of no items; a name that is new for what is found, or marked; a text that is printed, and
-/// names that are told; and the text of a refusal.
+/// an array or a map that is found or marked, where it is not empty; a name that is new for what is
+/// found, or marked; a text that is printed, and names that are told; and the text of a refusal.
 #[tactic(auto, using(crate::proofs::StepLaws::copy_takes))]
 pub fn what_takes_memory_may_want_it()
     ensures set { (state : State) (name : List ℕ) (value : Form) (into : Option (List ℕ))
@@ -269,12 +264,6 @@ pub fn what_takes_memory_may_want_it()
     ensures found { (state : State) (search : Search) (value : Form) (into : Option (List ℕ))
         → found_at state search ≡ Ok (Some value) → CopyTakes value
         → MayWant state (find search) into }
-    ensures sliced { (state : State) (name : List ℕ) (start end step : Option ℤ) (value : Form)
-        (into : Option (List ℕ)) → found_at state (slice name start end step) ≡ Ok (Some value)
-        → value ≢ array no_items → MayWant state (find (slice name start end step)) into }
-    ensures reversed { (state : State) (name : List ℕ) (value : Form) (into : Option (List ℕ))
-        → found_at state (reverse name) ≡ Ok (Some value) → value ≢ array no_items
-        → MayWant state (find (reverse name)) into }
     ensures kept { (state : State) (search : Search) (value : Form) (into : List ℕ)
         → found_at state search ≡ Ok (Some value) → held_at state into ≡ None
         → MayWant state (find search) (Some into) }

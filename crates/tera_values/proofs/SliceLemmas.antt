@@ -6,20 +6,24 @@ use Rattle.std.proofs.Math.Nat.{lt_of_mul-lt-mul_right}
 use Rattle.std.proofs.lemmas.Bool.{cases_lt}
 use Rattle.std.proofs.lemmas.Grind.{div_ceil_times}
 use Rattle.std.proofs.lemmas.Int.{ints}
-use Rattle.std.proofs.lemmas.List.{length-reverse, take_more}
+use Rattle.std.proofs.lemmas.List.{length-reverse, nil_from_length, take_more}
 use Rattle.std.proofs.lemmas.Option.{get_or_from_slice_get}
 use Rattle.std.specs.Int.{div_ceil}
-use Rattle.std.specs.Str.{chars, encode_utf8_all}
+use Rattle.std.proofs.lemmas.Str.{encodes-chars, encodes_same}
+use Rattle.std.specs.Str.{chars, encode_utf8_all, IsUtf8}
 use Rattle.std.specs.Option.{unwrap_or}
 use Rattle.tera_report.specs.Errors.{Refuses}
 use Rattle.tera_report.specs.Refusal.{Refusal, step_of_zero}
 use Rattle.tera_report.specs.declared.errors.Error.{Error}
 use Rattle.tera_meaning.specs.Form.{Form}
-use Rattle.tera_meaning.specs.Tree.{array, items, no_items}
+use Rattle.tera_meaning.specs.Meaning.{meaning}
+use Rattle.tera_meaning.specs.Read.{truthy_in}
+use Rattle.tera_meaning.specs.Tree.{array, items}
 use Rattle.tera_meaning.proofs.TreeLaws.{list_of_items}
-use Rattle.tera_meaning.specs.SliceRule.{IsSliceOf, IsCutBy, IsSliced, start_place, end_place}
+use Rattle.tera_meaning.specs.SliceRule.{IsSliceOf, IsCutBy, IsSliced, start_place, end_place, reversed}
 use Rattle.tera_meaning.specs.Slice.{IsStrided, directed, pause, place_behind, slice_of, cut, cut_by, sliced}
 use Rattle.tera_values.specs.View.{marked}
+use Rattle.tera_values.proofs.CopyLemmas.{no_items_held, no_text}
 use Rattle.tera_meaning.proofs.SliceLaws.{slices_same, slice_of_is, sliced_is, sliced_only}
 use Rattle.tera_scalars.proofs.PositionLaws.{stride_slices}
 use Rattle.tera_scalars.specs.Positions.{turned}
@@ -148,9 +152,31 @@ module _ {X : Type 0} where
           let reached = (subst (IsSliceOf xs start end (negsuc s)) none (slice_of_is xs start end (negsuc s) nonzero)).reached in
           omega (arith, ints, reached, first, last)
 
-none_kept : (ys : List Form) → items ys ≡ no_items → ys ≡ []
-none_kept [] e = refl
-none_kept (y ∷ ys) e = cc
+-- what holds of the value that a result is, if it is one
+pub where_ok : {X E : Type 0} (r : Result X E) (P : X → Type 0) → ((x : X) → r ≡ Ok x → P x) → IfOk r P
+where_ok (Ok x) P h = h x refl
+where_ok (Err e) P h = tt
+
+none_behind : {X : Type 0} (xs : List X) → reverse xs ≡ [] → xs ≡ []
+none_behind xs e = nil_from_length xs (omega (arith, length-reverse xs, ap length e))
+
+-- what is empty the other way round is empty
+pub none_turned : (v made : Form) (xs : List Form) → array (items xs) ≡ v → reversed v ≡ Ok made → truthy_in (meaning made) ≡ false
+    → xs ≡ []
+none_turned v made xs held turns empty =
+    let is : Ok (array (items (reverse xs))) ≡ Ok made =
+    sym (ap (λ (zs : List Form). Ok (array (items (reverse zs)))) (list_of_items xs)) ∙ ap reversed held ∙ turns
+    in
+    let made_is : array (items (reverse xs)) ≡ made = cc in
+    none_behind xs (no_items_held made (reverse xs) made_is empty)
+
+pub none_turned_of_text : (v made : Form) (bs : List ℕ) (safe : Bool) → IsUtf8 bs → marked bs safe ≡ v → reversed v ≡ Ok made
+    → truthy_in (meaning made) ≡ false → bs ≡ []
+none_turned_of_text v made bs safe utf8 held turns empty =
+    let is : Ok (marked (encode_utf8_all (reverse (chars bs))) false) ≡ Ok made = ap reversed held ∙ turns in
+    let made_is : marked (encode_utf8_all (reverse (chars bs))) false ≡ made = cc in
+    let none : reverse (chars bs) ≡ [] = encodes_same (reverse (chars bs)) [] (no_text made _ false made_is empty) in
+    sym (encodes-chars bs utf8) ∙ ap encode_utf8_all (none_behind (chars bs) none)
 
 module _ (start end : Option ℤ) (z step : ℤ) (same : z ≡ step) where
   -- the slice of an array and of a text, from the slice of what they hold
@@ -162,15 +188,29 @@ module _ (start end : Option ℤ) (z step : ℤ) (same : z ≡ step) where
       ∙ ap (λ (zs : List Form). Ok (array (items (slice_of zs start end step)))) (list_of_items xs)
       ∙ ap (λ (zs : List Form). Ok (array (items zs))) (sym part) ∙ ap (λ (u : Form). Ok u) (sym found)
 
-  -- what has an empty slice is an array, of which it takes no item
-  pub none_cut : (v : Form) (xs : List Form) → array (items xs) ≡ v → cut v start end step ≡ Ok (array no_items)
-      → slice_of xs start end z ≡ []
-  none_cut v xs held none =
-      let made : Ok (array (items (slice_of xs start end step))) ≡ Ok (array no_items) =
+  -- an empty slice takes no item of an array, and no character of a text
+  pub none_cut : (v made : Form) (xs : List Form) → array (items xs) ≡ v → cut v start end step ≡ Ok made
+      → truthy_in (meaning made) ≡ false → slice_of xs start end z ≡ []
+  none_cut v made xs held cuts empty =
+      let is : Ok (array (items (slice_of xs start end step))) ≡ Ok made =
       sym (ap (λ (zs : List Form). Ok (array (items (slice_of zs start end step)))) (list_of_items xs))
-      ∙ ap (λ u. cut u start end step) held ∙ none
+      ∙ ap (λ u. cut u start end step) held ∙ cuts
       in
-      ap (slice_of xs start end) same ∙ none_kept (slice_of xs start end step) cc
+      let made_is : array (items (slice_of xs start end step)) ≡ made = cc in
+      ap (slice_of xs start end) same ∙ no_items_held made (slice_of xs start end step) made_is empty
+
+  pub none_cut_of_text : (v made : Form) (bs : List ℕ) (safe : Bool) → marked bs safe ≡ v → cut v start end step ≡ Ok made
+      → truthy_in (meaning made) ≡ false → step ≢ pos 0 → IsSliceOf (chars bs) start end z []
+  none_cut_of_text v made bs safe held cuts empty nonzero =
+      let is : Ok (marked (encode_utf8_all (slice_of (chars bs) start end step)) safe) ≡ Ok made =
+      ap (λ u. cut u start end step) held ∙ cuts
+      in
+      let made_is : marked (encode_utf8_all (slice_of (chars bs) start end step)) safe ≡ made = cc in
+      let none : slice_of (chars bs) start end step ≡ [] =
+      encodes_same (slice_of (chars bs) start end step) [] (no_text made _ safe made_is empty)
+      in
+      subst (λ k. IsSliceOf (chars bs) start end k []) (sym same)
+      (subst (IsSliceOf (chars bs) start end step) none (slice_of_is (chars bs) start end step nonzero))
 
   pub text_cut : (v : Form) (bs t : List ℕ) (safe : Bool) → marked bs safe ≡ v
       → (z ≢ pos 0 → (cs : List ℕ) × IsSliceOf (chars bs) start end z cs × (t ≡ encode_utf8_all cs)) → step ≢ pos 0

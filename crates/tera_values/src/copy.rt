@@ -92,8 +92,8 @@ pub(crate) fn text_of(alloc: Global, text: &str) -> Result<String, AllocError>
     String::from_str(alloc, text)
 }
 
-// Bytes of their own. None take no memory.
-fn bytes_of(alloc: Global, held: &[u8]) -> Result<Vec<u8>, AllocError>
+/// Bytes of their own. None take no memory.
+pub(crate) fn bytes_of(alloc: Global, held: &[u8]) -> Result<Vec<u8>, AllocError>
     ensures ok { IfOk result (λ made. made.items ≡ held.now) }
     ensures succeeds { held.now ≡ [] → IsOk result }
 {

@@ -1,17 +1,17 @@
 //! Slices of values, and their reversal.
 ghost use Rattle.std.specs.Prelude.{◌≡◌, ◌≢◌, ◌<◌, ◌≤◌, Result, Ok, Some, IfOk, IfErr, IsOk, pos};
-ghost use Rattle.std.specs.Prelude.{[], reverse, length, slice_get};
+ghost use Rattle.std.specs.Prelude.{[], false, reverse, length, slice_get};
 ghost use Rattle.tera_meaning.specs.Form.{Form};
-ghost use Rattle.tera_meaning.specs.Read.{items_in};
+ghost use Rattle.tera_meaning.specs.Meaning.{meaning};
+ghost use Rattle.tera_meaning.specs.Read.{truthy_in};
 ghost use Rattle.tera_meaning.specs.SliceRule.{IsSliced, reversed};
 ghost use Rattle.tera_meaning.specs.Slice.{cut, slice_of, IsStrided};
-ghost use Rattle.tera_meaning.specs.Tree.{array, no_items};
-ghost use Rattle.tera_report.specs.Errors.{IsOutOfMemory, Refuses};
+ghost use Rattle.tera_report.specs.Errors.{Refuses};
 ghost use Rattle.tera_report.specs.Refusal.{Refusal};
 ghost use Rattle.tera_scalars.specs.Positions.{turned};
 
 use crate::Value;
-use crate::copy::push_copy;
+use crate::copy::{bytes_of, push_copy};
 use crate::refused::{not_reversible, not_sliceable, step_of_zero};
 use crate::value::ValueInner;
 use std::alloc::{AllocError, Global};
@@ -27,8 +27,8 @@ impl Value {
     ///
     /// Refuses a step of 0 with `Slicing step cannot be 0`. Then it refuses every other value with
     /// ``Slicing can only be used on arrays or strings, not on `N`.``, where N is the name of its
-    /// kind. Takes memory for what it gives, unless that is an empty array, and for a refusal's
-    /// text; want of it, `Out of memory`, is answered in the place of either.
+    /// kind. Takes memory for what it gives, unless that is empty, and for a refusal's text; want
+    /// of it, `Out of memory`, is answered in the place of either.
     pub fn slice(
         &self,
         alloc: Global,
@@ -39,7 +39,8 @@ impl Value {
         ensures ok { IfOk result (λ v. IsSliced self.now start end step (Ok v)) }
         ensures err { IfErr result (λ e. (outcome : Result Form Refusal)
             × IsSliced self.now start end step outcome × Refuses outcome e) }
-        ensures succeeds { IsSliced self.now start end step (Ok (array no_items)) → IsOk result }
+        ensures empty { (made : Form) → IsSliced self.now start end step (Ok made)
+            → truthy_in (meaning made) ≡ false → IsOk result }
     {
         let step = step.unwrap_or(1);
         if step == 0 {
@@ -53,13 +54,14 @@ impl Value {
     /// become an array of numbers.
     ///
     /// Refuses every other value with `Value of type N cannot be reversed`, where N is the name of
-    /// its kind. Takes memory for what it gives, unless the array is empty, and for a refusal's
-    /// text; want of it, `Out of memory`, is answered in the place of either.
+    /// its kind. Takes memory for what it gives, unless that is empty, and for a refusal's text;
+    /// want of it, `Out of memory`, is answered in the place of either.
     #[tactic(auto, using(tera_meaning::proofs::TreeLaws::list_of_items))]
     pub fn reverse(&self, alloc: Global) -> TeraResult<Value>
         ensures ok { IfOk result (λ v. reversed self.now ≡ Ok v) }
         ensures err { IfErr result (Refuses (reversed self.now)) }
-        ensures succeeds { items_in self.now ≡ Some [] → IsOk result }
+        ensures empty { (made : Form) → reversed self.now ≡ Ok made
+            → truthy_in (meaning made) ≡ false → IsOk result }
     {
         match &self.inner {
             ValueInner::Array(all) => {
@@ -84,8 +86,8 @@ impl Value {
     ) -> TeraResult<Value>
         ensures ok { IfOk result (λ v. step ≢ pos 0 → cut self.now start end step ≡ Ok v) }
         ensures err { IfErr result (Refuses (cut self.now start end step)) }
-        ensures succeeds { step ≢ pos 0 → cut self.now start end step ≡ Ok (array no_items)
-            → IsOk result }
+        ensures empty { IfOk (cut self.now start end step)
+            (λ made. truthy_in (meaning made) ≡ false → step ≢ pos 0 → IsOk result) }
     {
         match &self.inner {
             ValueInner::Array(all) => {
@@ -170,11 +172,11 @@ fn item_from(all: &[Value], backwards: bool, at: usize) -> &Value
 }
 
 // The bytes in the opposite order.
-fn reversed_bytes(alloc: Global, held: &[u8]) -> TeraResult<Vec<u8>>
+fn reversed_bytes(alloc: Global, held: &[u8]) -> Result<Vec<u8>, AllocError>
     ensures ok { IfOk result (λ made. made.items ≡ reverse held.now) }
-    ensures err { IfErr result IsOutOfMemory }
+    ensures succeeds { held.now ≡ [] → IsOk result }
 {
-    let mut made = held.to_vec(alloc)?;
+    let mut made = bytes_of(alloc, held)?;
     made.reverse();
     Ok(made)
 }

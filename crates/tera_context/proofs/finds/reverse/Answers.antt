@@ -1,15 +1,16 @@
-use Rattle.std.proofs.Common.{◌≡◌, ◌≢◌, ◌∙◌, Ok, ap, rules}
+use Rattle.std.proofs.Common.{◌≡◌, Ok, ap, rules}
 use Rattle.std.specs.Option.{option_map}
 use Rattle.std.specs.String.{string_bytes}
 use Rattle.tera_meaning.specs.Form.{Form}
+use Rattle.tera_meaning.specs.Meaning.{meaning}
+use Rattle.tera_meaning.specs.Read.{truthy_in}
 use Rattle.tera_meaning.specs.Search
-use Rattle.tera_meaning.specs.Search.{found_at, one_found}
+use Rattle.tera_meaning.specs.Search.{found_at, one_found, CopyTakes}
 use Rattle.tera_meaning.specs.SliceRule.{reversed}
 use Rattle.tera_meaning.specs.State.{form_at}
-use Rattle.tera_meaning.specs.Tree.{array, no_items}
-use Rattle.tera_meaning.proofs.SliceLaws.{none_turned}
+use Rattle.tera_meaning.proofs.SliceLaws.{reversed_parts}
 use Rattle.tera_context.proofs.Found.{given_refused, made_takes}
-use Rattle.tera_context.proofs.ShownLaws.{not_refused}
+use Rattle.tera_context.proofs.ShownLaws.{refused_where}
 use Rattle.tera_context.proofs.finds.reverse.Goals as goal
 
 pub returns-in-Err : goal.returns-in-Err
@@ -19,8 +20,9 @@ returns-in-Err c =
     let wanted = Search.reverse c.args.of.now in
     let given = reversed c.value_at.result.now in
     let found : found_at state wanted ≡ one_found given = ap (λ v. one_found (reversed v)) value in
-    let filled : (v : Form) → given ≡ Ok v → v ≢ array no_items =
-    λ v is none. not_refused c.reverse.result c.in-Err.error c.in-Err.is
-    (c.reverse.ensures.succeeds (none_turned c.value_at.result.now (is ∙ ap (λ (u : Form). Ok u) none))) in
-    c.refused.ensures state wanted (option_map string_bytes c.args.into) (made_takes wanted given (found_at state wanted) found filled)
+    let takes : (v : Form) → given ≡ Ok v → CopyTakes v = λ v is. (
+      reversed_parts c.value_at.result.now v is,
+      refused_where (truthy_in (meaning v)) c.reverse.result c.in-Err.error c.in-Err.is (c.reverse.ensures.empty v is),
+    ) in
+    c.refused.ensures state wanted (option_map string_bytes c.args.into) (made_takes wanted given (found_at state wanted) found takes)
     (given_refused c.in-Err.error given (found_at state wanted) c.in-Err.ensures.err found)

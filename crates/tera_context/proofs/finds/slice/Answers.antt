@@ -1,16 +1,17 @@
-use Rattle.std.proofs.Common.{◌≡◌, ◌≢◌, ◌∙◌, Ok, ap, subst, sym, rules}
+use Rattle.std.proofs.Common.{◌≡◌, ◌∙◌, Ok, ap, subst, sym, rules}
 use Rattle.std.specs.Option.{option_map}
 use Rattle.std.specs.String.{string_bytes}
 use Rattle.tera_meaning.specs.Search
-use Rattle.tera_meaning.specs.Search.{found_at, one_found}
+use Rattle.tera_meaning.specs.Search.{found_at, one_found, CopyTakes}
 use Rattle.tera_meaning.specs.State.{form_at}
 use Rattle.tera_meaning.specs.Form.{Form}
+use Rattle.tera_meaning.specs.Meaning.{meaning}
+use Rattle.tera_meaning.specs.Read.{truthy_in}
 use Rattle.tera_meaning.specs.SliceRule.{IsSliced}
-use Rattle.tera_meaning.specs.Tree.{array, no_items}
 use Rattle.tera_meaning.specs.Slice.{sliced}
-use Rattle.tera_meaning.proofs.SliceLaws.{sliced_only}
+use Rattle.tera_meaning.proofs.SliceLaws.{sliced_only, sliced_parts}
 use Rattle.tera_context.proofs.Found.{given_refused, made_takes}
-use Rattle.tera_context.proofs.ShownLaws.{not_refused}
+use Rattle.tera_context.proofs.ShownLaws.{refused_where}
 use Rattle.tera_context.proofs.finds.slice.Goals as goal
 
 pub returns-in-Err : goal.returns-in-Err
@@ -22,10 +23,13 @@ returns-in-Err c =
     let wanted = Search.slice c.args.of.now c.args.start c.args.end c.args.step in
     let found : found_at state wanted ≡ one_found outcome =
     (λ i. one_found (sliced (value i) c.args.start c.args.end c.args.step)) ∙ ap one_found (sym only) in
-    let filled : (v : Form) → outcome ≡ Ok v → v ≢ array no_items =
-    λ v given none. not_refused c.slice.result c.in-Err.error c.in-Err.is
-    (c.slice.ensures.succeeds (subst (IsSliced c.value_at-value.result.now c.args.start c.args.end c.args.step) (given ∙ ap (λ (u : Form). Ok u) none) is)) in
-    c.refused.ensures state wanted (option_map string_bytes c.args.into) (made_takes wanted outcome (found_at state wanted) found filled)
+    let made : (v : Form) → outcome ≡ Ok v → IsSliced c.value_at-value.result.now c.args.start c.args.end c.args.step (Ok v) =
+    λ v given. subst (IsSliced c.value_at-value.result.now c.args.start c.args.end c.args.step) given is in
+    let takes : (v : Form) → outcome ≡ Ok v → CopyTakes v = λ v given. (
+      sliced_parts c.value_at-value.result.now v c.args.start c.args.end c.args.step (made v given),
+      refused_where (truthy_in (meaning v)) c.slice.result c.in-Err.error c.in-Err.is (c.slice.ensures.empty v (made v given)),
+    ) in
+    c.refused.ensures state wanted (option_map string_bytes c.args.into) (made_takes wanted outcome (found_at state wanted) found takes)
     (given_refused c.in-Err.error outcome (found_at state wanted) refuses found)
 
 pub returns-in-Ok : goal.returns-in-Ok
