@@ -38,7 +38,7 @@ import suite_rows
 
 LEAST_SECONDS = 0.05  # a ratio of seconds counts where the best other takes so many
 TIMED_SHARE = 5
-CHANCES = 3  # how often a row is counted whose cost hangs on a seed
+CHANCES = 8  # how often a row is counted whose cost hangs on a seed
 MEMORY_ROWS = "a_small b_reverse_10k c_set_100 c_eq_100 d_slice_1000 e_arith".split()
 
 
