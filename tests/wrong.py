@@ -5,7 +5,8 @@ An edit is written as those of must-fail/ are: a line 'file: src/SUBJECT.rt', an
 'new: TEXT', where each old text stands in that file, or in that function, exactly once. FUNCTION is the name of its
 function, with its type and trait as the prover spells them ('Value.format', 'ValueFromU8.from'), or that of a constant or
 another item. An edit of a definition or of a macro has a line 'only: PATH' too: the function that it makes false, such as
-a law. Its file may stand in specs/, FUNCTION is PATH's, and the edit is tried alone, on that function.
+a law. Its file may stand in specs/, FUNCTION is PATH's, and the edit is tried alone, on that function; a lemma that the law's
+proof stands on may refuse it too.
 
 A check takes an edit of each of many functions, and the other functions stand edited beside them, so that no right body of
 these is proved: a function is proved over the contracts of what it calls. An edit is refused where a goal of its function's
@@ -16,7 +17,7 @@ where it is proved of the right body without that part.
 
 Prints a line 'pass ..' or 'FAIL ..' for each edit, and 'wrong bodies: end'. It uses the libraries that `rt ci` built, and
 begins with a copy of the work that checks kept in out/. With `--gate LOG` it runs beside an `rt ci` that writes LOG: the edits
-of a crate are tried once the log says that it is proved, in half of the lanes until the log has its last line.
+of a crate are tried once the log says that it is proved, in all lanes but one until the log has its last line.
 
 As `rt ci` keeps what it proved, this keeps on the machine which edits were refused, by a sum of all that the answer stands
 on: the kit, this script, the crate's files and those of all crates below it, and the edit. Such an edit is not tried again,
@@ -30,6 +31,7 @@ import importlib.util
 import os
 import re
 import shutil
+import subprocess
 import sys
 import tempfile
 import threading
@@ -45,6 +47,7 @@ IMPL = re.compile(r"impl(<(?:[^<>]|<[^<>]*>)*>)? (?:(.*) for )?(.*)")
 PLACE = re.compile(r"(?:note: )?(?:\./)?(src/\S+?):(\d+):\d+: ")
 OPEN = re.compile(PLACE.pattern + r"it is not proved that .*?\(`([^`]+)`\)(.*)")
 BY_HAND = re.compile(r"\./(proofs/(\S+)/\w+\.antt):\d+:\d+: error: (?:`([^`]*)`)?(.*)")
+LEMMA = re.compile(r"\./proofs/\w+\.antt:\d+:\d+: error: `(\w+)`:(.*)")
 STATUS = re.compile(r"(?:fn|struct|enum|impl|trait) \w+::(\S+?): (.*)")
 # what a proof by hand says that names what the edit took away: no word on the contract
 MISSES = re.compile(r"has no field|is not in scope|has no `|was not admitted")
@@ -57,11 +60,15 @@ SAFE = re.compile(r"(?:^|-)(?:overflow_|nonzero_|(?:slice_|offset_)?bounds-)|-(?
 
 
 MANY = 60  # the most edits of a check: of many more the prover begins copies of itself, which take a third more time
+# a lemma that is false: beside it the prover prints no form of a proof for the function, which takes a sixth of a check's time
+NO_FORM = "no_form"
+FALSE_LEMMA = f"\n{NO_FORM} : Type 0\n{NO_FORM} = Type 0\n"
+ROOM = 4_000_000_000  # the free memory, in bytes, that a check beside the gate begins with
 MONTH = 30 * 24 * 3600  # how many seconds an answer that no run asks for is kept
 
 
 def kit():
-    """The kit's own `rt`, whose check of an edited copy is used here as it is."""
+    """The kit's own `rt`, by which crates, their libraries and the words of a check are found here."""
     path = os.path.realpath(shutil.which("rt"))
     sys.path.insert(0, os.path.dirname(path))
     loader = importlib.machinery.SourceFileLoader("rt", path)
@@ -151,6 +158,14 @@ def place_of(lines, at):
     return None
 
 
+def module_of(kind, crate):
+    """The module in which a type is declared."""
+    declared = re.compile(rf"(?m)^(?:pub(?:\([^)]*\))? )?(?:struct|enum) {kind}\b")
+    files = [f"{at}/{name}" for at, _, names in os.walk(f"{crate.folder}/src") for name in names]
+    found = [os.path.relpath(it, f"{crate.folder}/src").removesuffix(".rt") for it in files if declared.search(read(it))]
+    return [it for path in found[:1] for it in path.split("/") if it not in ("lib", "main")]
+
+
 def header_at(lines, first):
     last = next(it for it in range(first, len(lines)) if "{" in lines[it])
     return " ".join(it.strip() for it in lines[first : last + 1]).partition("{")[0].strip()
@@ -164,12 +179,16 @@ class Edit:
         self.name = f"{crate.name}/{self.path}"
         # how the prover names the function, if it is one: a pattern of its paths, and a path for `--only`
         self.own = self.only = None
+        # the file of the function's answers, but where it is a law or one of a cycle
+        self.answers, self.is_of_cycle = None, False
         text = read(path)
         self.file = "".join(re.findall(r"(?m)^file: (\S+)", text)[:1])
         self.changes = re.findall(r"(?m)^old: (.*)\nnew: ?(.*)$", text)
         # the function that an edit of a definition makes false
         self.breaks = "".join(re.findall(r"(?m)^only: (\S+)", text)[:1])
         self.fault = self.placed(crate)
+        if self.own and not (self.fault or self.breaks or self.is_of_cycle):
+            self.answers = self.answers_in(crate)
 
     def placed(self, crate):
         """Finds where the edit stands, and answers why it cannot be tried, if so."""
@@ -193,6 +212,7 @@ class Edit:
         self.home = self.home_of(lines, places[0])
         while lines[self.first - 1].lstrip().startswith("#["):
             self.first -= 1
+            self.is_of_cycle = self.is_of_cycle or lines[self.first].lstrip().startswith("#[cycle")
         return None if os.path.dirname(self.path) == self.home else f"it belongs in {self.home}/"
 
     def placed_anywhere(self):
@@ -243,6 +263,13 @@ class Edit:
         self.only = tail if "(" in before else before + tail
         return tail.replace("::", ".")
 
+    def answers_in(self, crate):
+        """The file of the function's answers."""
+        *kind, name = self.only.split("::")
+        if len(kind) == 1 and kind[0][0].isupper():
+            kind = [*module_of(kind[0], crate), *kind]
+        return "/".join(["proofs", *kind, name, "Answers.antt"])
+
     def is_own(self, path):
         return not self.own or bool(self.own.match(path))
 
@@ -261,6 +288,8 @@ class Said:
         self.open = {it[3]: "values at which this goal is false" in it[4] for it in found}
         for said in filter(None, map(BY_HAND.match, lines)):
             file, path, goal, text = said.groups()
+            if goal == NO_FORM:
+                continue
             *modules, last = path.split("/")
             # a goal of a cycle's proof begins with its function, but where that is the only one
             if last.startswith("+"):
@@ -268,12 +297,16 @@ class Said:
                 last = last[1:] if first in ("returns", "loop") else first
             if edit.is_own("::".join([*modules, last])):
                 self.lost.add((file, goal or "")) if MISSES.search(text) else self.by_hand.append(goal or file)
+        # what the proof of a law stands on is told beside it, where the law is tried alone
+        lemmas = filter(None, map(LEMMA.match, lines)) if edit.breaks else ()
+        self.lemmas = [f"the lemma {it[1]}" for it in lemmas if not MISSES.search(it[2])]
 
     def refused_by(self):
         """The goals of the contract that are not proved, but those whose proof by hand lost a name."""
         lost = [goal for _, goal in self.lost if goal]
         opened = [it for it in self.open if self.open[it] or not any(is_within(it, goal) for goal in lost)]
-        return [it for it in [*self.by_hand, *opened] if is_of_contract(it)]
+        lemmas = self.lemmas if {*self.statuses} - {"proved"} else []
+        return [*(it for it in [*self.by_hand, *opened] if is_of_contract(it)), *lemmas]
 
     def cause(self):
         """Why the edit is not refused."""
@@ -293,7 +326,7 @@ class Said:
             f"it has a loop that is not shown to end: {rest}": "expected a measure" in rest,
             f"the borrow checker does not cover it: {rest}": UNCOVERED.search(rest),
             f"a function that it calls was not proved: {rest}": WAITS.search(rest),
-            f"the prover names no goal: {rest}": True,
+            f"no goal of its contract is open: {rest}": True,
         }
         return next(cause for cause in causes if causes[cause])
 
@@ -353,11 +386,11 @@ def left_out(text, goals):
     return text
 
 
-def flags_of(edits):
-    """The flags of a check of the edits' functions, or of the whole crate where an edit stands in none. A second job would take a
-    third more processor time, and goals that are printed whole a tenth more."""
+def flags_of(edits, jobs):
+    """The flags of a check of the edits' functions, or of the whole crate where an edit stands in none. Goals that are printed whole
+    would take a tenth more processor time."""
     only = [f"--only={it.only}" for it in edits if it.only]
-    return ["--jobs", "1", "--short-goals", *(dict.fromkeys(only) if len(only) == len(edits) else [])]
+    return ["--jobs", str(jobs), "--short-goals", *(dict.fromkeys(only) if len(only) == len(edits) else [])]
 
 
 class Ask:
@@ -368,9 +401,12 @@ class Ask:
         self.title = edit.name + (f" without {parts(lost)}" if lost else "") + (", as it was" if is_right else "")
 
 
-def texts_of(asks):
+def texts_of(asks, crate):
     """The texts of the files that the asks change."""
     proofs = {file: text for ask in asks for file, text in ask.proofs.items()}
+    for file in {it.edit.answers for it in asks if it.edit.answers}:
+        proofs.setdefault(file, read(f"{crate.folder}/{file}") if os.path.isfile(f"{crate.folder}/{file}") else "")
+        proofs[file] += FALSE_LEMMA
     return {**edited([it.edit for it in asks if not it.is_right]), **proofs}
 
 
@@ -457,17 +493,32 @@ def is_to_come(ask, said):
     return is_waiting and (ask.is_right or not (said.refused_by() or said.lost))
 
 
-class Trial:
-    """The checks of a crate's edits, each over the work of those before it, and how many edits are refused and are not."""
+def checked(rt, crate, texts, flags, kept):
+    """What a check of a copy of the crate says, with these texts in place of its own or beside them, over the work that is kept."""
+    with tempfile.TemporaryDirectory(prefix="wrong-") as room:
+        for part in filter(lambda it: os.path.isdir(f"{crate.folder}/{it}"), rt.rtlib.PARTS):
+            shutil.copytree(f"{crate.folder}/{part}", f"{room}/{part}")
+        for path, text in texts.items():
+            os.makedirs(os.path.dirname(f"{room}/{path}"), exist_ok=True)
+            with open(f"{room}/{path}", "w", encoding="utf-8") as it:
+                it.write(text)
+        words = [*rt.rtlib.guarded(), rt.rtlib.RATTLE, "check", *crate.words(flags, keeps=False), "--incremental", kept]
+        how = {"cwd": room, "stdin": subprocess.DEVNULL, "stdout": subprocess.PIPE, "stderr": subprocess.STDOUT, "errors": "replace"}
+        return subprocess.run(words, check=False, **how).stdout
 
-    def __init__(self, rt, crate, kept, told):
-        self.rt, self.crate, self.kept, self.told, self.counts, self.refused = rt, crate, kept, told, [0, 0], []
+
+class Trial:
+    """The checks of a crate's edits, each over the work of those before it, and how many edits are refused and are not. A check waits
+    for its turn, which answers how many jobs it may have."""
+
+    def __init__(self, rt, crate, kept, told, turn=lambda: 1):
+        self.rt, self.crate, self.kept, self.told, self.turn, self.counts, self.refused = rt, crate, kept, told, turn, [0, 0], []
 
     def checked(self, asks, beside=()):
         """The lines of a check of what is asked, where more asks stand beside that."""
         start = time.monotonic()
-        flags = flags_of([it.edit for it in asks])
-        said = self.rt.checked(self.crate, texts_of([*asks, *beside]), flags, self.kept).stdout
+        flags = flags_of([it.edit for it in asks], self.turn())
+        said = checked(self.rt, self.crate, texts_of([*asks, *beside], self.crate), flags, self.kept)
         if self.told:
             title = " ".join(it.title for it in asks)
             with open(self.told, "a", encoding="utf-8") as it:
@@ -500,7 +551,7 @@ class Trial:
     def judged_anew(self, edit):
         """The same as `judged`, from nothing: what earlier checks kept is not why an edit is not refused."""
         with tempfile.TemporaryDirectory(prefix="wrong-") as room:
-            return Trial(self.rt, self.crate, room, self.told).judged(edit)
+            return Trial(self.rt, self.crate, room, self.told, self.turn).judged(edit)
 
     def judged(self, edit):
         """The goals that an edit is refused by where it is tried alone, or else why it is not refused."""
@@ -523,7 +574,7 @@ class Gate:
     on this machine has proved is kept, and so is proved."""
 
     def __init__(self, log, lanes):
-        self.log, self.lanes = log, threading.BoundedSemaphore(max(1, lanes // 2))
+        self.log, self.lanes = log, threading.BoundedSemaphore(max(1, lanes - 1))
 
     def has_ended(self):
         return not self.log or bool(re.search(r"(?m)^\d+ passed, \d+ failed", self.told()))
@@ -543,16 +594,27 @@ class Gate:
 
 def tried(rt, edits, given):
     """Tries the crates' edits side by side, and returns for each list of them how many are refused and how many are not."""
-    gate, earlier = Gate(given.gate, rt.processors()), Kept(given.anew)
+    lanes = rt.processors()
+    gate, earlier, left = Gate(given.gate, lanes), Kept(given.anew), [*edits]
+
+    def turn():
+        """Waits for memory beside the gate, and answers how many jobs a check may have: a second one takes a third more processor time,
+        so it is for a lane that no other crate's edits fill any more."""
+        while not gate.has_ended():
+            if rt.free() > ROOM:
+                return 1
+            time.sleep(2)
+        return max(1, lanes // max(1, len(left)))
 
     def counted(crate, some, kept):
         stamp = crate.stamp()
         goals = {it: earlier.goal(it, stamp) for it in some}
         for edit in filter(goals.get, some):
             say(f"pass {edit.name} is refused by {goals[edit]}, as an earlier run on this machine saw")
-        left = [it for it in some if not goals[it]]
-        refused, failed = counted_anew(crate, left, kept, stamp) if left else (0, 0)
-        return [len(some) - len(left) + refused, failed]
+        new = [it for it in some if not goals[it]]
+        refused, failed = counted_anew(crate, new, kept, stamp) if new else (0, 0)
+        left.remove(crate)
+        return [len(some) - len(new) + refused, failed]
 
     def counted_anew(crate, some, kept, stamp):
         if given.gate and not gate.proves(crate):
@@ -570,17 +632,17 @@ def tried(rt, edits, given):
         if not os.path.isdir(kept) and os.path.isdir(f"{crate.folder}/out/incremental"):
             shutil.copytree(f"{crate.folder}/out/incremental", kept)
         os.makedirs(kept, exist_ok=True)
-        trial = Trial(rt, crate, kept, given.told)
+        trial = Trial(rt, crate, kept, given.told, turn)
         trial.run(some)
         for edit, goal in trial.refused if crate.stamp() == stamp else ():
             earlier.keep(edit, stamp, goal)
         return trial.counts
 
-    with tempfile.TemporaryDirectory(prefix="wrong-") as room, ThreadPoolExecutor(rt.processors()) as lanes:
+    with tempfile.TemporaryDirectory(prefix="wrong-") as room, ThreadPoolExecutor(lanes) as pool:
         above = os.path.abspath(given.kept) if given.kept else room
         # beside a gate, the crates that are proved first
         crates = sorted(edits, key=lambda it: len(it.below())) if given.gate else edits
-        counts = [lanes.submit(counted, it, edits[it], f"{above}/{it.name}") for it in crates]
+        counts = [pool.submit(counted, it, edits[it], f"{above}/{it.name}") for it in crates]
         return [it.result() for it in counts]
 
 
