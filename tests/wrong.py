@@ -160,7 +160,8 @@ def place_of(lines, at):
 
 def module_of(kind, crate):
     """The module in which a type is declared."""
-    declared = re.compile(rf"(?m)^(?:pub(?:\([^)]*\))? )?(?:struct|enum) {kind}\b")
+    bare = kind.partition("+")[0]
+    declared = re.compile(rf"(?m)^(?:pub(?:\([^)]*\))? )?(?:struct|enum) {bare}\b")
     files = [f"{at}/{name}" for at, _, names in os.walk(f"{crate.folder}/src") for name in names]
     found = [os.path.relpath(it, f"{crate.folder}/src").removesuffix(".rt") for it in files if declared.search(read(it))]
     return [it for path in found[:1] for it in path.split("/") if it not in ("lib", "main")]
@@ -177,17 +178,15 @@ class Edit:
     def __init__(self, path, root, crate):
         self.path = os.path.relpath(path, root).removesuffix(".edit")
         self.name = f"{crate.name}/{self.path}"
-        # how the prover names the function, if it is one: a pattern of its paths, and a path for `--only`
-        self.own = self.only = None
-        # the file of the function's answers, but where it is a law or one of a cycle
-        self.answers, self.is_of_cycle = None, False
+        # how the prover names the function, if it is one: a pattern of its paths, and a path for `--only`; and its file of answers
+        self.own = self.only = self.answers = None
         text = read(path)
         self.file = "".join(re.findall(r"(?m)^file: (\S+)", text)[:1])
         self.changes = re.findall(r"(?m)^old: (.*)\nnew: ?(.*)$", text)
         # the function that an edit of a definition makes false
         self.breaks = "".join(re.findall(r"(?m)^only: (\S+)", text)[:1])
         self.fault = self.placed(crate)
-        if self.own and not (self.fault or self.breaks or self.is_of_cycle):
+        if self.own and not (self.fault or self.breaks):
             self.answers = self.answers_in(crate)
 
     def placed(self, crate):
@@ -212,7 +211,6 @@ class Edit:
         self.home = self.home_of(lines, places[0])
         while lines[self.first - 1].lstrip().startswith("#["):
             self.first -= 1
-            self.is_of_cycle = self.is_of_cycle or lines[self.first].lstrip().startswith("#[cycle")
         return None if os.path.dirname(self.path) == self.home else f"it belongs in {self.home}/"
 
     def placed_anywhere(self):
@@ -264,10 +262,15 @@ class Edit:
         return tail.replace("::", ".")
 
     def answers_in(self, crate):
-        """The file of the function's answers."""
+        """The file of the function's answers, or of those of its cycle of calls, which has one proof."""
         *kind, name = self.only.split("::")
         if len(kind) == 1 and kind[0][0].isupper():
             kind = [*module_of(kind[0], crate), *kind]
+        own = "\n".join(self.text.split("\n")[self.first : self.last])
+        cycle = "".join(re.findall(r"#\[cycle\((\w+)\)\]", own)[:1])
+        found = [at for at, *_ in os.walk(f"{crate.folder}/proofs") if os.path.basename(at) == f"+{cycle or name}"]
+        if found or cycle:
+            return f"{os.path.relpath(found[0], crate.folder)}/Answers.antt" if found else None
         return "/".join(["proofs", *kind, name, "Answers.antt"])
 
     def is_own(self, path):
