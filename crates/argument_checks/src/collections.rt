@@ -10,11 +10,13 @@ use std::collections::{BTreeMap, HashMap};
 use tera_values::{Key, Value};
 
 #[test]
-fn lists_are_arrays(rt: HostRuntime) {
+fn lists_and_sets_are_arrays(rt: HostRuntime) {
     let alloc = rt.alloc();
     let bytes = "Array([Value { inner: U64(1) }, Value { inner: U64(255) }])";
     let texts = "Array([Value { inner: String(false, \"b\") }])";
     let values = "Array([Value { inner: String(true, \"<\") }])";
+    let numbers = "Array([Value { inner: I64(-2) }, Value { inner: I64(7) }])";
+    let one = "Array([Value { inner: String(false, \"a\") }])";
     hold(
         &rt,
         &[
@@ -22,18 +24,6 @@ fn lists_are_arrays(rt: HostRuntime) {
             gives(alloc, one_of(alloc, "b"), texts),
             gives(alloc, one_of(alloc, safe(alloc, "<")), values),
             gives(alloc, none_of::<bool>(alloc), "Array([])"),
-        ],
-    );
-}
-
-#[test]
-fn sets_are_arrays_that_rise(rt: HostRuntime) {
-    let alloc = rt.alloc();
-    let numbers = "Array([Value { inner: I64(-2) }, Value { inner: I64(7) }])";
-    let one = "Array([Value { inner: String(false, \"a\") }])";
-    hold(
-        &rt,
-        &[
             gives(alloc, set_of(alloc, 7i32, -2i32), numbers),
             gives(alloc, set_of(alloc, "a", "a"), one),
         ],
@@ -60,35 +50,29 @@ fn slices_are_arrays_or_bytes(rt: HostRuntime) {
 }
 
 #[test]
-fn hashed_maps_are_maps(rt: HostRuntime) {
+fn maps_are_maps(rt: HostRuntime) {
     let alloc = rt.alloc();
     let lent = "Map({Str(\"é\"): Value { inner: U64(7) }})";
     let kept = "Map({String(\"é\"): Value { inner: None }})";
-    let number = "Map({U128(7): Value { inner: Bool(true) }})";
+    let wide = "Map({U128(7): Value { inner: Bool(true) }})";
+    let signed = "Map({Bool(true): Value { inner: I64(-7) }})";
+    let letter = "Map({String(\"é\"): Value { inner: String(false, \"a\") }})";
+    let negative = "Map({I128(-7): Value { inner: I128(7) }})";
+    let some = "Map({Str(\"a\"): Value { inner: Bool(false) }})";
+    let none = "Map({Str(\"a\"): Value { inner: None }})";
     hold(
         &rt,
         &[
             gives(alloc, table_of(alloc, "é", 7u8), lent),
             gives(alloc, table_of(alloc, owned(alloc, "é"), ()), kept),
-            gives(alloc, table_of(alloc, 7u128, true), number),
+            gives(alloc, table_of(alloc, 7u128, true), wide),
             gives(alloc, HashMap::<i128, bool>::new(alloc), "Map({})"),
-        ],
-    );
-}
-
-#[test]
-fn maps_in_order_are_maps(rt: HostRuntime) {
-    let alloc = rt.alloc();
-    let truth = "Map({Bool(true): Value { inner: I64(-7) }})";
-    let kept = "Map({String(\"é\"): Value { inner: String(false, \"a\") }})";
-    let number = "Map({I128(-7): Value { inner: I128(7) }})";
-    hold(
-        &rt,
-        &[
-            gives(alloc, tree_of(alloc, Key::Bool(true), -7i8), truth),
-            gives(alloc, tree_of(alloc, text_key(alloc, "é"), 'a'), kept),
-            gives(alloc, tree_of(alloc, -7i128, 7i128), number),
+            gives(alloc, tree_of(alloc, Key::Bool(true), -7i8), signed),
+            gives(alloc, tree_of(alloc, text_key(alloc, "é"), 'a'), letter),
+            gives(alloc, tree_of(alloc, -7i128, 7i128), negative),
             gives(alloc, BTreeMap::<&'static str, u8>::new(alloc), "Map({})"),
+            gives(alloc, table_of(alloc, "a", Some(false)), some),
+            gives(alloc, table_of(alloc, "a", None::<bool>), none),
         ],
     );
 }
@@ -121,25 +105,6 @@ fn collections_nest(rt: HostRuntime) {
                 Some(one_of(alloc, 1u8)),
                 "Array([Value { inner: U64(1) }])",
             ),
-        ],
-    );
-}
-
-// A truth value at a name that is lent.
-fn truth_at_name(alloc: Global, truth: Option<bool>) -> HashMap<&'static str, Option<bool>> {
-    table_of(alloc, "a", truth)
-}
-
-#[test]
-fn parts_of_maps_may_be_nothing(rt: HostRuntime) {
-    let alloc = rt.alloc();
-    let some = "Map({Str(\"a\"): Value { inner: Bool(false) }})";
-    let none = "Map({Str(\"a\"): Value { inner: None }})";
-    hold(
-        &rt,
-        &[
-            gives(alloc, truth_at_name(alloc, Some(false)), some),
-            gives(alloc, truth_at_name(alloc, None), none),
         ],
     );
 }

@@ -1,7 +1,7 @@
 //! What single values are made of: the kind, and the flag of a text.
 use crate::held::hold;
 use crate::made::owned;
-use made_values::{or_undefined, safe, text};
+use made_values::{or_undefined, safe, shows, text};
 use std::alloc::Global;
 use std::borrow::CowStr;
 use std::rc::RcStr;
@@ -17,13 +17,8 @@ pub fn is_held(alloc: Global, value: Value, wanted: &str) -> bool {
 
 // The value is held so, in the words of Debug, which tell the kind and the flag of each part.
 pub fn tells_held(alloc: Global, value: &Value, wanted: &str) -> bool {
-    let shown = format!(in alloc; "{value:?}").unwrap_or(String::new(alloc));
-    inside(shown.as_str()) == Some(wanted)
-}
-
-// What stands inside the debug form of a value.
-fn inside(shown: &str) -> Option<&str> {
-    shown.strip_prefix("Value { inner: ")?.strip_suffix(" }")
+    let whole = format!(in alloc; "Value {{ inner: {wanted} }}").unwrap_or(String::new(alloc));
+    !whole.is_empty() && shows(alloc, value, whole.as_str())
 }
 
 // It gives a value that is held so.
@@ -32,7 +27,7 @@ pub fn gives<T: ToValue>(alloc: Global, source: T, wanted: &str) -> bool {
 }
 
 #[test]
-fn numbers_without_a_sign(rt: HostRuntime) {
+fn numbers_keep_their_sign(rt: HostRuntime) {
     let alloc = rt.alloc();
     hold(
         &rt,
@@ -48,16 +43,6 @@ fn numbers_without_a_sign(rt: HostRuntime) {
                 "U128(340282366920938463463374607431768211455)",
             ),
             gives(alloc, 0u128, "U128(0)"),
-        ],
-    );
-}
-
-#[test]
-fn numbers_with_a_sign(rt: HostRuntime) {
-    let alloc = rt.alloc();
-    hold(
-        &rt,
-        &[
             gives(alloc, i8::MIN, "I64(-128)"),
             gives(alloc, i16::MIN, "I64(-32768)"),
             gives(alloc, i32::MIN, "I64(-2147483648)"),
@@ -75,39 +60,7 @@ fn numbers_with_a_sign(rt: HostRuntime) {
 }
 
 #[test]
-fn truth_and_nothing(rt: HostRuntime) {
-    let alloc = rt.alloc();
-    hold(
-        &rt,
-        &[
-            gives(alloc, true, "Bool(true)"),
-            gives(alloc, false, "Bool(false)"),
-            gives(alloc, (), "None"),
-            gives(alloc, None::<u8>, "None"),
-            gives(alloc, Some(7u8), "U64(7)"),
-            gives(alloc, Some(None::<bool>), "None"),
-            gives(alloc, Some("a"), "String(false, \"a\")"),
-        ],
-    );
-}
-
-#[test]
-fn characters_are_texts(rt: HostRuntime) {
-    let alloc = rt.alloc();
-    hold(
-        &rt,
-        &[
-            gives(alloc, 'a', "String(false, \"a\")"),
-            gives(alloc, 'é', "String(false, \"é\")"),
-            gives(alloc, '€', "String(false, \"€\")"),
-            gives(alloc, '😀', "String(false, \"😀\")"),
-            gives(alloc, '<', "String(false, \"<\")"),
-        ],
-    );
-}
-
-#[test]
-fn texts_are_not_safe(rt: HostRuntime) {
+fn single_values_are_given(rt: HostRuntime) {
     let alloc = rt.alloc();
     hold(
         &rt,
@@ -122,6 +75,18 @@ fn texts_are_not_safe(rt: HostRuntime) {
             ),
             gives(alloc, "", "String(false, \"\")"),
             gives(alloc, String::new(alloc), "String(false, \"\")"),
+            gives(alloc, 'a', "String(false, \"a\")"),
+            gives(alloc, 'é', "String(false, \"é\")"),
+            gives(alloc, '€', "String(false, \"€\")"),
+            gives(alloc, '😀', "String(false, \"😀\")"),
+            gives(alloc, '<', "String(false, \"<\")"),
+            gives(alloc, true, "Bool(true)"),
+            gives(alloc, false, "Bool(false)"),
+            gives(alloc, (), "None"),
+            gives(alloc, None::<u8>, "None"),
+            gives(alloc, Some(7u8), "U64(7)"),
+            gives(alloc, Some(None::<bool>), "None"),
+            gives(alloc, Some("a"), "String(false, \"a\")"),
         ],
     );
 }
@@ -133,22 +98,6 @@ fn gives_as_lent(alloc: Global, value: Value, wanted: &str) -> bool {
     is_so
 }
 
-#[test]
-fn values_are_given_as_they_are(rt: HostRuntime) {
-    let alloc = rt.alloc();
-    hold(
-        &rt,
-        &[
-            gives(alloc, safe(alloc, "<"), "String(true, \"<\")"),
-            gives(alloc, text(alloc, "<"), "String(false, \"<\")"),
-            gives(alloc, Value::from(7u128), "U128(7)"),
-            gives(alloc, Value::undefined(), "Undefined"),
-            gives_as_lent(alloc, safe(alloc, "<"), "String(true, \"<\")"),
-            gives_as_lent(alloc, Value::from(7i128), "I128(7)"),
-        ],
-    );
-}
-
 // The key that owns that text.
 pub fn text_key(alloc: Global, of: &str) -> Key<'static> {
     match RcStr::from_str(alloc, of) {
@@ -158,7 +107,7 @@ pub fn text_key(alloc: Global, of: &str) -> Key<'static> {
 }
 
 #[test]
-fn keys_keep_their_width(rt: HostRuntime) {
+fn keys_and_values_are_given_as_they_are(rt: HostRuntime) {
     let alloc = rt.alloc();
     hold(
         &rt,
@@ -170,6 +119,12 @@ fn keys_keep_their_width(rt: HostRuntime) {
             gives(alloc, Key::I128(7), "I128(7)"),
             gives(alloc, Key::Str("é"), "String(false, \"é\")"),
             gives(alloc, text_key(alloc, "é"), "String(false, \"é\")"),
+            gives(alloc, safe(alloc, "<"), "String(true, \"<\")"),
+            gives(alloc, text(alloc, "<"), "String(false, \"<\")"),
+            gives(alloc, Value::from(7u128), "U128(7)"),
+            gives(alloc, Value::undefined(), "Undefined"),
+            gives_as_lent(alloc, safe(alloc, "<"), "String(true, \"<\")"),
+            gives_as_lent(alloc, Value::from(7i128), "I128(7)"),
         ],
     );
 }
@@ -184,16 +139,6 @@ fn what_is_lent_gives_the_same(rt: HostRuntime) {
             gives(alloc, &'é', "String(false, \"é\")"),
             gives(alloc, &owned(alloc, "é"), "String(false, \"é\")"),
             gives(alloc, &"é", "String(false, \"é\")"),
-        ],
-    );
-}
-
-#[test]
-fn numbers_that_are_lent_give_the_same(rt: HostRuntime) {
-    let alloc = rt.alloc();
-    hold(
-        &rt,
-        &[
             gives(alloc, &7u8, "U64(7)"),
             gives(alloc, &7u16, "U64(7)"),
             gives(alloc, &7u32, "U64(7)"),

@@ -6,18 +6,6 @@ use std::alloc::Global;
 use tera_arguments::ArgFromValue;
 use tera_values::Value;
 
-// The ends are taken as they are, and what is no number is refused by the name of the type.
-fn keeps_ends<'k, V, T>(alloc: Global, of: [&'k V; 3], ends: [T; 2], name: &str) -> bool
-where
-    T: ArgFromValue<'k, V, Output = T> + PartialEq + Drop,
-{
-    let [none, low, high] = of;
-    let [least, greatest] = ends;
-    takes(alloc, low, least)
-        && takes(alloc, high, greatest)
-        && is_no::<V, T>(alloc, none, name, "none")
-}
-
 // What is outside the type of that name is refused, told as it prints.
 fn is_outside<'k, V, T>(alloc: Global, value: &'k V, number: &str, name: &str) -> bool
 where
@@ -41,14 +29,17 @@ fn around(low: [i128; 2], high: [u128; 2]) -> [Value; 5] {
 }
 
 // Of four numbers behind what is none the two in the middle are taken as those, and the others are
-// refused: told are these two as they print, and the name of the type.
+// refused, as is what is none: told are these two as they print, and the name of the type.
 fn keeps_to<'k, V, T>(alloc: Global, of: &'k [V; 5], ends: [T; 2], told: [&str; 3]) -> bool
 where
     T: ArgFromValue<'k, V, Output = T> + PartialEq + Drop,
 {
     let [none, below, low, high, above] = of;
+    let [least, greatest] = ends;
     let [beneath, beyond, name] = told;
-    keeps_ends(alloc, [none, low, high], ends, name)
+    takes(alloc, low, least)
+        && takes(alloc, high, greatest)
+        && is_no::<V, T>(alloc, none, name, "none")
         && is_outside::<V, T>(alloc, below, beneath, name)
         && is_outside::<V, T>(alloc, above, beyond, name)
 }
@@ -58,47 +49,54 @@ fn ends_of_small_types_without_a_sign(rt: HostRuntime) {
     let alloc = rt.alloc();
     let of_8 = around([-1, 0], [255, 256]);
     let of_16 = around([-1, 0], [65535, 65536]);
+    let of_32 = around([-1, 0], [4294967295, 4294967296]);
     hold(
         &rt,
         &[
             keeps_to(alloc, &of_8, [u8::MIN, u8::MAX], ["-1", "256", "u8"]),
             keeps_to(alloc, &of_16, [u16::MIN, u16::MAX], ["-1", "65536", "u16"]),
-        ],
-    );
-    drop(of_8);
-    drop(of_16);
-}
-
-#[test]
-fn ends_of_types_without_a_sign(rt: HostRuntime) {
-    let alloc = rt.alloc();
-    let of_32 = around([-1, 0], [4294967295, 4294967296]);
-    let of_64 = around([-1, 0], [18446744073709551615, 18446744073709551616]);
-    hold(
-        &rt,
-        &[
             keeps_to(
                 alloc,
                 &of_32,
                 [u32::MIN, u32::MAX],
                 ["-1", "4294967296", "u32"],
             ),
-            keeps_to(
-                alloc,
-                &of_64,
-                [u64::MIN, u64::MAX],
-                ["-1", "18446744073709551616", "u64"],
-            ),
+        ],
+    );
+    drop(of_8);
+    drop(of_16);
+    drop(of_32);
+}
+
+const PAST_U64: &str = "18446744073709551616";
+
+// What no `u128` is stands on either side of its ends.
+#[test]
+fn ends_of_types_without_a_sign(rt: HostRuntime) {
+    let alloc = rt.alloc();
+    let of_64 = around([-1, 0], [18446744073709551615, 18446744073709551616]);
+    let of_128 = [
+        Value::none(),
+        Value::from(-1i128),
+        Value::from(0i128),
+        Value::from(340282366920938463463374607431768211455u128),
+        Value::from(-1i128),
+    ];
+    hold(
+        &rt,
+        &[
+            keeps_to(alloc, &of_64, [u64::MIN, u64::MAX], ["-1", PAST_U64, "u64"]),
             keeps_to(
                 alloc,
                 &of_64,
                 [usize::MIN, usize::MAX],
-                ["-1", "18446744073709551616", "usize"],
+                ["-1", PAST_U64, "usize"],
             ),
+            keeps_to(alloc, &of_128, [u128::MIN, u128::MAX], ["-1", "-1", "u128"]),
         ],
     );
-    drop(of_32);
     drop(of_64);
+    drop(of_128);
 }
 
 #[test]
@@ -106,6 +104,8 @@ fn ends_of_small_types_with_a_sign(rt: HostRuntime) {
     let alloc = rt.alloc();
     let of_8 = around([-129, -128], [127, 128]);
     let of_16 = around([-32769, -32768], [32767, 32768]);
+    let of_32 = around([-2147483649, -2147483648], [2147483647, 2147483648]);
+    let told_32 = ["-2147483649", "2147483648", "i32"];
     hold(
         &rt,
         &[
@@ -116,94 +116,46 @@ fn ends_of_small_types_with_a_sign(rt: HostRuntime) {
                 [i16::MIN, i16::MAX],
                 ["-32769", "32768", "i16"],
             ),
+            keeps_to(alloc, &of_32, [i32::MIN, i32::MAX], told_32),
         ],
     );
     drop(of_8);
     drop(of_16);
+    drop(of_32);
 }
 
+const BELOW_I64: &str = "-9223372036854775809";
+
+const PAST_I64: &str = "9223372036854775808";
+
+const PAST_I128: &str = "170141183460469231731687303715884105728";
+
+// What no `i128` is stands on either side of its ends.
 #[test]
 fn ends_of_types_with_a_sign(rt: HostRuntime) {
     let alloc = rt.alloc();
-    let of_32 = around([-2147483649, -2147483648], [2147483647, 2147483648]);
     let of_64 = around(
         [-9223372036854775809, -9223372036854775808],
         [9223372036854775807, 9223372036854775808],
     );
-    hold(
-        &rt,
-        &[
-            keeps_to(
-                alloc,
-                &of_32,
-                [i32::MIN, i32::MAX],
-                ["-2147483649", "2147483648", "i32"],
-            ),
-            keeps_to(
-                alloc,
-                &of_64,
-                [i64::MIN, i64::MAX],
-                ["-9223372036854775809", "9223372036854775808", "i64"],
-            ),
-            keeps_to(
-                alloc,
-                &of_64,
-                [isize::MIN, isize::MAX],
-                ["-9223372036854775809", "9223372036854775808", "isize"],
-            ),
-        ],
-    );
-    drop(of_32);
-    drop(of_64);
-}
-
-#[test]
-fn ends_of_a_u128(rt: HostRuntime) {
-    let alloc = rt.alloc();
-    let of = [
+    let of_128 = [
         Value::none(),
-        Value::from(-1i128),
-        Value::from(0i128),
-        Value::from(340282366920938463463374607431768211455u128),
-    ];
-    let [none, below, least, greatest] = &of;
-    hold(
-        &rt,
-        &[
-            keeps_ends(
-                alloc,
-                [none, least, greatest],
-                [u128::MIN, u128::MAX],
-                "u128",
-            ),
-            is_outside::<Value, u128>(alloc, below, "-1", "u128"),
-        ],
-    );
-    drop(of);
-}
-
-#[test]
-fn ends_of_an_i128(rt: HostRuntime) {
-    let alloc = rt.alloc();
-    let of = [
-        Value::none(),
+        Value::from(170141183460469231731687303715884105728u128),
         Value::from(-170141183460469231731687303715884105728i128),
         Value::from(170141183460469231731687303715884105727u128),
         Value::from(170141183460469231731687303715884105728u128),
     ];
-    let [none, least, greatest, above] = &of;
-    let past = "170141183460469231731687303715884105728";
+    let told_64 = [BELOW_I64, PAST_I64, "i64"];
+    let told_size = [BELOW_I64, PAST_I64, "isize"];
+    let told_128 = [PAST_I128, PAST_I128, "i128"];
     hold(
         &rt,
         &[
-            keeps_ends(
-                alloc,
-                [none, least, greatest],
-                [i128::MIN, i128::MAX],
-                "i128",
-            ),
-            is_outside::<Value, i128>(alloc, above, past, "i128"),
+            keeps_to(alloc, &of_64, [i64::MIN, i64::MAX], told_64),
+            keeps_to(alloc, &of_64, [isize::MIN, isize::MAX], told_size),
+            keeps_to(alloc, &of_128, [i128::MIN, i128::MAX], told_128),
         ],
     );
-    drop(of);
+    drop(of_64);
+    drop(of_128);
 }

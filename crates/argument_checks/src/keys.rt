@@ -23,7 +23,7 @@ fn is_key(alloc: Global, key: Key<'static>, wanted: &str) -> bool {
 }
 
 #[test]
-fn texts_are_lent_or_owned(rt: HostRuntime) {
+fn keys_are_given(rt: HostRuntime) {
     let alloc = rt.alloc();
     hold(
         &rt,
@@ -34,29 +34,9 @@ fn texts_are_lent_or_owned(rt: HostRuntime) {
             gives_key(alloc, CowStr::Owned(owned(alloc, "é")), "String(\"é\")"),
             gives_key(alloc, "", "Str(\"\")"),
             gives_key(alloc, String::new(alloc), "String(\"\")"),
-        ],
-    );
-}
-
-#[test]
-fn numbers_keep_their_sign(rt: HostRuntime) {
-    let alloc = rt.alloc();
-    hold(
-        &rt,
-        &[
             gives_key(alloc, 7u128, "U128(7)"),
             gives_key(alloc, 7i128, "I128(7)"),
             gives_key(alloc, -7i128, "I128(-7)"),
-        ],
-    );
-}
-
-#[test]
-fn keys_are_given_as_they_are(rt: HostRuntime) {
-    let alloc = rt.alloc();
-    hold(
-        &rt,
-        &[
             gives_key(alloc, Key::Bool(true), "Bool(true)"),
             gives_key(alloc, Key::U64(7), "U64(7)"),
             gives_key(alloc, Key::I64(7), "I64(7)"),

@@ -145,14 +145,29 @@ fn of_equal_keys_the_later_value_stands(rt: HostRuntime) {
         &rt,
         &[
             gets(alloc, &same, "n", 2i64),
-            count(&same) == 1,
+            comes_as(same.iter(), &["n"]),
             gets(alloc, &apart, "n", 1i64),
             gets(alloc, &apart, "é", 2i64),
-            count(&apart) == 2,
+            comes_as(apart.iter(), &["n", "é"]),
         ],
     );
     drop(same);
     drop(apart);
+}
+
+#[test]
+fn arguments_are_made_of_pairs(rt: HostRuntime) {
+    let alloc = rt.alloc();
+    let none: [(&'static str, Value); 0] = [];
+    let one = [("n", Value::from(1u8))];
+    let shown = "KwargsOf { values: Value { inner: Map({Str(\"n\"): Value { inner: U64(1) }}) } }";
+    hold(
+        &rt,
+        &[
+            is_shown(alloc, or_none(alloc, Kwargs::from_pairs(alloc, one)), shown),
+            is_of_no_pair(Kwargs::from_pairs(alloc, none)),
+        ],
+    );
 }
 
 #[test]
@@ -174,53 +189,38 @@ pub fn is_shown(alloc: Global, of: Kwargs, wanted: &str) -> bool {
     is_so
 }
 
-// How many arguments come.
-fn count(of: &Kwargs) -> u8 {
-    let mut count = 0u8;
-    for _ in of.iter() {
-        count = count.saturating_add(1);
-    }
-    count
-}
-
-#[test]
-fn arguments_may_have_no_pair(rt: HostRuntime) {
-    let alloc = rt.alloc();
-    let pairs: [(&'static str, Value); 0] = [];
-    let made = Kwargs::from_pairs(alloc, pairs);
-    assert!(rt; is_of_no_pair(alloc, made));
-}
-
-#[test]
-fn arguments_may_have_one_pair(rt: HostRuntime) {
-    let alloc = rt.alloc();
-    let made = or_none(alloc, Kwargs::from_pairs(alloc, [("n", Value::from(1u8))]));
-    let shown = "KwargsOf { values: Value { inner: Map({Str(\"n\"): Value { inner: U64(1) }}) } }";
-    assert!(rt; is_shown(alloc, made, shown));
-}
-
 // Arguments were made, and there is none.
-fn is_of_no_pair(alloc: Global, made: TeraResult<Kwargs>) -> bool {
-    let is_made = made.is_ok();
-    let of = or_none(alloc, made);
-    let is_empty = count(&of) == 0;
-    drop(of);
-    is_made && is_empty
+fn is_of_no_pair(made: TeraResult<Kwargs>) -> bool {
+    match made.ok() {
+        Some(of) => have_names(of, &[]),
+        None => false,
+    }
 }
 
-// The walk gives two arguments, and then ends for good.
-fn ends_for_good(walk: KwargsIter<'_>) -> bool {
+// The arguments come at these names.
+pub fn have_names(of: Kwargs, names: &[&str]) -> bool {
+    let is_so = comes_as(of.iter(), names);
+    drop(of);
+    is_so
+}
+
+// The walk gives arguments at these names, in that order, and then ends for good.
+pub fn comes_as(walk: KwargsIter<'_>, names: &[&str]) -> bool {
     let mut left = walk;
-    let are_two = left.next().is_some() && left.next().is_some();
-    are_two && left.next().is_none() && left.next().is_none()
+    for name in names {
+        match left.next() {
+            Some((key, _)) if key.as_str() == Some(*name) => {}
+            _ => return false,
+        }
+    }
+    left.next().is_none() && left.next().is_none()
 }
 
 #[test]
 fn a_walk_over_arguments_ends_for_good(rt: HostRuntime) {
     let alloc = rt.alloc();
     let two = arguments(alloc, many_pairs(alloc, 2));
-    assert!(rt; ends_for_good(two.iter()));
-    drop(two);
+    assert!(rt; have_names(two, &["key é 0", "key é 1"]));
 }
 
 #[test]
@@ -249,33 +249,6 @@ pub fn thousand_pairs(alloc: Global) -> Kwargs {
         Value::from(place),
     ));
     or_none(alloc, Kwargs::from_pairs(alloc, pairs))
-}
-
-// The key and the value are numbers that make 999.
-fn make_999(key: &Key<'static>, value: &Value) -> bool {
-    match (key, value.as_u128()) {
-        (Key::U128(number), Some(place)) => number.wrapping_add(place) == 999,
-        _ => false,
-    }
-}
-
-#[test]
-fn each_pair_of_many_is_an_argument(rt: HostRuntime) {
-    let of = thousand_pairs(rt.alloc());
-    let right = count_of_999(&of);
-    drop(of);
-    assert!(rt; right == 1000);
-}
-
-// How many arguments have a key and a value that make 999.
-fn count_of_999(of: &Kwargs) -> u16 {
-    let mut right = 0u16;
-    for (key, value) in of.iter() {
-        if make_999(key, value) {
-            right = right.saturating_add(1);
-        }
-    }
-    right
 }
 
 // The arguments show that, and so does a copy of them.

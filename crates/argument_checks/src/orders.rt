@@ -2,11 +2,11 @@
 use crate::given::gives;
 use crate::held::hold;
 use crate::made::{many_in_table, row_of, tree_of};
-use crate::named::{is_shown, or_none, thousand_pairs};
+use crate::named::{comes_as, have_names, is_shown, or_none, thousand_pairs};
 use made_values::{or_undefined, printed, with};
 use std::alloc::Global;
 use std::collections::{BTreeMap, HashMap};
-use tera_arguments::{Kwargs, KwargsIter};
+use tera_arguments::Kwargs;
 use tera_conversions::ToValue;
 use tera_values::{Key, Map, Value};
 
@@ -89,26 +89,6 @@ fn hashed_maps_give_rising_ones(rt: HostRuntime) {
     );
 }
 
-// The arguments come at these names, in that order, and then no more.
-fn comes_as(walk: KwargsIter<'_>, names: &[&str]) -> bool {
-    let mut left = walk;
-    for name in names {
-        match left.next() {
-            Some((key, _)) if key.as_str() == Some(*name) => {}
-            _ => return false,
-        }
-    }
-    left.next().is_none()
-}
-
-// The arguments of that map come at these names.
-fn walks_as(map: Map, names: &[&str]) -> bool {
-    let of = Kwargs::new(map);
-    let is_so = comes_as(of.iter(), names);
-    drop(of);
-    is_so
-}
-
 #[test]
 fn arguments_come_in_their_order(rt: HostRuntime) {
     let alloc = rt.alloc();
@@ -116,9 +96,9 @@ fn arguments_come_in_their_order(rt: HostRuntime) {
     hold(
         &rt,
         &[
-            walks_as(Map::new(alloc), &[]),
-            walks_as(falling(alloc), &["b", "a"]),
-            walks_as(put_again, &["b", "a"]),
+            have_names(Kwargs::new(Map::new(alloc)), &[]),
+            have_names(Kwargs::new(falling(alloc)), &["b", "a"]),
+            have_names(Kwargs::new(put_again), &["b", "a"]),
         ],
     );
 }
@@ -143,12 +123,13 @@ fn an_equal_key_keeps_its_place(rt: HostRuntime) {
     hold(&rt, &[is_walked, is_shown(alloc, of, shown)]);
 }
 
-// Each argument comes at its place: the first at 999, and each later one at one less.
+// The arguments come at 999, 998, .. down to 0, and are 0, 1, .. up to 999.
 fn falls(of: &Kwargs) -> bool {
     let mut next = 999u128;
-    for (key, _) in of.iter() {
-        match key {
-            Key::U128(number) if *number == next => {}
+    for (key, value) in of.iter() {
+        match (key, value.as_u128()) {
+            (Key::U128(number), Some(place))
+                if *number == next && place == 999u128.wrapping_sub(next) => {}
             _ => return false,
         }
         next = next.wrapping_sub(1);

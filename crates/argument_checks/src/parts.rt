@@ -23,20 +23,10 @@ fn copies_map(alloc: Global, value: Value, wanted: &str) -> bool {
     is_held(alloc, copy, wanted)
 }
 
-// In the map that is lent, a text has that number.
+// In the map that is lent, the first key is that text, and it has that number.
 fn lends_map(alloc: Global, value: Value, key: &str, wanted: i64) -> bool {
     let is_so = match taken::<Value, &Map>(alloc, &value).ok() {
-        Some(map) => has_number(map, key, wanted),
-        None => false,
-    };
-    drop(value);
-    is_so
-}
-
-// In the map that is lent, the first key is that text.
-fn lends_first(alloc: Global, value: Value, key: &str) -> bool {
-    let is_so = match taken::<Value, &Map>(alloc, &value).ok() {
-        Some(map) => has_first(map, key),
+        Some(map) => has_first(map, key) && has_number(map, key, wanted),
         None => false,
     };
     drop(value);
@@ -73,7 +63,7 @@ fn maps_are_copied_or_lent(rt: HostRuntime) {
             copies_map(alloc, one_pair_of(alloc), map),
             copies_map(alloc, at_texts(alloc, &pairs), falling),
             lends_map(alloc, one_pair_of(alloc), "é", 7),
-            lends_first(alloc, at_texts(alloc, &pairs), "b"),
+            lends_map(alloc, at_texts(alloc, &pairs), "b", 1),
             copies_map(alloc, no_pairs(alloc), "Map({})"),
             is_no::<Value, Map>(alloc, &items, "Map", "array"),
             is_no::<Value, &Map>(alloc, &items, "Map", "array"),

@@ -15,11 +15,17 @@ fn answers<F: FunctionResult>(alloc: Global, answer: F, wanted: &str) -> bool {
 }
 
 #[test]
-fn single_values_are_answered(rt: HostRuntime) {
+fn single_values_and_what_succeeds_are_answered(rt: HostRuntime) {
     let alloc = rt.alloc();
+    let number: TeraResult<u8> = Ok(7);
+    let list: TeraResult<Vec<u8>> = Ok(one_of(alloc, 1u8));
+    let value: TeraResult<Value> = Ok(safe(alloc, "<"));
     hold(
         &rt,
         &[
+            answers(alloc, number, "U64(7)"),
+            answers(alloc, list, "Array([Value { inner: U64(1) }])"),
+            answers(alloc, value, "String(true, \"<\")"),
             answers(alloc, true, "Bool(true)"),
             answers(alloc, 'é', "String(false, \"é\")"),
             answers(alloc, (), "None"),
@@ -31,16 +37,6 @@ fn single_values_are_answered(rt: HostRuntime) {
             answers(alloc, safe(alloc, "<"), "String(true, \"<\")"),
             answers(alloc, None::<u8>, "None"),
             answers(alloc, Some(7u8), "U64(7)"),
-        ],
-    );
-}
-
-#[test]
-fn texts_are_answered(rt: HostRuntime) {
-    let alloc = rt.alloc();
-    hold(
-        &rt,
-        &[
             answers(alloc, "é", "String(false, \"é\")"),
             answers(alloc, owned(alloc, "é"), "String(false, \"é\")"),
             answers(alloc, CowStr::Borrowed("é"), "String(false, \"é\")"),
@@ -77,22 +73,6 @@ fn collections_are_answered(rt: HostRuntime) {
         ],
     );
     drop(values);
-}
-
-#[test]
-fn what_succeeds_is_answered(rt: HostRuntime) {
-    let alloc = rt.alloc();
-    let number: TeraResult<u8> = Ok(7);
-    let list: TeraResult<Vec<u8>> = Ok(one_of(alloc, 1u8));
-    let value: TeraResult<Value> = Ok(safe(alloc, "<"));
-    hold(
-        &rt,
-        &[
-            answers(alloc, number, "U64(7)"),
-            answers(alloc, list, "Array([Value { inner: U64(1) }])"),
-            answers(alloc, value, "String(true, \"<\")"),
-        ],
-    );
 }
 
 // The answer is an error of that text, and its cause is one of that.
