@@ -19,6 +19,8 @@ Prints a line 'pass ..' or 'FAIL ..' for each edit, and 'wrong bodies: end'. It 
 begins with a copy of the work that checks kept in out/. With `--gate LOG` it runs beside an `rt ci` that writes LOG: the edits
 of a crate are tried once the log says that it is proved, in all lanes but one until the log has its last line.
 
+`--right` is the control: of each edited function it tries the right body in the same way, and no goal of it may be open.
+
 As `rt ci` keeps what it proved, this keeps on the machine which edits were refused, by a sum of all that the answer stands
 on: the kit, this script, the crate's files and those of all crates below it, and the edit. Such an edit is not tried again,
 and its line says so. `--anew` tries all.
@@ -60,7 +62,8 @@ SAFE = re.compile(r"(?:^|-)(?:overflow_|nonzero_|(?:slice_|offset_)?bounds-)|-(?
 
 
 MANY = 60  # the most edits of a check: of many more the prover begins copies of itself, which take a third more time
-# a lemma that is false: beside it the prover prints no form of a proof for the function, which takes a sixth of a check's time
+# a lemma that is false: beside it the prover prints no form of a proof for the function, which takes a sixth of a check's time, and
+# tries the function's goals where a callee is not proved too
 NO_FORM = "no_form"
 FALSE_LEMMA = f"\n{NO_FORM} : Type 0\n{NO_FORM} = Type 0\n"
 ROOM = 4_000_000_000  # the free memory, in bytes, that a check beside the gate begins with
@@ -497,7 +500,8 @@ def is_to_come(ask, said):
 
 
 def checked(rt, crate, texts, flags, kept):
-    """What a check of a copy of the crate says, with these texts in place of its own or beside them, over the work that is kept."""
+    """What a check of a copy of the crate says, with these texts in place of its own or beside them, over the work that is kept. The
+    kit's own check of a copy makes no folder, and a function without answers has none."""
     with tempfile.TemporaryDirectory(prefix="wrong-") as room:
         for part in filter(lambda it: os.path.isdir(f"{crate.folder}/{it}"), rt.rtlib.PARTS):
             shutil.copytree(f"{crate.folder}/{part}", f"{room}/{part}")
@@ -528,6 +532,16 @@ class Trial:
                 it.write(f"== {title} ({time.monotonic() - start:.0f} s)\n{said}\n")
         # what a line says goes on in the lines below that stand in from the margin
         return re.sub(r"\n +", " ", said.rstrip("\n")).split("\n")
+
+    def run_right(self, edits):
+        """Judges the right bodies of the edits' functions, beside the lemma that is false: no goal may be open."""
+        asks = [Ask(it, {}, set(), is_right=True) for it in {it.place_in_crate: it for it in edits if it.answers}.values()]
+        lines = self.checked(asks) if asks else []
+        for ask in asks:
+            said = Said(ask.edit, lines)
+            is_open = not said.reached or said.refused_by() or said.lost
+            self.counts[bool(is_open)] += 1
+            say(f"{'FAIL' if is_open else 'pass'} {ask.title}{f': {said.cause()}' if is_open else ''}")
 
     def settle(self, edit, goals, fault):
         self.counts[not goals] += 1
@@ -611,7 +625,7 @@ def tried(rt, edits, given):
 
     def counted(crate, some, kept):
         stamp = crate.stamp()
-        goals = {it: earlier.goal(it, stamp) for it in some}
+        goals = {it: None if given.right else earlier.goal(it, stamp) for it in some}
         for edit in filter(goals.get, some):
             say(f"pass {edit.name} is refused by {goals[edit]}, as an earlier run on this machine saw")
         new = [it for it in some if not goals[it]]
@@ -636,7 +650,7 @@ def tried(rt, edits, given):
             shutil.copytree(f"{crate.folder}/out/incremental", kept)
         os.makedirs(kept, exist_ok=True)
         trial = Trial(rt, crate, kept, given.told, turn)
-        trial.run(some)
+        trial.run_right(some) if given.right else trial.run(some)
         for edit, goal in trial.refused if crate.stamp() == stamp else ():
             earlier.keep(edit, stamp, goal)
         return trial.counts
@@ -657,6 +671,7 @@ def main():
     words.add_argument("--kept", help="a folder in which work is kept between runs")
     words.add_argument("--gate", metavar="LOG", default="", help="what a run of `rt ci` beside this one prints")
     words.add_argument("--anew", action="store_true", help="try again what an earlier run on this machine saw refused")
+    words.add_argument("--right", action="store_true", help="try right bodies as wrong ones are tried: none may be refused")
     words.add_argument("--told", help="a file to which what the prover said is appended")
     given = words.parse_args()
     os.chdir(os.path.dirname(os.path.dirname(os.path.abspath(__file__))))
