@@ -16,8 +16,9 @@ away, it is tried without that part; a goal that is then open counts only where 
 where it is proved of the right body without that part.
 
 Prints a line 'pass ..' or 'FAIL ..' for each edit, and 'wrong bodies: end'. It uses the libraries that `rt ci` built, and
-begins with a copy of the work that checks kept in out/. With `--gate LOG` it runs beside an `rt ci` that writes LOG: the edits
-of a crate are tried once the log says that it is proved, in all lanes but one until the log has its last line.
+begins with a copy of the work that checks kept in out/. With `--gate LOG` it runs beside an `rt ci` that writes LOG, and begins
+with nothing: a crate's edits are tried once the log says that the crates below it are proved, of several crates the one of most
+edits first, in all lanes but one until the log has its last line.
 
 `--right` is the control: of each edited function it tries the right body in the same way, and no goal of it may be open.
 
@@ -590,8 +591,8 @@ class Gate:
     """A run of `rt ci` beside this one, by its log; or none, and then all crates are proved already. What an earlier run
     on this machine has proved is kept, and so is proved."""
 
-    def __init__(self, log, lanes):
-        self.log, self.lanes = log, threading.BoundedSemaphore(max(1, lanes - 1))
+    def __init__(self, log):
+        self.log = log
 
     def has_ended(self):
         return not self.log or bool(re.search(r"(?m)^\d+ passed, \d+ failed", self.told()))
@@ -599,20 +600,36 @@ class Gate:
     def told(self):
         return read(self.log) if os.path.isfile(self.log) else ""
 
-    def proves(self, crate):
-        """Waits until the crate is proved, or the gate has ended without that."""
-        proved = re.compile(rf"(?m)^rt: {crate.name} (?:proved$|is kept: )")
-        while not proved.search(self.told()):
-            if self.has_ended():
-                return bool(proved.search(self.told()))
-            time.sleep(2)
-        return True
+    def has_proved(self, crates):
+        told = self.told() if self.log else ""
+        return not self.log or all(re.search(rf"(?m)^rt: {it.name} (?:proved$|is kept: )", told) for it in crates)
 
 
 def tried(rt, edits, given):
     """Tries the crates' edits side by side, and returns for each list of them how many are refused and how many are not."""
     lanes = rt.processors()
-    gate, earlier, left = Gate(given.gate, lanes), Kept(given.anew), [*edits]
+    gate, earlier, waiting, left, taking = Gate(given.gate), Kept(given.anew), [*edits], [*edits], threading.Lock()
+
+    def taken():
+        """The crate of most edits whose crates below are proved, or any once the gate has ended; none where all are to wait."""
+        with taking:
+            has_ended = gate.has_ended()
+            crate = next((it for it in waiting if has_ended or gate.has_proved(it.below())), None)
+            if crate:
+                waiting.remove(crate)
+            return crate
+
+    def lane(number, room):
+        """Tries one crate's edits after another's. The first of several lanes is the gate's until its end."""
+        counts = []
+        while waiting:
+            is_free = number or lanes == 1 or gate.has_ended()
+            if crate := is_free and taken():
+                counts.append(counted(crate, edits[crate], f"{room}/{crate.name}"))
+                left.remove(crate)
+            else:
+                time.sleep(2)
+        return counts
 
     def turn():
         """Waits for memory beside the gate, and answers how many jobs a check may have: a second one takes a third more processor time,
@@ -630,23 +647,14 @@ def tried(rt, edits, given):
             say(f"pass {edit.name} is refused by {goals[edit]}, as an earlier run on this machine saw")
         new = [it for it in some if not goals[it]]
         refused, failed = counted_anew(crate, new, kept, stamp) if new else (0, 0)
-        left.remove(crate)
         return [len(some) - len(new) + refused, failed]
 
     def counted_anew(crate, some, kept, stamp):
-        if given.gate and not gate.proves(crate):
-            say(f"FAIL {crate.name}: it is not proved, so its {len(some)} wrong bodies were not tried")
+        if not gate.has_proved(crate.below()):
+            say(f"FAIL {crate.name}: a crate below it is not proved, so its {len(some)} wrong bodies were not tried")
             return [0, len(some)]
-        while not gate.has_ended():
-            if gate.lanes.acquire(timeout=2):
-                try:
-                    return counted_now(crate, some, kept, stamp)
-                finally:
-                    gate.lanes.release()
-        return counted_now(crate, some, kept, stamp)
-
-    def counted_now(crate, some, kept, stamp):
-        if not os.path.isdir(kept) and os.path.isdir(f"{crate.folder}/out/incremental"):
+        # a gate moves what checks kept out of its way
+        if not (given.gate or os.path.isdir(kept)) and os.path.isdir(f"{crate.folder}/out/incremental"):
             shutil.copytree(f"{crate.folder}/out/incremental", kept)
         os.makedirs(kept, exist_ok=True)
         trial = Trial(rt, crate, kept, given.told, turn)
@@ -656,11 +664,8 @@ def tried(rt, edits, given):
         return trial.counts
 
     with tempfile.TemporaryDirectory(prefix="wrong-") as room, ThreadPoolExecutor(lanes) as pool:
-        above = os.path.abspath(given.kept) if given.kept else room
-        # beside a gate, the crates that are proved first
-        crates = sorted(edits, key=lambda it: len(it.below())) if given.gate else edits
-        counts = [pool.submit(counted, it, edits[it], f"{above}/{it.name}") for it in crates]
-        return [it.result() for it in counts]
+        runs = [pool.submit(lane, it, os.path.abspath(given.kept or room)) for it in range(lanes)]
+        return [counts for run in runs for counts in run.result()]
 
 
 def main():
