@@ -609,7 +609,7 @@ def provers():
     """How many processes of the prover run now, the gate's among them."""
     running = 0
     for pid in filter(str.isdigit, os.listdir("/proc")):
-        with contextlib.suppress(OSError):
+        with contextlib.suppress(OSError, UnicodeError):
             running += bool(re.match(r"\d+ \(rattle\) R", read(f"/proc/{pid}/stat")))
     return running
 
