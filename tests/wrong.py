@@ -18,7 +18,7 @@ where it is proved of the right body without that part.
 Prints a line 'pass ..' or 'FAIL ..' for each edit, and 'wrong bodies: end'. It uses the libraries that `rt ci` built, and
 begins with a copy of the work that checks kept in out/. With `--gate LOG` it runs beside an `rt ci` that writes LOG, and begins
 with nothing: a crate's edits are tried once the log says that the crates below it are proved, of several crates the one of most
-edits first, in all lanes but one until the log has its last line, and each check once a processor is free.
+edits first, in all lanes but one until the log has its last line.
 
 `--right` is the control: of each edited function it tries the right body in the same way, and no goal of it may be open.
 
@@ -605,15 +605,6 @@ class Gate:
         return not self.log or all(re.search(rf"(?m)^rt: {it.name} (?:proved$|is kept: )", told) for it in crates)
 
 
-def provers():
-    """How many processes of the prover run now, the gate's among them."""
-    running = 0
-    for pid in filter(str.isdigit, os.listdir("/proc")):
-        with contextlib.suppress(OSError, UnicodeError):
-            running += bool(re.match(r"\d+ \(rattle\) R", read(f"/proc/{pid}/stat")))
-    return running
-
-
 def tried(rt, edits, given):
     """Tries the crates' edits side by side, and returns for each list of them how many are refused and how many are not."""
     lanes = rt.processors()
@@ -641,11 +632,10 @@ def tried(rt, edits, given):
         return counts
 
     def turn():
-        """Waits beside the gate for memory and for a processor on which no prover runs, since two on one are slower than in turn.
-        Answers how many jobs a check may have: a second one takes a third more processor time, so it is for a lane that no other
-        crate's edits fill any more."""
+        """Waits for memory beside the gate, and answers how many jobs a check may have: a second one takes a third more processor time,
+        so it is for a lane that no other crate's edits fill any more."""
         while not gate.has_ended():
-            if rt.free() > ROOM and provers() < lanes:
+            if rt.free() > ROOM:
                 return 1
             time.sleep(2)
         return max(1, lanes // max(1, len(left)))
