@@ -1,15 +1,36 @@
 -- Of each pair of kinds: the texts are the same, or the kinds differ.
-use Rattle.std.proofs.Common.{rules, ap, refl, string_bytes}
+use Rattle.std.proofs.Common.{rules, ap, refl, string_bytes, ℕ}
+use Rattle.std.proofs.lemmas.Bool.{false≢true}
 use Rattle.std.proofs.lemmas.Bool.Decides.{Decides-and, Decides-like}
 use Rattle.std.specs.String.{string_eq}
 use Rattle.std.specs.contracts.io.ErrorKind.{the_type}
+use borrow.Author.Tests.{eqb_apart}
 use denote.Enum.Bare.{same_true, true_same}
-use Rattle.tera_report.specs.Refusal.{message, syntax_error, rendering_error, writing_failed, template_not_found, component_not_found, missing_argument}
+use Rattle.tera_report.specs.Errors.{refusal_of}
+use Rattle.tera_report.specs.Refusal.{Refusal, message, syntax_error, rendering_error, writing_failed, template_not_found, component_not_found}
+use Rattle.tera_report.specs.Refusal.{missing_argument, circular_extend, circular_include, missing_parent, invalid_argument, out_of_range, not_utf8}
 use Rattle.tera_report.specs.declared.errors.ErrorKind.TheVariants.{Msg, SyntaxError, RenderingError, CircularExtend, CircularInclude, MissingParent}
 use Rattle.tera_report.specs.declared.errors.ErrorKind.TheVariants.{TemplateNotFound, ComponentNotFound, InvalidArgument, MissingArgument, OutOfRangeArgument}
 use Rattle.tera_report.specs.declared.errors.ErrorKind.TheVariants.{Io, Utf8Conversion, OutOfMemory}
 use Rattle.tera_report.proofs.EqualReports.{texts_equal, items_equal, reports_equal}
 use Rattle.tera_report.proofs.errors.kinds_equal_by_refusal.Goals as goal
+
+-- kinds that differ are told apart by a number, which is cheap where their pairs are many
+abbrev number : Refusal → ℕ
+number (message t) = 0
+number (syntax_error r) = 1
+number (rendering_error r) = 2
+number (circular_extend t chain) = 3
+number (circular_include t chain) = 4
+number (missing_parent current parent) = 5
+number (template_not_found n) = 6
+number (component_not_found n) = 7
+number (invalid_argument expected actual) = 8
+number (missing_argument n) = 9
+number (out_of_range v target) = 10
+number (writing_failed kind) = 11
+number not_utf8 = 12
+number r = 13
 
 pub returns : goal.returns
 returns c (Msg s) (Msg t) = Decides-like _ (ap message) (λ e. cc) (texts_equal s t)
@@ -28,4 +49,4 @@ returns c (OutOfRangeArgument s u) (OutOfRangeArgument t v) = Decides-like _ (λ
 returns c (Io s) (Io t) = ((λ h. ap writing_failed (same_true the_type (search rules) s t h)), (λ e. true_same the_type s t (cc)))
 returns c Utf8Conversion Utf8Conversion = ((λ h. refl), (λ e. refl))
 returns c OutOfMemory OutOfMemory = ((λ h. refl), (λ e. refl))
-returns c a b = ((λ h. absurd (cc)), (λ e. absurd (cc)))
+returns c a b = ((λ h. absurd (false≢true h)), (λ e. absurd (eqb_apart (number (refusal_of a)) (number (refusal_of b)) refl (ap number e))))
