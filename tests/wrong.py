@@ -17,8 +17,8 @@ where it is proved of the right body without that part.
 
 Prints a line 'pass ..' or 'FAIL ..' for each edit, and 'wrong bodies: end'. It uses the libraries that `rt ci` built, and
 begins with a copy of the work that checks kept in out/. With `--gate LOG` it runs beside an `rt ci` that writes LOG, and begins
-with nothing: a crate's edits are tried once the log says that the crates below it are proved, of several crates the one of most
-edits first, in all lanes but one until the log has its last line.
+with nothing: a crate's edits are tried once the log says that the crates below it are proved, of several crates the one that
+takes longest first, in all lanes but one until the log has its last line, and each check once a processor is free.
 
 `--right` is the control: of each edited function it tries the right body in the same way, and no goal of it may be open.
 
@@ -230,6 +230,11 @@ class Edit:
         return None if os.path.dirname(self.path) == home else f"it belongs in {home}/"
 
     @property
+    def is_in_cycle(self):
+        """Whether the function is one of several that call one another, which have one proof."""
+        return bool(self.answers) and os.path.basename(os.path.dirname(self.answers)).startswith("+")
+
+    @property
     def place_in_crate(self):
         """What two edits of one function share."""
         return self.file, self.first
@@ -272,10 +277,12 @@ class Edit:
             kind = [*module_of(kind[0], crate), *kind]
         own = "\n".join(self.text.split("\n")[self.first : self.last])
         cycle = "".join(re.findall(r"#\[cycle\((\w+)\)\]", own)[:1])
-        found = [at for at, *_ in os.walk(f"{crate.folder}/proofs") if os.path.basename(at) == f"+{cycle or name}"]
-        if found or cycle:
+        if cycle:
+            found = [at for at, *_ in os.walk(f"{crate.folder}/proofs") if os.path.basename(at) == f"+{cycle}"]
             return f"{os.path.relpath(found[0], crate.folder)}/Answers.antt" if found else None
-        return "/".join(["proofs", *kind, name, "Answers.antt"])
+        place = "/".join(["proofs", *kind])
+        calls_itself = os.path.isdir(f"{crate.folder}/{place}/+{name}")
+        return f"{place}/{'+' * calls_itself}{name}/Answers.antt"
 
     def is_own(self, path):
         return not self.own or bool(self.own.match(path))
@@ -461,9 +468,11 @@ class Shared:
         return [asks[0] for asks in most[:MANY]]
 
     def beside(self, batch):
-        """The asks of other functions that stand beside these in the text."""
+        """The asks of other functions that stand beside these in the text. In a cycle of calls, whose one proof each edit has made anew,
+        an edit that was judged stands no more."""
         places = {it.edit.place_in_crate for it in batch}
-        return [it for place, it in self.standing.items() if place not in places]
+        others = [it for place, it in self.standing.items() if place not in places]
+        return [it for it in others if not it.edit.is_in_cycle or self.asks.get(it.edit) is it]
 
     def take(self, batch, lines):
         """Takes what a check of these asks said, and what it told of edits that stand beside them, where a function of the batch calls
@@ -587,6 +596,16 @@ def edits_below(folder, crate):
     return [Edit(it, folder, crate) for it in paths]
 
 
+def provers():
+    """How many processes of the prover run now, the gate's among them: a thread of each is running."""
+    running = 0
+    for pid in filter(str.isdigit, os.listdir("/proc")):
+        with contextlib.suppress(OSError, UnicodeError):
+            threads = read(f"/proc/{pid}/comm") == "rattle\n" and os.listdir(f"/proc/{pid}/task")
+            running += any(") R " in read(f"/proc/{pid}/task/{it}/stat") for it in threads or ())
+    return running
+
+
 class Gate:
     """A run of `rt ci` beside this one, by its log; or none, and then all crates are proved already. What an earlier run
     on this machine has proved is kept, and so is proved."""
@@ -611,7 +630,7 @@ def tried(rt, edits, given):
     gate, earlier, waiting, left, taking = Gate(given.gate), Kept(given.anew), [*edits], [*edits], threading.Lock()
 
     def taken():
-        """The crate of most edits whose crates below are proved, or any once the gate has ended; none where all are to wait."""
+        """The first crate whose crates below are proved, or any once the gate has ended; none where all are to wait."""
         with taking:
             has_ended = gate.has_ended()
             crate = next((it for it in waiting if has_ended or gate.has_proved(it.below())), None)
@@ -632,10 +651,11 @@ def tried(rt, edits, given):
         return counts
 
     def turn():
-        """Waits for memory beside the gate, and answers how many jobs a check may have: a second one takes a third more processor time,
-        so it is for a lane that no other crate's edits fill any more."""
+        """Waits beside the gate for memory and for a processor on which no prover runs, since two on one take more than one after the
+        other. Answers how many jobs a check may have: a second one takes a third more processor time, so it is for a lane that no
+        other crate's edits fill any more."""
         while not gate.has_ended():
-            if rt.free() > ROOM:
+            if rt.free() > ROOM and provers() < lanes:
                 return 1
             time.sleep(2)
         return max(1, lanes // max(1, len(left)))
@@ -684,7 +704,9 @@ def main():
     rt.rtlib.guarded()
     crates = [it for it in rt.rtlib.crates_below(os.getcwd()) if not given.names or it.name in given.names]
     edits = {it: [edit for edit in edits_below(f"{it.folder}/{given.folder}", it) if given.edit in edit.path] for it in crates}
-    edits = {it: edits[it] for it in sorted(crates, key=lambda it: -len(edits[it])) if edits[it]}
+    # how long a crate takes, about: an edit takes the longer, the more crates stand below its own
+    taking = {it: len(edits[it]) * (4 + len(it.below())) for it in crates if edits[it]}
+    edits = {it: edits[it] for it in sorted(taking, key=taking.get, reverse=True)}
     below = {low.name: low for it in edits for low in it.below()}.values()
     for low in sorted(below, key=lambda it: len(it.below())) if not given.gate else []:
         if not is_current(low) and low.build_rlib(["--jobs", "1"], anew=False):
