@@ -1,4 +1,4 @@
-//! Contexts, and the calls that run over them; and what functions of templates take and give.
+//! Contexts, and the calls that run over them.
 #![tactic(auto)]
 
 mod asks;
@@ -14,9 +14,6 @@ pub use call::{Answer, Call, Step};
 pub use context::Context;
 pub use lends::{Lent, LookUp, lend, look_up};
 pub use steps::{run, step};
-pub use tera_arguments::{
-    ArgFromValue, Autoescape, Kwargs, KwargsIter, KwargsOf, Parts, StringInput,
-};
 pub use tera_conversions::{FunctionResult, ToKey, ToValue};
 pub use tera_scalars::BinaryOp;
 pub use tera_values::IntType;

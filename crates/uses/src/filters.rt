@@ -9,7 +9,7 @@ ghost use Rattle.uses.specs.Filters.{EscapeRefuses, RefusesJoined};
 ghost use Rattle.uses.specs.Filters.{IsOrDefault, LacksDefault};
 
 use std::alloc::Global;
-use tera_context::{ArgFromValue, Autoescape, Kwargs, StringInput};
+use tera_arguments::{ArgFromValue, Autoescape, Kwargs, StringInput};
 use tera_report::TeraResult;
 use tera_values::Value;
 
