@@ -8,10 +8,12 @@ another item. An edit of a definition or of a macro has a line 'only: PATH' too:
 a law. Its file may stand in specs/, FUNCTION is PATH's, and the edit is tried alone, on that function; a lemma that the law's
 proof stands on may refuse it too.
 
-A check takes an edit of each of many functions, and the other functions stand edited beside them, so that no right body of
-these is proved: a function is proved over the contracts of what it calls. An edit is refused where a goal of its function's
-contract is not proved: a return's, or an invariant's, but not that a sum fits, that a call is allowed or that a loop ends. What
-a shared check does not show to be refused is tried alone, and then from nothing. Where a proof by hand names what the edit took
+A check takes an edit of each of many functions, and the other functions stand edited beside them, so that few right bodies are
+proved: a function is proved over the contracts of what it calls. Each further edit of a function is made to a copy of it at the
+end of its file, with its attributes, its contract and its proof by hand; but not where it stands in a trait's function, in one
+that calls itself, or in a cycle of calls. An edit is refused where a goal of its function's contract is not proved: a return's,
+or an invariant's, but not that a sum fits, that a call is allowed or that a loop ends. What a copy does not show to be refused is
+tried in its place, and what a shared check does not show is tried alone, and then from nothing. Where a proof by hand names what the edit took
 away, it is tried without that part; a goal that is then open counts only where the prover finds values at which it is false, or
 where it is proved of the right body without that part.
 
@@ -20,14 +22,17 @@ begins with a copy of the work that checks kept in out/. With `--gate LOG` it ru
 with nothing: a crate's edits are tried once the log says that the crates below it are proved, of several crates the one that
 takes longest first, in all lanes but one until the log has its last line, and each check once a processor is free.
 
-`--right` is the control: of each edited function it tries the right body in the same way, and no goal of it may be open.
+`--right` is the control: of each edited function and of each copy it tries the right body in the same way, and no goal of it may be
+open.
 
 As `rt ci` keeps what it proved, this keeps on the machine which edits were refused, by a sum of all that the answer stands
 on: the kit, this script, the crate's files and those of all crates below it, and the edit. Such an edit is not tried again,
 and its line says so. `--anew` tries all.
 """
 import argparse
+import collections
 import contextlib
+import copy
 import hashlib
 import importlib.machinery
 import importlib.util
@@ -171,6 +176,11 @@ def module_of(kind, crate):
     return [it for path in found[:1] for it in path.split("/") if it not in ("lib", "main")]
 
 
+def paths_of(before, tail):
+    """The pattern of a function's paths, as the prover spells them, and of its closures'."""
+    return re.compile(rf"{before}(?:{re.escape(tail)}|fn::{re.escape(tail)}::.*)$")
+
+
 def header_at(lines, first):
     last = next(it for it in range(first, len(lines)) if "{" in lines[it])
     return " ".join(it.strip() for it in lines[first : last + 1]).partition("{")[0].strip()
@@ -184,6 +194,8 @@ class Edit:
         self.name = f"{crate.name}/{self.path}"
         # how the prover names the function, if it is one: a pattern of its paths, and a path for `--only`; and its file of answers
         self.own = self.only = self.answers = None
+        # the impl or trait in which it stands; and the number of the copy that is edited in its place, if one is
+        self.block, self.is_of_trait, self.number, self.in_place = "", False, 0, self
         text = read(path)
         self.file = "".join(re.findall(r"(?m)^file: (\S+)", text)[:1])
         self.changes = re.findall(r"(?m)^old: (.*)\nnew: ?(.*)$", text)
@@ -215,6 +227,8 @@ class Edit:
         self.home = self.home_of(lines, places[0])
         while lines[self.first - 1].lstrip().startswith("#["):
             self.first -= 1
+        # whether it changes nothing outside of the function, and the function's lines, which `first` and `last` are not in a copy
+        self.is_inside, self.lines = {*places} == {places[0]}, (self.first, self.last)
         return None if os.path.dirname(self.path) == self.home else f"it belongs in {self.home}/"
 
     def placed_anywhere(self):
@@ -231,13 +245,51 @@ class Edit:
 
     @property
     def is_in_cycle(self):
-        """Whether the function is one of several that call one another, which have one proof."""
+        """Whether the function calls itself, or is one of several that call one another, which have one proof."""
         return bool(self.answers) and os.path.basename(os.path.dirname(self.answers)).startswith("+")
 
     @property
     def place_in_crate(self):
-        """What two edits of one function share."""
-        return self.file, self.first
+        """What two edits of one function share, or of one copy."""
+        return self.file, self.lines, self.number
+
+    @property
+    def can_be_copied(self):
+        """Whether it can be made to a copy of its function, which stands beside that."""
+        return bool(self.answers) and self.is_inside and not self.is_in_cycle and not self.is_of_trait
+
+    def in_copy(self, number):
+        """The same edit, made to a copy of its function."""
+        it, behind = copy.copy(self), f"_copy{number}"
+        it.number, it.only = number, self.only + behind
+        it.own = paths_of(self.before, self.tail + behind)
+        it.answers = f"{os.path.dirname(self.answers)}{behind}/Answers.antt"
+        return it
+
+    def copied(self, text, is_right):
+        """A text of the file with the copy at its end. Finds the copy's lines."""
+        name, (first, last) = self.tail.rpartition("::")[2], self.lines
+        lines = (self.text if is_right else changed(self.text, self.places())).split("\n")[first : last + 1]
+        at = next(it for it, line in enumerate(lines) if FUNCTION.match(line))
+        lines[at] = re.sub(rf"\bfn {name}\b", f"fn {name}_copy{self.number}", lines[at])
+        self.first = text.count("\n") + bool(self.block)
+        self.last = self.first + last - first
+        own = "".join(f"{it}\n" for it in lines)
+        return text + (f"{self.block} {{\n{own}}}\n" if self.block else own)
+
+    def places(self):
+        return [(at, old, new) for at, (old, new) in zip(self.at, self.changes)]
+
+    def proofs(self, crate):
+        """The files of the function's proof by hand, and of the same for its copy, with the lemma that is false."""
+        own = re.sub(r"_copy\d+$", "", os.path.dirname(self.answers)) if self.number else os.path.dirname(self.answers)
+        found = {self.answers: ""}
+        names = sorted(os.listdir(f"{crate.folder}/{own}")) if os.path.isdir(f"{crate.folder}/{own}") else []
+        for name in names if self.number else [it for it in names if it == "Answers.antt"]:
+            text = read(f"{crate.folder}/{own}/{name}")
+            to = os.path.dirname(self.answers)
+            found[f"{to}/{name}"] = text.replace(f".{own}.".replace("/", "."), f".{to}.".replace("/", "."))
+        return {**found, self.answers: found[self.answers] + FALSE_LEMMA}
 
     def place(self, lines, at):
         return place_of(lines, self.text[:at].count("\n"))
@@ -262,11 +314,12 @@ class Edit:
         tail, before = found[2], "".join(f"{it}::" for it in modules)
         if found[1]:
             above = next(it for it in range(self.first, -1, -1) if BLOCK.match(lines[it]))
-            block, is_trait = block_of(header_at(lines, above).removeprefix("unsafe "))
+            self.block = header_at(lines, above)
+            block, self.is_of_trait = block_of(self.block.removeprefix("unsafe "))
             tail = f"{block}::{tail}"
             # a type's own function has its path below the type's module, which may be another
-            before = before if is_trait else r"(?:\w+::)*"
-        self.own = re.compile(rf"{before}(?:{re.escape(tail)}|fn::{re.escape(tail)}::.*)$")
+            before = before if self.is_of_trait else r"(?:\w+::)*"
+        self.before, self.tail, self.own = before, tail, paths_of(before, tail)
         self.only = tail if "(" in before else before + tail
         return tail.replace("::", ".")
 
@@ -382,15 +435,16 @@ def parts(lost):
     return ", ".join(sorted({goal or file for file, goal in lost}))
 
 
+def changed(text, places):
+    for at, old, new in sorted(places, reverse=True):
+        text = text[:at] + new + text[at + len(old) :]
+    return text
+
+
 def edited(edits):
     """The texts of the files with all these edits, which stand in different functions."""
     texts = {it.file: it.text for it in edits}
-    for file in texts:
-        here = [it for it in edits if it.file == file]
-        places = sorted((at, old, new) for it in here for at, (old, new) in zip(it.at, it.changes))
-        for at, old, new in reversed(places):
-            texts[file] = texts[file][:at] + new + texts[file][at + len(old) :]
-    return texts
+    return {file: changed(texts[file], [place for it in edits if it.file == file for place in it.places()]) for file in texts}
 
 
 def left_out(text, goals):
@@ -416,12 +470,15 @@ class Ask:
 
 
 def texts_of(asks, crate):
-    """The texts of the files that the asks change."""
-    proofs = {file: text for ask in asks for file, text in ask.proofs.items()}
-    for file in {it.edit.answers for it in asks if it.edit.answers}:
-        proofs.setdefault(file, read(f"{crate.folder}/{file}") if os.path.isfile(f"{crate.folder}/{file}") else "")
-        proofs[file] += FALSE_LEMMA
-    return {**edited([it.edit for it in asks if not it.is_right]), **proofs}
+    """The texts of the files that the asks change, with the copies that they ask for."""
+    proofs = {file: text for ask in asks if ask.edit.answers for file, text in ask.edit.proofs(crate).items()}
+    answers = {it.edit.answers for it in asks}
+    for file, text in [it for ask in asks for it in ask.proofs.items()]:
+        proofs[file] = text + (FALSE_LEMMA if file in answers else "")
+    texts = edited([it.edit for it in asks if not (it.is_right or it.edit.number)])
+    for edit, is_right in [(it.edit, it.is_right) for it in asks if it.edit.number]:
+        texts[edit.file] = edit.copied(texts.get(edit.file, edit.text), is_right)
+    return {**texts, **proofs}
 
 
 def judging(edit, crate):
@@ -442,16 +499,30 @@ def judging(edit, crate):
     return told, f"its proof by hand names what the edit took away: {parts(lost)}; without it the right body is open too"
 
 
+def with_copies(edits):
+    """The edits, each further one of a function made to a copy of it where it can be."""
+    before = collections.Counter()
+    for edit in edits:
+        place = edit.place_in_crate
+        yield edit.in_copy(before[place]) if before[place] and edit.can_be_copied else edit
+        before[place] += 1
+
+
 class Shared:
-    """The asks of many edits, an edit of a function to a check. The text of a check has an edit of every function: of one that it is
-    not to judge the first edit, or the one that was judged last. So what a function calls is refused once, and no check proves the
-    right body of what another edits. What waits for another function, or asks for a right body, comes in a second pass, which
-    begins with the right text."""
+    """The asks of many edits, an edit of a function or of a copy to a check. The text of a check has an edit of every function: of one
+    that it is not to judge the first edit, or the one that was judged last. So what a function calls is refused once, and no check
+    proves the right body of what another edits. What waits for another function, or asks for a right body, comes in a second pass,
+    which begins with the right text."""
 
     def __init__(self, edits, crate):
-        self.judges = {it: judging(it, crate) for it in edits}
-        self.asks, self.later = {it: next(self.judges[it]) for it in edits}, {}
-        self.standing = {place: asks[0] for place, asks in self.by_function().items()}
+        self.crate, self.judges, self.asks, self.later = crate, {}, {}, {}
+        for edit in with_copies(edits):
+            self.begin(edit)
+        self.standing = {place: asks[0] for place, asks in self.by_function().items() if not asks[0].edit.number}
+
+    def begin(self, edit):
+        self.judges[edit] = judging(edit, self.crate)
+        self.asks[edit] = next(self.judges[edit])
 
     def by_function(self):
         """The asks that are left in this pass, of each function those of one after another."""
@@ -486,14 +557,18 @@ class Shared:
             if ask in waiting and not is_stuck:
                 self.later[ask.edit] = ask
             elif ask in waiting:
-                yield ask.edit, []
+                yield ask.edit.in_place, []
             else:
                 yield from self.judged(ask.edit, saids[ask])
         if saids[batch[0]].reached:
-            self.standing.update({it.edit.place_in_crate: it for it in batch})
+            self.standing.update({it.edit.place_in_crate: it for it in batch if not it.edit.number})
 
     def judged(self, edit, said):
-        """Hands what was said of an edit on to its judge, who asks for more, or has judged."""
+        """Hands what was said of an edit on to its judge, who asks for more, or has judged. A copy's edit that is not refused comes again
+        in its place."""
+        if edit.number and not said.refused_by():
+            self.begin(edit.in_place)
+            return
         try:
             ask = self.judges[edit].send(said)
             (self.later if ask.is_right else self.asks)[edit] = ask
@@ -545,7 +620,8 @@ class Trial:
 
     def run_right(self, edits):
         """Judges the right bodies of the edits' functions, beside the lemma that is false: no goal may be open."""
-        asks = [Ask(it, {}, set(), is_right=True) for it in {it.place_in_crate: it for it in edits if it.answers}.values()]
+        tried = {it.place_in_crate: it for it in with_copies(it for it in edits if it.answers)}
+        asks = [Ask(it, {}, set(), is_right=True) for it in tried.values()]
         lines = self.checked(asks) if asks else []
         for ask in asks:
             said = Said(ask.edit, lines)
