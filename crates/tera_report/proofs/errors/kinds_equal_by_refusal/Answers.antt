@@ -15,22 +15,22 @@ use Rattle.tera_report.specs.declared.errors.ErrorKind.TheVariants.{Io, Utf8Conv
 use Rattle.tera_report.proofs.EqualReports.{texts_equal, items_equal, reports_equal}
 use Rattle.tera_report.proofs.errors.kinds_equal_by_refusal.Goals as goal
 
--- kinds that differ are told apart by a number, which is cheap where their pairs are many
-abbrev number : Refusal → ℕ
-number (message t) = 0
-number (syntax_error r) = 1
-number (rendering_error r) = 2
-number (circular_extend t chain) = 3
-number (circular_include t chain) = 4
-number (missing_parent current parent) = 5
-number (template_not_found n) = 6
-number (component_not_found n) = 7
-number (invalid_argument expected actual) = 8
-number (missing_argument n) = 9
-number (out_of_range v target) = 10
-number (writing_failed kind) = 11
-number not_utf8 = 12
-number r = 13
+-- the place of a kind among all: kinds that differ are told apart by it, which is cheap where their pairs are many
+abbrev place_of : Refusal → ℕ
+place_of (message t) = 0
+place_of (syntax_error r) = 1
+place_of (rendering_error r) = 2
+place_of (circular_extend t chain) = 3
+place_of (circular_include t chain) = 4
+place_of (missing_parent current parent) = 5
+place_of (template_not_found n) = 6
+place_of (component_not_found n) = 7
+place_of (invalid_argument expected actual) = 8
+place_of (missing_argument n) = 9
+place_of (out_of_range v target) = 10
+place_of (writing_failed kind) = 11
+place_of not_utf8 = 12
+place_of r = 13
 
 pub returns : goal.returns
 returns c (Msg s) (Msg t) = Decides-like _ (ap message) (λ e. cc) (texts_equal s t)
@@ -49,4 +49,4 @@ returns c (OutOfRangeArgument s u) (OutOfRangeArgument t v) = Decides-like _ (λ
 returns c (Io s) (Io t) = ((λ h. ap writing_failed (same_true the_type (search rules) s t h)), (λ e. true_same the_type s t (cc)))
 returns c Utf8Conversion Utf8Conversion = ((λ h. refl), (λ e. refl))
 returns c OutOfMemory OutOfMemory = ((λ h. refl), (λ e. refl))
-returns c a b = ((λ h. absurd (false≢true h)), (λ e. absurd (eqb_apart (number (refusal_of a)) (number (refusal_of b)) refl (ap number e))))
+returns c a b = ((λ h. absurd (false≢true h)), (λ e. absurd (eqb_apart (place_of (refusal_of a)) (place_of (refusal_of b)) refl (ap place_of e))))
