@@ -1,6 +1,6 @@
 pub mod Depth
+pub mod Held
 pub mod Map
-pub mod Print
 pub mod Size
 pub mod Stage
 pub mod Unlike

@@ -13,7 +13,7 @@ ghost use Rattle.tera_values.specs.Key.{key_form, meaning_of_key, shown_key};
 ghost use Rattle.tera_values.specs.Print.{PrintsItems, WritesInside, WritesPrinted};
 ghost use Rattle.tera_values.specs.Print.{printed_if_exact, PrintsPairs, PrintsPair};
 ghost use Rattle.tera_values.specs.Print.{PrintsKey};
-ghost use Rattle.tera_values.specs.inner.Print.{holds_values};
+ghost use Rattle.tera_values.specs.inner.Held.{holds_values};
 
 use crate::stage::Stage;
 use crate::value::ValueInner;

@@ -1,4 +1,4 @@
--- Which values print what they hold.
+-- Which values hold others.
 use Rattle.std.specs.Prelude.{Bool, true, false}
 use Rattle.tera_meaning.specs.Form.{Form}
 use Rattle.tera_meaning.specs.Tree.{undefined, none, truth, number, text, bytes, array, object}
