@@ -1,4 +1,5 @@
 pub mod Depth
+pub mod Held
 pub mod Map
 pub mod Size
 pub mod Stage

@@ -19,10 +19,17 @@ use std::mem;
 
 /// The keys of a map, and its values in the same order.
 #[cycle(value)]
-#[derive(Drop)]
 pub(crate) struct Columns {
     keys: Keys,
     values: Vec<Value>,
+}
+
+impl Drop for Columns {
+    #[inline(always)]
+    #[cycle(value)]
+    fn drop(self) {
+        let Columns { keys: _, values: _ } = self;
+    }
 }
 
 impl Model for Columns {
@@ -97,7 +104,10 @@ impl Columns {
             (value_at key_form_order self.old (key_form key.entry) ≡ None) }
         ensures some { self.new ≡ [] → self.old ≡ [] }
     {
-        make_room(&self.keys, &mut self.values, &key)?;
+        if let Err(refused) = make_room(&self.keys, &mut self.values, &key) {
+            drop(key);
+            return Err(refused);
+        }
         let (place, is_new) = insert_key(*self.values.allocator(), &mut self.keys, key)?;
         if is_new {
             self.values.push_reserved(value);

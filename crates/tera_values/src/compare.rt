@@ -1,6 +1,6 @@
 //! The order of values: that of their meanings, whatever the kind of an integer or the flag of a
 //! text.
-ghost use Rattle.std.specs.Prelude.{◌≡◌, ◌↔◌, IsTrue, Some};
+ghost use Rattle.std.specs.Prelude.{◌≡◌, ◌↔◌, IsTrue, Some, false};
 ghost use Rattle.std.specs.Cmp.{on_total, on_equiv, on_per, on_po};
 ghost use Rattle.std.specs.Option.{option_copied};
 ghost use Rattle.std.specs.Ordering.{on, as_partial_cmp};
@@ -11,6 +11,7 @@ ghost use Rattle.tera_meaning.proofs.OrderLaws.{compare_total, compare_partial, 
 ghost use Rattle.tera_meaning.proofs.OrderLaws.{same_partial_equivalence};
 ghost use Rattle.tera_meaning.specs.Tree.{truth, number, text, bytes, array, object, items};
 ghost use Rattle.tera_meaning.specs.Tree.{members};
+ghost use Rattle.tera_values.specs.inner.Held.{holds_values};
 ghost use Rattle.tera_values.specs.inner.Unlike.{unlike, maps_order};
 ghost use Rattle.tera_scalars.specs.Whole.{whole_value};
 
@@ -74,6 +75,19 @@ pub(crate) fn order(left: &Value, right: &Value) -> Ordering
     ensures { result ≡ compare (meaning left.now) (meaning right.now) }
 {
     match &left.inner {
+        ValueInner::Array(all) => array_order(all.as_slice(), right),
+        ValueInner::Map(all) => map_order(all, right),
+        _ => plain_order(left, right),
+    }
+}
+
+// The order of a value that holds no others and a value.
+#[inline(always)]
+fn plain_order(left: &Value, right: &Value) -> Ordering
+    requires { holds_values left.now ≡ false }
+    ensures { result ≡ compare (meaning left.now) (meaning right.now) }
+{
+    match &left.inner {
         ValueInner::Undefined => ranks::UNDEFINED.cmp(&rank(right)),
         ValueInner::None => ranks::NONE.cmp(&rank(right)),
         ValueInner::Bool(b) => truth_order(*b, right),
@@ -82,9 +96,8 @@ pub(crate) fn order(left: &Value, right: &Value) -> Ordering
         ValueInner::U128(n) => number_order(Whole::Unsigned(*n), right),
         ValueInner::I128(z) => number_order(Whole::Signed(*z), right),
         ValueInner::String(_, text) => text_order(text.as_str(), right),
-        ValueInner::Array(all) => array_order(all.as_slice(), right),
         ValueInner::Bytes(held) => bytes_order(held.as_slice(), right),
-        ValueInner::Map(all) => map_order(all, right),
+        _ => unreachable!(),
     }
 }
 

@@ -5,6 +5,7 @@ ghost use Rattle.std.specs.Vec.{vec_len, vec_capacity};
 ghost use Rattle.tera_meaning.specs.Meaning.{meaning};
 ghost use Rattle.tera_meaning.specs.Read.{iterable_in, truthy_in};
 ghost use Rattle.tera_report.specs.Errors.{IsOutOfMemory};
+ghost use Rattle.tera_values.specs.View.{marked};
 
 use crate::Value;
 use crate::value::ValueInner;
@@ -68,17 +69,25 @@ impl Value {
         ensures ok { IfOk result (λ v. v ≡ self.now) }
         ensures empty { truthy_in (meaning self.now) ≡ false → IsOk result }
     {
-        let inner = match &self.inner {
-            ValueInner::String(safe, text) => {
-                ValueInner::String(*safe, text_of(alloc, text.as_str())?)
-            }
-            ValueInner::Array(all) => ValueInner::Array(copies(alloc, all.as_slice())?),
-            ValueInner::Bytes(held) => ValueInner::Bytes(bytes_of(alloc, held.as_slice())?),
-            ValueInner::Map(all) => ValueInner::Map(all.copy(alloc)?),
+        match &self.inner {
+            ValueInner::String(safe, text) => text_copy(alloc, *safe, text.as_str()),
+            ValueInner::Array(all) => copies(alloc, all.as_slice()).map(Value::of_array),
+            ValueInner::Bytes(held) => bytes_of(alloc, held.as_slice()).map(Value::bytes),
+            ValueInner::Map(all) => all.copy(alloc).map(Value::of_map),
             _ => unreachable!(),
-        };
-        Ok(Value { inner })
+        }
     }
+}
+
+// A copy of a text with its flag.
+#[inline(always)]
+fn text_copy(alloc: Global, safe: bool, text: &str) -> Result<Value, AllocError>
+    ensures ok { IfOk result (λ v. v ≡ marked text.now safe) }
+    ensures succeeds { text.now ≡ [] → IsOk result }
+{
+    Ok(Value {
+        inner: ValueInner::String(safe, text_of(alloc, text)?),
+    })
 }
 
 /// A text of its own. The empty one takes no memory.

@@ -1,5 +1,5 @@
 //! What the keys of a map print: along its pairs, and as the names of its fields.
-ghost use Rattle.std.specs.Prelude.{◌≡◌, [], map, IfOk, IfErr, IsOk, string_bytes};
+ghost use Rattle.std.specs.Prelude.{◌≡◌, [], ◌∷◌, ◌++◌, map, IfOk, IfErr, IsOk, OnOk, string_bytes};
 ghost use Rattle.tera_meaning.specs.Fields.{fields, shown_in, shown_keys, rising_texts};
 ghost use Rattle.tera_meaning.specs.Fields.{AreRisingOf};
 ghost use Rattle.tera_meaning.specs.Printed.{shown_key};
@@ -76,9 +76,20 @@ fn printed_keys(alloc: Global, all: &Map) -> TeraResult<Vec<String>>
 {
     let mut texts = Vec::with_capacity(alloc, all.len())?;
     for (key, _) in all.iter() {
-        texts.push(printed(alloc, key)?)?;
+        push_printed(alloc, &mut texts, key)?;
     }
     Ok(texts)
+}
+
+// Puts what a key prints behind other texts.
+#[inline(always)]
+fn push_printed(alloc: Global, texts: &mut Vec<String>, key: &Key<'static>) -> TeraResult<()>
+    ensures ok { OnOk result (map string_bytes texts.new.items
+        ≡ map string_bytes texts.old.items ++ shown_key (meaning_of_key key.now) ∷ []) }
+    ensures err { IfErr result IsOutOfMemory }
+{
+    texts.push(printed(alloc, key)?)?;
+    Ok(())
 }
 
 // What a key prints.

@@ -1,7 +1,7 @@
 //! Conversions of values to the integer types of Rust. Each gives the number that a value is,
 //! whatever its kind, and takes no memory.
 ghost use Rattle.std.specs.Prelude.{◌≡◌, pos, None, Ok, IfOk, IfErr, IsOk};
-ghost use Rattle.std.specs.Prelude.{MatchOption, MatchResult};
+ghost use Rattle.std.specs.Prelude.{MatchOption, MatchResult, IsSomeAnd};
 ghost use Rattle.std.specs.Option.{option_map};
 ghost use Rattle.std.specs.Result.{result_map_both};
 ghost use Rattle.tera_meaning.specs.Conversion.{IntegerType, type_name, number_of, converted};
@@ -78,19 +78,26 @@ fn held_in(value: &Value, to: IntType) -> Option<Value>
         (number_of (integer_type to) value.now) }
 {
     match to {
-        IntType::U8 => Some(Value::from(u8_in(value)?)),
-        IntType::U16 => Some(Value::from(u16_in(value)?)),
-        IntType::U32 => Some(Value::from(u32_in(value)?)),
-        IntType::U64 => Some(Value::from(value.as_u64()?)),
-        IntType::U128 => Some(Value::from(value.as_u128()?)),
-        IntType::Usize => Some(Value::from(usize_in(value)?)),
-        IntType::I8 => Some(Value::from(i8_in(value)?)),
-        IntType::I16 => Some(Value::from(i16_in(value)?)),
-        IntType::I32 => Some(Value::from(i32_in(value)?)),
-        IntType::I64 => Some(Value::from(value.as_i64()?)),
-        IntType::I128 => Some(Value::from(value.as_i128()?)),
-        IntType::Isize => Some(Value::from(isize_in(value)?)),
+        IntType::U8 => held(u8_in(value)),
+        IntType::U16 => held(u16_in(value)),
+        IntType::U32 => held(u32_in(value)),
+        IntType::U64 => held(value.as_u64()),
+        IntType::U128 => held(value.as_u128()),
+        IntType::Usize => held(usize_in(value)),
+        IntType::I8 => held(i8_in(value)),
+        IntType::I16 => held(i16_in(value)),
+        IntType::I32 => held(i32_in(value)),
+        IntType::I64 => held(value.as_i64()),
+        IntType::I128 => held(value.as_i128()),
+        IntType::Isize => held(isize_in(value)),
     }
+}
+
+// A number as the value that holds it.
+fn held<T: Into<Value>>(number: Option<T>) -> Option<Value>
+    ensures { MatchOption number (result ≡ None) (λ n. IsSomeAnd result (T.converts n)) }
+{
+    number.map(T::into)
 }
 
 // The error of a value of which the type has no number.

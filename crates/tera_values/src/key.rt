@@ -332,16 +332,25 @@ fn feed_integer<H: Hasher>(z: i128, state: &mut H)
 impl fmt::Debug for Key<'_> {
     fn fmt<W: fmt::Write>(&self, f: &mut fmt::Formatter<W>) -> fmt::Result {
         match self {
-            Key::Bool(b) => f.debug_tuple("Bool").field(b).finish(),
-            Key::U64(n) => f.debug_tuple("U64").field(n).finish(),
-            Key::I64(z) => f.debug_tuple("I64").field(z).finish(),
-            Key::U128(n) => f.debug_tuple("U128").field(n).finish(),
-            Key::I128(z) => f.debug_tuple("I128").field(z).finish(),
-            Key::String(text) => f.debug_tuple("String").field(text).finish(),
-            Key::Str(text) => f.debug_tuple("Str").field(text).finish(),
-            Key::Inline(text) => f.debug_tuple("String").field(text).finish(),
+            Key::Bool(b) => show_variant("Bool", b, f),
+            Key::U64(n) => show_variant("U64", n, f),
+            Key::I64(z) => show_variant("I64", z, f),
+            Key::U128(n) => show_variant("U128", n, f),
+            Key::I128(z) => show_variant("I128", z, f),
+            Key::String(text) => show_variant("String", text, f),
+            Key::Str(text) => show_variant("Str", text, f),
+            Key::Inline(text) => show_variant("String", text, f),
         }
     }
+}
+
+// Shows a variant that holds one value.
+fn show_variant<T: fmt::Debug, W: fmt::Write>(
+    name: &str,
+    held: &T,
+    f: &mut fmt::Formatter<W>,
+) -> fmt::Result {
+    f.debug_tuple(name).field(held).finish()
 }
 
 /// What `format` writes. A width or a fill of the format changes nothing. Mirrors `Display` of

@@ -6,6 +6,7 @@ ghost use Rattle.std.specs.List.{IsDistinct, list_any, position_or_len};
 ghost use Rattle.std.specs.Ordering.{eq_by_cmp};
 ghost use Rattle.indexmap.specs.IndexSet.{insert_key, spare};
 ghost use Rattle.tera_meaning.specs.KeyMeaning.{key_order, text_key};
+ghost use Rattle.tera_values.specs.Key.{key_form};
 ghost use Rattle.tera_values.specs.inner.Map.{keys_tie, is_text_key, keys_held, keys_left};
 ghost use Rattle.tera_values.specs.inner.Map.{AreKeysLike};
 
@@ -21,10 +22,31 @@ pub(crate) const FEW: usize = 12;
 pub(crate) const FIRST: usize = 2;
 
 /// The keys of a map, in their order.
-#[derive(Drop)]
 pub(crate) enum Keys {
     Few(Vec<Key<'static>>),
     Many(IndexSet<Key<'static>>),
+}
+
+impl Drop for Keys {
+    #[inline(always)]
+    fn drop(self) {
+        match self {
+            Keys::Few(_) => {}
+            Keys::Many(_) => {}
+        }
+    }
+}
+
+impl Keys {
+    /// The keys, to be given away in their order.
+    pub(crate) fn into_own(self) -> OwnKeys
+        ensures { keys_left result ≡ keys_held self }
+    {
+        match self {
+            Keys::Few(few) => OwnKeys::Few(few.into_iter()),
+            Keys::Many(many) => OwnKeys::Many(many.into_iter()),
+        }
+    }
 }
 
 /// The place of the key that is equal to this one.
@@ -142,15 +164,14 @@ pub(crate) fn insert_key(
         Keys::Few(few) => {
             let (place, is_new) = place_for(few.as_slice(), &key);
             if !is_new {
+                drop(key);
                 return Ok((place, false));
             }
             if place < FEW {
                 push_key(few, key)?;
                 return Ok((place, true));
             }
-            let mut many = set_of(alloc, few)?;
-            many.insert(key).unwrap();
-            *keys = Keys::Many(many);
+            *keys = Keys::Many(set_with(alloc, few, key)?);
             Ok((place, true))
         }
         Keys::Many(many) => insert_in(many, key),
@@ -206,6 +227,23 @@ pub(crate) fn first_key(alloc: Global, key: Key<'static>) -> Result<Keys, AllocE
     Ok(Keys::Few(few))
 }
 
+// The set of the keys of a list and of a new one behind them. For want of memory the list stays as
+// it is.
+fn set_with(
+    alloc: Global,
+    few: &mut Vec<Key<'static>>,
+    key: Key<'static>,
+) -> Result<IndexSet<Key<'static>>, AllocError>
+    requires distinct { IsDistinct keys_tie few.old.items }
+    requires new { list_any (keys_tie key) few.old.items ≡ false }
+    ensures keys { IfOk result (λ many. many.keys ≡ few.old.items ++ key.entry ∷ []) }
+    ensures err { OnErr result (few.new.items ≡ few.old.items) }
+{
+    let mut many = set_of(alloc, few)?;
+    many.insert(key).unwrap();
+    Ok(many)
+}
+
 // The set of the keys of a list, with room for one more, into which they are moved. For want of
 // memory the list stays as it is.
 fn set_of(alloc: Global, few: &mut Vec<Key<'static>>) -> Result<IndexSet<Key<'static>>, AllocError>
@@ -214,11 +252,22 @@ fn set_of(alloc: Global, few: &mut Vec<Key<'static>>) -> Result<IndexSet<Key<'st
     ensures room { IfOk result (λ many. 1 ≤ spare many) }
     ensures err { OnErr result (few.new.items ≡ few.old.items) }
 {
-    let mut many = IndexSet::with_capacity(alloc, few.len() + FEW)?;
-    for key in mem::replace(few, Vec::new(alloc)) {
+    let mut many: IndexSet<Key<'static>> = IndexSet::with_capacity(alloc, few.len() + FEW)?;
+    insert_all(&mut many, mem::replace(few, Vec::new(alloc)));
+    Ok(many)
+}
+
+// Inserts distinct keys into an empty set with room for them and one more, in their order.
+fn insert_all(many: &mut IndexSet<Key<'static>>, keys: Vec<Key<'static>>)
+    requires distinct { IsDistinct keys_tie keys.items }
+    requires empty { many.old.keys ≡ [] }
+    requires room { length keys.items + 1 ≤ spare many.old }
+    ensures keys { many.new.keys ≡ keys.entry.items }
+    ensures room { 1 ≤ spare many.new }
+{
+    for key in keys {
         many.insert(key).unwrap();
     }
-    Ok(many)
 }
 
 /// Copies of the keys, in their order.
@@ -249,11 +298,25 @@ fn copied_set(alloc: Global, keys: &[Key<'static>]) -> Result<IndexSet<Key<'stat
     requires { IsDistinct keys_tie keys.now }
     ensures { IfOk result (λ made. AreKeysLike keys.now made.keys) }
 {
-    let mut made = IndexSet::with_capacity(alloc, keys.len())?;
-    for key in keys {
-        insert_in(&mut made, key.copy(alloc)?)?;
-    }
+    let mut made: IndexSet<Key<'static>> = IndexSet::with_capacity(alloc, keys.len())?;
+    insert_copies(alloc, &mut made, keys)?;
     Ok(made)
+}
+
+// Inserts copies of distinct keys into an empty set, in their order.
+fn insert_copies(
+    alloc: Global,
+    made: &mut IndexSet<Key<'static>>,
+    keys: &[Key<'static>],
+) -> Result<(), AllocError>
+    requires distinct { IsDistinct keys_tie keys.now }
+    requires empty { made.old.keys ≡ [] }
+    ensures { OnOk result (AreKeysLike keys.now made.new.keys) }
+{
+    for key in keys {
+        insert_in(made, key.copy(alloc)?)?;
+    }
+    Ok(())
 }
 
 /// The keys that are left of a walk that gives them away.
@@ -261,16 +324,6 @@ fn copied_set(alloc: Global, keys: &[Key<'static>]) -> Result<IndexSet<Key<'stat
 pub(crate) enum OwnKeys {
     Few(vec::IntoIter<Key<'static>>),
     Many(set::IntoIter<Key<'static>>),
-}
-
-/// The keys, to be given away in their order.
-pub(crate) fn own_keys(keys: Keys) -> OwnKeys
-    ensures { keys_left result ≡ keys_held keys }
-{
-    match keys {
-        Keys::Few(few) => OwnKeys::Few(few.into_iter()),
-        Keys::Many(many) => OwnKeys::Many(many.into_iter()),
-    }
 }
 
 /// The next of the keys that are left.

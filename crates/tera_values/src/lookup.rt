@@ -5,6 +5,7 @@ ghost use Rattle.tera_meaning.specs.Lookup.{attr, as_key, key_in, paired, item, 
 ghost use Rattle.tera_report.specs.Refusal.{in_array};
 ghost use Rattle.tera_scalars.specs.Whole.{whole_value};
 ghost use Rattle.tera_meaning.specs.Meaning.{meaning};
+ghost use Rattle.tera_meaning.specs.Pairs.{key_form_order, value_at};
 ghost use Rattle.tera_meaning.specs.Read.{text_in, iterable_in, truthy_in};
 ghost use Rattle.tera_meaning.specs.Tree.{undefined, object, members};
 ghost use Rattle.tera_report.specs.Errors.{Refuses, IsOutOfMemory};
@@ -26,7 +27,7 @@ impl Value {
         ensures { option_copied result ≡ attr self.now name.now }
     {
         match &self.inner {
-            ValueInner::Map(all) => all.get(&Key::Str(name)),
+            ValueInner::Map(all) => value_at(all, Key::Str(name)),
             _ => None,
         }
     }
@@ -102,14 +103,22 @@ pub(crate) fn find_value<'a>(all: &'a Map, key: &'a Value) -> Option<&'a Value>
     ensures { option_copied result ≡ paired all.now (key_in key.now) }
 {
     match &key.inner {
-        ValueInner::Bool(b) => all.get(&Key::Bool(*b)),
-        ValueInner::U64(n) => all.get(&Key::U64(*n)),
-        ValueInner::I64(z) => all.get(&Key::I64(*z)),
-        ValueInner::U128(n) => all.get(&Key::U128(*n)),
-        ValueInner::I128(z) => all.get(&Key::I128(*z)),
-        ValueInner::String(_, text) => all.get(&Key::Str(text.as_str())),
+        ValueInner::Bool(b) => value_at(all, Key::Bool(*b)),
+        ValueInner::U64(n) => value_at(all, Key::U64(*n)),
+        ValueInner::I64(z) => value_at(all, Key::I64(*z)),
+        ValueInner::U128(n) => value_at(all, Key::U128(*n)),
+        ValueInner::I128(z) => value_at(all, Key::I128(*z)),
+        ValueInner::String(_, text) => value_at(all, Key::Str(text.as_str())),
         _ => None,
     }
+}
+
+// What a map has at a key, lent.
+#[inline(always)]
+fn value_at<'a>(all: &'a Map, key: Key<'_>) -> Option<&'a Value>
+    ensures { option_copied result ≡ value_at key_form_order all.now (key_form key.entry) }
+{
+    all.get(&key)
 }
 
 // What a map has at an item.

@@ -8,7 +8,7 @@ ghost use Rattle.tera_report.specs.Errors.{IsOutOfMemory};
 ghost use Rattle.tera_values.specs.Key.{key_form};
 
 use crate::columns::Columns;
-use crate::keys::{Keys, OwnKeys, next_key, own_keys};
+use crate::keys::{Keys, OwnKeys, next_key};
 use crate::{Key, Value};
 use std::alloc::{AllocError, Global};
 use std::marker::Model;
@@ -19,10 +19,20 @@ use tera_report::TeraResult;
 ///
 /// They stand behind a pointer, which the first pair makes, so that values stay small.
 #[cycle(value)]
-#[derive(Drop)]
 pub struct Map {
     alloc: Global,
     columns: Option<Box<Columns>>,
+}
+
+impl Drop for Map {
+    #[inline(always)]
+    #[cycle(value)]
+    fn drop(self) {
+        let Map {
+            alloc: _,
+            columns: _,
+        } = self;
+    }
 }
 
 impl Model for Map {
@@ -118,8 +128,22 @@ impl Map {
         ensures absent { OnErr result
             (value_at key_form_order self.old (key_form key.entry) ≡ None) }
     {
+        Ok(self.put(key, value)?)
+    }
+
+    // The same, with an error that says nothing.
+    #[inline(always)]
+    fn put(&mut self, key: Key<'static>, value: Value) -> Result<Option<Value>, AllocError>
+        ensures ok { OnOk result
+            (self.new ≡ put key_form_order self.old (key_form key.entry) value) }
+        ensures given { IfOk result
+            (λ before. before ≡ value_at key_form_order self.old (key_form key.entry)) }
+        ensures unchanged { OnErr result (self.new ≡ self.old) }
+        ensures absent { OnErr result
+            (value_at key_form_order self.old (key_form key.entry) ≡ None) }
+    {
         match &mut self.columns {
-            Some(columns) => Ok(columns.insert(key, value)?),
+            Some(columns) => columns.insert(key, value),
             None => {
                 self.columns = Some(Columns::of_pair(self.alloc, key, value)?);
                 Ok(None)
@@ -257,7 +281,7 @@ impl IntoIterator for Map {
     fn into_iter(self) -> OwnPairs {
         let (keys, values) = self.into_lists();
         OwnPairs {
-            keys: own_keys(keys),
+            keys: keys.into_own(),
             values: values.into_iter(),
         }
     }
@@ -299,8 +323,8 @@ impl Iterator for OwnPairs {
     ghost remaining = { item_count (λ s. s) };
 
     fn next(&mut self) -> Option<(Key<'static>, Value)> {
-        let key = next_key(&mut self.keys)?;
         let value = self.values.next()?;
+        let key = next_key(&mut self.keys)?;
         Some((key, value))
     }
 }

@@ -1,4 +1,4 @@
-use Rattle.std.proofs.Common.{◌≡◌, arith, ap, ◌∙◌, sym, subst, List, IfOk}
+use Rattle.std.proofs.Common.{◌≡◌, arith, rules, ap, ◌∙◌, sym, subst, List, IfOk}
 use Rattle.tera_meaning.specs.Form.{Form}
 use Rattle.tera_meaning.specs.KeyMeaning.{KeyForm}
 use Rattle.tera_meaning.specs.Tree.{array, items, items_depth, members, members_depth}
@@ -33,16 +33,14 @@ columns::Columns::copy-returns t c =
     ∙ c.self.view_is in
     subst (λ (all : List (KeyForm × Form)). IfOk c.boxed.result (λ b. b.value ≡ all)) pairs c.boxed.ensures
 
-pub value::Value::owner_copy-returns-in_err-copies-in-Array-clause-empty :
-    goal.value::Value::owner_copy-returns-in_err-copies-in-Array-clause-empty
-value::Value::owner_copy-returns-in_err-copies-in-Array-clause-empty t c false_now =
+pub value::Value::owner_copy-returns-in-Array-clause-empty : goal.value::Value::owner_copy-returns-in-Array-clause-empty
+value::Value::owner_copy-returns-in-Array-clause-empty t c false_now =
     let held = ap (λ (xs : List Form). array (items xs)) c.as_slice.ensures.value ∙ sym (ap form_of c.in-Array.is) ∙ c.self.view_is in
-    let made = c.in_err-copies-in-Array.ensures.succeeds (no_items_held c.args.self.now c.as_slice.result.now held false_now) in
-    cc
+    let made = c.copies.ensures.succeeds (no_items_held c.args.self.now c.as_slice.result.now held false_now) in
+    search rules
 
-pub value::Value::owner_copy-returns-in_err-copy-in-Map-clause-empty :
-    goal.value::Value::owner_copy-returns-in_err-copy-in-Map-clause-empty
-value::Value::owner_copy-returns-in_err-copy-in-Map-clause-empty t c false_now =
+pub value::Value::owner_copy-returns-in-Map-clause-empty : goal.value::Value::owner_copy-returns-in-Map-clause-empty
+value::Value::owner_copy-returns-in-Map-clause-empty t c false_now =
     let held = sym (ap form_of c.in-Map.is) ∙ c.self.view_is in
-    let made = c.in_err-copy-in-Map.ensures.succeeds (no_pairs_held c.args.self.now c.in-Map.all held false_now) in
-    cc
+    let made = c.copy.ensures.succeeds (no_pairs_held c.args.self.now c.in-Map.all held false_now) in
+    search rules

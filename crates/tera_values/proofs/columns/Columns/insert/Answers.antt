@@ -12,10 +12,10 @@ returns-in_err-place-clause-absent c =
     ∙ ap (λ ps. value_at key_form_order ps (key_form c.args.key)) c.self.view_is) in
     search rules
 
-pub returns-in_err-make_room-clause-absent : goal.returns-in_err-make_room-clause-absent
-returns-in_err-make_room-clause-absent c =
+pub returns-in-Err-clause-absent : goal.returns-in-Err-clause-absent
+returns-in-Err-clause-absent c =
     let absent : value_at key_form_order c.args.self.now (key_form c.args.key) ≡ None =
-    sym (lost c.args.key (keys_held c.self.inside.keys) c.self.inside.values.items c.in_err-make_room.ensures.absent
+    sym (lost c.args.key (keys_held c.self.inside.keys) c.self.inside.values.items c.in-Err.ensures.absent
     ∙ ap (λ ps. value_at key_form_order ps (key_form c.args.key)) c.self.view_is) in
     search rules
 
@@ -25,7 +25,7 @@ returns-then-is_new-clause-ok c =
     let vs = c.self.inside.values.items in
     let none = was_new c.in_ok-place.is_new _ c.in_ok-place.ensures.new c.if-is_new.true in
     let keys = c.in_ok-place.ensures.keys ∙ new_key ks c.args.key none in
-    let values = c.push_reserved.ensures.items ∙ ap (λ l. l ++ c.args.value ∷ []) c.in_ok-make_room.ensures.items in
+    let values = c.push_reserved.ensures.items ∙ ap (λ l. l ++ c.args.value ∷ []) c.make_room.ensures.items in
     (λ j. pairs_held (keys j) (values j))
     ∙ put_new c.args.key ks vs c.args.value c.self.invariant.even none
     ∙ ap (λ ps. put key_form_order ps (key_form c.args.key) c.args.value) c.self.view_is
@@ -42,7 +42,7 @@ index_mut-requires c =
     let within = placed c.args.key (keys_held c.self.inside.keys) some in
     let place = c.in_ok-place.ensures.place in
     let even = c.self.invariant.even in
-    let same = ap length c.in_ok-make_room.ensures.items in
+    let same = ap length c.make_room.ensures.items in
     omega (arith, within, place, even, same)
 
 pub returns-clause-ok : goal.returns-clause-ok
@@ -53,7 +53,7 @@ returns-clause-ok c =
     let some = was_held c.in_ok-place.is_new _ c.in_ok-place.ensures.new c.if-is_new.false in
     let keys = c.in_ok-place.ensures.keys ∙ held_key ks c.args.key some in
     let at : Some i ≡ position (keys_tie c.args.key) ks = ap Some c.in_ok-place.ensures.place ∙ placed_at c.args.key ks some in
-    (λ j. pairs_held (keys j) (set (c.in_ok-make_room.ensures.items j) i (c.replace.ensures.after j)))
+    (λ j. pairs_held (keys j) (set (c.make_room.ensures.items j) i (c.replace.ensures.after j)))
     ∙ put_found c.args.key ks vs i c.args.value c.self.invariant at
     ∙ ap (λ ps. put key_form_order ps (key_form c.args.key) c.args.value) c.self.view_is
 
@@ -65,7 +65,7 @@ returns-clause-given c =
     let at : Some i ≡ position (keys_tie c.args.key) ks = ap Some c.in_ok-place.ensures.place ∙ placed_at c.args.key ks some in
     ap Some c.replace.ensures.value
     ∙ found c.args.key ks c.self.inside.values.items i c.index_mut.result.now c.self.invariant at
-    (c.index_mut.ensures.value ∙ ap (λ l. get_or l i c.index_mut.result.now) c.in_ok-make_room.ensures.items)
+    (c.index_mut.ensures.value ∙ ap (λ l. get_or l i c.index_mut.result.now) c.make_room.ensures.items)
     ∙ ap (λ ps. value_at key_form_order ps (key_form c.args.key)) c.self.view_is
 
 pub returns-then-is_new-clause-some : goal.returns-then-is_new-clause-some

@@ -1,7 +1,7 @@
 use Rattle.std.proofs.Common.{◌≡◌, ◌+◌, ◌≤◌, ◌++◌, length}
 use Rattle.std.specs.Vec.Iter.{into_iter_items}
 use Rattle.indexmap.specs.IndexSet.{spare}
-use Rattle.tera_values.proofs.keys.set_of.Given as goal
+use Rattle.tera_values.proofs.keys.insert_all.Given as goal
 
 -- those so far are in the set, and there is room for the others and one more
 abbrev pub invariant-loop-key : goal.invariant-loop-key
@@ -9,6 +9,6 @@ invariant-loop-key l =
     record {
       ready : (goal.iterator-loop-key).can_next l.key-iterator;
       finite : (goal.iterator-loop-key).is_finite l.key-iterator;
-      keys : l.many.keys ++ into_iter_items l.key-iterator ≡ l.fn.few.items;
+      keys : l.many.keys ++ into_iter_items l.key-iterator ≡ l.fn.keys.items;
       room : length (into_iter_items l.key-iterator) + 1 ≤ spare l.many;
     }

@@ -4,7 +4,7 @@ use Rattle.std.specs.Vec.Iter.{into_iter_items}
 use Rattle.tera_values.specs.inner.Map.{keys_tie}
 use Rattle.tera_values.proofs.ColumnLemmas.{new_key}
 use Rattle.tera_values.proofs.KeyLemmas.{none_in_front}
-use Rattle.tera_values.proofs.keys.set_of.Goals as goal
+use Rattle.tera_values.proofs.keys.insert_all.Goals as goal
 
 pub loop-key-preserved : goal.loop-key-preserved
 loop-key-preserved c =
@@ -12,8 +12,8 @@ loop-key-preserved c =
     let rest = into_iter_items c.next.new.self in
     let k = c.in-Some.key in
     let step = c.in-Some.ensures.steps.0 in
-    let all : made ++ k ∷ rest ≡ c.args.few.now.items = (λ j. made ++ sym step j) ∙ c.loop-key.invariant.keys in
-    let none = none_in_front made k rest (subst (IsDistinct keys_tie) (sym all) c.requires) in
+    let all : made ++ k ∷ rest ≡ c.args.keys.items = (λ j. made ++ sym step j) ∙ c.loop-key.invariant.keys in
+    let none = none_in_front made k rest (subst (IsDistinct keys_tie) (sym all) c.requires.distinct) in
     let put = rw c.unwrap.ensures at c.insert.ensures.keys in
     let pushed : c.insert.new.self.keys ≡ made ++ k ∷ [] = put ∙ new_key made k none in
     record {

@@ -2,7 +2,7 @@ use Rattle.std.proofs.Common.{◌≡◌, map, take}
 use Rattle.std.specs.List.{IsDistinct}
 use Rattle.tera_values.specs.Key.{key_form}
 use Rattle.tera_values.specs.inner.Map.{keys_tie}
-use Rattle.tera_values.proofs.keys.copied_set.Given as goal
+use Rattle.tera_values.proofs.keys.insert_copies.Given as goal
 
 -- those so far are copied
 abbrev pub invariant-loop-key : goal.invariant-loop-key
