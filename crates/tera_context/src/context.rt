@@ -1,6 +1,6 @@
 //! The values that a template's names stand for.
 ghost use Rattle.std.specs.Prelude.{◌≡◌, ◌⊎◌, ◌↔◌, ◌+◌, ◌<◌, ◌≤◌, IfOk, IfErr, IsOk, IsTrue};
-ghost use Rattle.std.specs.Prelude.{MatchOption, None, Some, OnOk, OnErr};
+ghost use Rattle.std.specs.Prelude.{length, MatchOption, None, Some, OnOk, OnErr};
 ghost use Rattle.std.specs.FinMap.{empty, get, contains_key, insert, remove};
 ghost use Rattle.std.specs.String.{string_bytes};
 ghost use Rattle.tera_meaning.specs.Alike.{MeanTheSame};
@@ -22,10 +22,19 @@ use tera_report::TeraResult;
 use tera_values::{Value, is_well_made};
 
 /// Finitely many names, and a value for each. Mirrors `tera::Context`.
-#[derive(Drop)]
 pub struct Context {
     alloc: Global,
     values: IndexMap<String, Value>,
+}
+
+/// All that it holds ends with it. Where a context ends, this is called, and not written out there.
+impl Drop for Context {
+    fn drop(self) {
+        let Context {
+            alloc: _,
+            values: _,
+        } = self;
+    }
 }
 
 impl Model for Context {
@@ -162,13 +171,11 @@ impl Context {
             × (self.new ≡ extended self.old part)) }
         ensures nothing { source ≡ empty → IsOk result }
     {
-        // Once there is room for all of them, no name wants memory.
-        let taken = source.values;
-        self.values.reserve(taken.len())?;
-        for (name, value) in taken {
-            put(&mut self.values, name, value)?;
-        }
-        Ok(())
+        let Context {
+            alloc: _,
+            values: taken,
+        } = source;
+        Ok(take_over(&mut self.values, taken)?)
     }
 
     /// A copy, with the kinds of integers and the safe flags. Mirrors `Clone` of `tera::Context`.
@@ -180,10 +187,7 @@ impl Context {
         ensures nothing { self.now ≡ empty → IsOk result }
     {
         let mut values = IndexMap::with_capacity(self.alloc, self.values.len())?;
-        for (name, value) in &self.values {
-            let value = value.copy(self.alloc)?;
-            put(&mut values, name.clone()?, value)?;
-        }
+        fill(&mut values, &self.values, self.alloc)?;
         Ok(Context {
             alloc: self.alloc,
             values,
@@ -277,6 +281,67 @@ fn put(values: &mut IndexMap<String, Value>, name: String, value: Value) -> Resu
 {
     values.insert(name, value)?;
     Ok(())
+}
+
+// Takes over each name with its value, in the place of what was there.
+fn take_over(
+    values: &mut IndexMap<String, Value>,
+    taken: IndexMap<String, Value>,
+) -> Result<(), AllocError>
+    ensures ok { OnOk result (state_of values.new.entries
+        ≡ extended (state_of values.old.entries) (state_of taken.entries)) }
+    ensures unchanged { OnErr result
+        (state_of values.new.entries ≡ state_of values.old.entries) }
+    ensures nothing { state_of taken.entries ≡ empty → IsOk result }
+{
+    // Once there is room for all of them, no name wants memory.
+    values.reserve(taken.len())?;
+    put_all(values, taken)
+}
+
+// Puts each value under its name, in the place of what was there.
+fn put_all(
+    values: &mut IndexMap<String, Value>,
+    taken: IndexMap<String, Value>,
+) -> Result<(), AllocError>
+    ensures ok { OnOk result (state_of values.new.entries
+        ≡ extended (state_of values.old.entries) (state_of taken.entries)) }
+    ensures succeeds { length taken.entries ≤ spare values.old → IsOk result }
+{
+    for (name, value) in taken {
+        put(values, name, value)?;
+    }
+    Ok(())
+}
+
+// Fills a map of no names with copies.
+fn fill(
+    values: &mut IndexMap<String, Value>,
+    from: &IndexMap<String, Value>,
+    alloc: Global,
+) -> Result<(), AllocError>
+    requires { state_of values.old.entries ≡ empty }
+    ensures ok { OnOk result (state_of values.new.entries ≡ state_of from.now.entries) }
+    ensures nothing { state_of from.now.entries ≡ empty → IsOk result }
+{
+    for (name, value) in from {
+        put_copy(values, name, value, alloc)?;
+    }
+    Ok(())
+}
+
+// Puts a copy of the value under a copy of the name.
+fn put_copy(
+    values: &mut IndexMap<String, Value>,
+    name: &String,
+    value: &Value,
+    alloc: Global,
+) -> Result<(), AllocError>
+    ensures { OnOk result (state_of values.new.entries
+        ≡ insert (state_of values.old.entries) (string_bytes name.now) value.now) }
+{
+    let value = value.copy(alloc)?;
+    put(values, name.clone()?, value)
 }
 
 // Marks the value safe where it is.

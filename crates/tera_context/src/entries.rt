@@ -57,20 +57,22 @@ fn both_forms(alloc: Global) -> TeraResult<crate::Context>
     Ok(context! { alloc; foo, con => con,, })
 }
 
-// What a value refuses is passed on, a bare name is lent, and the later of equal names stands.
-fn of_any_value<T: ToValue>(
-    alloc: Global,
-    first: T,
-    text: String,
-) -> TeraResult<(crate::Context, String)>
-    ensures ok { IfOk result (λ made. (value : Form) × T.gives first value
-        × (made.0 ≡ insert
-        (insert (insert empty (codes "name") value) (codes "name") (held i64 69))
-        (codes "text") (normal (string_bytes text)))
-        × (made.1 ≡ text)) }
+// What a value refuses is passed on, and the later of equal names stands.
+fn of_any_value<T: ToValue>(alloc: Global, first: T) -> TeraResult<crate::Context>
+    ensures ok { IfOk result (λ context. (value : Form) × T.gives first value
+        × (context ≡ insert (insert empty (codes "name") value) (codes "name") (held i64 69))) }
     ensures err { IfErr result (λ e. T.refuses first e
         ⊎ (IsOutOfMemory e × (value : Form) × T.gives first value)) }
 {
-    let made = context! { alloc; name => first, name => 69i64, text };
+    Ok(context! { alloc; name => first, name => 69i64 })
+}
+
+// A bare name is lent, whatever it holds.
+fn of_bare_name(alloc: Global, text: String) -> TeraResult<(crate::Context, String)>
+    ensures ok { IfOk result (λ made.
+        (made.0 ≡ insert empty (codes "text") (normal (string_bytes text))) × (made.1 ≡ text)) }
+    ensures err { IfErr result IsOutOfMemory }
+{
+    let made = context! { alloc; text };
     Ok((made, text))
 }

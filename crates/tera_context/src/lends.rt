@@ -1,9 +1,10 @@
 //! What a context lends in the place of an answer.
 ghost use Rattle.std.specs.Prelude.{◌≡◌, IfSome, MatchOption, None};
-ghost use Rattle.std.specs.Option.{option_copied, option_map};
+ghost use Rattle.std.specs.Option.{option_and_then, option_copied, option_map};
 ghost use Rattle.tera_meaning.specs.Lookup;
 ghost use Rattle.tera_meaning.specs.Outcome.{Outcome};
 ghost use Rattle.tera_meaning.specs.Path;
+ghost use Rattle.tera_meaning.specs.Read.{text_in};
 ghost use Rattle.tera_meaning.specs.State.{State, form_at};
 ghost use Rattle.tera_meaning.specs.Step.{IsStep};
 ghost use Rattle.tera_context.specs.Call.{command_of};
@@ -61,10 +62,7 @@ pub fn look_up<'a>(context: &'a Context, asked: LookUp<'a>) -> Option<Lent<'a>>
         LookUp::Get { name } => Some(Lent::Found(context.get(name))),
         LookUp::Path { of, path } => Some(Lent::Found(path_from(context, of, path))),
         LookUp::Attr { of, attr } => Some(Lent::Found(attr_of(context, of, attr))),
-        LookUp::Item { of, item } => {
-            let part = attr_of(context, of, context.get(item)?.as_str()?)?;
-            Some(Lent::Found(Some(part)))
-        }
+        LookUp::Item { of, item } => Some(Lent::Found(Some(item_of(context, of, item)?))),
         LookUp::Print { of } => Some(Lent::Print(context.get(of)?)),
     }
 }
@@ -99,4 +97,12 @@ fn attr_of<'a>(context: &'a Context, of: &str, attr: &'a str) -> Option<&'a Valu
     ensures { option_copied result ≡ Lookup.attr (form_at context.now of.now) attr.now }
 {
     context.get(of)?.get_attr(attr)
+}
+
+// What the value of a name has at the text that the value of another is.
+fn item_of<'a>(context: &'a Context, of: &str, item: &str) -> Option<&'a Value>
+    ensures { option_copied result ≡ option_and_then
+        (Lookup.attr (form_at context.now of.now)) (text_in (form_at context.now item.now)) }
+{
+    attr_of(context, of, context.get(item)?.as_str()?)
 }

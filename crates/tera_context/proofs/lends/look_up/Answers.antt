@@ -6,10 +6,10 @@ use Rattle.tera_meaning.specs.State.{form_at}
 use Rattle.tera_context.proofs.LentLemmas.{item_lent}
 use Rattle.tera_context.proofs.lends.look_up.Goals as goal
 
-pub returns-in_ok-part-in-Item-clause-step : goal.returns-in_ok-part-in-Item-clause-step
-returns-in_ok-part-in-Item-clause-step c outcome is =
+pub returns-in_ok-item_of-in-Item-clause-step : goal.returns-in_ok-item_of-in-Item-clause-step
+returns-in_ok-item_of-in-Item-clause-step c outcome is =
     let state = c.args.context.now in
     let of = c.in-Item.of.now in
     let at = c.in-Item.item.now in
-    let finds : option_and_then (Lookup.attr (form_at state of)) (text_in (form_at state at)) ≡ Some c.in_ok-part-in-Item.part.now = search rules in
-    rw (c.in-Item.is) (item_lent state of at c.in_ok-part-in-Item.part.now outcome finds is)
+    let finds : option_and_then (Lookup.attr (form_at state of)) (text_in (form_at state at)) ≡ Some c.in_ok-item_of-in-Item.field-0.now = search rules in
+    rw (c.in-Item.is) (item_lent state of at c.in_ok-item_of-in-Item.field-0.now outcome finds is)
