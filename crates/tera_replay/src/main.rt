@@ -3,7 +3,8 @@
 
 ghost use Rattle.std.specs.Prelude.{◌≡◌, ◌≤◌, IfSome, IfNone, codes};
 ghost use Rattle.tera_replay.specs.Buffered.{BufferBroke, BufferGets};
-ghost use Rattle.tera_replies.specs.Output.{Ended, Failed, Gave, WriterTakesOrFails};
+ghost use Rattle.tera_replies.specs.Output.{Ended, Failed, Gave, WriterBroke, WriterGets};
+ghost use Rattle.tera_replies.specs.Output.{WriterTakesOrFails};
 ghost use Rattle.tera_replies.specs.Replay.{Replays};
 
 use std::alloc::Global;
@@ -39,21 +40,45 @@ fn replay_buffered<S: Source + Drop, B: Writer + Drop, E: Writer>(
     ensures silent { result.0 ≡ 0 → err.new ≡ err.old }
 {
     match out {
-        Some(mut buffered) => {
-            let status = replay(alloc, input, &mut buffered, err);
+        Some(buffer) => {
+            let (status, buffered) = replay_to(alloc, input, buffer, err);
             (status, Some(buffered))
         }
         None => {
-            tell_no_memory(err);
-            (1, None)
+            let status = tell_no_memory(err);
+            (status, None)
         }
     }
 }
 
-/// Tells that no memory was found, where the writer takes it. Takes no memory.
-fn tell_no_memory<E: Writer>(err: &mut E)
+/// Replays a script to a buffer that is there, and gives the status and the buffer.
+#[inline(always)]
+fn replay_to<S: Source + Drop, B: Writer, E: Writer>(
+    alloc: Global,
+    input: S,
+    buffer: B,
+    err: &mut E,
+) -> (u8, B)
+    ensures known { IfSome (S.left input) (λ bytes. Replays bytes (S.fails input)
+        (Gave S.gave input) (Ended S.gave input) (Failed S.gave input)
+        (λ text. WriterGets B.contents B.wrote B.flushed buffer text result.1)
+        (λ text. WriterBroke B.wrote B.flushed buffer text result.1)
+        (λ text. WriterTakesOrFails E.contents E.wrote err.old text err.new) result.0) }
+    ensures status { result.0 ≤ 2 }
+    ensures silent { result.0 ≡ 0 → err.new ≡ err.old }
+{
+    let mut buffered = buffer;
+    let status = replay(alloc, input, &mut buffered, err);
+    (status, buffered)
+}
+
+/// Tells that no memory was found, where the writer takes it, and answers the status. Takes no
+/// memory.
+fn tell_no_memory<E: Writer>(err: &mut E) -> u8
     ensures told { WriterTakesOrFails E.contents E.wrote err.old (codes "error: Out of memory\n")
         err.new }
+    ensures status { result ≡ 1 }
 {
     let _ = Watched::new(err).write_all(b"error: Out of memory\n");
+    1
 }

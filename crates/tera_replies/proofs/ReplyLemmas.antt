@@ -12,6 +12,8 @@ use Rattle.tera_replies.specs.declared.fault.Fault.TheVariants.{BadLine, ReadFai
 use Rattle.tera_replies.specs.{Reply.IsFormOf, Reply.IsListed, Reply.IsReply, Reply.IsFixedReply, Reply.order_name, declared.fault.Fault.Fault, Output.BrokeOn}
 use Rattle.tera_replies.specs.{Stretch.LineStops, inner.Endings.ReplyStops, Stretch.Runs, inner.Stated.outcome_stated}
 use Rattle.tera_context.specs.Steps.{ShowsOutcome}
+use Rattle.tera_context.specs.Lent.{LentForm, StandsFor}
+use Rattle.tera_context.specs.Lent
 use Rattle.tera_meaning.specs.Answer
 use Rattle.tera_context.specs.declared.call.Answer as code
 
@@ -52,6 +54,20 @@ line_answered (Err ReadFailed) Replies OutGets OutBroke OutStays Same n old new 
 line_answered (Err WriteFailed) Replies OutGets OutBroke OutStays Same n old new line w then ok (reply, is, broke) =
     record { ok = tt; err = (reply, w, then reply is, broke); only = refl; unchanged = λ other. absurd (other refl) }
 line_answered (Err OutOfMemory) Replies OutGets OutBroke OutStays Same n old new line w then ok err = absurd err
+
+-- a reply that answers in one way answers in another
+pub answers_so : (result : Result Bool Fault) (Replies OutGets OutBroke : List ℕ → Type 0) (Answers : List ℕ → Bool → Type 0) (w : Bool)
+    → ((reply : List ℕ) → Replies reply → Answers reply w)
+    → IfOk result (λ wanted. (reply : List ℕ) × Replies reply × OutGets reply × (wanted ≡ w)) → IfErr result (ReplyStops Replies OutBroke)
+    → record {
+      ok : IfOk result (λ wanted. (reply : List ℕ) × Answers reply wanted × OutGets reply);
+      err : IfErr result (ReplyStops (λ reply. (wanted : Bool) × Answers reply wanted) OutBroke);
+    }
+answers_so (Ok wanted) Replies OutGets OutBroke Answers w so (reply, is, gets, same) err = record { ok = (reply, rw same (so reply is), gets); err = tt }
+answers_so (Err (BadLine report)) Replies OutGets OutBroke Answers w so ok err = absurd err
+answers_so (Err ReadFailed) Replies OutGets OutBroke Answers w so ok err = absurd err
+answers_so (Err WriteFailed) Replies OutGets OutBroke Answers w so ok (reply, is, broke) = record { ok = tt; err = (reply, (w, so reply is), broke) }
+answers_so (Err OutOfMemory) Replies OutGets OutBroke Answers w so ok err = absurd err
 
 -- a reply was put, or a write failed
 module _ {S E : Type 0} (takes fails : S → List ℕ → S → Type 0) (flushes flush_fails : S → S → Type 0) (P : List ℕ → Type 0) where
@@ -134,3 +150,8 @@ pub want_shown : (answer : Result code.Answer Error) (outcome : Outcome) → Sho
     → is_want (outcome_stated answer) ≡ is_want outcome
 want_shown (Ok answer) outcome shows = ap is_want (sym shows)
 want_shown (Err e) outcome (refusal, shows, is) = rw (is, shows.kind) (want_stated refusal)
+
+-- what is lent stands for no want of memory
+pub not_wanted : (lent : LentForm) (outcome : Outcome) → StandsFor lent outcome → is_want outcome ≡ false
+not_wanted (Lent.found part) outcome is = ap is_want is
+not_wanted (Lent.printed value) outcome (text, prints, is) = ap is_want is

@@ -31,22 +31,22 @@ use tera_values::Value;
 
 /// Writes the line that answers a call, with its line feed, and says whether the answer is want of
 /// memory. Takes no memory, and fails only where a write does.
-pub(crate) fn write_answer<W: Sink>(answer: TeraResult<Answer>, out: &mut W) -> Result<bool, Fault>
+pub(crate) fn write_answer<W: Sink>(answer: &TeraResult<Answer>, out: &mut W) -> Result<bool, Fault>
     ensures ok { IfOk result (λ wanted. (line : List ℕ)
-        × IsReplyLine (outcome_stated answer) line
+        × IsReplyLine (outcome_stated answer.now) line
         × Sends W.takes W.flushes out.old line out.new
-        × (wanted ≡ is_want (outcome_stated answer))) }
-    ensures err { IfErr result (ReplyStops (IsReplyLine (outcome_stated answer))
+        × (wanted ≡ is_want (outcome_stated answer.now))) }
+    ensures err { IfErr result (ReplyStops (IsReplyLine (outcome_stated answer.now))
         (λ text. BrokeOn W.takes W.fails W.flushes W.flush_fails out.old text out.new)) }
 {
     match answer {
         Ok(answer) => {
-            written(put_answer(&answer, out))?;
+            written(put_answer(answer, out))?;
             Ok(false)
         }
         Err(error) => {
-            written(put_refusal(&error, out))?;
-            Ok(is_want(&error))
+            written(put_refusal(error, out))?;
+            Ok(is_want(error))
         }
     }
 }

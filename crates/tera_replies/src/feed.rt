@@ -2,13 +2,14 @@
 ghost use Rattle.std.specs.Prelude.{◌≡◌, ◌≢◌, ◌+◌, ◌^◌, ◌<◌, ◌≤◌, ℕ, Bool, ◌||◌, List, [], ◌∷◌};
 ghost use Rattle.std.specs.Prelude.{◌++◌};
 ghost use Rattle.std.specs.Prelude.{IfOk, OnOk, IfErr, IfSome, IfNone, IsOk, IsSome, length};
-ghost use Rattle.std.specs.Prelude.{MatchResult, false};
+ghost use Rattle.std.specs.Prelude.{MatchResult, codes, decimal, false, string_bytes};
 ghost use Rattle.tera_report.specs.Sink.{Sends};
 ghost use Rattle.tera_report.specs.Errors.{report_of};
 ghost use Rattle.tera_meaning.specs.Outcome.{Outcome};
 ghost use Rattle.tera_meaning.specs.Request.{Command};
 ghost use Rattle.tera_meaning.specs.Step.{IsStep};
 ghost use Rattle.std.specs.Option.{option_map};
+ghost use Rattle.tera_context.specs.Call.{command_of};
 ghost use Rattle.tera_context.specs.Lent.{StandsFor, lent_at, lent_form, looked_up};
 ghost use Rattle.tera_context.specs.declared.lends.LookUp.{LookUp};
 ghost use Rattle.tera_script.specs.Line.{IsSkipped, Says};
@@ -18,15 +19,16 @@ ghost use Rattle.tera_replies.specs.Output.{BrokeOn};
 ghost use Rattle.tera_replies.specs.Replay.{line_report, source_of, whole_line};
 ghost use Rattle.tera_replies.specs.Script.{HasNoLineFeed, without_return, last_line, ended};
 ghost use Rattle.tera_replies.specs.Stretch.{bad_at, Runs, LineStops};
+ghost use Rattle.tera_replies.specs.inner.Endings.{AnswersCall, IsBadLineFault, ReplyStops};
 ghost use Rattle.tera_replies.specs.inner.Stretches.{Goes, Stops, start};
 
 use crate::answer::{write_answer, write_lent};
 use crate::fault::Fault;
 use itoa::Buffer;
 use memchr::memchr;
-use std::alloc::Global;
+use std::alloc::{AllocError, Global};
 use std::str::from_utf8;
-use tera_context::{Context, Lent, lend, look_up, step};
+use tera_context::{Context, Lent, Step, lend, look_up, step};
 use tera_report::sink::Sink;
 use tera_report::words::characters;
 use tera_report::{ReportError, Span};
@@ -193,14 +195,70 @@ pub fn answer_line<W: Sink>(
     if let Some(lent) = lent_for(context, line) {
         return write_lent(lent, out);
     }
+    answer_read_line(alloc, number, line, context, out)
+}
+
+// Answers one line as it is read.
+#[inline(always)]
+fn answer_read_line<W: Sink>(
+    alloc: Global,
+    number: u128,
+    line: &[u8],
+    context: &mut Context,
+    out: &mut W,
+) -> Result<bool, Fault>
+    ensures ok { IfOk result (λ wanted. (text : List ℕ)
+        × Runs number context.old (line.now ∷ []) text wanted context.new
+        × Sends W.takes W.flushes out.old text out.new) }
+    ensures err { IfErr result (LineStops number context.old line.now context.new
+        (Sends W.takes W.flushes out.old [] out.new)
+        (λ text. BrokeOn W.takes W.fails W.flushes W.flush_fails out.old text out.new)) }
+    ensures skipped { IsSkipped line.now → IsOk result }
+    ensures unchanged { IfErr result (λ fault. fault ≢ WriteFailed → context.new ≡ context.old) }
+{
     match read_line(alloc, line)? {
         Reading::Skipped => Ok(false),
-        Reading::Bad => Err(Fault::BadLine(bad_line(alloc, number, line)?)),
-        Reading::Says(call) => match lend(context, &call) {
-            Some(lent) => write_lent(lent, out),
-            None => write_answer(step(context, call), out),
-        },
+        Reading::Bad => Err(bad_line_fault(alloc, number, line)),
+        Reading::Says(call) => answer_call(call, context, out),
     }
+}
+
+// Answers a call: by what the context lends, or by its step where nothing is lent.
+#[inline(always)]
+fn answer_call<W: Sink>(call: Step, context: &mut Context, out: &mut W) -> Result<bool, Fault>
+    ensures ok { IfOk result (λ wanted. (reply : List ℕ)
+        × AnswersCall (command_of call) context.old context.new reply wanted
+        × Sends W.takes W.flushes out.old reply out.new) }
+    ensures err { IfErr result (ReplyStops
+        (λ reply. (wanted : Bool)
+        × AnswersCall (command_of call) context.old context.new reply wanted)
+        (λ text. BrokeOn W.takes W.fails W.flushes W.flush_fails out.old text out.new)) }
+{
+    match lend(context, &call) {
+        Some(lent) => {
+            let answered = write_lent(lent, out);
+            drop(call);
+            answered
+        }
+        None => answer_step(call, context, out),
+    }
+}
+
+// Answers a call by its step.
+#[inline(always)]
+fn answer_step<W: Sink>(call: Step, context: &mut Context, out: &mut W) -> Result<bool, Fault>
+    ensures ok { IfOk result (λ wanted. (reply : List ℕ)
+        × AnswersCall (command_of call) context.old context.new reply wanted
+        × Sends W.takes W.flushes out.old reply out.new) }
+    ensures err { IfErr result (ReplyStops
+        (λ reply. (wanted : Bool)
+        × AnswersCall (command_of call) context.old context.new reply wanted)
+        (λ text. BrokeOn W.takes W.fails W.flushes W.flush_fails out.old text out.new)) }
+{
+    let answer = step(context, call);
+    let answered = write_answer(&answer, out);
+    drop(answer);
+    answered
 }
 
 // What the context lends for a look-up that the line says, which then takes no memory.
@@ -214,6 +272,16 @@ fn lent_for<'a>(context: &'a Context, line: &'a [u8]) -> Option<Lent<'a>>
     look_up(context, look_up_of(line)?)
 }
 
+// Why a bad line is not answered: it is bad, or its report wants memory.
+fn bad_line_fault(alloc: Global, number: u128, line: &[u8]) -> Fault
+    ensures { IsBadLineFault number line.now result }
+{
+    match bad_line(alloc, number, line) {
+        Ok(report) => Fault::BadLine(report),
+        Err(_) => Fault::OutOfMemory,
+    }
+}
+
 // The report of a bad line. A line that is no UTF-8 shows nothing.
 fn bad_line(alloc: Global, number: u128, line: &[u8]) -> Result<Box<ReportError>, Fault>
     ensures same { IfOk result (λ report.
@@ -223,11 +291,18 @@ fn bad_line(alloc: Global, number: u128, line: &[u8]) -> Result<Box<ReportError>
     let source = shown_source(line);
     let span = whole_line(source);
     let message = String::from_str(alloc, "bad line")?;
-    let filename = ["line ", Buffer::new().format(number)].concat(alloc)?;
+    let filename = line_name(alloc, number)?;
     match ReportError::new(alloc, message, filename.as_str(), source, &span) {
         Ok(report) => Ok(Box::new(alloc, report)?),
         Err(_) => Err(Fault::OutOfMemory),
     }
+}
+
+// What the report of a bad line calls the line.
+fn line_name(alloc: Global, number: u128) -> Result<String, AllocError>
+    ensures { IfOk result (λ name. string_bytes name ≡ codes "line " ++ decimal number) }
+{
+    ["line ", Buffer::new().format(number)].concat(alloc)
 }
 
 // What of a bad line its report shows.

@@ -9,6 +9,8 @@ ghost use Rattle.tera_report.specs.Report.{report_text};
 ghost use Rattle.tera_replies.specs.Replay.{Replays};
 ghost use Rattle.tera_replies.specs.Script.{ended};
 ghost use Rattle.tera_replies.specs.Source.{ReadEnds, ReadFails, ReadsTo};
+ghost use Rattle.tera_replies.specs.inner.Place.{place_of};
+ghost use Rattle.tera_replies.specs.inner.Stretches.{start};
 ghost use Rattle.tera_replies.specs.inner.Endings.{Ends, EndsFlushed, status_at, told};
 
 use crate::fault::{Fault, WriteError, put, written};
@@ -75,10 +77,39 @@ pub fn replay_from<S: Source, W: Sink, E: Sink>(
     ensures status { result ≤ 2 }
     ensures silent { result ≡ 0 → err.new ≡ err.old }
 {
+    let ending = answer_to_end(alloc, input, out);
+    end_by(&ending, err)
+}
+
+// Answers line after line, and passes on the last answers before the end is told.
+#[inline(always)]
+fn answer_to_end<S: Source, W: Sink>(
+    alloc: Global,
+    input: &mut S,
+    out: &mut W,
+) -> Result<bool, Fault>
+    ensures { IfSome (S.left input.old) (λ bytes. Replays bytes (S.fails input.old)
+        (λ before last. ReadsTo S.gave input.old before last input.new)
+        (λ given. ReadEnds S.gave input.old given input.new)
+        (λ given. ReadFails S.gave input.old given input.new)
+        (λ text. Delivers W.takes W.flushes out.old text out.new)
+        (λ text. BrokeOn W.takes W.fails W.flushes W.flush_fails out.old text out.new)
+        (λ text. text ≡ told result) (status_at result)) }
+{
     let answered = answer_all(alloc, input, out);
-    let ending = flush_last(answered, out);
-    let _ = tell(&ending, err);
-    status(&ending)
+    flush_last(answered, out)
+}
+
+// Tells the end, and answers the exit status.
+#[inline(always)]
+fn end_by<E: Sink>(ending: &Result<bool, Fault>, err: &mut E) -> u8
+    ensures told { TakesOrFails E.takes E.fails err.old (told ending.now) err.new }
+    ensures value { result ≡ status_at ending.now }
+    ensures status { result ≤ 2 }
+    ensures silent { result ≡ 0 → err.new ≡ err.old }
+{
+    let _ = tell(ending, err);
+    status(ending)
 }
 
 // Answers line after line, and says whether an answer was want of memory.
@@ -91,6 +122,25 @@ fn answer_all<S: Source, W: Sink>(alloc: Global, input: &mut S, out: &mut W) -> 
         (λ text. BrokeOn W.takes W.fails W.flushes W.flush_fails out.old text out.new) result) }
 {
     let mut feed = Feed::new(alloc);
+    answer_pieces(alloc, &mut feed, input, out)
+}
+
+// The same, where the feed stands before the first byte.
+#[inline(always)]
+fn answer_pieces<S: Source, W: Sink>(
+    alloc: Global,
+    feed: &mut Feed,
+    input: &mut S,
+    out: &mut W,
+) -> Result<bool, Fault>
+    requires { place_of feed.old ≡ start }
+    ensures { IfSome (S.left input.old) (λ bytes. Ends bytes (S.fails input.old)
+        (λ before last. ReadsTo S.gave input.old before last input.new)
+        (λ given. ReadEnds S.gave input.old given input.new)
+        (λ given. ReadFails S.gave input.old given input.new)
+        (λ text. Sends W.takes W.flushes out.old text out.new)
+        (λ text. BrokeOn W.takes W.fails W.flushes W.flush_fails out.old text out.new) result) }
+{
     let mut piece = [0; PIECE];
     'pieces: for _turn in 0..u64::MAX {
         flush(out)?;

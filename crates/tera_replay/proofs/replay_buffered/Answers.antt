@@ -4,8 +4,8 @@ use Rattle.tera_replay.proofs.BufferLemmas.{nothing_read}
 use Rattle.tera_replay.proofs.replay_buffered.Goals as goal
 
 pub returns-in-Some-clause-known : goal.returns-in-Some-clause-known
-returns-in-Some-clause-known g c = rw c.in-Some.is c.replay-status.ensures.known
+returns-in-Some-clause-known g c = rw c.in-Some.is c.replay_to-status.ensures.known
 
 pub returns-in-None-clause-known : goal.returns-in-None-clause-known
 returns-in-None-clause-known g c =
-    rw c.in-None.is (nothing_read _ _ _ _ _ _ _ _ (c.args.input, inl (refl, refl, refl)) (refl, refl) c.tell_no_memory.ensures.told)
+    rw (c.in-None.is, c.tell_no_memory-status.ensures.status) (nothing_read _ _ _ _ _ _ _ _ (c.args.input, inl (refl, refl, refl)) (refl, refl) c.tell_no_memory-status.ensures.told)

@@ -1,13 +1,20 @@
 -- How answering ended, and what is told of it.
 use Rattle.std.specs.Prelude.{◌≡◌, ◌≢◌, ℕ, ◌⊎◌, Bool, List, [], codes, Option, Result, Ok, Err}
-use Rattle.std.specs.Prelude.{if◌then◌else◌}
+use Rattle.std.specs.Prelude.{if◌then◌else◌, ⊤}
+use Rattle.tera_meaning.specs.Outcome.{Outcome, is_want}
+use Rattle.tera_meaning.specs.Request.{Command}
+use Rattle.tera_meaning.specs.State.{State}
+use Rattle.tera_meaning.specs.Step.{IsStep}
 use Rattle.tera_report.specs.Errors.{report_of}
 use Rattle.tera_report.specs.Report.{report_text}
 use Rattle.tera_replies.specs.declared.fault.Fault.{Fault}
 use Rattle.tera_replies.specs.declared.fault.Fault.TheVariants.{BadLine, ReadFailed, WriteFailed}
 use Rattle.tera_replies.specs.declared.fault.Fault.TheVariants.{OutOfMemory}
 use Rattle.tera_replies.specs.Replay.{AllAnswered, ReadingFailed, MemoryFailed, WritingFailed}
+use Rattle.tera_replies.specs.Replay.{line_report}
+use Rattle.tera_replies.specs.Reply.{IsReplyLine}
 use Rattle.tera_replies.specs.Script.{ended}
+use Rattle.tera_replies.specs.Stretch.{bad_at}
 
 -- what stands where a fault ended the writing of a reply: a failed write alone does
 abbrev pub ReplyStops : (List ℕ → Type 0) → (List ℕ → Type 0) → Fault → Type 0
@@ -15,6 +22,19 @@ ReplyStops Replies OutBroke (BadLine report) = ⊥
 ReplyStops Replies OutBroke ReadFailed = ⊥
 ReplyStops Replies OutBroke WriteFailed = (line : List ℕ) × Replies line × OutBroke line
 ReplyStops Replies OutBroke OutOfMemory = ⊥
+
+-- what answers a call, and whether it is want of memory, where a step went from old to new
+abbrev pub AnswersCall : Command → State → State → List ℕ → Bool → Type 0
+AnswersCall command old new reply wanted =
+    (outcome : Outcome) × IsStep old command outcome new × IsReplyLine outcome reply
+    × (wanted ≡ is_want outcome)
+
+-- why a bad line is not answered: its report, or want of memory for that
+abbrev pub IsBadLineFault : ℕ → List ℕ → Fault → Type 0
+IsBadLineFault n line (BadLine report) = report_of report.value ≡ line_report (bad_at n line)
+IsBadLineFault n line ReadFailed = ⊥
+IsBadLineFault n line WriteFailed = ⊥
+IsBadLineFault n line OutOfMemory = ⊤
 
 -- how answering all of the input went: whether memory was wanted by an answer, or a fault
 abbrev pub Ends : List ℕ → Option Bool → (List ℕ → List ℕ → Type 0) → (List ℕ → Type 0)

@@ -1,4 +1,4 @@
-use Rattle.std.proofs.Common.{rules, ◌≡◌, ◌++◌, [], codes, string_bytes, append-nil, ap, ◌∙◌}
+use Rattle.std.proofs.Common.{rules, ◌≡◌, ◌++◌, [], codes, string_bytes, ap, ◌∙◌}
 use Rattle.std.specs.Fmt.{decimal}
 use Rattle.tera_report.specs.Errors.{report_of}
 use Rattle.tera_replies.specs.Replay.{whole_line}
@@ -10,6 +10,6 @@ returns-in-Ok-clause-same c =
     let span = c.whole_line-span.ensures ∙ ap whole_line source in
     let message : string_bytes c.in_ok-message.message ≡ codes "bad line" = search rules in
     let file : c.as_str.result.now ≡ codes "line " ++ decimal c.args.number =
-    c.as_str.ensures.value ∙ c.in_ok-filename.ensures.ok ∙ ap (λ l. codes "line " ++ l) (append-nil c.format.result.now ∙ c.format.ensures.text) in
+    c.as_str.ensures.value ∙ c.in_ok-filename.ensures in
     ap report_of c.in_ok-new-in-Ok.ensures.ok ∙ c.in-Ok.ensures.ok
     ∙ (λ i. record { message = message i; file = file i; source = source i; span = span i; notes = [] })

@@ -5,7 +5,7 @@ use Rattle.tera_replies.specs.{Source.EndIsTold, Source.Giving, Source.given_by,
 use Rattle.tera_replies.proofs.InputLemmas.{Ends-all, Ends-stops, at_failure, at_write, Consumes-none, Consumes-append, reads_all, where_known}
 use Rattle.tera_replies.proofs.StretchLemmas.{Begins-all, went_flushed, went_nowhere, went_on}
 use Rattle.tera_replies.proofs.ReplyLemmas.{broke_on_flush}
-use Rattle.tera_replies.proofs.replays.answer_all.Goals as goal
+use Rattle.tera_replies.proofs.replays.answer_pieces.Goals as goal
 
 pub pieces-init : goal.pieces-init
 pieces-init g c =
@@ -15,7 +15,7 @@ pieces-init g c =
       last = [];
       consumed = Consumes-none (g.S.Source.left input);
       reads = inl (refl, refl, refl);
-      went = rw c.new-feed.ensures (went_nowhere start c.args.out.now (λ k d h. absurd (omega arith)));
+      went = rw c.requires (went_nowhere start c.args.out.now (λ k d h. absurd (omega arith)));
       turns = omega arith;
       fails = refl;
       room = search rules;

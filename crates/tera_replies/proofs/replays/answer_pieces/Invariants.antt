@@ -3,7 +3,7 @@ use Rattle.std.proofs.Common.{◌≡◌, ℕ, ◌+◌, ◌*◌, ◌≤◌, List,
 use Rattle.std.specs.Io.KnownBytes.{Consumes}
 use Rattle.tera_replies.specs.{inner.Place.place_of, Source.ReadsTo, inner.Stretches.start}
 use Rattle.tera_replies.proofs.StretchLemmas.{Went}
-use Rattle.tera_replies.proofs.replays.answer_all.Given as goal
+use Rattle.tera_replies.proofs.replays.answer_pieces.Given as goal
 
 abbrev pub invariant-pieces : goal.invariant-pieces
 invariant-pieces g l =
