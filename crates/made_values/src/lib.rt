@@ -60,7 +60,7 @@ pub fn with_item(items: Vec<Value>, item: Value) -> Vec<Value>
     ensures { (result.items ≡ items.items ++ item ∷ []) ⊎ (result.items ≡ items.items) }
 {
     let mut items = items;
-    let _ = items.push(item);
+    drop(items.push(item));
     items
 }
 
@@ -118,7 +118,7 @@ pub fn with(map: Map, key: Key<'static>, value: Value) -> Map
     ensures { Inserted map ((key_form key.entry, value) ∷ []) result }
 {
     let mut map = map;
-    let _ = map.insert(key, value);
+    drop(map.insert(key, value));
     map
 }
 
@@ -144,11 +144,17 @@ pub fn at_texts(alloc: Global, pairs: &[(&'static str, i64)]) -> Value
 pub fn many_pairs(alloc: Global, count: i64) -> Value {
     let mut map = Map::new(alloc);
     for number in 0..count {
-        if let Ok(key) = numbered(alloc, number) {
-            map = with(map, key, Value::from(number));
-        }
+        map = with_number(alloc, map, number);
     }
     Value::of_map(map)
+}
+
+// The map with that number too, where there was memory for its key.
+fn with_number(alloc: Global, map: Map, number: i64) -> Map {
+    match numbered(alloc, number).ok() {
+        Some(key) => with(map, key, Value::from(number)),
+        None => map,
+    }
 }
 
 // The key of that number.

@@ -1,7 +1,7 @@
 //! Escaped texts, and writers that fail.
 use crate::failing::{Failing, fails_after, fails_once, kind_of};
 use crate::held::hold;
-use crate::made::{many, owned};
+use crate::made::{is_answer, many, or_empty};
 use std::alloc::Global;
 use std::io::{ErrorKind, Write};
 use tera_report::sink::{Growing, Room};
@@ -14,8 +14,7 @@ const ESCAPED_PAGE: &str = "&lt;a href=&#39;x&#39;&gt;&amp;amp;&quot;/";
 
 // It is escaped as that, into a text of its own.
 fn escapes(alloc: Global, text: &str, wanted: &str) -> bool {
-    let made = escape_text(alloc, text).unwrap_or(owned(alloc, "none"));
-    made.as_str() == wanted
+    is_answer(escape_text(alloc, text), wanted)
 }
 
 // It is written as that, behind what was there.
@@ -124,13 +123,25 @@ fn rooms_for_escaped_texts(rt: HostRuntime) {
     );
 }
 
-// That special byte behind so many others and before the rest of 72 is escaped as that.
-fn is_escaped_at(alloc: Global, place: usize, special: &str, entity: &str) -> bool {
+// That text behind so many others and before the rest of 72.
+fn among_others(alloc: Global, place: usize, text: &str) -> String {
     let before = many(alloc, '%', place);
     let after = many(alloc, '=', 72usize.saturating_sub(place));
-    let text = format!(in alloc; "{before}{special}{after}").unwrap_or(owned(alloc, "&"));
-    let wanted = format!(in alloc; "{before}{entity}{after}").unwrap_or(String::new(alloc));
-    escapes(alloc, text.as_str(), wanted.as_str())
+    let made = or_empty(alloc, format!(in alloc; "{before}{text}{after}"));
+    drop(before);
+    drop(after);
+    made
+}
+
+// That special byte among others is escaped as that.
+fn is_escaped_at(alloc: Global, place: usize, special: &str, entity: &str) -> bool {
+    let text = among_others(alloc, place, special);
+    let wanted = among_others(alloc, place, entity);
+    let is_so = escapes(alloc, text.as_str(), wanted.as_str());
+    let is_made = !text.is_empty();
+    drop(text);
+    drop(wanted);
+    is_so && is_made
 }
 
 // Long texts are looked through by blocks, and what is left of them byte by byte.

@@ -2,7 +2,7 @@
 //! of Rust has it. What owns an error hands it to `drop`, so that no function writes out how it
 //! ends.
 use crate::held::hold;
-use crate::made::{names, shows};
+use crate::made::{names, or_empty, shows};
 use crate::texts::is_said;
 use std::alloc::{AllocError, AllocFailed, Global};
 use std::io;
@@ -33,10 +33,19 @@ fn is_that(copy: ErrorKind, kind: &ErrorKind) -> bool {
 // The kind of an error without a cause shows that, and so does the error around it; the kind is its
 // clone, and is not the other.
 fn tells(alloc: Global, error: Error, wanted: &str, other: &ErrorKind) -> bool {
-    let whole = format!(in alloc; "Error {{ kind: {wanted}, source: None }}");
-    let is_told = shows(alloc, error.kind(), wanted)
-        && shows(alloc, &error, whole.unwrap_or(String::new(alloc)).as_str());
-    is_told && is_its_clone(alloc, error, other)
+    let is_told = shows(alloc, error.kind(), wanted) && shows_around(alloc, &error, wanted);
+    is_its_clone(alloc, error, other) && is_told
+}
+
+// The error around a kind that shows that has no cause.
+fn shows_around(alloc: Global, error: &Error, kind: &str) -> bool {
+    let whole = or_empty(
+        alloc,
+        format!(in alloc; "Error {{ kind: {kind}, source: None }}"),
+    );
+    let is_so = shows(alloc, error, whole.as_str());
+    drop(whole);
+    is_so
 }
 
 // It tells that, and is no extension over these templates.
@@ -84,10 +93,18 @@ fn kinds_of_templates(rt: HostRuntime) {
     );
 }
 
-// It tells that and says that, and is not that no file was found.
-fn tells_and_says(alloc: Global, error: Error, wanted: &str, said: &str) -> bool {
+// It tells that, and is not that no file was found.
+fn tells_no_io(alloc: Global, error: Error, wanted: &str) -> bool {
     let not_found = ErrorKind::Io(io::ErrorKind::NotFound);
-    is_said(alloc, &error, said) && tells(alloc, error, wanted, &not_found)
+    let is_so = tells(alloc, error, wanted, &not_found);
+    drop(not_found);
+    is_so
+}
+
+// It tells that and says that.
+fn tells_and_says(alloc: Global, error: Error, wanted: &str, said: &str) -> bool {
+    let is_said = is_said(alloc, &error, said);
+    tells_no_io(alloc, error, wanted) && is_said
 }
 
 #[test]

@@ -1,7 +1,8 @@
 //! What the tests make, and what is told of it. Where memory is wanting, a part is left out: then
 //! the test that looks at it fails.
-use std::alloc::Global;
+use std::alloc::{AllocError, Global};
 use std::fmt::{Debug, Display};
+use tera_report::TeraResult;
 
 /// These names.
 pub fn names(alloc: Global, texts: &[&str]) -> Vec<String> {
@@ -26,14 +27,39 @@ pub fn many(alloc: Global, letter: char, count: usize) -> String {
     text
 }
 
+/// The text that was made, or none.
+pub fn or_empty(alloc: Global, made: Result<String, AllocError>) -> String {
+    made.unwrap_or(String::new(alloc))
+}
+
+/// Whether that text was made.
+pub fn is_text(made: Result<String, AllocError>, wanted: &str) -> bool {
+    match made {
+        Ok(text) => is_equal(text, wanted),
+        Err(_) => false,
+    }
+}
+
+fn is_equal(text: String, wanted: &str) -> bool {
+    let is_so = text.as_str() == wanted;
+    drop(text);
+    is_so
+}
+
+/// Whether that text was answered.
+pub fn is_answer(made: TeraResult<String>, wanted: &str) -> bool {
+    match made.ok() {
+        Some(text) => is_equal(text, wanted),
+        None => false,
+    }
+}
+
 /// Whether it displays that.
 pub fn displays<D: Display>(alloc: Global, it: &D, wanted: &str) -> bool {
-    let text = format!(in alloc; "{it}").unwrap_or(String::new(alloc));
-    text.as_str() == wanted
+    is_text(format!(in alloc; "{it}"), wanted)
 }
 
 /// Whether its debug text is that.
 pub fn shows<D: Debug>(alloc: Global, it: &D, wanted: &str) -> bool {
-    let text = format!(in alloc; "{it:?}").unwrap_or(String::new(alloc));
-    text.as_str() == wanted
+    is_text(format!(in alloc; "{it:?}"), wanted)
 }

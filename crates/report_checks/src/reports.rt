@@ -1,7 +1,7 @@
 //! Reports: their texts, what they are equal to, and writers that fail.
 use crate::failing::{fails_after, kind_of};
 use crate::held::hold;
-use crate::made::{displays, owned, shows};
+use crate::made::{displays, is_answer, owned, shows};
 use std::alloc::Global;
 use std::io::ErrorKind as Fault;
 use tera_report::watch::Watched;
@@ -26,9 +26,9 @@ fn made(alloc: Global, message: &str, file: &str, source: &str, span: Span) -> R
 
 // It reads so, also where an error displays it.
 fn reads(alloc: Global, report: ReportError, wanted: &str) -> bool {
-    let text = report.generate_report(alloc).unwrap_or(String::new(alloc));
+    let is_so = is_answer(report.generate_report(alloc), wanted);
     match boxed(alloc, report).ok() {
-        Some(report) => text.as_str() == wanted && is_displayed(alloc, report, wanted),
+        Some(report) => is_displayed(alloc, report, wanted) && is_so,
         None => false,
     }
 }
@@ -108,16 +108,17 @@ fn noted(alloc: Global, labels: &[&str]) -> ReportError {
 const NOTED: &str =
     "error: bad\n --> a:1:1\n  |\n1 | xy\n  | ^^\n\nnote: called from b:1:1\n  |\n1 | z\n  | ^";
 
+const NOTED_TWICE: &str = "error: bad\n --> a:1:1\n  |\n1 | xy\n  | ^^\n\n\
+note: called from b:1:1\n  |\n1 | z\n  | ^\n\nnote: then b:1:1\n  |\n1 | z\n  | ^";
+
 #[test]
 fn reports_with_notes(rt: HostRuntime) {
     let alloc = rt.alloc();
-    let two = format!(in alloc; "{NOTED}\n\nnote: then b:1:1\n  |\n1 | z\n  | ^");
-    let two = two.unwrap_or(String::new(alloc));
     hold(
         &rt,
         &[
             reads(alloc, noted(alloc, &["called from"]), NOTED),
-            reads(alloc, noted(alloc, &["called from", "then"]), two.as_str()),
+            reads(alloc, noted(alloc, &["called from", "then"]), NOTED_TWICE),
         ],
     );
 }
@@ -125,11 +126,18 @@ fn reports_with_notes(rt: HostRuntime) {
 // Without a source, and then with one.
 fn is_given_a_source(alloc: Global) -> bool {
     let mut report = ReportError::new_without_source(alloc, owned(alloc, "m"), &on(3, 0, 1));
-    let bare = report.generate_report(alloc).unwrap_or(String::new(alloc));
-    let is_set = report.set_source(alloc, "f", "\n\né").is_ok();
-    bare.as_str() == "error: m\n --> :3:1\n  |\n3 | \n  | ^"
-        && is_set
-        && reads(alloc, report, "error: m\n --> f:3:1\n  |\n3 | é\n  | ^")
+    let bare = "error: m\n --> :3:1\n  |\n3 | \n  | ^";
+    let is_bare = is_answer(report.generate_report(alloc), bare);
+    let is_set = is_done(report.set_source(alloc, "f", "\n\né"));
+    let is_read = reads(alloc, report, "error: m\n --> f:3:1\n  |\n3 | é\n  | ^");
+    is_bare && is_set && is_read
+}
+
+// It was done.
+fn is_done(answer: TeraResult<()>) -> bool {
+    let is_so = answer.is_ok();
+    drop(answer);
+    is_so
 }
 
 fn lends_its_parts(alloc: Global) -> bool {
@@ -198,13 +206,18 @@ fn reports_are_equal_by_their_parts(rt: HostRuntime) {
 fn a_report_that_is_too_long(rt: HostRuntime) {
     let alloc = rt.alloc();
     let report = made(alloc, "m", "f", "x", on(1, 0, usize::MAX));
-    let is_refused = match report.generate_report(alloc).err() {
-        Some(error) => is_want_of_memory(error),
-        None => false,
-    };
+    let is_refused = finds_no_memory(alloc, &report);
     let same = made(alloc, "m", "f", "x", on(1, 0, usize::MAX));
     hold(&rt, &[is_refused, is_that(same, &report)]);
     drop(report);
+}
+
+// No text is made of the report.
+fn finds_no_memory(alloc: Global, report: &ReportError) -> bool {
+    match report.generate_report(alloc).err() {
+        Some(error) => is_want_of_memory(error),
+        None => false,
+    }
 }
 
 fn is_want_of_memory(error: Error) -> bool {
@@ -235,15 +248,18 @@ fn writers_that_fail(rt: HostRuntime) {
     assert!(rt; is_answered(alloc, NOTED.len(), None));
 }
 
+// Its debug text is that.
+fn tells(alloc: Global, report: ReportError, wanted: &str) -> bool {
+    let is_so = shows(alloc, &report, wanted);
+    drop(report);
+    is_so
+}
+
 #[test]
 fn debug_of_a_report(rt: HostRuntime) {
     let alloc = rt.alloc();
-    let texts = "message: \"m\", filename: \"f\", source: \"é\"";
-    let rest = "span:  @ 1:0-1:2 (0..0), notes: []";
-    let wanted = format!(in alloc; "ReportError {{ {texts}, {rest} }}");
-    let wanted = wanted.unwrap_or(String::new(alloc));
+    let wanted = "ReportError { message: \"m\", filename: \"f\", source: \"é\", \
+        span:  @ 1:0-1:2 (0..0), notes: [] }";
     let report = made(alloc, "m", "f", "é", on(1, 0, 2));
-    let is_shown = shows(alloc, &report, wanted.as_str());
-    drop(report);
-    assert!(rt; is_shown);
+    assert!(rt; tells(alloc, report, wanted));
 }

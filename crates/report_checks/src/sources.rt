@@ -1,15 +1,29 @@
 //! The lines of a source.
+use crate::held::hold;
 use tera_report::report::from_line;
 
 const SOURCE: &str = "foo\nbar\r\n\nbaz";
 
-// The lines start at these bytes, and there is no fifth.
+// The line of that number starts at that byte.
+fn starts_at(number: usize, start: usize) -> bool {
+    match from_line(SOURCE, number) {
+        Some(rest) => rest.len() == SOURCE.len().saturating_sub(start),
+        None => false,
+    }
+}
+
+// There is no fifth line.
 #[test]
 fn can_get_line_starts(rt: HostRuntime) {
-    for (number, start) in [(1, 0), (2, 4), (3, 9), (4, 10)] {
-        let left = from_line(SOURCE, number).map(|rest| rest.len());
-        assert_eq!(rt; left, Some(SOURCE.len() - start));
-    }
-    assert!(rt; from_line(SOURCE, 0).is_none());
-    assert!(rt; from_line(SOURCE, 5).is_none());
+    hold(
+        &rt,
+        &[
+            starts_at(1, 0),
+            starts_at(2, 4),
+            starts_at(3, 9),
+            starts_at(4, 10),
+            from_line(SOURCE, 0).is_none(),
+            from_line(SOURCE, 5).is_none(),
+        ],
+    );
 }

@@ -1,6 +1,6 @@
 //! Spans, and nodes with their places.
 use crate::held::hold;
-use crate::made::{displays, shows};
+use crate::made::{displays, is_text, shows};
 use std::alloc::Global;
 use std::test::Fail;
 use tera_report::{Span, Spanned};
@@ -40,9 +40,8 @@ fn is_its_clone(span: Span, other: Span) -> bool {
 
 // Its debug text is that under options of the format too.
 fn shows_anyhow(alloc: Global, span: &Span, wanted: &str) -> bool {
-    let over_lines = format!(in alloc; "{span:#?}").unwrap_or(String::new(alloc));
-    let wide = format!(in alloc; "{span:40?}").unwrap_or(String::new(alloc));
-    over_lines.as_str() == wanted && wide.as_str() == wanted
+    is_text(format!(in alloc; "{span:#?}"), wanted)
+        && is_text(format!(in alloc; "{span:40?}"), wanted)
 }
 
 #[test]

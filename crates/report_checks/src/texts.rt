@@ -1,6 +1,6 @@
 //! What errors display and tell, and their causes.
 use crate::held::hold;
-use crate::made::{displays, names};
+use crate::made::{displays, is_text, names};
 use crate::told::tells;
 use std::alloc::Global;
 use std::io;
@@ -21,8 +21,7 @@ pub fn is_said(alloc: Global, error: &Error, wanted: &str) -> bool {
 }
 
 fn displays_wide(alloc: Global, error: &Error, wanted: &str) -> bool {
-    let wide = format!(in alloc; "{error:*>200}").unwrap_or(String::new(alloc));
-    wide.as_str() == wanted
+    is_text(format!(in alloc; "{error:*>200}"), wanted)
 }
 
 // The refusal of an extension of that template over these says that.
