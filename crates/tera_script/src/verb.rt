@@ -5,6 +5,7 @@ ghost use Rattle.tera_context.specs.Call.{request_of};
 ghost use Rattle.tera_context.specs.declared.call.Call.TheVariants.{Binary as binary};
 ghost use Rattle.tera_script.specs.inner.Call.{IsKnown, IsLike, IsVerbOf, request_in};
 ghost use Rattle.tera_script.specs.Verb.{row_of, word_of};
+ghost use Rattle.tera_script.specs.declared.verb.Operands.TheVariants as operands;
 ghost use Rattle.tera_script.specs.declared.verb.Verb.{Verb as VerbOf};
 
 use crate::bound::Bounds;
@@ -166,57 +167,10 @@ pub(crate) fn call_of(verb: Verb, operands: Operands) -> Option<Call>
     ensures { option_map request_of result ≡ request_in (row_of verb).making operands }
 {
     match operands {
-        Operands::Name(name) => match verb {
-            Verb::Remove => Some(Call::Remove { name }),
-            Verb::Has => Some(Call::Has { name }),
-            Verb::Get => Some(Call::Get { name }),
-            Verb::Reverse => Some(Call::Reverse { of: name }),
-            Verb::Negate => Some(Call::Negate { of: name }),
-            Verb::Len => Some(Call::Len { of: name }),
-            Verb::Truthy => Some(Call::Truthy { of: name }),
-            Verb::Kind => Some(Call::Kind { of: name }),
-            Verb::IsSafe => Some(Call::IsSafe { of: name }),
-            Verb::MarkSafe => Some(Call::MarkSafe { of: name }),
-            Verb::Print => Some(Call::Print { of: name }),
-            Verb::Escape => Some(Call::Escape { of: name }),
-            Verb::Fields => Some(Call::Fields { of: name }),
-            Verb::Walk => Some(Call::Walk { of: name }),
-            _ => None,
-        },
-        Operands::Names(left, right) => match verb {
-            Verb::Equal => Some(Call::Equal { left, right }),
-            Verb::Compare => Some(Call::Compare { left, right }),
-            Verb::TryCompare => Some(Call::TryCompare { left, right }),
-            Verb::Contains => Some(Call::Contains {
-                of: left,
-                needle: right,
-            }),
-            Verb::Item => Some(Call::Item {
-                of: left,
-                item: right,
-            }),
-            Verb::Add => Some(binary(BinaryOp::Add, left, right)),
-            Verb::Sub => Some(binary(BinaryOp::Sub, left, right)),
-            Verb::Mul => Some(binary(BinaryOp::Mul, left, right)),
-            Verb::Rem => Some(binary(BinaryOp::Rem, left, right)),
-            Verb::FloorDiv => Some(binary(BinaryOp::FloorDiv, left, right)),
-            Verb::Pow => Some(binary(BinaryOp::Pow, left, right)),
-            _ => None,
-        },
-        Operands::Text(of, text) => match verb {
-            Verb::Path => Some(Call::Path { of, path: text }),
-            Verb::Attr => Some(Call::Attr { of, attr: text }),
-            _ => None,
-        },
-        Operands::Bounds(of, bounds) => match verb {
-            Verb::Slice => Some(Call::Slice {
-                of,
-                start: bounds.start,
-                end: bounds.end,
-                step: bounds.step,
-            }),
-            _ => None,
-        },
+        Operands::Name(name) => call_of_name(verb, name),
+        Operands::Names(left, right) => call_of_names(verb, left, right),
+        Operands::Text(of, text) => call_of_text(verb, of, text),
+        Operands::Bounds(of, bounds) => call_of_bounds(verb, of, bounds),
         Operands::Type(to, of) => match verb {
             Verb::Read => Some(Call::Read { of, to }),
             _ => None,
@@ -229,6 +183,89 @@ pub(crate) fn call_of(verb: Verb, operands: Operands) -> Option<Call>
             Verb::Extend => Some(Call::Extend { source }),
             _ => None,
         },
+    }
+}
+
+// The call that a verb makes of a name.
+#[inline(always)]
+fn call_of_name(verb: Verb, name: String) -> Option<Call>
+    ensures { option_map request_of result
+        ≡ request_in (row_of verb).making (operands.Name name) }
+{
+    match verb {
+        Verb::Remove => Some(Call::Remove { name }),
+        Verb::Has => Some(Call::Has { name }),
+        Verb::Get => Some(Call::Get { name }),
+        Verb::Reverse => Some(Call::Reverse { of: name }),
+        Verb::Negate => Some(Call::Negate { of: name }),
+        Verb::Len => Some(Call::Len { of: name }),
+        Verb::Truthy => Some(Call::Truthy { of: name }),
+        Verb::Kind => Some(Call::Kind { of: name }),
+        Verb::IsSafe => Some(Call::IsSafe { of: name }),
+        Verb::MarkSafe => Some(Call::MarkSafe { of: name }),
+        Verb::Print => Some(Call::Print { of: name }),
+        Verb::Escape => Some(Call::Escape { of: name }),
+        Verb::Fields => Some(Call::Fields { of: name }),
+        Verb::Walk => Some(Call::Walk { of: name }),
+        _ => None,
+    }
+}
+
+// The call that a verb makes of two names.
+#[inline(always)]
+fn call_of_names(verb: Verb, left: String, right: String) -> Option<Call>
+    ensures { option_map request_of result
+        ≡ request_in (row_of verb).making (operands.Names left right) }
+{
+    match verb {
+        Verb::Equal => Some(Call::Equal { left, right }),
+        Verb::Compare => Some(Call::Compare { left, right }),
+        Verb::TryCompare => Some(Call::TryCompare { left, right }),
+        Verb::Contains => Some(Call::Contains {
+            of: left,
+            needle: right,
+        }),
+        Verb::Item => Some(Call::Item {
+            of: left,
+            item: right,
+        }),
+        Verb::Add => Some(binary(BinaryOp::Add, left, right)),
+        Verb::Sub => Some(binary(BinaryOp::Sub, left, right)),
+        Verb::Mul => Some(binary(BinaryOp::Mul, left, right)),
+        Verb::Rem => Some(binary(BinaryOp::Rem, left, right)),
+        Verb::FloorDiv => Some(binary(BinaryOp::FloorDiv, left, right)),
+        Verb::Pow => Some(binary(BinaryOp::Pow, left, right)),
+        _ => None,
+    }
+}
+
+// The call that a verb makes of a name and a text.
+#[inline(always)]
+fn call_of_text(verb: Verb, of: String, text: String) -> Option<Call>
+    ensures { option_map request_of result
+        ≡ request_in (row_of verb).making (operands.Text of text) }
+{
+    match verb {
+        Verb::Path => Some(Call::Path { of, path: text }),
+        Verb::Attr => Some(Call::Attr { of, attr: text }),
+        _ => None,
+    }
+}
+
+// The call that a verb makes of a name and three bounds.
+#[inline(always)]
+fn call_of_bounds(verb: Verb, of: String, bounds: Bounds) -> Option<Call>
+    ensures { option_map request_of result
+        ≡ request_in (row_of verb).making (operands.Bounds of bounds) }
+{
+    match verb {
+        Verb::Slice => Some(Call::Slice {
+            of,
+            start: bounds.start,
+            end: bounds.end,
+            step: bounds.step,
+        }),
+        _ => None,
     }
 }
 
