@@ -8,4 +8,5 @@ returns-in-Some-clause-known g c = rw c.in-Some.is c.replay_to-status.ensures.kn
 
 pub returns-in-None-clause-known : goal.returns-in-None-clause-known
 returns-in-None-clause-known g c =
-    rw (c.in-None.is, c.tell_no_memory-status.ensures.status) (nothing_read _ _ _ _ _ _ _ _ (c.args.input, inl (refl, refl, refl)) (refl, refl) c.tell_no_memory-status.ensures.told)
+    rw (c.in-None.is, c.tell_no_memory-status.ensures.status)
+    (nothing_read _ _ _ _ _ _ _ _ (c.args.input, inl (refl, refl, refl)) (refl, refl) c.tell_no_memory-status.ensures.told)
