@@ -1,5 +1,5 @@
 -- Items are printed one after another.
-use Rattle.std.specs.Prelude.{◌≡◌, ℕ, IsTrue, List, [], ◌∷◌, ◌++◌, codes, Some, None, refl}
+use Rattle.std.specs.Prelude.{◌≡◌, ℕ, IsTrue, List, [], ◌∷◌, ◌++◌, codes, Some, None, Result, Ok, Err, refl}
 use Rattle.std.proofs.Common.{sym, ◌∙◌, ap, subst, append_assoc}
 use Rattle.std.proofs.lemmas.Bool.{and_parts}
 use Rattle.tera_meaning.specs.Form.{Form}
@@ -9,6 +9,7 @@ use Rattle.tera_meaning.specs.Read.{text_in}
 use Rattle.tera_meaning.specs.Tree.{undefined, none, truth, number, text, bytes, array, object}
 use Rattle.tera_values.specs.Print.{items_layout, PrintsItems}
 use Rattle.tera_report.specs.Quoted.{Quotes, is_ascii_text, quoted}
+use Rattle.tera_report.specs.Sink.{Puts, PutsThese}
 
 -- what is printed of the items that come after others
 abbrev pub later : List Form → List ℕ
@@ -81,3 +82,18 @@ other_inside (text s) written is prints exact = absurd (cc)
 other_inside (bytes bs) written is prints exact = prints exact
 other_inside (array xs) written is prints exact = prints exact
 other_inside (object ps) written is prints exact = prints exact
+
+-- what is put behind bytes that were taken, be it a text or bytes with a property
+module _ {S E : Type 0} (takes fails : S → List ℕ → S → Type 0)
+    (joins : (s : S) (a : List ℕ) (t : S) (b : List ℕ) (u : S) → takes s a t → takes t b u → takes s (a ++ b) u)
+    (later : (s : S) (a : List ℕ) (t : S) (b : List ℕ) (u : S) → takes s a t → fails t b u → fails s (a ++ b) u) where
+  pub put_last : (P : List ℕ → Type 0) (result : Result (Unit {0}) E) (begun piece : List ℕ) (old mid new : S) → P (begun ++ piece)
+      → takes old begun mid → PutsThese takes fails result piece mid new → Puts takes fails result P old new
+  put_last P (Ok done) begun piece old mid new has first took = (begun ++ piece, has, joins _ _ _ _ _ first took)
+  put_last P (Err fault) begun piece old mid new has first failed = (begun ++ piece, has, later _ _ _ _ _ first failed)
+
+  pub put_more : (P Q : List ℕ → Type 0) (result : Result (Unit {0}) E) (begun : List ℕ) (old mid new : S)
+      → ((rest : List ℕ) → Q rest → P (begun ++ rest)) → takes old begun mid → Puts takes fails result Q mid new
+      → Puts takes fails result P old new
+  put_more P Q (Ok done) begun old mid new has first (rest, holds, took) = (begun ++ rest, has rest holds, joins _ _ _ _ _ first took)
+  put_more P Q (Err fault) begun old mid new has first (rest, holds, failed) = (begun ++ rest, has rest holds, later _ _ _ _ _ first failed)

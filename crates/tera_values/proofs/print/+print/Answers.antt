@@ -5,7 +5,7 @@ use Rattle.std.proofs.lemmas.Bool.{and_parts}
 use Rattle.tera_meaning.specs.Form.{Form}
 use Rattle.tera_meaning.specs.KeyMeaning.{KeyForm, key_meaning}
 use Rattle.tera_meaning.specs.Meaning.{layout}
-use Rattle.tera_meaning.specs.Printed.{Prints, printed_items, printed_members, printed_with, is_exact_key, is_exact_inside}
+use Rattle.tera_meaning.specs.Printed.{Prints, PrintsInside, printed_items, printed_members, printed_with, is_exact_key, is_exact_inside}
 use Rattle.tera_report.specs.Quoted.{quoted}
 use Rattle.tera_meaning.specs.Tree.{array, object, items, members, items_depth}
 use Rattle.tera_values.specs.Key.{key_form}
@@ -13,7 +13,7 @@ use Rattle.tera_values.specs.Print.{items_layout, pairs_layout, PrintsItems, Pri
 use Rattle.tera_values.proofs.PrintPairs.{first_pair_done, next_pair_done, rest_pairs_done, comma_pairs_done, later_pairs}
 use Rattle.tera_values.proofs.PartsLaws.{depth_at, first_depth}
 use Rattle.tera_report.proofs.PutLaws.{failed_of}
-use Rattle.tera_values.proofs.PrintLemmas.{first_done, next_done, rest_done, comma_done, later, text_inside, other_inside}
+use Rattle.tera_values.proofs.PrintLemmas.{put_last, put_more, first_done, next_done, rest_done, comma_done, later, text_inside, other_inside}
 use Rattle.tera_values.proofs.print.+print.Goals as goal
 
 pub put_array-returns-in_err-put : goal.put_array-returns-in_err-put
@@ -34,17 +34,8 @@ pub put_array-returns : goal.put_array-returns
 put_array-returns g t c =
     let (bytes, prints, took) = c.in_ok-put_items.ensures in
     let first = g.met.S.Sink.joined _ (codes "[") _ bytes _ c.in_ok-put.ensures took in
-    MatchResult-weaker c.put-2.result c.put-2.ensures
-    (λ _ last. (
-      _,
-      (λ exact. ap (λ l. (codes "[" ++ l) ++ codes "]") (prints exact)),
-      g.met.S.Sink.joined _ _ _ (codes "]") _ first last,
-    ))
-    (λ _ bad. (
-      _,
-      (λ exact. ap (λ l. (codes "[" ++ l) ++ codes "]") (prints exact)),
-      g.met.S.Sink.failed_later _ _ _ (codes "]") _ first bad,
-    ))
+    put_last g.S.Sink.takes g.S.Sink.fails g.met.S.Sink.joined g.met.S.Sink.failed_later (Prints (layout (array (items c.args.all.now)))) c.put-2.result _ (codes "]") _ _ _
+    (λ exact. ap (λ l. (codes "[" ++ l) ++ codes "]") (prints exact)) first c.put-2.ensures
 
 pub put_items-put_inside-requires-in-loop-item : goal.put_items-put_inside-requires-in-loop-item
 put_items-put_inside-requires-in-loop-item g t c κs within =
@@ -96,37 +87,19 @@ pub put_map-returns : goal.put_map-returns
 put_map-returns g t c =
     let (bytes, prints, took) = c.in_ok-put_pairs.ensures in
     let first = g.met.S.Sink.joined _ (codes "{") _ bytes _ c.in_ok-put.ensures took in
-    MatchResult-weaker c.put-2.result c.put-2.ensures
-    (λ _ last. (
-      _,
-      (λ exact. ap (λ l. (codes "{" ++ l) ++ codes "}") (prints exact)),
-      g.met.S.Sink.joined _ _ _ (codes "}") _ first last,
-    ))
-    (λ _ bad. (
-      _,
-      (λ exact. ap (λ l. (codes "{" ++ l) ++ codes "}") (prints exact)),
-      g.met.S.Sink.failed_later _ _ _ (codes "}") _ first bad,
-    ))
+    put_last g.S.Sink.takes g.S.Sink.fails g.met.S.Sink.joined g.met.S.Sink.failed_later (Prints (layout (object (members c.args.map.now)))) c.put-2.result _ (codes "}") _ _ _
+    (λ exact. ap (λ l. (codes "{" ++ l) ++ codes "}") (prints exact)) first c.put-2.ensures
 
 pub put_pair-returns : goal.put_pair-returns
 put_pair-returns g t c =
     let (bytes, prints, took) = c.in_ok-put_key.ensures in
     let colon = g.met.S.Sink.joined _ bytes _ (codes ": ") _ took c.in_ok-put.ensures in
-    MatchResult-weaker c.put_inside.result c.put_inside.ensures
-    (λ _ put. (
-      _,
-      (λ exact.
-          let parts = and_parts (is_exact_key (key_meaning (key_form c.args.key.now))) (is_exact_inside (layout c.args.value.now)) exact in
-          λ i. (prints parts.0 i ++ codes ": ") ++ put.1 parts.1 i),
-      g.met.S.Sink.joined _ _ _ put.0 _ colon put.2,
-    ))
-    (λ _ bad. (
-      _,
-      (λ exact.
-          let parts = and_parts (is_exact_key (key_meaning (key_form c.args.key.now))) (is_exact_inside (layout c.args.value.now)) exact in
-          λ i. (prints parts.0 i ++ codes ": ") ++ bad.1 parts.1 i),
-      g.met.S.Sink.failed_later _ _ _ bad.0 _ colon bad.2,
-    ))
+    put_more g.S.Sink.takes g.S.Sink.fails g.met.S.Sink.joined g.met.S.Sink.failed_later (PrintsPair (key_form c.args.key.now) c.args.value.now)
+    (PrintsInside (layout c.args.value.now)) c.put_inside.result _ _ _ _
+    (λ rest has exact.
+    let parts = and_parts (is_exact_key (key_meaning (key_form c.args.key.now))) (is_exact_inside (layout c.args.value.now)) exact in
+    λ i. (prints parts.0 i ++ codes ": ") ++ has parts.1 i)
+    colon c.put_inside.ensures
 
 pub put_pair-returns-in_err-put_key : goal.put_pair-returns-in_err-put_key
 put_pair-returns-in_err-put_key g t c =
