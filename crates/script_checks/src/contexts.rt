@@ -1,7 +1,7 @@
 //! Contexts by their entries, compared, extended and copied; what Debug tells of answers; and what
 //! is lent.
 use made_values::{safe, shows};
-use std::alloc::Global;
+use std::alloc::{AllocError, Global};
 use tera_context::{Context, Step, context, lend, run, step};
 use tera_report::TeraResult;
 use tera_script::{Reading, read_line};
@@ -39,8 +39,8 @@ fn many_commas(alloc: Global) -> TeraResult<Context> {
 // What two insertions give.
 fn by_hand(alloc: Global) -> Context {
     let mut context = Context::new(alloc);
-    let _ = context.insert("foo", "Bar");
-    let _ = context.insert("con", &69);
+    drop(context.insert("foo", "Bar"));
+    drop(context.insert("con", &69));
     context
 }
 
@@ -104,7 +104,7 @@ fn any_number_of_commas_stands_behind_an_entry(rt: HostRuntime) {
 fn numbered(alloc: Global, of: &[(&str, i64)]) -> Context {
     let mut context = Context::new(alloc);
     for (name, number) in of {
-        let _ = context.insert_value(*name, Value::from(*number));
+        drop(context.insert_value(*name, Value::from(*number)));
     }
     context
 }
@@ -112,7 +112,7 @@ fn numbered(alloc: Global, of: &[(&str, i64)]) -> Context {
 // The target with the source.
 fn extended(target: Context, source: Context) -> Context {
     let mut target = target;
-    let _ = target.extend(source);
+    drop(target.extend(source));
     target
 }
 
@@ -178,7 +178,7 @@ fn goes_its_own_way(alloc: Global, first: Context) -> bool {
 // Another number is there.
 fn renumbered(context: Context) -> Context {
     let mut context = context;
-    let _ = context.insert("n", 2);
+    drop(context.insert("n", 2));
     context
 }
 
@@ -205,11 +205,24 @@ fn an_empty_run_answers_nothing(rt: HostRuntime) {
     assert!(rt; are_equal(context, by_hand(alloc)));
 }
 
+// The step that the line says.
+fn step_of(alloc: Global, line: &str) -> Option<Step> {
+    match read_line(alloc, line.as_bytes()).ok()? {
+        Reading::Says(said) => Some(said),
+        other => no_step(other),
+    }
+}
+
+fn no_step(reading: Reading) -> Option<Step> {
+    drop(reading);
+    None
+}
+
 // The step that the line says is answered so, in words of Debug.
 fn answers(alloc: Global, context: &mut Context, line: &str, wanted: &str) -> bool {
-    match read_line(alloc, line.as_bytes()) {
-        Ok(Reading::Says(said)) => is_answered(alloc, context, said, wanted),
-        _ => false,
+    match step_of(alloc, line) {
+        Some(said) => is_answered(alloc, context, said, wanted),
+        None => false,
     }
 }
 
@@ -263,13 +276,25 @@ const SAID: [(&str, &str, &str); 14] = [
 
 // What the literal says, set as `a`, and its kind are shown so.
 fn shows_held(alloc: Global, context: &mut Context, said: &str, held: &str, kind: &str) -> bool {
-    let set = format!(in alloc; "set a {said}").unwrap_or(String::new(alloc));
+    let set = text_or_none(alloc, format!(in alloc; "set a {said}"));
+    let is_set = answers(alloc, context, set.as_str(), "Ok(Done)");
+    drop(set);
     let found = format!(in alloc; "Ok(Found(Some(Value {{ inner: {held} }})))");
-    let found = found.unwrap_or(String::new(alloc));
-    let told = format!(in alloc; "Ok(Kind({kind}))").unwrap_or(String::new(alloc));
-    answers(alloc, context, set.as_str(), "Ok(Done)")
-        && answers(alloc, context, "get a", found.as_str())
-        && answers(alloc, context, "kind a", told.as_str())
+    let is_found = answers_text(alloc, context, "get a", text_or_none(alloc, found));
+    let told = format!(in alloc; "Ok(Kind({kind}))");
+    is_set && is_found && answers_text(alloc, context, "kind a", text_or_none(alloc, told))
+}
+
+// The text that was made, or none.
+fn text_or_none(alloc: Global, made: Result<String, AllocError>) -> String {
+    made.unwrap_or(String::new(alloc))
+}
+
+// The step that the line says is answered by that text.
+fn answers_text(alloc: Global, context: &mut Context, line: &str, wanted: String) -> bool {
+    let is_so = answers(alloc, context, line, wanted.as_str());
+    drop(wanted);
+    is_so
 }
 
 #[test]
@@ -294,9 +319,9 @@ fn answers_show_what_they_hold(rt: HostRuntime) {
 
 // What the context lends for the step that the line says, in words of Debug.
 fn lends(alloc: Global, context: &Context, line: &str, wanted: &str) -> bool {
-    match read_line(alloc, line.as_bytes()) {
-        Ok(Reading::Says(said)) => is_lent(alloc, context, said, wanted),
-        _ => false,
+    match step_of(alloc, line) {
+        Some(said) => is_lent(alloc, context, said, wanted),
+        None => false,
     }
 }
 

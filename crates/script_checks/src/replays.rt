@@ -265,7 +265,11 @@ fn pieces_end(alloc: Global, pieces: &[&[u8]], fails: bool, wanted: Ended<'_>) -
     let mut input = InputPieces::new(pieces, fails);
     let status = replay_from(alloc, &mut input, &mut out, &mut err);
     let (ended, answers, report) = wanted;
-    status == ended && out.as_str().as_bytes() == answers && err.as_str().as_bytes() == report
+    let is_answered = status == ended && out.as_str().as_bytes() == answers;
+    let is_reported = err.as_str().as_bytes() == report;
+    drop(out);
+    drop(err);
+    is_answered && is_reported
 }
 
 #[test]
