@@ -1,5 +1,5 @@
 //! A whole script.
-ghost use Rattle.std.specs.Prelude.{◌⊎◌, IfOk, string_bytes};
+ghost use Rattle.std.specs.Prelude.{◌⊎◌, ℕ, IfOk, List, string_bytes};
 ghost use Rattle.tera_c.specs.Scripts.{Comes, FoundNoMemory, IsReplayed};
 
 use crate::kept::Kept;
@@ -30,9 +30,26 @@ pub(crate) fn replay_into(
 {
     *out_len = 0;
     *err_len = 0;
-    let Ok(replayed) = replay_text(alloc, script) else {
-        return NO_MEMORY;
-    };
+    match replay_text(alloc, script) {
+        Ok(replayed) => put_into(&replayed, out, out_len, err, err_len),
+        Err(_) => NO_MEMORY,
+    }
+}
+
+// Puts what a script comes to into two rooms, where it fits, and says how long it is.
+#[inline(always)]
+fn put_into(
+    replayed: &Replayed,
+    out: &mut [u8],
+    out_len: &mut usize,
+    err: &mut [u8],
+    err_len: &mut usize,
+) -> u8
+    ensures { (script : List ℕ)
+        → Comes script (string_bytes replayed.now.answers) (string_bytes replayed.now.report)
+        replayed.now.status
+        → IsReplayed script out.old out.new err.old err.new out_len.new err_len.new result }
+{
     let answers = replayed.answers.as_bytes();
     let report = replayed.report.as_bytes();
     *out_len = answers.len();
