@@ -34,7 +34,8 @@ pub put_array-returns : goal.put_array-returns
 put_array-returns g t c =
     let (bytes, prints, took) = c.in_ok-put_items.ensures in
     let first = g.met.S.Sink.joined _ (codes "[") _ bytes _ c.in_ok-put.ensures took in
-    put_last g.S.Sink.takes g.S.Sink.fails g.met.S.Sink.joined g.met.S.Sink.failed_later (Prints (layout (array (items c.args.all.now)))) c.put-2.result _ (codes "]") _ _ _
+    put_last g.S.Sink.takes g.S.Sink.fails g.met.S.Sink.joined g.met.S.Sink.failed_later
+    (Prints (layout (array (items c.args.all.now)))) c.put-2.result _ (codes "]") _ _ _
     (λ exact. ap (λ l. (codes "[" ++ l) ++ codes "]") (prints exact)) first c.put-2.ensures
 
 pub put_items-put_inside-requires-in-loop-item : goal.put_items-put_inside-requires-in-loop-item
@@ -87,7 +88,8 @@ pub put_map-returns : goal.put_map-returns
 put_map-returns g t c =
     let (bytes, prints, took) = c.in_ok-put_pairs.ensures in
     let first = g.met.S.Sink.joined _ (codes "{") _ bytes _ c.in_ok-put.ensures took in
-    put_last g.S.Sink.takes g.S.Sink.fails g.met.S.Sink.joined g.met.S.Sink.failed_later (Prints (layout (object (members c.args.map.now)))) c.put-2.result _ (codes "}") _ _ _
+    put_last g.S.Sink.takes g.S.Sink.fails g.met.S.Sink.joined g.met.S.Sink.failed_later
+    (Prints (layout (object (members c.args.map.now)))) c.put-2.result _ (codes "}") _ _ _
     (λ exact. ap (λ l. (codes "{" ++ l) ++ codes "}") (prints exact)) first c.put-2.ensures
 
 pub put_pair-returns : goal.put_pair-returns
