@@ -1,9 +1,8 @@
 //! What values are taken as.
 use crate::answers::{tell, tell_error};
-use crate::made::Made;
+use crate::made::{Made, as_value};
 use std::alloc::Global;
 use std::borrow::CowStr;
-use std::fmt::Debug;
 use tera_arguments::{ArgFromValue, StringInput};
 use tera_report::TeraResult;
 use tera_values::{Map, Number, Value};
@@ -31,6 +30,11 @@ pub fn tell_taken(rt: &(impl Print + AllocGlobal), made: &Made) {
         taken::<Value, Value>(alloc, &made.list),
     );
     tell(rt, "Map::from_value", as_value(taken(alloc, &made.map)));
+    tell_lists(rt, made);
+}
+
+fn tell_lists(rt: &(impl Print + AllocGlobal), made: &Made) {
+    let alloc = rt.alloc();
     tell(
         rt,
         "Vec::from_value",
@@ -48,17 +52,16 @@ pub fn tell_taken(rt: &(impl Print + AllocGlobal), made: &Made) {
     );
 }
 
-// The text, where it is one of its own.
 fn owned(alloc: Global, value: &Value) -> TeraResult<Option<String>> {
-    match taken(alloc, value)? {
-        CowStr::Owned(text) => Ok(Some(text)),
-        CowStr::Borrowed(_) => Ok(None),
-    }
+    Ok(own_text(taken(alloc, value)?))
 }
 
-/// The map as a value.
-pub fn as_value(map: TeraResult<Map>) -> TeraResult<Value> {
-    Ok(Value::of_map(map?))
+/// The text, where it is one of its own.
+pub fn own_text(text: CowStr<'_>) -> Option<String> {
+    match text {
+        CowStr::Owned(text) => Some(text),
+        CowStr::Borrowed(_) => None,
+    }
 }
 
 // The type of that name refuses the value.
@@ -102,6 +105,11 @@ where
 
 /// Integers.
 pub fn tell_integers(rt: &(impl Print + AllocGlobal), made: &Made) {
+    tell_unsigned(rt, made);
+    tell_signed(rt, made);
+}
+
+fn tell_unsigned(rt: &(impl Print + AllocGlobal), made: &Made) {
     let (past, below) = ([&made.wide, &made.none], [&made.below, &made.none]);
     tell_integer::<Value, u8>(rt, "u8::from_value", past);
     tell_integer::<Value, u16>(rt, "u16::from_value", past);
@@ -109,6 +117,10 @@ pub fn tell_integers(rt: &(impl Print + AllocGlobal), made: &Made) {
     tell_integer::<Value, u64>(rt, "u64::from_value", past);
     tell_integer::<Value, u128>(rt, "u128::from_value", below);
     tell_integer::<Value, usize>(rt, "usize::from_value", past);
+}
+
+fn tell_signed(rt: &(impl Print + AllocGlobal), made: &Made) {
+    let past = [&made.wide, &made.none];
     tell_integer::<Value, i8>(rt, "i8::from_value", past);
     tell_integer::<Value, i16>(rt, "i16::from_value", past);
     tell_integer::<Value, i32>(rt, "i32::from_value", past);

@@ -1,19 +1,28 @@
 //! Contexts, and the lines of scripts.
 use crate::answers::{tell, tell_change, widened};
-use crate::made::{Made, item, name};
-use std::alloc::Global;
+use crate::made::{Fill, Made, filled, item, name};
+use std::alloc::{AllocError, Global};
 use tera_context::{Context, context};
 use tera_report::TeraResult;
 use tera_script::{read_line, take_text};
+use tera_values::Value;
 
 // The items under so many names.
 fn of_items(alloc: Global, count: usize) -> TeraResult<Context> {
-    let mut context = Context::new(alloc);
-    for number in 0..count {
-        let name = name(alloc, number)?;
-        context.insert_value(name.as_str(), item(alloc, number)?)?;
+    filled(alloc, Context::new(alloc), count)
+}
+
+impl Fill for Context {
+    fn put(&mut self, alloc: Global, number: usize) -> TeraResult<()> {
+        let item = item(alloc, number)?;
+        put_at(self, name(alloc, number)?, item)
     }
-    Ok(context)
+}
+
+fn put_at(context: &mut Context, name: String, item: Value) -> TeraResult<()> {
+    let answer = context.insert_value(name.as_str(), item);
+    drop(name);
+    answer
 }
 
 /// Contexts that are made, changed and copied.
@@ -21,6 +30,11 @@ pub fn tell_contexts(rt: &(impl Print + AllocGlobal), made: &Made) -> TeraResult
     let (alloc, text) = (rt.alloc(), made.text.as_str());
     tell(rt, "Context::new", Ok(Context::new(alloc)));
     tell(rt, "context!", of_macro(alloc, text));
+    tell_changes(rt, made)
+}
+
+fn tell_changes(rt: &(impl Print + AllocGlobal), made: &Made) -> TeraResult<()> {
+    let (alloc, text) = (rt.alloc(), made.text.as_str());
     tell_copy(rt, of_items(alloc, made.count)?);
     tell_insert(rt, of_items(alloc, made.count)?, text);
     tell_replace(rt, of_items(alloc, 1)?, text);
@@ -58,10 +72,26 @@ fn tell_replace(rt: &impl Print, context: Context, text: &str) {
 /// Lines and texts of scripts.
 pub fn tell_lines(rt: &(impl Print + AllocGlobal), made: &Made) -> TeraResult<()> {
     let (alloc, text) = (rt.alloc(), made.text.as_str());
-    let line = format!(in alloc; "set a [\"{text}\"]")?;
-    tell(rt, "read_line", widened(read_line(alloc, line.as_bytes())));
-    let quoted = format!(in alloc; "{text}\" rest")?;
-    tell(rt, "take_text", unquoted(alloc, quoted.as_bytes()));
+    tell_line(rt, format!(in alloc; "set a [\"{text}\"]"))?;
+    tell_text(rt, format!(in alloc; "{text}\" rest"))
+}
+
+fn tell_line(rt: &(impl Print + AllocGlobal), line: Result<String, AllocError>) -> TeraResult<()> {
+    let line = line?;
+    let reading = read_line(rt.alloc(), line.as_bytes());
+    drop(line);
+    tell(rt, "read_line", widened(reading));
+    Ok(())
+}
+
+fn tell_text(
+    rt: &(impl Print + AllocGlobal),
+    quoted: Result<String, AllocError>,
+) -> TeraResult<()> {
+    let quoted = quoted?;
+    let text = unquoted(rt.alloc(), quoted.as_bytes());
+    drop(quoted);
+    tell(rt, "take_text", text);
     Ok(())
 }
 

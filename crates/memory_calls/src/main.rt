@@ -45,6 +45,12 @@ fn ended(rt: &HostRuntime, error: Error) -> ExitCode {
 
 fn started(rt: &HostRuntime) -> TeraResult<()> {
     let given = io::read_to_string(rt.alloc(), rt.stdin())?;
+    let told = tell_asked(rt, given.as_str());
+    drop(given);
+    told
+}
+
+fn tell_asked(rt: &HostRuntime, given: &str) -> TeraResult<()> {
     let (what, rest) = given.split_once("\n").unwrap_or(("", ""));
     if what == "run" {
         return runs::tell_runs(rt, rest);
@@ -68,22 +74,40 @@ fn tell_calls(rt: &HostRuntime, count: usize) -> TeraResult<()> {
 
 fn tell_each(rt: &HostRuntime, made: &mut Made) -> TeraResult<()> {
     made.fill(rt.alloc())?;
+    tell_reports(rt, made)?;
+    tell_values(rt, made)?;
+    tell_given(rt, made)?;
+    tell_script(rt, made)
+}
+
+fn tell_reports(rt: &HostRuntime, made: &Made) -> TeraResult<()> {
     errors::tell_refusals(rt, made)?;
     errors::tell_templates(rt, made)?;
     errors::tell_copies(rt, made)?;
     reports::tell_reports(rt, made)?;
-    reports::tell_changes(rt, made)?;
+    reports::tell_changes(rt, made)
+}
+
+fn tell_values(rt: &HostRuntime, made: &Made) -> TeraResult<()> {
     paper::tell_papers(rt, made);
     values::tell_makers(rt, made)?;
     values::tell_copies(rt, made);
     values::tell_maps(rt, made)?;
     numbers::tell_refusals(rt, made);
+    Ok(())
+}
+
+fn tell_given(rt: &HostRuntime, made: &Made) -> TeraResult<()> {
     given::tell_values(rt, made)?;
     given::tell_collections(rt, made)?;
     given::tell_keys(rt, made)?;
     arguments::tell_taken(rt, made);
     arguments::tell_refused(rt, made);
     arguments::tell_integers(rt, made);
+    Ok(())
+}
+
+fn tell_script(rt: &HostRuntime, made: &Made) -> TeraResult<()> {
     named::tell_named(rt, made)?;
     named::tell_inputs(rt, made)?;
     contexts::tell_contexts(rt, made)?;

@@ -2,10 +2,9 @@
 ghost use Rattle.tera_report.specs.Errors.{IsOutOfMemory};
 
 use crate::answers::tell;
-use crate::arguments::taken;
+use crate::arguments::{own_text, taken};
 use crate::made::{Made, map};
 use std::alloc::Global;
-use std::borrow::CowStr;
 use tera_arguments::{Autoescape, Kwargs, StringInput};
 use tera_report::{TeraResult, escape_text, one_spelling};
 use tera_values::Value;
@@ -37,12 +36,16 @@ impl Autoescape for Page {
 /// Arguments by their names.
 pub fn tell_named(rt: &(impl Print + AllocGlobal), made: &Made) -> TeraResult<()> {
     let alloc = rt.alloc();
-    let text = made.plain.clone(alloc)?;
-    let pairs = Kwargs::from_pairs(alloc, [("m", text), ("n", Value::from(300u16))]);
-    tell(rt, "Kwargs::from_pairs", pairs);
+    tell_pairs(rt, made.plain.clone(alloc)?);
     tell_copy(rt, Kwargs::new(map(alloc, made.count)?));
     tell_taken(rt, Kwargs::new(map(alloc, 2)?));
     Ok(())
+}
+
+fn tell_pairs(rt: &(impl Print + AllocGlobal), text: Value) {
+    let pairs = [("m", text), ("n", Value::from(300u16))];
+    let made = Kwargs::from_pairs(rt.alloc(), pairs);
+    tell(rt, "Kwargs::from_pairs", made);
 }
 
 fn tell_copy(rt: &(impl Print + AllocGlobal), of: Kwargs) {
@@ -86,10 +89,6 @@ pub fn tell_inputs(rt: &(impl Print + AllocGlobal), made: &Made) -> TeraResult<(
     Ok(())
 }
 
-// The text, where it is one of its own.
 fn shown(alloc: Global, input: &StringInput<'_>) -> TeraResult<Option<String>> {
-    match input.rendered(alloc, &Page)? {
-        CowStr::Owned(text) => Ok(Some(text)),
-        CowStr::Borrowed(_) => Ok(None),
-    }
+    Ok(own_text(input.rendered(alloc, &Page)?))
 }

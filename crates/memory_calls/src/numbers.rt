@@ -13,6 +13,13 @@ pub fn tell_refusals(rt: &(impl Print + AllocGlobal), made: &Made) {
     tell(rt, "number::rem", rem(alloc, below, zero));
     tell(rt, "number::floor_div", floor_div(alloc, below, zero));
     tell(rt, "number::pow", pow(alloc, zero, below));
+    tell_conversions(rt);
+    let none = NotComputed::NotANumber { kind: "none" };
+    tell_error(rt, "NotComputed::into_error", none.into_error(alloc));
+}
+
+fn tell_conversions(rt: &(impl Print + AllocGlobal)) {
+    let alloc = rt.alloc();
     let wrong = ConversionRefused::WrongType {
         expected: "u8",
         actual: "none",
@@ -27,6 +34,4 @@ pub fn tell_refusals(rt: &(impl Print + AllocGlobal), made: &Made) {
         "ConversionRefused::into_error of a number",
         past.into_error(alloc),
     );
-    let none = NotComputed::NotANumber { kind: "none" };
-    tell_error(rt, "NotComputed::into_error", none.into_error(alloc));
 }

@@ -1,17 +1,24 @@
 //! Reports: made, copied, changed, as texts; and nodes with their places.
 use crate::answers::{tell, tell_change};
-use crate::made::{Made, name, names, span};
+use crate::made::{Fill, Made, filled, name, names, span};
 use std::alloc::Global;
 use tera_report::{ReportError, Spanned, TeraResult};
 
 // A report of these texts, with as many notes as there are parts.
 fn sample(alloc: Global, made: &Made) -> TeraResult<ReportError> {
-    let mut report = plain(alloc, made)?;
-    for number in 0..made.count {
-        let label = name(alloc, number)?;
-        report.add_note(alloc, label.as_str(), "b.html", "y", &span())?;
+    filled(alloc, plain(alloc, made)?, made.count)
+}
+
+impl Fill for ReportError {
+    fn put(&mut self, alloc: Global, number: usize) -> TeraResult<()> {
+        note_at(self, alloc, name(alloc, number)?)
     }
-    Ok(report)
+}
+
+fn note_at(report: &mut ReportError, alloc: Global, label: String) -> TeraResult<()> {
+    let answer = report.add_note(alloc, label.as_str(), "b.html", "y", &span());
+    drop(label);
+    answer
 }
 
 fn plain(alloc: Global, made: &Made) -> TeraResult<ReportError> {
@@ -21,17 +28,21 @@ fn plain(alloc: Global, made: &Made) -> TeraResult<ReportError> {
 
 /// Reports that are made, copied and shown.
 pub fn tell_reports(rt: &(impl Print + AllocGlobal), made: &Made) -> TeraResult<()> {
-    let (alloc, text) = (rt.alloc(), made.text.as_str());
-    let message = String::from_str(alloc, text)?;
-    let report = ReportError::new(alloc, message, text, text, &span());
-    tell(rt, "ReportError::new", report);
-    let message = String::from_str(alloc, text)?;
+    tell(rt, "ReportError::new", plain(rt.alloc(), made));
+    tell_bare(rt, made)?;
+    tell_sample(rt, sample(rt.alloc(), made)?);
+    tell_nodes(rt, made)
+}
+
+// Reports that stand on no source.
+fn tell_bare(rt: &(impl Print + AllocGlobal), made: &Made) -> TeraResult<()> {
+    let alloc = rt.alloc();
+    let message = String::from_str(alloc, made.text.as_str())?;
     let bare = ReportError::new_without_source(alloc, message, &span());
     tell(rt, "ReportError::new_without_source", Ok(bare));
     let ended = ReportError::unexpected_end_of_input(alloc, &span());
     tell(rt, "ReportError::unexpected_end_of_input", ended);
-    tell_sample(rt, sample(alloc, made)?);
-    tell_nodes(rt, made)
+    Ok(())
 }
 
 fn tell_sample(rt: &(impl Print + AllocGlobal), report: ReportError) {
@@ -48,13 +59,21 @@ fn tell_sample(rt: &(impl Print + AllocGlobal), report: ReportError) {
 /// Reports that are changed.
 pub fn tell_changes(rt: &(impl Print + AllocGlobal), made: &Made) -> TeraResult<()> {
     let (alloc, text) = (rt.alloc(), made.text.as_str());
-    let mut report = sample(alloc, made)?;
-    let answer = report.set_source(alloc, "given.html", text);
-    tell_change(rt, "ReportError::set_source", answer, report);
-    let mut noted = sample(alloc, made)?;
-    let answer = noted.add_note(alloc, text, "given.html", text, &span());
-    tell_change(rt, "ReportError::add_note", answer, noted);
+    tell_source(rt, sample(alloc, made)?, text);
+    tell_note(rt, sample(alloc, made)?, text);
     Ok(())
+}
+
+fn tell_source(rt: &(impl Print + AllocGlobal), report: ReportError, text: &str) {
+    let mut report = report;
+    let answer = report.set_source(rt.alloc(), "given.html", text);
+    tell_change(rt, "ReportError::set_source", answer, report);
+}
+
+fn tell_note(rt: &(impl Print + AllocGlobal), report: ReportError, text: &str) {
+    let mut report = report;
+    let answer = report.add_note(rt.alloc(), text, "given.html", text, &span());
+    tell_change(rt, "ReportError::add_note", answer, report);
 }
 
 // Nodes with their places.
@@ -65,9 +84,12 @@ fn tell_nodes(rt: &(impl Print + AllocGlobal), made: &Made) -> TeraResult<()> {
         "Spanned::new",
         Spanned::new(alloc, names(alloc, made.count)?, span()),
     );
-    let node = Spanned::new(alloc, names(alloc, made.count)?, span())?;
-    let copy = node.clone(alloc);
+    tell_node(rt, Spanned::new(alloc, names(alloc, made.count)?, span())?);
+    Ok(())
+}
+
+fn tell_node(rt: &(impl Print + AllocGlobal), node: Spanned<Vec<String>>) {
+    let copy = node.clone(rt.alloc());
     drop(node);
     tell(rt, "Spanned::clone", copy);
-    Ok(())
 }

@@ -1,8 +1,10 @@
 //! Lists of steps that are run.
 use crate::answers::{tell, tell_error, widened};
+use crate::made::{changed, lost, push};
 use std::alloc::Global;
 use std::cmp::Ordering;
-use std::io;
+use std::fmt::{Debug, Display};
+use std::mem;
 use tera_context::{Answer, Context, Step, run};
 use tera_report::{Error, TeraResult};
 use tera_script::{Reading, read_line};
@@ -11,9 +13,13 @@ use tera_values::Value;
 /// Tells what each line of a script says.
 pub fn tell_readings(rt: &(impl Print + AllocGlobal), script: &str) {
     for line in script.lines() {
-        let reading = read_line(rt.alloc(), line.as_bytes());
-        tell(rt, "read_line", widened(reading));
+        tell_reading(rt, line);
     }
+}
+
+fn tell_reading(rt: &(impl Print + AllocGlobal), line: &str) {
+    let reading = read_line(rt.alloc(), line.as_bytes());
+    tell(rt, "read_line", widened(reading));
 }
 
 /// Runs the lists of steps that a script holds, each in one run, over one context. Lines `--` part
@@ -31,78 +37,117 @@ fn tell_lists(
     script: &str,
 ) -> TeraResult<()> {
     for list in script.split("--\n") {
-        let steps = steps_of(rt.alloc(), list)?;
-        tell_answers(rt, run(context, steps));
+        tell_run(rt, context, list)?;
     }
+    Ok(())
+}
+
+fn tell_run(rt: &(impl Print + AllocGlobal), context: &mut Context, list: &str) -> TeraResult<()> {
+    let steps = steps_of(rt.alloc(), list)?;
+    tell_answers(rt, run(context, steps));
     Ok(())
 }
 
 /// The steps that the lines say.
 pub fn steps_of(alloc: Global, list: &str) -> TeraResult<Vec<Step>> {
     let mut steps = Vec::new(alloc);
+    let answer = push_steps(alloc, &mut steps, list);
+    changed(steps, answer)
+}
+
+fn push_steps(alloc: Global, steps: &mut Vec<Step>, list: &str) -> TeraResult<()> {
     for line in list.lines() {
-        steps.push(step_of(alloc, line)?)?;
+        push(steps, step_of(alloc, line)?)?;
     }
-    Ok(steps)
+    Ok(())
 }
 
 fn step_of(alloc: Global, line: &str) -> TeraResult<Step> {
     match line.strip_prefix("@") {
-        Some(rest) => Ok(Step {
-            call: read(alloc, rest)?.call,
-            into: Some(String::from_str(alloc, "ignored")?),
-        }),
+        Some(rest) => found_ignored(alloc, read(alloc, rest)?),
         None => read(alloc, line),
     }
+}
+
+// The step, which keeps what its call finds under `ignored`.
+fn found_ignored(alloc: Global, step: Step) -> TeraResult<Step> {
+    match String::from_str(alloc, "ignored") {
+        Ok(name) => Ok(found_into(step, name)),
+        Err(refused) => lost(step, Error::from(refused)),
+    }
+}
+
+fn found_into(step: Step, name: String) -> Step {
+    let mut step = step;
+    drop(mem::replace(&mut step.into, Some(name)));
+    step
 }
 
 fn read(alloc: Global, line: &str) -> TeraResult<Step> {
     match read_line(alloc, line.as_bytes())? {
         Reading::Says(step) => Ok(step),
-        _ => Err(Error::message(alloc, line)),
+        other => lost(other, Error::message(alloc, line)),
     }
 }
 
-fn tell_answers(rt: &impl Print, answers: TeraResult<Vec<TeraResult<Answer>>>) {
+// What is told as replies to a script have it.
+trait Tell {
+    fn tell(&self, rt: &impl Print);
+}
+
+// The answers, or why there are none.
+fn tell_answers<T: Tell + Drop>(rt: &impl Print, answers: TeraResult<T>) {
     match answers {
-        Ok(answers) => tell_list(rt, answers),
+        Ok(answers) => tell_all(rt, answers),
         Err(refused) => tell_error(rt, "run", refused),
     }
 }
 
-fn tell_list(rt: &impl Print, answers: Vec<TeraResult<Answer>>) {
-    tell_each(rt, answers.as_slice());
+fn tell_all<T: Tell + Drop>(rt: &impl Print, answers: T) {
+    answers.tell(rt);
     drop(answers);
 }
 
-fn tell_each(rt: &impl Print, answers: &[TeraResult<Answer>]) {
-    for answer in answers {
-        match answer {
-            Ok(answer) => tell_answer(rt, answer),
-            Err(refused) => tell_refusal(rt, refused),
+impl<T: Tell> Tell for Vec<TeraResult<T>> {
+    fn tell(&self, rt: &impl Print) {
+        for answer in self {
+            match answer {
+                Ok(answer) => answer.tell(rt),
+                Err(refused) => tell_shown(rt, "error: ", refused),
+            }
         }
     }
 }
 
-fn tell_refusal(rt: &impl Print, refused: &Error) {
-    let _ = println!(rt; "error: {refused}");
+impl Tell for Answer {
+    fn tell(&self, rt: &impl Print) {
+        match self {
+            Answer::Done => tell_shown(rt, "", &"ok"),
+            Answer::Truth(truth) => tell_shown(rt, "", truth),
+            Answer::Order(order) => tell_shown(rt, "", &order_name(*order)),
+            Answer::Found(found) => tell_found(rt, found),
+            Answer::Size(size) => tell_size(rt, *size),
+            Answer::Kind(kind) => tell_shown(rt, "kind ", &kind.name()),
+            Answer::Text(text) => tell_shown(rt, "text ", text),
+            Answer::Texts(names) => tell_debug(rt, "fields ", names),
+            Answer::Walked(names) => tell_debug(rt, "walk ", names),
+        }
+    }
 }
 
-// The answer as a reply to a script has it.
-fn tell_answer(rt: &impl Print, answer: &Answer) {
-    let _ = match answer {
-        Answer::Done => println!(rt; "ok"),
-        Answer::Truth(truth) => println!(rt; "{truth}"),
-        Answer::Order(order) => println!(rt; "{}", order_name(*order)),
-        Answer::Found(None) => println!(rt; "nothing"),
-        Answer::Found(Some(value)) => told_found(rt, value),
-        Answer::Size(None) => println!(rt; "nothing"),
-        Answer::Size(Some(size)) => println!(rt; "size {size}"),
-        Answer::Kind(kind) => println!(rt; "kind {}", kind.name()),
-        Answer::Text(text) => println!(rt; "text {text}"),
-        Answer::Texts(names) => println!(rt; "fields {names:?}"),
-        Answer::Walked(names) => println!(rt; "walk {names:?}"),
-    };
+fn tell_shown<D: Display>(rt: &impl Print, word: &str, it: &D) {
+    let _ = println!(rt; "{word}{it}");
+}
+
+fn tell_debug<D: Debug>(rt: &impl Print, word: &str, it: &D) {
+    let _ = println!(rt; "{word}{it:?}");
+}
+
+fn tell_size(rt: &impl Print, size: Option<usize>) {
+    match size {
+        Some(size) => tell_shown(rt, "size ", &size),
+        None => tell_shown(rt, "", &"nothing"),
+    }
 }
 
 fn order_name(order: Option<Ordering>) -> &'static str {
@@ -114,11 +159,18 @@ fn order_name(order: Option<Ordering>) -> &'static str {
     }
 }
 
-fn told_found(rt: &impl Print, value: &Value) -> io::Result<()> {
+fn tell_found(rt: &impl Print, found: &Option<Value>) {
+    match found {
+        Some(value) => tell_value(rt, value),
+        None => tell_shown(rt, "", &"nothing"),
+    }
+}
+
+fn tell_value(rt: &impl Print, value: &Value) {
     match value.as_str() {
-        Some(text) => println!(rt; "value {text:?}"),
-        None if value.is_undefined() => println!(rt; "value undefined"),
-        None if value.is_none() => println!(rt; "value none"),
-        None => println!(rt; "value {value}"),
+        Some(text) => tell_debug(rt, "value ", &text),
+        None if value.is_undefined() => tell_shown(rt, "value ", &"undefined"),
+        None if value.is_none() => tell_shown(rt, "value ", &"none"),
+        None => tell_shown(rt, "value ", value),
     }
 }

@@ -1,9 +1,8 @@
 //! Values, keys and maps: made and copied.
 use crate::answers::{tell, tell_change, widened};
-use crate::arguments::as_value;
-use crate::made::{Made, map};
+use crate::made::{Made, as_value, lost, map};
 use std::rc::RcStr;
-use tera_report::TeraResult;
+use tera_report::{Error, TeraResult};
 use tera_values::{Key, Map, Value};
 
 /// What makes values.
@@ -22,6 +21,11 @@ pub fn tell_makers(rt: &(impl Print + AllocGlobal), made: &Made) -> TeraResult<(
         "Value::as_key of what is no key",
         made.list.as_key(alloc),
     );
+    tell_keys(rt, text)
+}
+
+fn tell_keys(rt: &(impl Print + AllocGlobal), text: &str) -> TeraResult<()> {
+    let alloc = rt.alloc();
     tell(rt, "Key::of_text", widened(Key::of_text(alloc, text)));
     let owned = String::from_str(alloc, text)?;
     tell(rt, "Key::of_string", widened(Key::of_string(owned)));
@@ -48,17 +52,23 @@ pub fn tell_copies(rt: &(impl Print + AllocGlobal), made: &Made) {
 pub fn tell_maps(rt: &(impl Print + AllocGlobal), made: &Made) -> TeraResult<()> {
     let alloc = rt.alloc();
     tell(rt, "Map::new", Ok(Value::of_map(Map::new(alloc))));
-    let mut held = map(alloc, made.count)?;
+    let held = map(alloc, made.count)?;
     tell(rt, "Map::clone", as_value(held.clone()));
-    let key = RcStr::from_str(alloc, "new")?;
-    let answer = inserted(&mut held, Key::String(key));
+    match RcStr::from_str(alloc, "new") {
+        Ok(key) => tell_insert(rt, held, Key::String(key)),
+        Err(refused) => lost(held, Error::from(refused)),
+    }
+}
+
+// A number is put at that key.
+fn tell_insert(rt: &impl Print, map: Map, key: Key<'static>) -> TeraResult<()> {
+    let mut held = map;
+    let answer = inserted(&mut held, key);
     tell_change(rt, "Map::insert", answer, Value::of_map(held));
     Ok(())
 }
 
-// A number at that key.
 fn inserted(map: &mut Map, key: Key<'static>) -> TeraResult<()> {
-    let before = map.insert(key, Value::from(7u8))?;
-    drop(before);
+    drop(map.insert(key, Value::from(7u8))?);
     Ok(())
 }

@@ -1,5 +1,5 @@
 //! What goes to a writer, to writers that fail.
-use crate::made::span;
+use crate::made::{changed, push, span};
 use crate::runs::steps_of;
 use crate::shelf::Shelf;
 use std::alloc::Global;
@@ -120,12 +120,16 @@ fn tell_fault(rt: &impl Print, out: Shelf, fault: io::Error) -> bool {
 
 /// Writes each value that a line of the script sets as `a`, and some errors.
 pub fn tell_writes(rt: &(impl Print + AllocGlobal), script: &str) -> TeraResult<()> {
+    tell_script(rt, script)?;
+    tell_numbers(rt);
+    tell_errors(rt)
+}
+
+fn tell_script(rt: &(impl Print + AllocGlobal), script: &str) -> TeraResult<()> {
     let mut context = Context::new(rt.alloc());
     let told = tell_lines(rt, &mut context, script);
     drop(context);
-    told?;
-    tell_numbers(rt);
-    tell_errors(rt)
+    told
 }
 
 fn tell_lines(
@@ -134,10 +138,15 @@ fn tell_lines(
     script: &str,
 ) -> TeraResult<()> {
     for line in script.lines() {
-        let steps = steps_of(rt.alloc(), line)?;
-        drop(run(context, steps));
-        tell_held(rt, context.get("a"));
+        tell_line(rt, context, line)?;
     }
+    Ok(())
+}
+
+fn tell_line(rt: &(impl Print + AllocGlobal), context: &mut Context, line: &str) -> TeraResult<()> {
+    let steps = steps_of(rt.alloc(), line)?;
+    drop(run(context, steps));
+    tell_held(rt, context.get("a"));
     Ok(())
 }
 
@@ -151,12 +160,16 @@ fn tell_value(rt: &(impl Print + AllocGlobal), value: &Value) {
     tell_put(rt, "Value::format", &Formatted { it: value });
     tell_put(rt, "Value::format_inside", &Inside { it: value });
     tell_put(rt, "Value", &Shown { it: value });
-    if let Some(text) = value.as_str() {
-        tell_put(rt, "escape_html", &Escaped { it: text });
-    }
+    tell_text(rt, value);
     match value.as_key(rt.alloc()) {
         Ok(key) => tell_key(rt, key),
         Err(no_key) => tell_error(rt, no_key),
+    }
+}
+
+fn tell_text(rt: &(impl Print + AllocGlobal), value: &Value) {
+    if let Some(text) = value.as_str() {
+        tell_put(rt, "escape_html", &Escaped { it: text });
     }
 }
 
@@ -195,18 +208,22 @@ fn tell_errors(rt: &(impl Print + AllocGlobal)) -> TeraResult<()> {
 fn chain(alloc: Global) -> TeraResult<Vec<String>> {
     let name = String::from_str(alloc, "a\né")?;
     let mut chain = Vec::new(alloc);
-    chain.push(name)?;
-    Ok(chain)
+    let answer = push(&mut chain, name);
+    changed(chain, answer)
 }
 
 fn reported(alloc: Global) -> TeraResult<Error> {
     let message = String::from_str(alloc, "bad")?;
     let report = ReportError::new(alloc, message, "a.html", "\t{{ y", &span())?;
-    Ok(Error::new(ErrorKind::RenderingError(Box::new(alloc, noted(alloc, report)?)?)))
+    Ok(rendering(Box::new(alloc, noted(alloc, report)?)?))
+}
+
+fn rendering(report: Box<ReportError>) -> Error {
+    Error::new(ErrorKind::RenderingError(report))
 }
 
 fn noted(alloc: Global, report: ReportError) -> TeraResult<ReportError> {
     let mut report = report;
-    report.add_note(alloc, "é", "b.html", "z", &span())?;
-    Ok(report)
+    let answer = report.add_note(alloc, "é", "b.html", "z", &span());
+    changed(report, answer)
 }
