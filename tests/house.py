@@ -4,8 +4,8 @@ behind a 'FAIL ..' each place that breaks it. The last line is 'house: end'.
 
 - calls: each word of a call in crates/tera_script/specs is in a script of script_checks or examples/, has a row in
   docs/SCRIPT.md, an entry in tests/second.py, and a line that tests/fuzz.py makes; all of these, and the comments of
-  tera_context's `Step` and `Call`, let just those heed `->` that the specs do; and what its arm in steps.rt calls, or that
-  arm, has a wrong body
+  tera_context's `Step` and `Call`, let just those heed `->` that the specs do; and what `step` calls for it, or its arm
+  there, has a wrong body
 - imports: a crate imports a lower crate's proofs by its files of laws alone (docs/ARCHITECTURE.md says which these are)
 - lemmas: each is cited, and no two have one statement up to the names of variables
 - memory: each public call that takes memory has a row in tests/calls.py, by which its requests are refused, or a test
@@ -148,21 +148,21 @@ def variants(path, name):
 
 
 def bodies(words):
-    """Each word whose call has no wrong body: of a function that its arm in steps.rt calls, or of the arm."""
+    """Each word whose call has no wrong body: of a function that its arm of `step` calls, or of the arm."""
     edits = [it for it in FILES if re.match(r"crates/tera_(?:context|values|scalars)/wrong/.*\.edit$", it)]
     wrong = {it.split("/")[-2] for it in edits}
-    steps = read("crates/tera_context/src/steps.rt")
-    arms = dict(re.findall(r"(?ms)^        Call::(\w+)(.*?)(?=^        \w|^    \}|\Z)", steps))
-    edited = {it for path in edits if "/wrong/steps/" in path for it in re.findall(r"\bCall::(\w+)", read(path))}
+    step = read("crates/tera_context/src/steps.rt").partition("pub fn step(")[2].partition("\n}\n")[0]
+    arms = dict(re.findall(r"(?ms)^        Call::(\w+)(.*?)(?=^        Call::|\Z)", step))
+    edited = {it for path in edits if "/steps/step/" in path for it in re.findall(r"\bCall::(\w+)", read(path))}
     for name, variant in variants("crates/tera_context/src/call.rt", "Call").items():
         word = SHORT.get(name, name)
         # a function of this crate, or one of a context or else of a value, as the folders of wrong bodies spell it
         calls = re.findall(r"(\bcontext)?(\.?)\b([a-z]\w*)\(", arms.get(variant, ""))
         called = {f"{'Context.' if of else 'Value.' if dot else ''}{it}" for of, dot, it in calls} - READS
         if not called:
-            yield f"`{word}`: steps.rt has no arm `Call::{variant}` that calls something"
+            yield f"`{word}`: `step` has no arm `Call::{variant}` that calls something"
         elif not called & wrong and variant not in edited:
-            yield f"`{word}` has no wrong body: of {', '.join(sorted(called))}, or of its arm in steps.rt"
+            yield f"`{word}` has no wrong body: of {', '.join(sorted(called))}, or of its arm of `step`"
         words = words - {word}
     for operator in variants("crates/tera_scalars/src/operation.rt", "BinaryOp"):
         if operator not in wrong:

@@ -1,6 +1,5 @@
 //! One step, and whole runs.
-ghost use Rattle.std.specs.Prelude.{◌≡◌, ℕ, List, [], map, Option, IfOk, IfErr, OnErr, IsOk};
-ghost use Rattle.std.specs.Prelude.{IsFalse, MatchOption};
+ghost use Rattle.std.specs.Prelude.{◌≡◌, List, [], map, IfOk, IfErr, OnErr, IsOk};
 ghost use Rattle.std.specs.List.{AllZip};
 ghost use Rattle.std.specs.Option.{option_map};
 ghost use Rattle.std.specs.String.{string_bytes};
@@ -9,9 +8,8 @@ ghost use Rattle.tera_meaning.specs.Request.{set, extend, mark_safe, asking};
 ghost use Rattle.tera_meaning.specs.Run.{IsRun};
 ghost use Rattle.tera_meaning.specs.Step.{IsStep};
 ghost use Rattle.tera_report.specs.Errors.{IsOutOfMemory};
-ghost use Rattle.tera_context.specs.Call.{command_of, request_of};
+ghost use Rattle.tera_context.specs.Call.{command_of};
 ghost use Rattle.tera_context.specs.Steps.{ShowsOutcome, ShowsOneOf};
-ghost use Rattle.tera_context.specs.inner.Ways.{brings, asks, weighs};
 
 use crate::asks::{
     absent_value, compare, contains, equal, escape, fields, print, try_compare, value_at, walk,
@@ -38,107 +36,39 @@ pub fn step(context: &mut Context, step: Step) -> TeraResult<Answer>
         IsStep context.old (command_of step) outcome context.new) }
 {
     let Step { call, into } = step;
+    let absent = absent_value();
     match call {
         Call::Set { name, value } => set(context, name, value),
         Call::Extend { source } => extend(context, source),
-        call => {
-            let answer = by_names(context, &call, into);
-            // its names end here, whatever call it is
-            drop(call);
-            answer
-        }
-    }
-}
-
-// What a call does that brings nothing to keep.
-#[inline(always)]
-fn by_names(context: &mut Context, call: &Call, into: Option<String>) -> TeraResult<Answer>
-    requires { IsFalse (brings (request_of call.now)) }
-    ensures { ShowsOneOf result (λ outcome. IsStep context.old
-        (record { request = request_of call.now; into = option_map string_bytes into })
-        outcome context.new) }
-{
-    if let Some(answer) = ask(context, call) {
-        return answer;
-    }
-    match weigh(context, call) {
-        Some(answer) => answer,
-        None => find_or_change(context, call, into),
-    }
-}
-
-// What a call asks of one value. `None` of each call that asks none.
-#[inline(always)]
-fn ask(context: &Context, call: &Call) -> Option<TeraResult<Answer>>
-    ensures { MatchOption result (IsFalse (asks (request_of call.now)))
-        (λ answer. (into : Option (List ℕ)) → ShowsOneOf answer (λ outcome.
-        IsStep context.now (record { request = request_of call.now; into = into }) outcome
-        context.now)) }
-{
-    let absent = absent_value();
-    match call {
-        Call::Has { name } => Some(Ok(Answer::Truth(context.contains_key(name)))),
-        Call::Truthy { of } => Some(Ok(Answer::Truth(value_at(context, of, &absent).is_truthy()))),
-        Call::IsSafe { of } => Some(Ok(Answer::Truth(value_at(context, of, &absent).is_safe()))),
-        Call::Len { of } => Some(Ok(Answer::Size(value_at(context, of, &absent).len()))),
-        Call::Kind { of } => Some(Ok(Answer::Kind(value_at(context, of, &absent).kind()))),
-        Call::Print { of } => Some(print(context, of)),
-        Call::Escape { of } => Some(escape(context, of)),
-        Call::Fields { of } => Some(fields(context, of)),
-        Call::Walk { of } => Some(walk(context, of)),
-        _ => None,
-    }
-}
-
-// What comes of a call that weighs two values. `None` of each call that weighs none.
-#[inline(always)]
-fn weigh(context: &Context, call: &Call) -> Option<TeraResult<Answer>>
-    ensures { MatchOption result (IsFalse (weighs (request_of call.now)))
-        (λ answer. (into : Option (List ℕ)) → ShowsOneOf answer (λ outcome.
-        IsStep context.now (record { request = request_of call.now; into = into }) outcome
-        context.now)) }
-{
-    match call {
-        Call::Equal { left, right } => Some(Ok(Answer::Truth(equal(context, left, right)))),
-        Call::Compare { left, right } => {
-            Some(Ok(Answer::Order(Some(compare(context, left, right)))))
-        }
-        Call::TryCompare { left, right } => {
-            Some(Ok(Answer::Order(try_compare(context, left, right))))
-        }
-        Call::Contains { of, needle } => Some(contains(context, of, needle)),
-        _ => None,
-    }
-}
-
-// What a call finds, takes away or marks.
-#[inline(always)]
-fn find_or_change(context: &mut Context, call: &Call, into: Option<String>) -> TeraResult<Answer>
-    requires brings { IsFalse (brings (request_of call.now)) }
-    requires asks { IsFalse (asks (request_of call.now)) }
-    requires weighs { IsFalse (weighs (request_of call.now)) }
-    ensures { ShowsOneOf result (λ outcome. IsStep context.old
-        (record { request = request_of call.now; into = option_map string_bytes into })
-        outcome context.new) }
-{
-    match call {
-        Call::Remove { name } => Ok(Answer::Found(context.remove(name))),
-        Call::MarkSafe { of } => mark_safe(context, of, into),
-        Call::Get { name } => get(context, name, into),
-        Call::Path { of, path: to } => path(context, of, to, into),
-        Call::Attr { of, attr: name } => attr(context, of, name, into),
-        Call::Item { of, item: at } => item(context, of, at, into),
+        Call::Remove { name } => Ok(Answer::Found(context.remove(&name))),
+        Call::MarkSafe { of } => mark_safe(context, &of, into),
+        Call::Has { name } => Ok(Answer::Truth(context.contains_key(&name))),
+        Call::Truthy { of } => Ok(Answer::Truth(value_at(context, &of, &absent).is_truthy())),
+        Call::IsSafe { of } => Ok(Answer::Truth(value_at(context, &of, &absent).is_safe())),
+        Call::Len { of } => Ok(Answer::Size(value_at(context, &of, &absent).len())),
+        Call::Kind { of } => Ok(Answer::Kind(value_at(context, &of, &absent).kind())),
+        Call::Print { of } => print(context, &of),
+        Call::Escape { of } => escape(context, &of),
+        Call::Fields { of } => fields(context, &of),
+        Call::Walk { of } => walk(context, &of),
+        Call::Equal { left, right } => Ok(Answer::Truth(equal(context, &left, &right))),
+        Call::Compare { left, right } => Ok(Answer::Order(Some(compare(context, &left, &right)))),
+        Call::TryCompare { left, right } => Ok(Answer::Order(try_compare(context, &left, &right))),
+        Call::Contains { of, needle } => contains(context, &of, &needle),
+        Call::Get { name } => get(context, &name, into),
+        Call::Path { of, path: to } => path(context, &of, &to, into),
+        Call::Attr { of, attr: name } => attr(context, &of, &name, into),
+        Call::Item { of, item: at } => item(context, &of, &at, into),
         Call::Slice {
             of,
             start,
             end,
             step,
-        } => slice(context, of, *start, *end, *step, into),
-        Call::Reverse { of } => reverse(context, of, into),
-        Call::Binary { op, left, right } => calculate(context, *op, left, right, into),
-        Call::Negate { of } => negate(context, of, into),
-        Call::Read { of, to } => read(context, of, *to, into),
-        _ => unreachable!(),
+        } => slice(context, &of, start, end, step, into),
+        Call::Reverse { of } => reverse(context, &of, into),
+        Call::Binary { op, left, right } => calculate(context, op, &left, &right, into),
+        Call::Negate { of } => negate(context, &of, into),
+        Call::Read { of, to } => read(context, &of, to, into),
     }
 }
 
