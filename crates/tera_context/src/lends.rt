@@ -100,6 +100,7 @@ fn attr_of<'a>(context: &'a Context, of: &str, attr: &'a str) -> Option<&'a Valu
 }
 
 // What the value of a name has at the text that the value of another is.
+#[inline(always)]
 fn item_of<'a>(context: &'a Context, of: &str, item: &str) -> Option<&'a Value>
     ensures { option_copied result ≡ option_and_then
         (Lookup.attr (form_at context.now of.now)) (text_in (form_at context.now item.now)) }
