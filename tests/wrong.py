@@ -8,8 +8,8 @@ another item. An edit of a definition or of a macro has a line 'only: PATH' too:
 a law. Its file may stand in specs/, FUNCTION is PATH's, and the edit is tried alone, on that function; a lemma that the law's
 proof stands on may refuse it too.
 
-A check takes an edit of each of many functions, and the other functions stand edited beside them, so that few right bodies are
-proved: a function is proved over the contracts of what it calls. Each further edit of a function is made to a copy of it at the
+A check takes an edit of each of many functions, and the other functions stand edited beside them, or have no body, so that no
+right body but of a cycle of calls is proved: a function is proved over the contracts of what it calls. Each further edit of a function is made to a copy of it at the
 end of its file, with its attributes, its contract and its proof by hand; but not where it stands in a trait's function, in one
 that calls itself, or in a cycle of calls. An edit is refused where a goal of its function's contract is not proved: a return's,
 or an invariant's, but not that a sum fits, that a call is allowed or that a loop ends. What a copy does not show to be refused is
@@ -67,7 +67,8 @@ KEPT = re.compile(r"-(?:init|preserved)(?:-|$)|(?:^|-)invariant_of-")
 SAFE = re.compile(r"(?:^|-)(?:overflow_|nonzero_|(?:slice_|offset_)?bounds-)|-(?:requires|smaller)(?:-|$)")
 
 
-MANY = 60  # the most edits of a check: of many more the prover begins copies of itself, which take a third more time
+MANY = 300  # the most edits of a check, for its memory
+FEW = 20  # a check of more edits keeps nothing: to keep it, the prover begins copies of itself, which take a third more time
 # a lemma that is false: beside it the prover prints no form of a proof for the function, which takes a sixth of a check's time, and
 # tries the function's goals where a callee is not proved too
 NO_FORM = "no_form"
@@ -242,6 +243,15 @@ class Edit:
         *modules, last = self.breaks.split("::")
         home = f"{subject}/{'.'.join([*(it for it in modules if it[0].isupper()), last])}"
         return None if os.path.dirname(self.path) == home else f"it belongs in {home}/"
+
+    @classmethod
+    def of_function(cls, crate, file, text, first, last):
+        """What is said of an edit, for a function in which none stands: its path, and its file of answers."""
+        it = cls.__new__(cls)
+        it.file, it.text, it.block, it.is_of_trait, it.number = file, text, "", False, 0
+        it.home_of(text.split("\n"), (first, last))
+        it.answers = it.answers_in(crate)
+        return it
 
     @property
     def is_in_cycle(self):
@@ -461,6 +471,53 @@ def flags_of(edits, jobs):
     return ["--jobs", str(jobs), "--short-goals", *(dict.fromkeys(only) if len(only) == len(edits) else [])]
 
 
+def hollow(lines, first, last, margin):
+    """Puts no more into a function than that it is never reached, in as many lines, where it has a body of a line or more. Answers
+    whether it has."""
+    opens = [it for it in range(first, last) if lines[it] == f"{margin}{{"]
+    opens = opens[-1:] or [it for it in range(first, last) if lines[it].endswith("{")][:1]
+    if not opens or last - opens[0] < 2:
+        return False
+    lines[opens[0] + 1 : last] = [f"{margin}    unreachable!()", *[""] * (last - opens[0] - 2)]
+    lines[first] = f"{margin}#[tactic(none)] {lines[first].lstrip()}"
+    return True
+
+
+def without_others(crate, texts, edits):
+    """The texts, and those of the crate's other files, where the functions in which none of the edits stands have no body, since a
+    function is proved over the contracts of what it calls; but not those in a cycle of calls, which has one proof."""
+    found = dict(texts)
+    for at, _, names in os.walk(f"{crate.folder}/src"):
+        for file in [os.path.relpath(f"{at}/{it}", crate.folder) for it in names]:
+            text = texts.get(file) or read(f"{crate.folder}/{file}")
+            lines, taken = text.split("\n"), [range(it.first, it.last + 1) for it in edits if it.file == file]
+            for first, last, margin in functions_in(lines):
+                above = first
+                while lines[above - 1].lstrip().startswith("#["):
+                    above -= 1
+                is_edited = any(it.start <= last and first < it.stop for it in taken)
+                if is_edited or any("cycle(" in it or "tactic(" in it for it in lines[above:first]):
+                    continue
+                other = Edit.of_function(crate, file, text, first, last)
+                if not other.is_in_cycle and hollow(lines, first, last, margin):
+                    found[other.answers] = FALSE_LEMMA
+            found[file] = "\n".join(lines)
+    return found
+
+
+def functions_in(lines):
+    """The first and the last line of each function with a body, and its margin; but not of those that a macro writes."""
+    found, at, macro = [], 0, False
+    while at < len(lines):
+        macro = (macro or lines[at].startswith("macro_rules!")) and lines[at] != "}"
+        named = None if macro else FUNCTION.match(lines[at])
+        last = end_of(lines, at, named[1], True) if named else at
+        if named and not lines[last].endswith(";"):
+            found.append((at, last, named[1]))
+        at = last + 1
+    return found
+
+
 class Ask:
     """What a check is to have of an edit's function: the wrong body or the right one, and which proofs by hand with less in them."""
 
@@ -585,8 +642,8 @@ def is_to_come(ask, said):
 
 
 def checked(rt, crate, texts, flags, kept):
-    """What a check of a copy of the crate says, with these texts in place of its own or beside them, over the work that is kept. The
-    kit's own check of a copy makes no folder, and a function without answers has none."""
+    """What a check of a copy of the crate says, with these texts in place of its own or beside them, over the work that is kept, or
+    else from nothing. The kit's own check of a copy makes no folder, and a function without answers has none."""
     with tempfile.TemporaryDirectory(prefix="wrong-") as room:
         for part in filter(lambda it: os.path.isdir(f"{crate.folder}/{it}"), rt.rtlib.PARTS):
             shutil.copytree(f"{crate.folder}/{part}", f"{room}/{part}")
@@ -594,7 +651,8 @@ def checked(rt, crate, texts, flags, kept):
             os.makedirs(os.path.dirname(f"{room}/{path}"), exist_ok=True)
             with open(f"{room}/{path}", "w", encoding="utf-8") as it:
                 it.write(text)
-        words = [*rt.rtlib.guarded(), rt.rtlib.RATTLE, "check", *crate.words(flags, keeps=False), "--incremental", kept]
+        keeps = ["--incremental", kept] if kept else []
+        words = [*rt.rtlib.guarded(), rt.rtlib.RATTLE, "check", *crate.words(flags, keeps=False), *keeps]
         how = {"cwd": room, "stdin": subprocess.DEVNULL, "stdout": subprocess.PIPE, "stderr": subprocess.STDOUT, "errors": "replace"}
         return subprocess.run(words, check=False, **how).stdout
 
@@ -609,14 +667,19 @@ class Trial:
     def checked(self, asks, beside=()):
         """The lines of a check of what is asked, where more asks stand beside that."""
         start = time.monotonic()
-        flags = flags_of([it.edit for it in asks], self.turn())
-        said = checked(self.rt, self.crate, texts_of([*asks, *beside], self.crate), flags, self.kept)
+        flags, kept = flags_of([it.edit for it in asks], self.turn()), self.kept if len(asks) <= FEW else None
+        said = checked(self.rt, self.crate, self.texts([*asks, *beside]), flags, kept)
         if self.told:
             title = " ".join(it.title for it in asks)
             with open(self.told, "a", encoding="utf-8") as it:
                 it.write(f"== {title} ({time.monotonic() - start:.0f} s)\n{said}\n")
         # what a line says goes on in the lines below that stand in from the margin
         return re.sub(r"\n +", " ", said.rstrip("\n")).split("\n")
+
+    def texts(self, asks):
+        """The texts of the files that a check of these asks reads in place of the crate's, or beside them."""
+        texts = texts_of(asks, self.crate)
+        return without_others(self.crate, texts, [it.edit for it in asks]) if all(it.edit.answers for it in asks) else texts
 
     def run_right(self, edits):
         """Judges the right bodies of the edits' functions, beside the lemma that is false: no goal may be open."""
