@@ -485,7 +485,8 @@ def hollow(lines, first, last, margin):
 
 def without_others(crate, texts, edits):
     """The texts, and those of the crate's other files, where the functions in which none of the edits stands have no body, since a
-    function is proved over the contracts of what it calls; but not those in a cycle of calls, which has one proof."""
+    function is proved over the contracts of what it calls; but not those in a cycle of calls, which has one proof, nor a `drop`,
+    without whose proof no goal of a function that ends such a value is tried."""
     found = dict(texts)
     for at, _, names in os.walk(f"{crate.folder}/src"):
         for file in [os.path.relpath(f"{at}/{it}", crate.folder) for it in names]:
@@ -499,7 +500,8 @@ def without_others(crate, texts, edits):
                 if is_edited or any("cycle(" in it or "tactic(" in it for it in lines[above:first]):
                     continue
                 other = Edit.of_function(crate, file, text, first, last)
-                if not other.is_in_cycle and hollow(lines, first, last, margin):
+                ends = re.search(r"\bDrop for\b", other.block)
+                if not (other.is_in_cycle or ends) and hollow(lines, first, last, margin):
                     found[other.answers] = FALSE_LEMMA
             found[file] = "\n".join(lines)
     return found
@@ -664,11 +666,14 @@ class Trial:
     def __init__(self, rt, crate, kept, told, turn=lambda: 1):
         self.rt, self.crate, self.kept, self.told, self.turn, self.counts, self.refused = rt, crate, kept, told, turn, [0, 0], []
 
-    def checked(self, asks, beside=()):
+    def checked(self, asks, beside=(), is_shared=False):
         """The lines of a check of what is asked, where more asks stand beside that."""
         start = time.monotonic()
         flags, kept = flags_of([it.edit for it in asks], self.turn()), self.kept if len(asks) <= FEW else None
-        said = checked(self.rt, self.crate, self.texts([*asks, *beside]), flags, kept)
+        texts = texts_of([*asks, *beside], self.crate)
+        if is_shared:
+            texts = without_others(self.crate, texts, [it.edit for it in [*asks, *beside]])
+        said = checked(self.rt, self.crate, texts, flags, kept)
         if self.told:
             title = " ".join(it.title for it in asks)
             with open(self.told, "a", encoding="utf-8") as it:
@@ -676,16 +681,11 @@ class Trial:
         # what a line says goes on in the lines below that stand in from the margin
         return re.sub(r"\n +", " ", said.rstrip("\n")).split("\n")
 
-    def texts(self, asks):
-        """The texts of the files that a check of these asks reads in place of the crate's, or beside them."""
-        texts = texts_of(asks, self.crate)
-        return without_others(self.crate, texts, [it.edit for it in asks]) if all(it.edit.answers for it in asks) else texts
-
     def run_right(self, edits):
         """Judges the right bodies of the edits' functions, beside the lemma that is false: no goal may be open."""
         tried = {it.place_in_crate: it for it in with_copies(it for it in edits if it.answers)}
         asks = [Ask(it, {}, set(), is_right=True) for it in tried.values()]
-        lines = self.checked(asks) if asks else []
+        lines = self.checked(asks, is_shared=True) if asks else []
         for ask in asks:
             said = Said(ask.edit, lines)
             is_open = not said.reached or said.refused_by() or said.lost
@@ -705,7 +705,7 @@ class Trial:
         alone = [it for it in edits if it.breaks or not it.own]
         shared = Shared([it for it in edits if it not in alone], self.crate)
         while batch := shared.batch():
-            for edit, goals in shared.take(batch, self.checked(batch, shared.beside(batch))):
+            for edit, goals in shared.take(batch, self.checked(batch, shared.beside(batch), is_shared=True)):
                 if goals:
                     self.settle(edit, goals, None)
                 else:
