@@ -8,14 +8,14 @@ another item. An edit of a definition or of a macro has a line 'only: PATH' too:
 a law. Its file may stand in specs/, FUNCTION is PATH's, and the edit is tried alone, on that function; a lemma that the law's
 proof stands on may refuse it too.
 
-A check takes an edit of each of many functions, and the other functions stand edited beside them, or have no body, so that no
-right body but of a cycle of calls is proved: a function is proved over the contracts of what it calls. Each further edit of a function is made to a copy of it at the
-end of its file, with its attributes, its contract and its proof by hand; but not where it stands in a trait's function, in one
-that calls itself, or in a cycle of calls. An edit is refused where a goal of its function's contract is not proved: a return's,
-or an invariant's, but not that a sum fits, that a call is allowed or that a loop ends. What a copy does not show to be refused is
-tried in its place, and what a shared check does not show is tried alone, and then from nothing. Where a proof by hand names what the edit took
-away, it is tried without that part; a goal that is then open counts only where the prover finds values at which it is false, or
-where it is proved of the right body without that part.
+A check takes an edit of each of many functions. A function is proved over the contracts of what it calls, so the other functions
+have no body; but not those in a cycle of calls, which has one proof, those with a tactic of their own, and each `drop`. Each further
+edit of a function is made to a copy of it at the end of its file, with its attributes, its contract and its proof by hand; but not
+where it stands in a trait's function, in one that calls itself, or in a cycle of calls. An edit is refused where a goal of its
+function's contract is not proved: a return's, or an invariant's, but not that a sum fits, that a call is allowed or that a loop
+ends. What a copy does not show to be refused is tried in its place, and what a shared check does not show is tried alone, and then
+from nothing, beside right bodies. Where a proof by hand names what the edit took away, it is tried without that part; a goal that is
+then open counts only where the prover finds values at which it is false, or where it is proved of the right body without that part.
 
 Prints a line 'pass ..' or 'FAIL ..' for each edit, and 'wrong bodies: end'. It uses the libraries that `rt ci` built, and
 begins with a copy of the work that checks kept in out/. With `--gate LOG` it runs beside an `rt ci` that writes LOG, and begins
@@ -484,14 +484,14 @@ def hollow(lines, first, last, margin):
 
 
 def without_others(crate, texts, edits):
-    """The texts, and those of the crate's other files, where the functions in which none of the edits stands have no body, since a
-    function is proved over the contracts of what it calls; but not those in a cycle of calls, which has one proof, nor a `drop`,
-    without whose proof no goal of a function that ends such a value is tried."""
+    """The texts, and those of the crate's other files, where the functions that none of the edits is for have no body, since a function
+    is proved over the contracts of what it calls; but not those in a cycle of calls, which has one proof, those with a tactic of their
+    own, nor a `drop`, without whose proof no goal of a function that ends such a value is tried."""
     found = dict(texts)
     for at, _, names in os.walk(f"{crate.folder}/src"):
         for file in [os.path.relpath(f"{at}/{it}", crate.folder) for it in names]:
             text = texts.get(file) or read(f"{crate.folder}/{file}")
-            lines, taken = text.split("\n"), [range(it.first, it.last + 1) for it in edits if it.file == file]
+            lines, taken = text.split("\n"), [range(it.first, it.last + 1) for it in edits if it.file == file and not it.breaks]
             for first, last, margin in functions_in(lines):
                 above = first
                 while lines[above - 1].lstrip().startswith("#["):
@@ -501,7 +501,8 @@ def without_others(crate, texts, edits):
                     continue
                 other = Edit.of_function(crate, file, text, first, last)
                 ends = re.search(r"\bDrop for\b", other.block)
-                if not (other.is_in_cycle or ends) and hollow(lines, first, last, margin):
+                is_asked = any(it.breaks and f"::{it.breaks}".endswith(f"::{other.only}") for it in edits)
+                if not (is_asked or other.is_in_cycle or ends) and hollow(lines, first, last, margin):
                     found[other.answers] = FALSE_LEMMA
             found[file] = "\n".join(lines)
     return found
@@ -568,50 +569,34 @@ def with_copies(edits):
 
 
 class Shared:
-    """The asks of many edits, an edit of a function or of a copy to a check. The text of a check has an edit of every function: of one
-    that it is not to judge the first edit, or the one that was judged last. So what a function calls is refused once, and no check
-    proves the right body of what another edits. What waits for another function, or asks for a right body, comes in a second pass,
-    which begins with the right text."""
+    """The asks of many edits, an edit of a function or of a copy to a check. What waits for another function, or asks for a right body,
+    comes in a second pass."""
 
     def __init__(self, edits, crate):
         self.crate, self.judges, self.asks, self.later = crate, {}, {}, {}
         for edit in with_copies(edits):
             self.begin(edit)
-        self.standing = {place: asks[0] for place, asks in self.by_function().items() if not asks[0].edit.number}
 
     def begin(self, edit):
         self.judges[edit] = judging(edit, self.crate)
         self.asks[edit] = next(self.judges[edit])
 
-    def by_function(self):
-        """The asks that are left in this pass, of each function those of one after another."""
-        found = {}
-        for ask in self.asks.values():
-            found.setdefault(ask.edit.place_in_crate, []).append(ask)
-        return found
-
     def batch(self):
         """The asks of the next check, at most one of each function, or none at the end. Functions of which most is left come first."""
         if not self.asks:
-            self.asks, self.later, self.standing = self.later, {}, {}
-        most = sorted(self.by_function().values(), key=len, reverse=True)
-        return [asks[0] for asks in most[:MANY]]
-
-    def beside(self, batch):
-        """The asks of other functions that stand beside these in the text. In a cycle of calls, whose one proof each edit has made anew,
-        an edit that was judged stands no more."""
-        places = {it.edit.place_in_crate for it in batch}
-        others = [it for place, it in self.standing.items() if place not in places]
-        return [it for it in others if not it.edit.is_in_cycle or self.asks.get(it.edit) is it]
+            self.asks, self.later = self.later, {}
+        found = {}
+        for ask in self.asks.values():
+            found.setdefault(ask.edit.place_in_crate, []).append(ask)
+        return [asks[0] for asks in sorted(found.values(), key=len, reverse=True)[:MANY]]
 
     def take(self, batch, lines):
-        """Takes what a check of these asks said, and what it told of edits that stand beside them, where a function of the batch calls
-        theirs. Yields each edit that is judged by that, with the goals that it is refused by: none where it is to be tried alone."""
-        saids = {it: Said(it.edit, lines) for it in [*batch, *self.beside(batch)]}
+        """Takes what a check of these asks said. Yields each edit that is judged by that, with the goals that it is refused by: none where
+        it is to be tried alone."""
+        saids = {it: Said(it.edit, lines) for it in batch}
         waiting = [it for it in batch if is_to_come(it, saids[it])]
-        is_stuck = len(waiting) == len(batch) and not self.beside(batch)
-        told = [it for it in self.beside(batch) if self.asks.get(it.edit) is it and saids[it].refused_by()]
-        for ask in [*batch, *told]:
+        is_stuck = len(waiting) == len(batch)
+        for ask in batch:
             del self.asks[ask.edit]
             if ask in waiting and not is_stuck:
                 self.later[ask.edit] = ask
@@ -619,8 +604,6 @@ class Shared:
                 yield ask.edit.in_place, []
             else:
                 yield from self.judged(ask.edit, saids[ask])
-        if saids[batch[0]].reached:
-            self.standing.update({it.edit.place_in_crate: it for it in batch if not it.edit.number})
 
     def judged(self, edit, said):
         """Hands what was said of an edit on to its judge, who asks for more, or has judged. A copy's edit that is not refused comes again
@@ -666,13 +649,13 @@ class Trial:
     def __init__(self, rt, crate, kept, told, turn=lambda: 1):
         self.rt, self.crate, self.kept, self.told, self.turn, self.counts, self.refused = rt, crate, kept, told, turn, [0, 0], []
 
-    def checked(self, asks, beside=(), is_shared=False):
-        """The lines of a check of what is asked, where more asks stand beside that."""
-        start = time.monotonic()
-        flags, kept = flags_of([it.edit for it in asks], self.turn()), self.kept if len(asks) <= FEW else None
-        texts = texts_of([*asks, *beside], self.crate)
-        if is_shared:
-            texts = without_others(self.crate, texts, [it.edit for it in [*asks, *beside]])
+    def checked(self, asks, is_hollow=False):
+        """The lines of a check of what is asked; where that is hollow, the other functions have no body."""
+        start, edits = time.monotonic(), [it.edit for it in asks]
+        flags, kept = flags_of(edits, self.turn()), self.kept if len(asks) <= FEW else None
+        texts = texts_of(asks, self.crate)
+        if is_hollow:
+            texts = without_others(self.crate, texts, edits)
         said = checked(self.rt, self.crate, texts, flags, kept)
         if self.told:
             title = " ".join(it.title for it in asks)
@@ -685,7 +668,7 @@ class Trial:
         """Judges the right bodies of the edits' functions, beside the lemma that is false: no goal may be open."""
         tried = {it.place_in_crate: it for it in with_copies(it for it in edits if it.answers)}
         asks = [Ask(it, {}, set(), is_right=True) for it in tried.values()]
-        lines = self.checked(asks, is_shared=True) if asks else []
+        lines = self.checked(asks, is_hollow=True) if asks else []
         for ask in asks:
             said = Said(ask.edit, lines)
             is_open = not said.reached or said.refused_by() or said.lost
@@ -705,13 +688,13 @@ class Trial:
         alone = [it for it in edits if it.breaks or not it.own]
         shared = Shared([it for it in edits if it not in alone], self.crate)
         while batch := shared.batch():
-            for edit, goals in shared.take(batch, self.checked(batch, shared.beside(batch), is_shared=True)):
+            for edit, goals in shared.take(batch, self.checked(batch, is_hollow=True)):
                 if goals:
                     self.settle(edit, goals, None)
                 else:
                     alone.append(edit)
         for edit in alone:
-            goals, fault = self.judged(edit)
+            goals, fault = self.judged(edit, is_hollow=bool(edit.own))
             self.settle(edit, *((goals, fault) if goals else self.judged_anew(edit)))
 
     def judged_anew(self, edit):
@@ -719,13 +702,13 @@ class Trial:
         with tempfile.TemporaryDirectory(prefix="wrong-") as room:
             return Trial(self.rt, self.crate, room, self.told, self.turn).judged(edit)
 
-    def judged(self, edit):
+    def judged(self, edit, is_hollow=False):
         """The goals that an edit is refused by where it is tried alone, or else why it is not refused."""
         judge = judging(edit, self.crate)
         ask = next(judge)
         while True:
             try:
-                ask = judge.send(Said(edit, self.checked([ask])))
+                ask = judge.send(Said(edit, self.checked([ask], is_hollow)))
             except StopIteration as end:
                 return end.value
 
