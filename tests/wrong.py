@@ -8,14 +8,18 @@ another item. An edit of a definition or of a macro has a line 'only: PATH' too:
 a law. Its file may stand in specs/, FUNCTION is PATH's, and the edit is tried alone, on that function; a lemma that the law's
 proof stands on may refuse it too.
 
+A line 'goal: NAME' names a goal that the edit leaves open and that one search proves of the right body. The edit is tried with that
+search as the goal's answer: a goal without an answer the prover tries in seven ways, each in vain here.
+
 A check takes an edit of each of many functions. A function is proved over the contracts of what it calls, so the other functions
-have no body; but not those in a cycle of calls, which has one proof, those with a tactic of their own, and each `drop`. Each further
-edit of a function is made to a copy of it at the end of its file, with its attributes, its contract and its proof by hand; but not
-where it stands in a trait's function, in one that calls itself, or in a cycle of calls. An edit is refused where a goal of its
-function's contract is not proved: a return's, or an invariant's, but not that a sum fits, that a call is allowed or that a loop
-ends. What a copy does not show to be refused is tried in its place, and what a shared check does not show is tried alone, and then
-from nothing, beside right bodies. Where a proof by hand names what the edit took away, it is tried without that part; a goal that is
-then open counts only where the prover finds values at which it is false, or where it is proved of the right body without that part.
+have no body, but each `drop` has. Each further edit of a function is made to a copy of it at the end of its file, with its
+attributes, its contract and its proof by hand; but not where it stands in a trait's function. So is each edit of a function that
+calls itself, or that stands in a cycle of calls: the copy calls functions without a body, and so is in no cycle, and of the cycle's
+proof by hand it has its own part. An edit is refused where a goal of its function's contract is not proved: a return's, or an
+invariant's, but not that a sum fits, that a call is allowed or that a loop ends. What a copy does not show to be refused is tried in
+its place, but not where that is in a cycle of calls, and what a shared check does not show is tried alone, and then from nothing,
+beside right bodies. Where a proof by hand names what the edit took away, it is tried without that part; a goal that is then open
+counts only where the prover finds values at which it is false, or where it is proved of the right body without that part.
 
 Prints a line 'pass ..' or 'FAIL ..' for each edit, and 'wrong bodies: end'. It uses the libraries that `rt ci` built, and
 begins with a copy of the work that checks kept in out/. With `--gate LOG` it runs beside an `rt ci` that writes LOG, and begins
@@ -23,7 +27,7 @@ with nothing: a crate's edits are tried once the log says that the crates below 
 takes longest first, in all lanes but one until the log has its last line, and each check once a processor is free.
 
 `--right` is the control: of each edited function and of each copy it tries the right body in the same way, and no goal of it may be
-open.
+open. A named goal that the right body has not is left out.
 
 As `rt ci` keeps what it proved, this keeps on the machine which edits were refused, by a sum of all that the answer stands
 on: the kit, this script, the crate's files and those of all crates below it, and the edit. Such an edit is not tried again,
@@ -60,6 +64,7 @@ STATUS = re.compile(r"(?:fn|struct|enum|impl|trait) \w+::(\S+?): (.*)")
 # what a proof by hand says that names what the edit took away: no word on the contract
 MISSES = re.compile(r"has no field|is not in scope|has no `|was not admitted")
 WAITS = re.compile(r"which (?:is|are) not proved|waits for")
+CYCLE = re.compile(r"#\[cycle\((\w+)\)\]")
 UNCOVERED = re.compile(r"borrow checker (?:does not cover|has no part)")
 # the names of a contract's goals, which a cycle's proof begins with the function's, and of goals that no contract asks for
 RETURNS = re.compile(r"(?:[\w:]+-)?returns(?:-|$)")
@@ -67,6 +72,7 @@ KEPT = re.compile(r"-(?:init|preserved)(?:-|$)|(?:^|-)invariant_of-")
 SAFE = re.compile(r"(?:^|-)(?:overflow_|nonzero_|(?:slice_|offset_)?bounds-)|-(?:requires|smaller)(?:-|$)")
 
 
+CUT = "unreachable!()"  # what stands where a body is cut off
 MANY = 300  # the most edits of a check, for its memory
 FEW = 20  # a check of more edits keeps nothing: to keep it, the prover begins copies of itself, which take a third more time
 # a lemma that is false: beside it the prover prints no form of a proof for the function, which takes a sixth of a check's time, and
@@ -155,6 +161,13 @@ def end_of(lines, first, margin, is_function):
     return len(lines) - 1
 
 
+def above(lines, first):
+    """The first line of the attributes above an item."""
+    while lines[first - 1].lstrip().startswith("#["):
+        first -= 1
+    return first
+
+
 def place_of(lines, at):
     """The first and the last line of the function around a line, or else of the other item."""
     while lines[at].lstrip().startswith(("#[", "//")):
@@ -182,6 +195,14 @@ def paths_of(before, tail):
     return re.compile(rf"{before}(?:{re.escape(tail)}|fn::{re.escape(tail)}::.*)$")
 
 
+def is_generic(block, lines):
+    """Whether a function has a type parameter, or the impl that it stands in."""
+    head = re.split(r"\b(?:requires|ensures|decreases)\b|\{", " ".join(map(str.strip, lines)))[0]
+    own, above = re.search(r"\bfn \w+<((?:[^<>]|<[^<>]*>)*)>", head), IMPL.match(block.removeprefix("unsafe "))
+    parameters = [own[1] if own else "", above[1][1:-1] if above and above[1] else ""]
+    return bool(re.search(r"\bimpl \w", head)) or any(re.search(r"(?:^|, )(?!')\w", it) for it in parameters)
+
+
 def header_at(lines, first):
     last = next(it for it in range(first, len(lines)) if "{" in lines[it])
     return " ".join(it.strip() for it in lines[first : last + 1]).partition("{")[0].strip()
@@ -197,11 +218,16 @@ class Edit:
         self.own = self.only = self.answers = None
         # the impl or trait in which it stands; and the number of the copy that is edited in its place, if one is
         self.block, self.is_of_trait, self.number, self.in_place = "", False, 0, self
+        # the folder of the proof of its cycle of calls, and the first words of its goals there
+        self.cycle, self.told_as = "", ""
         text = read(path)
         self.file = "".join(re.findall(r"(?m)^file: (\S+)", text)[:1])
-        self.changes = re.findall(r"(?m)^old: (.*)\nnew: ?(.*)$", text)
+        # that its cut is never reached is a goal of no contract, which is not tried
+        self.changes = [(old, new.replace(CUT, f"{{ #[tactic(none)] {CUT} }}")) for old, new in re.findall(r"(?m)^old: (.*)\nnew: ?(.*)$", text)]
         # the function that an edit of a definition makes false
         self.breaks = "".join(re.findall(r"(?m)^only: (\S+)", text)[:1])
+        # the goals of its contract that it leaves open
+        self.goals = re.findall(r"(?m)^goal: (\S+)", text)
         self.fault = self.placed(crate)
         if self.own and not (self.fault or self.breaks):
             self.answers = self.answers_in(crate)
@@ -226,8 +252,7 @@ class Edit:
         if not places[0] or {*places} - {places[0], None}:
             return "it stands in several functions" if places[0] else "its first change stands in no function or constant"
         self.home = self.home_of(lines, places[0])
-        while lines[self.first - 1].lstrip().startswith("#["):
-            self.first -= 1
+        self.first = above(lines, self.first)
         # whether it changes nothing outside of the function, and the function's lines, which `first` and `last` are not in a copy
         self.is_inside, self.lines = {*places} == {places[0]}, (self.first, self.last)
         return None if os.path.dirname(self.path) == self.home else f"it belongs in {self.home}/"
@@ -248,15 +273,16 @@ class Edit:
     def of_function(cls, crate, file, text, first, last):
         """What is said of an edit, for a function in which none stands: its path, and its file of answers."""
         it = cls.__new__(cls)
-        it.file, it.text, it.block, it.is_of_trait, it.number = file, text, "", False, 0
+        it.file, it.text, it.block, it.is_of_trait, it.number, it.cycle = file, text, "", False, 0, ""
         it.home_of(text.split("\n"), (first, last))
+        it.first = above(text.split("\n"), first)
         it.answers = it.answers_in(crate)
         return it
 
     @property
     def is_in_cycle(self):
         """Whether the function calls itself, or is one of several that call one another, which have one proof."""
-        return bool(self.answers) and os.path.basename(os.path.dirname(self.answers)).startswith("+")
+        return bool(self.cycle)
 
     @property
     def place_in_crate(self):
@@ -266,14 +292,14 @@ class Edit:
     @property
     def can_be_copied(self):
         """Whether it can be made to a copy of its function, which stands beside that."""
-        return bool(self.answers) and self.is_inside and not self.is_in_cycle and not self.is_of_trait
+        return bool(self.answers) and self.is_inside and not self.is_of_trait
 
     def in_copy(self, number):
         """The same edit, made to a copy of its function."""
         it, behind = copy.copy(self), f"_copy{number}"
         it.number, it.only = number, self.only + behind
         it.own = paths_of(self.before, self.tail + behind)
-        it.answers = f"{os.path.dirname(self.answers)}{behind}/Answers.antt"
+        it.answers = f"{self.folder}{behind}/Answers.antt"
         return it
 
     def copied(self, text, is_right):
@@ -281,6 +307,7 @@ class Edit:
         name, (first, last) = self.tail.rpartition("::")[2], self.lines
         lines = (self.text if is_right else changed(self.text, self.places())).split("\n")[first : last + 1]
         at = next(it for it, line in enumerate(lines) if FUNCTION.match(line))
+        lines[:at] = [CYCLE.sub("", it) for it in lines[:at]]
         lines[at] = re.sub(rf"\bfn {name}\b", f"fn {name}_copy{self.number}", lines[at])
         self.first = text.count("\n") + bool(self.block)
         self.last = self.first + last - first
@@ -292,14 +319,27 @@ class Edit:
 
     def proofs(self, crate):
         """The files of the function's proof by hand, and of the same for its copy, with the lemma that is false."""
-        own = re.sub(r"_copy\d+$", "", os.path.dirname(self.answers)) if self.number else os.path.dirname(self.answers)
-        found = {self.answers: ""}
+        own, to, found = self.cycle or self.folder, os.path.dirname(self.answers), {self.answers: ""}
         names = sorted(os.listdir(f"{crate.folder}/{own}")) if os.path.isdir(f"{crate.folder}/{own}") else []
         for name in names if self.number else [it for it in names if it == "Answers.antt"]:
             text = read(f"{crate.folder}/{own}/{name}")
-            to = os.path.dirname(self.answers)
+            text = apart(text, self.told_as) if self.cycle and self.number else text
             found[f"{to}/{name}"] = text.replace(f".{own}.".replace("/", "."), f".{to}.".replace("/", "."))
-        return {**found, self.answers: found[self.answers] + FALSE_LEMMA}
+        return {**found, self.answers: self.answered(crate, found[self.answers]) + FALSE_LEMMA}
+
+    def answered(self, crate, text):
+        """An Answers file with a first search, and no more, at each goal of the edit that the file does not answer: it proves that goal of
+        the right body, as the control shows, and at a goal without an answer the prover tries six ways more."""
+        lines = self.text.split("\n")[self.lines[0] : self.lines[1] + 1]
+        goals = [it for it in self.goals if not re.search(rf"(?m)^pub {re.escape(it)} :", text)]
+        if not goals or any(re.search(r"#\[tactic\(.*\busing\(", it) for it in lines):
+            return text
+        module = f"Rattle.{crate.name}.{os.path.dirname(self.answers)}.Goals as goal".replace("/", ".")
+        uses = [] if re.search(r"(?m)^use .*\brules\b", text) else ["use Rattle.std.proofs.Common.{rules}\n"]
+        uses += [f"use {module}\n"] if module not in text else []
+        given = "g c" if is_generic(self.block, lines) else "c"
+        found = [f"\npub {it} : goal.{it}\n{it} {given} = search rules\n" for it in goals]
+        return "".join([*uses, text, *found])
 
     def place(self, lines, at):
         return place_of(lines, self.text[:at].count("\n"))
@@ -334,18 +374,21 @@ class Edit:
         return tail.replace("::", ".")
 
     def answers_in(self, crate):
-        """The file of the function's answers, or of those of its cycle of calls, which has one proof."""
+        """The file of the function's answers, or of those of its cycle of calls, which has one proof. Finds both folders."""
         *kind, name = self.only.split("::")
         if len(kind) == 1 and kind[0][0].isupper():
             kind = [*module_of(kind[0], crate), *kind]
+        place = "/".join(["proofs", *kind])
+        self.folder = f"{place}/{name}"
         own = "\n".join(self.text.split("\n")[self.first : self.last])
-        cycle = "".join(re.findall(r"#\[cycle\((\w+)\)\]", own)[:1])
+        cycle = "".join(re.findall(CYCLE, own)[:1])
         if cycle:
             found = [at for at, *_ in os.walk(f"{crate.folder}/proofs") if os.path.basename(at) == f"+{cycle}"]
-            return f"{os.path.relpath(found[0], crate.folder)}/Answers.antt" if found else None
-        place = "/".join(["proofs", *kind])
-        calls_itself = os.path.isdir(f"{crate.folder}/{place}/+{name}")
-        return f"{place}/{'+' * calls_itself}{name}/Answers.antt"
+            self.cycle = os.path.relpath(found[0], crate.folder) if found else ""
+            self.told_as = os.path.relpath(self.folder, os.path.dirname(self.cycle)).replace("/", "::")
+        elif os.path.isdir(f"{crate.folder}/{place}/+{name}"):
+            self.cycle = f"{place}/+{name}"
+        return None if cycle and not self.cycle else f"{self.cycle or self.folder}/Answers.antt"
 
     def is_own(self, path):
         return not self.own or bool(self.own.match(path))
@@ -421,7 +464,7 @@ class Kept:
                     os.unlink(it.path)
 
     def place(self, edit, stamp):
-        told = repr((self.judge, stamp, edit.name, edit.file, edit.changes, edit.breaks))
+        told = repr((self.judge, stamp, edit.name, edit.file, edit.changes, edit.breaks, edit.goals))
         return f"{self.at}/{hashlib.sha256(told.encode()).hexdigest()}"
 
     def goal(self, edit, stamp):
@@ -439,6 +482,22 @@ class Kept:
             with tempfile.NamedTemporaryFile("w", dir=self.at, delete=False, encoding="utf-8") as it:
                 it.write(goal)
             os.replace(it.name, self.place(edit, stamp))
+
+
+def bare(line):
+    """An attribute's line, but nothing of one that tells how its function is proved, or of which cycle of calls it is."""
+    return "" if re.match(r" *#\[(?:tactic|cycle)\(", line) else line
+
+
+def apart(text, name):
+    """Of a cycle's proof by hand the part of one function, as that of a function in no cycle: its goals do not begin with its name, and
+    a call is not to be smaller than it, so that another goal, or none, says that it is allowed. Where it is the only function of its
+    cycle, the name is empty."""
+    head, *told = re.split(r"(?m)^(?=(?:abbrev )?pub )", text)
+    begins = rf"(?:invariant-|decreases-)?{re.escape(name)}-" if name else r"(?!decreases-\w+ :)"
+    own = re.compile(rf"(?:abbrev )?pub {begins}(?!\S*-requires)")
+    found = "".join(it.replace(f"{name}-", "") if name else it for it in told if own.match(it))
+    return head + re.sub(r"(?m)^(\S+(?: g)?) t (?=[^=\n]*=)", r"\1 ", found)
 
 
 def parts(lost):
@@ -476,34 +535,35 @@ def hollow(lines, first, last, margin):
     whether it has."""
     opens = [it for it in range(first, last) if lines[it] == f"{margin}{{"]
     opens = opens[-1:] or [it for it in range(first, last) if lines[it].endswith("{")][:1]
-    if not opens or last - opens[0] < 2:
+    if not opens or last - opens[0] < 2 or lines[last] != f"{margin}}}":
         return False
-    lines[opens[0] + 1 : last] = [f"{margin}    unreachable!()", *[""] * (last - opens[0] - 2)]
+    lines[opens[0] + 1 : last] = [f"{margin}    {CUT}", *[""] * (last - opens[0] - 2)]
     lines[first] = f"{margin}#[tactic(none)] {lines[first].lstrip()}"
     return True
 
 
 def without_others(crate, texts, edits):
     """The texts, and those of the crate's other files, where the functions that none of the edits is for have no body, since a function
-    is proved over the contracts of what it calls; but not those in a cycle of calls, which has one proof, those with a tactic of their
-    own, nor a `drop`, without whose proof no goal of a function that ends such a value is tried."""
-    found = dict(texts)
+    is proved over the contracts of what it calls; but not a `drop`, without whose proof no goal of a function that ends such a value is
+    tried, nor what stands in a cycle with a function that is edited in its place."""
+    found, whole = dict(texts), {it.cycle for it in edits if it.is_in_cycle and not it.number}
     for at, _, names in os.walk(f"{crate.folder}/src"):
         for file in [os.path.relpath(f"{at}/{it}", crate.folder) for it in names]:
             text = texts.get(file) or read(f"{crate.folder}/{file}")
             lines, taken = text.split("\n"), [range(it.first, it.last + 1) for it in edits if it.file == file and not it.breaks]
             for first, last, margin in functions_in(lines):
-                above = first
-                while lines[above - 1].lstrip().startswith("#["):
-                    above -= 1
+                top = above(lines, first)
                 is_edited = any(it.start <= last and first < it.stop for it in taken)
-                if is_edited or any("cycle(" in it or "tactic(" in it for it in lines[above:first]):
+                if is_edited:
                     continue
                 other = Edit.of_function(crate, file, text, first, last)
                 ends = re.search(r"\bDrop for\b", other.block)
                 is_asked = any(it.breaks and f"::{it.breaks}".endswith(f"::{other.only}") for it in edits)
-                if not (is_asked or other.is_in_cycle or ends) and hollow(lines, first, last, margin):
-                    found[other.answers] = FALSE_LEMMA
+                # a cycle that no folder of proofs/ is for has a type in it
+                if not (is_asked or ends or not other.answers or other.cycle in whole) and hollow(lines, first, last, margin):
+                    lines[top:first] = map(bare, lines[top:first])
+                    found[f"{other.folder}/Answers.antt"] = FALSE_LEMMA
+                    found.update({other.cycle: None} if other.cycle else {})
             found[file] = "\n".join(lines)
     return found
 
@@ -547,7 +607,7 @@ def judging(edit, crate):
     said, proofs, lost = (yield Ask(edit, {}, set())), {}, set()
     while said.lost - lost and not said.refused_by():
         for file in {file for file, _ in said.lost}:
-            text = proofs.get(file) or read(f"{crate.folder}/{file}")
+            text = proofs.get(file) or edit.proofs(crate).get(file, "").removesuffix(FALSE_LEMMA) or read(f"{crate.folder}/{file}")
             proofs[file] = left_out(text, [goal for at, goal in said.lost if at == file])
         lost |= said.lost
         said = yield Ask(edit, proofs, lost)
@@ -560,11 +620,13 @@ def judging(edit, crate):
 
 
 def with_copies(edits):
-    """The edits, each further one of a function made to a copy of it where it can be."""
+    """The edits, each further one of a function made to a copy of it where it can be; the first too, where the function is in a cycle of
+    calls."""
     before = collections.Counter()
     for edit in edits:
         place = edit.place_in_crate
-        yield edit.in_copy(before[place]) if before[place] and edit.can_be_copied else edit
+        number = before[place] + edit.is_in_cycle
+        yield edit.in_copy(number) if number and edit.can_be_copied else edit
         before[place] += 1
 
 
@@ -608,14 +670,14 @@ class Shared:
     def judged(self, edit, said):
         """Hands what was said of an edit on to its judge, who asks for more, or has judged. A copy's edit that is not refused comes again
         in its place."""
-        if edit.number and not said.refused_by():
+        if edit.number and not (edit.is_in_cycle or said.refused_by()):
             self.begin(edit.in_place)
             return
         try:
             ask = self.judges[edit].send(said)
             (self.later if ask.is_right else self.asks)[edit] = ask
         except StopIteration as end:
-            yield edit, end.value[0]
+            yield edit.in_place, end.value[0]
 
 
 def is_to_come(ask, said):
@@ -632,7 +694,9 @@ def checked(rt, crate, texts, flags, kept):
     with tempfile.TemporaryDirectory(prefix="wrong-") as room:
         for part in filter(lambda it: os.path.isdir(f"{crate.folder}/{it}"), rt.rtlib.PARTS):
             shutil.copytree(f"{crate.folder}/{part}", f"{room}/{part}")
-        for path, text in texts.items():
+        for path in filter(lambda it: texts[it] is None, texts):
+            shutil.rmtree(f"{room}/{path}")
+        for path, text in filter(lambda it: it[1] is not None, texts.items()):
             os.makedirs(os.path.dirname(f"{room}/{path}"), exist_ok=True)
             with open(f"{room}/{path}", "w", encoding="utf-8") as it:
                 it.write(text)
@@ -652,11 +716,10 @@ class Trial:
     def checked(self, asks, is_hollow=False):
         """The lines of a check of what is asked; where that is hollow, the other functions have no body."""
         start, edits = time.monotonic(), [it.edit for it in asks]
-        flags, kept = flags_of(edits, self.turn()), self.kept if len(asks) <= FEW else None
-        texts = texts_of(asks, self.crate)
+        kept, texts = self.kept if len(asks) <= FEW else None, texts_of(asks, self.crate)
         if is_hollow:
             texts = without_others(self.crate, texts, edits)
-        said = checked(self.rt, self.crate, texts, flags, kept)
+        said = checked(self.rt, self.crate, texts, flags_of(edits, self.turn()), kept)
         if self.told:
             title = " ".join(it.title for it in asks)
             with open(self.told, "a", encoding="utf-8") as it:
@@ -671,7 +734,7 @@ class Trial:
         lines = self.checked(asks, is_hollow=True) if asks else []
         for ask in asks:
             said = Said(ask.edit, lines)
-            is_open = not said.reached or said.refused_by() or said.lost
+            is_open = not said.reached or said.refused_by() or any(goal not in ask.edit.goals for _, goal in said.lost)
             self.counts[bool(is_open)] += 1
             say(f"{'FAIL' if is_open else 'pass'} {ask.title}{f': {said.cause()}' if is_open else ''}")
 
@@ -774,13 +837,11 @@ def tried(rt, edits, given):
 
     def turn():
         """Waits beside the gate for memory and for a processor on which no prover runs, since two on one take more than one after the
-        other. Answers how many jobs a check may have: a second one takes a third more processor time, so it is for a lane that no
-        other crate's edits fill any more."""
-        while not gate.has_ended():
-            if rt.free() > ROOM and provers() < lanes:
-                return 1
+        other. Answers how many jobs a check may have: a second one takes a third more processor time, so only a run without a gate, for
+        which somebody waits, has more in a lane that no other crate's edits fill any more."""
+        while not gate.has_ended() and not (rt.free() > ROOM and provers() < lanes):
             time.sleep(2)
-        return max(1, lanes // max(1, len(left)))
+        return 1 if given.gate else max(1, lanes // max(1, len(left)))
 
     def counted(crate, some, kept):
         stamp = crate.stamp()
