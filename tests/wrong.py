@@ -8,8 +8,9 @@ another item. An edit of a definition or of a macro has a line 'only: PATH' too:
 a law. Its file may stand in specs/, FUNCTION is PATH's, and the edit is tried alone, on that function; a lemma that the law's
 proof stands on may refuse it too.
 
-A line 'goal: NAME' names a goal that the edit leaves open and that one search proves of the right body. The edit is tried with that
-search as the goal's answer: a goal without an answer the prover tries in seven ways, each in vain here.
+A line 'goal: NAME' names a goal that the edit leaves open and that one search proves of the right body. The edit is tried by these
+goals first, each with that search for its answer, while no goal without an answer is searched: the prover tries each such goal in
+seven ways, and one that stays open in vain. What these goals do not show to be refused is tried by all.
 
 A check takes an edit of each of many functions. A function is proved over the contracts of what it calls, so the other functions
 have no body, but each `drop` has. Each further edit of a function is made to a copy of it at the end of its file, with its
@@ -223,11 +224,12 @@ class Edit:
         text = read(path)
         self.file = "".join(re.findall(r"(?m)^file: (\S+)", text)[:1])
         # that its cut is never reached is a goal of no contract, which is not tried
-        self.changes = [(old, new.replace(CUT, f"{{ #[tactic(none)] {CUT} }}")) for old, new in re.findall(r"(?m)^old: (.*)\nnew: ?(.*)$", text)]
+        changes = re.findall(r"(?m)^old: (.*)\nnew: ?(.*)$", text)
+        self.changes = [(old, new.replace(CUT, f"{{ #[tactic(none)] {CUT} }}")) for old, new in changes]
         # the function that an edit of a definition makes false
         self.breaks = "".join(re.findall(r"(?m)^only: (\S+)", text)[:1])
-        # the goals of its contract that it leaves open
-        self.goals = re.findall(r"(?m)^goal: (\S+)", text)
+        # the goals that it is to leave open, and those by which it is tried, or none where it is tried by all
+        self.goals = self.asked = re.findall(r"(?m)^goal: (\S+)", text)
         self.fault = self.placed(crate)
         if self.own and not (self.fault or self.breaks):
             self.answers = self.answers_in(crate)
@@ -255,6 +257,8 @@ class Edit:
         self.first = above(lines, self.first)
         # whether it changes nothing outside of the function, and the function's lines, which `first` and `last` are not in a copy
         self.is_inside, self.lines = {*places} == {places[0]}, (self.first, self.last)
+        if any(re.match(r" *#\[tactic\(.*\busing\(", it) for it in lines[self.first : self.last]):
+            self.asked = []
         return None if os.path.dirname(self.path) == self.home else f"it belongs in {self.home}/"
 
     def placed_anywhere(self):
@@ -305,8 +309,8 @@ class Edit:
     def copied(self, text, is_right):
         """A text of the file with the copy at its end. Finds the copy's lines."""
         name, (first, last) = self.tail.rpartition("::")[2], self.lines
+        at = next(it for it, line in enumerate(self.text.split("\n")[first:]) if FUNCTION.match(line))
         lines = (self.text if is_right else changed(self.text, self.places())).split("\n")[first : last + 1]
-        at = next(it for it, line in enumerate(lines) if FUNCTION.match(line))
         lines[:at] = [CYCLE.sub("", it) for it in lines[:at]]
         lines[at] = re.sub(rf"\bfn {name}\b", f"fn {name}_copy{self.number}", lines[at])
         self.first = text.count("\n") + bool(self.block)
@@ -315,7 +319,20 @@ class Edit:
         return text + (f"{self.block} {{\n{own}}}\n" if self.block else own)
 
     def places(self):
-        return [(at, old, new) for at, (old, new) in zip(self.at, self.changes)]
+        """The places of its changes, and of the attribute for which no goal without an answer is searched, if it is tried by some goals."""
+        return [*((at, old, new) for at, (old, new) in zip(self.at, self.changes)), *self.place_of_none()]
+
+    def place_of_none(self):
+        """The place of that attribute; none where the function has one of its own, or where a change goes over the place."""
+        if not self.asked:
+            return []
+        lines = self.text.split("\n")
+        at = next((it for it in range(self.lines[0], self.lines[1]) if FUNCTION.match(lines[it])), 0)
+        margin = len(lines[at]) - len(lines[at].lstrip())
+        place = sum(len(it) + 1 for it in lines[:at]) + margin
+        is_changed = any(start < place < start + len(old) for start, (old, _) in zip(self.at, self.changes))
+        has_own = any("#[tactic(" in it for it in lines[self.lines[0] : at])
+        return [] if not at or is_changed or has_own else [(place, "", "#[tactic(none)] ")]
 
     def proofs(self, crate):
         """The files of the function's proof by hand, and of the same for its copy, with the lemma that is false."""
@@ -331,8 +348,8 @@ class Edit:
         """An Answers file with a first search, and no more, at each goal of the edit that the file does not answer: it proves that goal of
         the right body, as the control shows, and at a goal without an answer the prover tries six ways more."""
         lines = self.text.split("\n")[self.lines[0] : self.lines[1] + 1]
-        goals = [it for it in self.goals if not re.search(rf"(?m)^pub {re.escape(it)} :", text)]
-        if not goals or any(re.search(r"#\[tactic\(.*\busing\(", it) for it in lines):
+        goals = [it for it in self.asked if not re.search(rf"(?m)^pub {re.escape(it)} :", text)]
+        if not goals:
             return text
         module = f"Rattle.{crate.name}.{os.path.dirname(self.answers)}.Goals as goal".replace("/", ".")
         uses = [] if re.search(r"(?m)^use .*\brules\b", text) else ["use Rattle.std.proofs.Common.{rules}\n"]
@@ -425,6 +442,7 @@ class Said:
         """The goals of the contract that are not proved, but those whose proof by hand lost a name."""
         lost = [goal for _, goal in self.lost if goal]
         opened = [it for it in self.open if self.open[it] or not any(is_within(it, goal) for goal in lost)]
+        opened = [] if self.edit.asked else opened
         lemmas = self.lemmas if {*self.statuses} - {"proved"} else []
         return [*(it for it in [*self.by_hand, *opened] if is_of_contract(it)), *lemmas]
 
@@ -605,6 +623,9 @@ def judging(edit, crate):
     """Judges an edit: yields each ask, takes what the check said of it, and returns the goals that the edit is refused by, or else
     none and why it is not refused."""
     said, proofs, lost = (yield Ask(edit, {}, set())), {}, set()
+    if edit.asked and not said.refused_by():
+        edit.asked = []
+        said = yield Ask(edit, {}, set())
     while said.lost - lost and not said.refused_by():
         for file in {file for file, _ in said.lost}:
             text = proofs.get(file) or edit.proofs(crate).get(file, "").removesuffix(FALSE_LEMMA) or read(f"{crate.folder}/{file}")
