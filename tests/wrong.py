@@ -755,7 +755,8 @@ class Trial:
         lines = self.checked(asks, is_hollow=True) if asks else []
         for ask in asks:
             said = Said(ask.edit, lines)
-            is_open = not said.reached or said.refused_by() or any(goal not in ask.edit.goals for _, goal in said.lost)
+            lost = [goal for _, goal in said.lost if goal not in ask.edit.goals]
+            is_open = not said.reached or lost or any(map(is_of_contract, [*said.by_hand, *said.open]))
             self.counts[bool(is_open)] += 1
             say(f"{'FAIL' if is_open else 'pass'} {ask.title}{f': {said.cause()}' if is_open else ''}")
 
