@@ -8,9 +8,10 @@ another item. An edit of a definition or of a macro has a line 'only: PATH' too:
 a law. Its file may stand in specs/, FUNCTION is PATH's, and the edit is tried alone, on that function; a lemma that the law's
 proof stands on may refuse it too.
 
-A line 'goal: NAME' names a goal that the edit leaves open and that one search proves of the right body. The edit is tried by these
-goals first, each with that search for its answer, while no goal without an answer is searched: the prover tries each such goal in
-seven ways, and one that stays open in vain. What these goals do not show to be refused is tried by all.
+A line 'goal: NAME' names a goal that the edit leaves open: one that has an answer by hand, or that one search proves of the right
+body, or would if that had its path (docs/DECISIONS.md). The edit is tried by these goals first, each with its answer or else with
+that search, while no goal without an answer is searched, but where the function has a tactic of its own: the prover tries each such
+goal in seven ways, and one that stays open in vain. What these goals do not show to be refused is tried by all.
 
 A check takes an edit of each of many functions. A function is proved over the contracts of what it calls, so the other functions
 have no body, but each `drop` has. Each further edit of a function is made to a copy of it at the end of its file, with its
@@ -346,7 +347,7 @@ class Edit:
 
     def answered(self, crate, text):
         """An Answers file with a first search, and no more, at each goal of the edit that the file does not answer: it proves that goal of
-        the right body, as the control shows, and at a goal without an answer the prover tries six ways more."""
+        the right body, as the control shows, where that has it; and at a goal without an answer the prover tries six ways more."""
         lines = self.text.split("\n")[self.lines[0] : self.lines[1] + 1]
         goals = [it for it in self.asked if not re.search(rf"(?m)^pub {re.escape(it)} :", text)]
         if not goals:
