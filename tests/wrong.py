@@ -11,7 +11,8 @@ proof stands on may refuse it too.
 A line 'goal: NAME' names a goal that the edit leaves open: one that has an answer by hand, or that one search proves of the right
 body, or would if that had its path (docs/DECISIONS.md). The edit is tried by these goals first, each with its answer or else with
 that search, while no goal without an answer is searched, but where the function has a tactic of its own: the prover tries each such
-goal in seven ways, and one that stays open in vain. What these goals do not show to be refused is tried by all.
+goal in seven ways, and one that stays open in vain. What these goals do not show to be refused is tried by all. Behind a name, 'by grind'
+says that `grind` proves the goal of the right body, where that one search does not.
 
 A check takes an edit of each of many functions. A function is proved over the contracts of what it calls, so the other functions
 have no body, but each `drop` has. Each further edit of a function is made to a copy of it at the end of its file, with its
@@ -75,6 +76,9 @@ SAFE = re.compile(r"(?:^|-)(?:overflow_|nonzero_|(?:slice_|offset_)?bounds-)|-(?
 
 
 CUT = "unreachable!()"  # what stands where a body is cut off
+# what proves a named goal of the right body, with the names that it cites and where they stand
+SEARCH = "search rules", {"rules": "Rattle.std.proofs.Common"}
+GRIND = "grind (arith, common_steps)", {"arith": "Rattle.std.proofs.Common", "common_steps": "Rattle.std.proofs.lemmas.Grind"}
 MANY = 300  # the most edits of a check, for its memory
 FEW = 20  # a check of more edits keeps nothing: to keep it, the prover begins copies of itself, which take a third more time
 # a lemma that is false: beside it the prover prints no form of a proof for the function, which takes a sixth of a check's time, and
@@ -229,9 +233,11 @@ class Edit:
         self.changes = [(old, new.replace(CUT, f"{{ #[tactic(none)] {CUT} }}")) for old, new in changes]
         # the function that an edit of a definition makes false
         self.breaks = "".join(re.findall(r"(?m)^only: (\S+)", text)[:1])
-        # the goals that it is to leave open, and those by which it is tried, or none where it is tried by all
-        self.goals = self.asked = re.findall(r"(?m)^goal: (\S+)", text)
-        self.fault = self.placed(crate)
+        # the goals that it is to leave open, those by which it is tried, or none where it is tried by all, and what proves them
+        self.ways = {it[1]: GRIND if it[2] else SEARCH for it in re.finditer(r"(?m)^goal: (\S+)( by grind)?$", text)}
+        self.goals = self.asked = [*self.ways]
+        is_read = len(self.ways) == len(re.findall(r"(?m)^goal:", text))
+        self.fault = self.placed(crate) if is_read else "a line 'goal:' of it is not read"
         if self.own and not (self.fault or self.breaks):
             self.answers = self.answers_in(crate)
 
@@ -346,17 +352,18 @@ class Edit:
         return {**found, self.answers: self.answered(crate, found[self.answers]) + FALSE_LEMMA}
 
     def answered(self, crate, text):
-        """An Answers file with a first search, and no more, at each goal of the edit that the file does not answer: it proves that goal of
-        the right body, as the control shows, where that has it; and at a goal without an answer the prover tries six ways more."""
+        """An Answers file with one way, and no more, at each goal of the edit that the file does not answer: it proves that goal of the
+        right body, as the control shows, where that has it; and at a goal without an answer the prover tries six ways more."""
         lines = self.text.split("\n")[self.lines[0] : self.lines[1] + 1]
         goals = [it for it in self.asked if not re.search(rf"(?m)^pub {re.escape(it)} :", text)]
         if not goals:
             return text
         module = f"Rattle.{crate.name}.{os.path.dirname(self.answers)}.Goals as goal".replace("/", ".")
-        uses = [] if re.search(r"(?m)^use .*\brules\b", text) else ["use Rattle.std.proofs.Common.{rules}\n"]
+        cited = {name: at for it in goals for name, at in self.ways[it][1].items()}
+        uses = [f"use {cited[it]}.{{{it}}}\n" for it in cited if not re.search(rf"(?m)^use .*\b{it}\b", text)]
         uses += [f"use {module}\n"] if module not in text else []
         given = "g c" if is_generic(self.block, lines) else "c"
-        found = [f"\npub {it} : goal.{it}\n{it} {given} = search rules\n" for it in goals]
+        found = [f"\npub {it} : goal.{it}\n{it} {given} = {self.ways[it][0]}\n" for it in goals]
         return "".join([*uses, text, *found])
 
     def place(self, lines, at):
@@ -483,7 +490,7 @@ class Kept:
                     os.unlink(it.path)
 
     def place(self, edit, stamp):
-        told = repr((self.judge, stamp, edit.name, edit.file, edit.changes, edit.breaks, edit.goals))
+        told = repr((self.judge, stamp, edit.name, edit.file, edit.changes, edit.breaks, edit.ways))
         return f"{self.at}/{hashlib.sha256(told.encode()).hexdigest()}"
 
     def goal(self, edit, stamp):
