@@ -11,8 +11,8 @@ proof stands on may refuse it too.
 A line 'goal: NAME' names a goal that the edit leaves open: one that has an answer by hand, or that one search proves of the right
 body, or would if that had its path (docs/DECISIONS.md). The edit is tried by these goals first, each with its answer or else with
 that search, while no goal without an answer is searched, but where the function has a tactic of its own: the prover tries each such
-goal in seven ways, and one that stays open in vain. What these goals do not show to be refused is tried by all. Behind a name, 'by grind'
-says that `grind` proves the goal of the right body, where that one search does not.
+goal in seven ways, and one that stays open in vain. What is not refused so is tried once more, with all goals searched; but only a goal
+that the edit names counts. Behind a name, 'by grind' says that `grind` proves the goal of the right body, where that search does not.
 
 A check takes an edit of each of many functions. A function is proved over the contracts of what it calls, so the other functions
 have no body, but each `drop` has. Each further edit of a function is made to a copy of it at the end of its file, with its
@@ -447,12 +447,14 @@ class Said:
         self.lemmas = [f"the lemma {it[1]}" for it in lemmas if not MISSES.search(it[2])]
 
     def refused_by(self):
-        """The goals of the contract that are not proved, but those whose proof by hand lost a name."""
+        """The goals of the contract that are not proved, but those whose proof by hand lost a name. Of an edit that names goals, these
+        alone: another goal's proof by hand may fail for the form of the text."""
         lost = [goal for _, goal in self.lost if goal]
         opened = [it for it in self.open if self.open[it] or not any(is_within(it, goal) for goal in lost)]
         opened = [] if self.edit.asked else opened
         lemmas = self.lemmas if {*self.statuses} - {"proved"} else []
-        return [*(it for it in [*self.by_hand, *opened] if is_of_contract(it)), *lemmas]
+        found = [it for it in [*self.by_hand, *opened] if is_of_contract(it)]
+        return [*(it for it in found if it in (self.edit.goals or found)), *lemmas]
 
     def cause(self):
         """Why the edit is not refused."""
