@@ -77,10 +77,17 @@ pub enum ErrorKind {
 }
 
 /// An error: its kind, and the error that caused it where there is one. Mirrors `tera::Error`.
-#[derive(Debug, Drop)]
+#[derive(Debug)]
 pub struct Error {
     kind: ErrorKind,
     source: Option<anyhow::Error>,
+}
+
+/// All that it holds ends with it. Where an error ends, this is called, and not written out there.
+impl Drop for Error {
+    fn drop(self) {
+        let Error { kind: _, source: _ } = self;
+    }
 }
 
 impl Error {

@@ -19,13 +19,26 @@ use std::alloc::{AllocError, Global};
 
 /// An error that shows its place in a source, and notes on other places. Mirrors
 /// `tera::ReportError`.
-#[derive(Debug, PartialEq, Eq, Drop)]
+#[derive(Debug, PartialEq, Eq)]
 pub struct ReportError {
     message: String,
     filename: String,
     source: String,
     span: Span,
     notes: Vec<Note>,
+}
+
+/// All that it holds ends with it. Where a report ends, this is called, and not written out there.
+impl Drop for ReportError {
+    fn drop(self) {
+        let ReportError {
+            message: _,
+            filename: _,
+            source: _,
+            span: _,
+            notes: _,
+        } = self;
+    }
 }
 
 /// Another place, and what it is to the error.
