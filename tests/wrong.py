@@ -5,8 +5,9 @@ An edit is written as those of must-fail/ are: a line 'file: src/SUBJECT.rt', an
 'new: TEXT', where each old text stands in that file, or in that function, exactly once. FUNCTION is the name of its
 function, with its type and trait as the prover spells them ('Value.format', 'ValueFromU8.from'), or that of a constant or
 another item. An edit of a definition or of a macro has a line 'only: PATH' too: the function that it makes false, such as
-a law. Its file may stand in specs/, FUNCTION is PATH's, and the edit is tried alone, on that function; a lemma that the law's
-proof stands on may refuse it too.
+a law. Its file may stand in specs/, FUNCTION is PATH's, and the edit is tried on that function; a lemma that the law's proof
+stands on may refuse it too. A definition's edit is made to a copy of it, for a copy of the law (tests/definitions.py), and where
+there is no law to copy, it is tried alone.
 
 A line 'goal: NAME' names a goal that the edit leaves open: one that has an answer by hand, or that one search proves of the right
 body, or would if that had its path (docs/DECISIONS.md). The edit is tried by these goals first, each with its answer or else with
@@ -53,6 +54,9 @@ import threading
 import time
 from concurrent.futures import ThreadPoolExecutor
 
+sys.dont_write_bytecode = True
+import definitions  # noqa: E402  (beside this script; no file of it is kept)
+
 PUBLIC = r"( *)(?:pub(?:\([^)]*\))? )?(?:unsafe )?"
 FUNCTION = re.compile(PUBLIC + r'(?:const )?(?:extern "C" )?fn (\w+)')
 ITEM = re.compile(PUBLIC + r"(?:const|static|struct|enum|trait|type|impl)\b")
@@ -62,7 +66,7 @@ IMPL = re.compile(r"impl(<(?:[^<>]|<[^<>]*>)*>)? (?:(.*) for )?(.*)")
 PLACE = re.compile(r"(?:note: )?(?:\./)?(src/\S+?):(\d+):\d+: ")
 OPEN = re.compile(PLACE.pattern + r"it is not proved that .*?\(`([^`]+)`\)(.*)")
 BY_HAND = re.compile(r"\./(proofs/(\S+)/\w+\.antt):\d+:\d+: error: (?:`([^`]*)`)?(.*)")
-LEMMA = re.compile(r"\./proofs/\w+\.antt:\d+:\d+: error: `(\w+)`:(.*)")
+LEMMA = re.compile(r"\./proofs/(?:(copy\d+)/(?:\w+/)*)?\w+\.antt:\d+:\d+: error: `(\w+)`:(.*)")
 STATUS = re.compile(r"(?:fn|struct|enum|impl|trait) \w+::(\S+?): (.*)")
 # what a proof by hand says that names what the edit took away: no word on the contract
 MISSES = re.compile(r"has no field|is not in scope|has no `|was not admitted")
@@ -226,6 +230,8 @@ class Edit:
         self.block, self.is_of_trait, self.number, self.in_place = "", False, 0, self
         # the folder of the proof of its cycle of calls, and the first words of its goals there
         self.cycle, self.told_as = "", ""
+        # the law that an edit of a definition makes false, where that can be copied, and the copies of a copy
+        self.law = self.copies = None
         text = read(path)
         self.file = "".join(re.findall(r"(?m)^file: (\S+)", text)[:1])
         # that its cut is never reached is a goal of no contract, which is not tried
@@ -249,7 +255,7 @@ class Edit:
         lines = self.text.split("\n")
         self.at = []
         if self.breaks:
-            return self.placed_anywhere()
+            return self.placed_anywhere(crate)
         for old, _ in self.changes:
             at = [it.start() for it in re.finditer(re.escape(old), self.text)]
             if len(at) > 1:
@@ -268,13 +274,15 @@ class Edit:
             self.asked = []
         return None if os.path.dirname(self.path) == self.home else f"it belongs in {self.home}/"
 
-    def placed_anywhere(self):
+    def placed_anywhere(self, crate):
         """The same for an edit of a definition or of a macro, which makes another function false."""
         for old, _ in self.changes:
             if self.text.count(old) != 1:
                 return f"this stands {self.text.count(old)} times in its file: {old}"
             self.at.append(self.text.index(old))
         self.only, self.own = self.breaks, re.compile(rf"{re.escape(self.breaks)}$")
+        law = definitions.Law(crate, self.breaks)
+        self.law = law if law.text and self.file.startswith("specs/") else None
         subject = re.sub(r"\.\w+$", "", self.file.removeprefix("src/"))
         *modules, last = self.breaks.split("::")
         home = f"{subject}/{'.'.join([*(it for it in modules if it[0].isupper()), last])}"
@@ -297,21 +305,38 @@ class Edit:
 
     @property
     def place_in_crate(self):
-        """What two edits of one function share, or of one copy."""
-        return self.file, self.lines, self.number
+        """What two edits of one function share, or of one copy; the copies of all laws are numbered together."""
+        return ("", (0, 0), self.number) if self.law else (self.file, self.lines, self.number)
 
     @property
     def can_be_copied(self):
         """Whether it can be made to a copy of its function, which stands beside that."""
-        return bool(self.answers) and self.is_inside and not self.is_of_trait
+        return bool(self.law) or bool(self.answers) and self.is_inside and not self.is_of_trait
+
+    @property
+    def is_never_in_place(self):
+        """Whether a check that it shares tries no more of it than a copy."""
+        return self.is_in_cycle or bool(self.law)
 
     def in_copy(self, number):
         """The same edit, made to a copy of its function."""
         it, behind = copy.copy(self), f"_copy{number}"
         it.number, it.only = number, self.only + behind
+        if self.law:
+            it.copies = definitions.Copies(self.law, self.file, number)
+            it.file, it.only, it.answers = it.copies.file, it.copies.path, f"{it.copies.folder}/Answers.antt"
+            it.own = re.compile(rf"{re.escape(it.only)}$")
+            return it
         it.own = paths_of(self.before, self.tail + behind)
         it.answers = f"{self.folder}{behind}/Answers.antt"
         return it
+
+    def with_copy(self, texts, is_right):
+        """The texts with the copy in them or beside them."""
+        if not self.copies:
+            return {**texts, self.file: self.copied(texts.get(self.file, self.text), is_right)}
+        edited = self.text if is_right else changed(self.text, self.places())
+        return {**texts, **self.copies.texts(texts, edited)}
 
     def copied(self, text, is_right):
         """A text of the file with the copy at its end. Finds the copy's lines."""
@@ -343,6 +368,9 @@ class Edit:
 
     def proofs(self, crate):
         """The files of the function's proof by hand, and of the same for its copy, with the lemma that is false."""
+        if self.copies:
+            found = {self.answers: "", **self.copies.answers()}
+            return {**found, self.answers: found[self.answers] + FALSE_LEMMA}
         own, to, found = self.cycle or self.folder, os.path.dirname(self.answers), {self.answers: ""}
         names = sorted(os.listdir(f"{crate.folder}/{own}")) if os.path.isdir(f"{crate.folder}/{own}") else []
         for name in names if self.number else [it for it in names if it == "Answers.antt"]:
@@ -419,6 +447,8 @@ class Edit:
         return not self.own or bool(self.own.match(path))
 
     def is_around(self, said):
+        if said and self.copies:
+            return said[1] == self.file
         return bool(said) and (self.breaks or not self.own or said[1] == self.file and self.first < int(said[2]) <= self.last + 1)
 
 
@@ -442,9 +472,10 @@ class Said:
                 last = last[1:] if first in ("returns", "loop") else first
             if edit.is_own("::".join([*modules, last])):
                 self.lost.add((file, goal or "")) if MISSES.search(text) else self.by_hand.append(goal or file)
-        # what the proof of a law stands on is told beside it, where the law is tried alone
+        # what the proof of a law stands on is told beside it, and in a copy of its own where the law is copied
         lemmas = filter(None, map(LEMMA.match, lines)) if edit.breaks else ()
-        self.lemmas = [f"the lemma {it[1]}" for it in lemmas if not MISSES.search(it[2])]
+        own = edit.copies.name if edit.copies else None
+        self.lemmas = [f"the lemma {it[2]}" for it in lemmas if it[1] == own and not MISSES.search(it[3])]
 
     def refused_by(self):
         """The goals of the contract that are not proved, but those whose proof by hand lost a name. Of an edit that names goals, these
@@ -485,7 +516,7 @@ class Kept:
 
     def __init__(self, is_anew):
         home = os.environ.get("XDG_CACHE_HOME") or os.path.expanduser("~/.cache")
-        self.at, self.is_anew, self.judge = f"{home}/dithvong/wrong", is_anew, read(os.path.abspath(__file__))
+        self.at, self.is_anew, self.judge = f"{home}/dithvong/wrong", is_anew, [*map(read, (os.path.abspath(__file__), definitions.__file__))]
         with contextlib.suppress(OSError):
             for it in os.scandir(self.at):
                 if it.stat().st_mtime < time.time() - MONTH:
@@ -625,7 +656,7 @@ def texts_of(asks, crate):
         proofs[file] = text + (FALSE_LEMMA if file in answers else "")
     texts = edited([it.edit for it in asks if not (it.is_right or it.edit.number)])
     for edit, is_right in [(it.edit, it.is_right) for it in asks if it.edit.number]:
-        texts[edit.file] = edit.copied(texts.get(edit.file, edit.text), is_right)
+        texts = edit.with_copy(texts, is_right)
     return {**texts, **proofs}
 
 
@@ -652,11 +683,11 @@ def judging(edit, crate):
 
 def with_copies(edits):
     """The edits, each further one of a function made to a copy of it where it can be; the first too, where the function is in a cycle of
-    calls."""
+    calls, or an edit of a definition."""
     before = collections.Counter()
     for edit in edits:
         place = edit.place_in_crate
-        number = before[place] + edit.is_in_cycle
+        number = before[place] + edit.is_never_in_place
         yield edit.in_copy(number) if number and edit.can_be_copied else edit
         before[place] += 1
 
@@ -701,7 +732,7 @@ class Shared:
     def judged(self, edit, said):
         """Hands what was said of an edit on to its judge, who asks for more, or has judged. A copy's edit that is not refused comes again
         in its place."""
-        if edit.number and not (edit.is_in_cycle or said.refused_by()):
+        if edit.number and not (edit.is_never_in_place or said.refused_by()):
             self.begin(edit.in_place)
             return
         try:
@@ -760,13 +791,13 @@ class Trial:
 
     def run_right(self, edits):
         """Judges the right bodies of the edits' functions, beside the lemma that is false: no goal may be open."""
-        tried = {it.place_in_crate: it for it in with_copies(it for it in edits if it.answers)}
+        tried = {it.place_in_crate: it for it in with_copies(it for it in edits if it.answers or it.law)}
         asks = [Ask(it, {}, set(), is_right=True) for it in tried.values()]
         lines = self.checked(asks, is_hollow=True) if asks else []
         for ask in asks:
             said = Said(ask.edit, lines)
             lost = [goal for _, goal in said.lost if goal not in ask.edit.goals]
-            is_open = not said.reached or lost or any(map(is_of_contract, [*said.by_hand, *said.open]))
+            is_open = not (said.reached and said.statuses) or lost or said.lemmas or any(map(is_of_contract, [*said.by_hand, *said.open]))
             self.counts[bool(is_open)] += 1
             say(f"{'FAIL' if is_open else 'pass'} {ask.title}{f': {said.cause()}' if is_open else ''}")
 
@@ -780,7 +811,7 @@ class Trial:
             if edit.fault:
                 self.settle(edit, None, edit.fault)
         edits = [it for it in edits if not it.fault]
-        alone = [it for it in edits if it.breaks or not it.own]
+        alone = [it for it in edits if it.breaks and not it.law or not it.own]
         shared = Shared([it for it in edits if it not in alone], self.crate)
         while batch := shared.batch():
             for edit, goals in shared.take(batch, self.checked(batch, is_hollow=True)):

@@ -1,0 +1,138 @@
+"""A wrong definition in copies: of the law that it makes false, and of the modules that stand between the two.
+
+The copies of one edit stand in files and folders of their own, `src/lawN.rt`, `proofs/lawN/`, `specs/copyN/` and `proofs/copyN/`. They
+name one another, and beside these the crate's own. So one check takes many edits of definitions, none of which the others see.
+"""
+import os
+import re
+
+USE = re.compile(r"(?:ghost )?use .*?;")
+
+
+def read(path):
+    with open(path, encoding="utf-8") as it:
+        return it.read()
+
+
+def modules_of(crate):
+    """The texts of the modules of specs/ and proofs/, by their names; but not what stands in a function's folder."""
+    found = {}
+    for part in ("specs", "proofs"):
+        for at, _, names in os.walk(f"{crate.folder}/{part}"):
+            for name in names if "Answers.antt" not in names else ():
+                path = os.path.relpath(f"{at}/{name}", crate.folder)
+                found[path.removesuffix(".antt").replace("/", ".")] = read(f"{at}/{name}")
+    return {name: text for name, text in found.items() if not name.endswith(".Lib")}
+
+
+def parent_of(module):
+    return module.rpartition(".")[0]
+
+
+class Law:
+    """A law: a function without a body, in the file of its module."""
+
+    def __init__(self, crate, path):
+        *modules, self.name = path.split("::")
+        self.crate, self.modules = crate, modules
+        file = f"{crate.folder}/src/{'/'.join(modules) or 'lib'}.rt"
+        self.source = read(file) if os.path.isfile(file) else ""
+        found = re.search(rf"(?m)^(?:#\[.*\n)*pub fn {self.name}\b(?:.*\n)*?(?=\{{)\{{\}}\n", self.source)
+        self.text = found[0] if found and found[0].count("fn ") == 1 else ""
+
+    @property
+    def folder(self):
+        return "/".join(["proofs", *self.modules, self.name])
+
+    def imports(self):
+        """The imports of its module that it names, or whose operators it may write, and of what its module declares."""
+        named = {*re.findall(r"\w+", self.text)}
+        lines = [it for it in self.source.split("\n") if USE.fullmatch(it)]
+        kept = [it for it in lines if "◌" in it or named & {*re.findall(r"\w+", re.split(r"[.:](?=\{|\w+[ ;])", it)[-1])}]
+        declared = sorted({*re.findall(r"(?m)^pub (?:struct|enum|trait) (\w+)", self.source)} & named)
+        return "\n".join([*kept, *(f"use crate::{'::'.join(self.modules)}::{it};" for it in declared)])
+
+    def answers(self):
+        """The files of its proof by hand, by their names."""
+        at = f"{self.crate.folder}/{self.folder}"
+        return {it: read(f"{at}/{it}") for it in sorted(os.listdir(at))} if os.path.isdir(at) else {}
+
+
+class Copies:
+    """The modules that an edit of a definition changes, by themselves or by what they name, and that the law stands on."""
+
+    def __init__(self, law, file, number):
+        self.law, self.number, self.modules = law, number, modules_of(law.crate)
+        self.name, self.file, self.path = f"copy{number}", f"src/law{number}.rt", f"law{number}::{law.name}"
+        self.edited = file.removesuffix(".antt").replace("/", ".")
+        self.mention = re.compile(rf"(?:Rattle\.{law.crate.name}|crate)(?:\.|::)(specs|proofs)((?:(?:\.|::)\w+)*)")
+        uses = {name: self.named_in(text) | self.children_of(name) for name, text in self.modules.items()}
+        users = reached({self.edited}, {name: {it for it in uses if name in uses[it]} for name in uses})
+        begins = self.named_in("\n".join([law.imports(), law.text, *law.answers().values()]))
+        self.copied = reached(begins, uses) & users
+        # a module's folder goes with the module
+        while more := {it for name in self.copied for it in (parent_of(name), *self.children_of(name))} & {*uses} - self.copied:
+            self.copied |= more
+
+    def children_of(self, name):
+        return {it for it in self.modules if parent_of(it) == name}
+
+    def module_at(self, part, rest):
+        """The module that a path begins with, the longest of several."""
+        words = [part, *re.findall(r"\w+", rest)]
+        names = (".".join(words[:end]) for end in range(len(words), 1, -1))
+        return next(filter(self.modules.__contains__, names), None)
+
+    def named_in(self, text):
+        return {self.module_at(*it) for it in self.mention.findall(text)} - {None}
+
+    def renamed(self, text):
+        """A text that names the copies."""
+
+        def to_copy(found):
+            part, joint = found[1], "::" if "::" in found[0] else "."
+            if self.module_at(part, found[2]) not in self.copied:
+                return found[0]
+            return f"{found[0].removesuffix(found[2])}{joint}{self.name}{found[2]}"
+
+        return self.mention.sub(to_copy, text)
+
+    def answers(self):
+        """The files of the law's proof by hand, as those of its copy."""
+        own, to = (f".{it}.".replace("/", ".") for it in (self.law.folder, self.folder))
+        return {f"{self.folder}/{name}": self.renamed(text).replace(own, to) for name, text in self.law.answers().items()}
+
+    @property
+    def folder(self):
+        return f"proofs/law{self.number}/{self.law.name}"
+
+    def texts(self, texts, edited):
+        """The texts of the files that the copies need, with the edited module's, beside these of the crate's files."""
+
+        def own(file):
+            return texts.get(file) or read(f"{self.law.crate.folder}/{file}")
+
+        changed = {**self.modules, self.edited: edited}
+        found = {self.placed(name): self.renamed(changed[name]) for name in self.copied}
+        for part in {name.partition(".")[0] for name in self.copied}:
+            tops = sorted(it.partition(".")[2] for it in self.copied if parent_of(it) == part)
+            found[f"{part}/{self.name}.antt"] = "".join(f"pub mod {it}\n" for it in tops)
+            found[f"{part}/Lib.antt"] = f"{own(f'{part}/Lib.antt')}pub mod {self.name}\n"
+        found[self.file] = self.renamed(f"{self.law.imports()}\n\n{self.law.text}")
+        found["src/lib.rt"] = f"{own('src/lib.rt')}mod law{self.number};\n"
+        return found
+
+    def placed(self, name):
+        part, _, rest = name.partition(".")
+        return f"{part}/{self.name}/{rest.replace('.', '/')}.antt"
+
+
+def reached(begins, edges):
+    """What is reached from these, with them."""
+    found, left = set(), [*begins]
+    while left:
+        at = left.pop()
+        if at not in found:
+            found.add(at)
+            left += edges.get(at, ())
+    return found
