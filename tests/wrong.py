@@ -6,7 +6,7 @@ An edit is written as those of must-fail/ are: a line 'file: src/SUBJECT.rt', an
 function, with its type and trait as the prover spells them ('Value.format', 'ValueFromU8.from'), or that of a constant or
 another item. An edit of a definition or of a macro has a line 'only: PATH' too: the function that it makes false, such as
 a law. Its file may stand in specs/, FUNCTION is PATH's, and the edit is tried on that function; a lemma that the law's proof
-stands on may refuse it too. A definition's edit is made to a copy of it, for a copy of the law (tests/definitions.py), and where
+stands on may refuse it too. A definition's edit is made to a copy of it, for a copy of the law (tests/copies.py), and where
 there is no law to copy, it is tried alone.
 
 A line 'goal: NAME' names a goal that the edit leaves open: one that has an answer by hand, or that one search proves of the right
@@ -15,15 +15,17 @@ that search, while no goal without an answer is searched, but where the function
 goal in seven ways, and one that stays open in vain. What is not refused so is tried once more, with all goals searched; but only a goal
 that the edit names counts. Behind a name, 'by grind' says that `grind` proves the goal of the right body, where that search does not.
 
-A check takes an edit of each of many functions. A function is proved over the contracts of what it calls, so the other functions
-have no body, but each `drop` has. Each further edit of a function is made to a copy of it at the end of its file, with its
-attributes, its contract and its proof by hand; but not where it stands in a trait's function. So is each edit of a function that
-calls itself, or that stands in a cycle of calls: the copy calls functions without a body, and so is in no cycle, and of the cycle's
-proof by hand it has its own part. An edit is refused where a goal of its function's contract is not proved: a return's, or an
-invariant's, but not that a sum fits, that a call is allowed or that a loop ends. What a copy does not show to be refused is tried in
-its place, but not where that is in a cycle of calls, and what a shared check does not show is tried alone, and then from nothing,
-beside right bodies. Where a proof by hand names what the edit took away, it is tried without that part; a goal that is then open
-counts only where the prover finds values at which it is false, or where it is proved of the right body without that part.
+A check takes an edit of each of many functions. A function is proved over the contracts of what it calls, so the other functions have
+no body, but each `drop` has. Each further edit of a function is made to a copy of it at the end of its file, with its attributes, its
+contract and its proof by hand. In an impl of a trait that is to be the crate's own, and then the impl and the trait are copied too
+(tests/copies.py), or the function is to have clauses of its own, and then the copy has those alone; else the edit is made in its
+place, in a further check. To a copy is made too each edit of a function that calls itself, or that stands in a cycle of calls: the
+copy calls functions without a body, and so is in no cycle, and of the cycle's proof by hand it has its own part. An edit is refused
+where a goal of its function's contract is not proved: a return's, or an invariant's, but not that a sum fits, that a call is allowed
+or that a loop ends. What a copy does not show to be refused is tried in its place, but not where that is in a cycle of calls, and
+what a shared check does not show is tried alone, and then from nothing, beside right bodies. Where a proof by hand names what the
+edit took away, it is tried without that part; a goal that is then open counts only where the prover finds values at which it is
+false, or where it is proved of the right body without that part.
 
 Prints a line 'pass ..' or 'FAIL ..' for each edit, and 'wrong bodies: end'. It uses the libraries that `rt ci` built, and
 begins with a copy of the work that checks kept in out/. With `--gate LOG` it runs beside an `rt ci` that writes LOG, and begins
@@ -55,10 +57,9 @@ import time
 from concurrent.futures import ThreadPoolExecutor
 
 sys.dont_write_bytecode = True
-import definitions  # noqa: E402  (beside this script; no file of it is kept)
+import copies  # noqa: E402  (beside this script; no file of it is kept)
+from copies import FUNCTION, PUBLIC, above, end_of  # noqa: E402
 
-PUBLIC = r"( *)(?:pub(?:\([^)]*\))? )?(?:unsafe )?"
-FUNCTION = re.compile(PUBLIC + r'(?:const )?(?:extern "C" )?fn (\w+)')
 ITEM = re.compile(PUBLIC + r"(?:const|static|struct|enum|trait|type|impl)\b")
 BLOCK = re.compile(PUBLIC + r"(?:impl|trait)\b")
 IMPL = re.compile(r"impl(<(?:[^<>]|<[^<>]*>)*>)? (?:(.*) for )?(.*)")
@@ -83,6 +84,7 @@ CUT = "unreachable!()"  # what stands where a body is cut off
 # what proves a named goal of the right body, with the names that it cites and where they stand
 SEARCH = "search rules", {"rules": "Rattle.std.proofs.Common"}
 GRIND = "grind (arith, common_steps)", {"arith": "Rattle.std.proofs.Common", "common_steps": "Rattle.std.proofs.lemmas.Grind"}
+FREE = "Display", "Debug", "PartialEq", "Write"  # traits of the kit that ask nothing of who calls
 MANY = 300  # the most edits of a check, for its memory
 FEW = 20  # a check of more edits keeps nothing: to keep it, the prover begins copies of itself, which take a third more time
 # a lemma that is false: beside it the prover prints no form of a proof for the function, which takes a sixth of a check's time, and
@@ -160,22 +162,10 @@ def block_of(header):
     return "".join([own, name.split("::")[-1], *(it for it in arguments(behind, parameters) if it != own)]), bool(trait)
 
 
-def end_of(lines, first, margin, is_function):
-    """The last line of an item: its closing brace, or a line that ends in ';' before a brace opens."""
-    is_open = False
-    for at in range(first, len(lines)):
-        is_open = is_open or lines[at].endswith("{")
-        is_last = not is_open and lines[at].endswith(";") and (is_function or not lines[at].startswith(margin + " "))
-        if is_last or lines[at] in [margin + it for it in ("}", "};", "];", "{}")]:
-            return at
-    return len(lines) - 1
-
-
-def above(lines, first):
-    """The first line of the attributes above an item."""
-    while lines[first - 1].lstrip().startswith("#["):
-        first -= 1
-    return first
+def without_trait(header):
+    """The header of an impl of the type alone."""
+    generics, _, kind = IMPL.match(header).groups()
+    return f"impl{generics or ''} {kind}"
 
 
 def place_of(lines, at):
@@ -222,7 +212,7 @@ class Edit:
     """A wrong body: what it puts in the place of what, and the function or other item that it stands in."""
 
     def __init__(self, path, root, crate):
-        self.path = os.path.relpath(path, root).removesuffix(".edit")
+        self.path, self.crate = os.path.relpath(path, root).removesuffix(".edit"), crate
         self.name = f"{crate.name}/{self.path}"
         # how the prover names the function, if it is one: a pattern of its paths, and a path for `--only`; and its file of answers
         self.own = self.only = self.answers = None
@@ -232,6 +222,8 @@ class Edit:
         self.cycle, self.told_as = "", ""
         # the law that an edit of a definition makes false, where that can be copied, and the copies of a copy
         self.law = self.copies = None
+        # the trait in an impl of which it stands, if that is the crate's own
+        self.trait, self.members = None, []
         text = read(path)
         self.file = "".join(re.findall(r"(?m)^file: (\S+)", text)[:1])
         # that its cut is never reached is a goal of no contract, which is not tried
@@ -268,6 +260,7 @@ class Edit:
             return "it stands in several functions" if places[0] else "its first change stands in no function or constant"
         self.home = self.home_of(lines, places[0])
         self.first = above(lines, self.first)
+        self.trait = self.trait_in(crate) if self.is_of_trait else None
         # whether it changes nothing outside of the function, and the function's lines, which `first` and `last` are not in a copy
         self.is_inside, self.lines = {*places} == {places[0]}, (self.first, self.last)
         if any(re.match(r" *#\[tactic\(.*\busing\(", it) for it in lines[self.first : self.last]):
@@ -281,7 +274,7 @@ class Edit:
                 return f"this stands {self.text.count(old)} times in its file: {old}"
             self.at.append(self.text.index(old))
         self.only, self.own = self.breaks, re.compile(rf"{re.escape(self.breaks)}$")
-        law = definitions.Law(crate, self.breaks)
+        law = copies.Law(crate, self.breaks)
         self.law = law if law.text and self.file.startswith("specs/") else None
         subject = re.sub(r"\.\w+$", "", self.file.removeprefix("src/"))
         *modules, last = self.breaks.split("::")
@@ -311,7 +304,17 @@ class Edit:
     @property
     def can_be_copied(self):
         """Whether it can be made to a copy of its function, which stands beside that."""
-        return bool(self.law) or bool(self.answers) and self.is_inside and not self.is_of_trait
+        is_of_other_trait = self.is_of_trait and not (self.trait or self.has_own_contract())
+        return bool(self.law) or bool(self.answers) and self.is_inside and not is_of_other_trait
+
+    def has_own_contract(self):
+        """Whether a function of an impl for a type of the crate has clauses of its own, by which a copy that is in no impl of the trait may
+        be refused. The copy may assume no less, since the trait asks nothing."""
+        if not re.search(rf"\b(?:{'|'.join(FREE)})(?:<[^>]*>)? for ", self.block):
+            return False
+        own = "\n".join(self.text.split("\n")[self.lines[0] : self.lines[1] + 1])
+        is_said = "ensures" in own and "Self::" not in own and bool(IMPL.match(self.block))
+        return is_said and bool(module_of(block_of(without_trait(self.block))[0], self.crate))
 
     @property
     def is_never_in_place(self):
@@ -319,22 +322,48 @@ class Edit:
         return self.is_in_cycle or bool(self.law)
 
     def in_copy(self, number):
-        """The same edit, made to a copy of its function."""
+        """The same edit, made to a copy of its function, or of a definition."""
         it, behind = copy.copy(self), f"_copy{number}"
-        it.number, it.only = number, self.only + behind
+        it.number = number
         if self.law:
-            it.copies = definitions.Copies(self.law, self.file, number)
+            it.copies = copies.Copies(self.law, self.file, number)
             it.file, it.only, it.answers = it.copies.file, it.copies.path, f"{it.copies.folder}/Answers.antt"
             it.own = re.compile(rf"{re.escape(it.only)}$")
             return it
-        it.own = paths_of(self.before, self.tail + behind)
-        it.answers = f"{self.folder}{behind}/Answers.antt"
+        before, tail, place = self.before, self.tail, self.folder
+        if self.trait:
+            it.block = re.sub(rf"\b{self.trait.name}\b(?=(?:<[^>]*>)? for )", self.trait.copy_name(number), self.block, count=1)
+            tail = f"{block_of(it.block)[0]}::{self.trait.function}"
+            place = f"{place.rsplit('/', 2)[0]}/{tail.replace('::', '/')}"
+        elif self.is_of_trait:
+            it.block = without_trait(self.block)
+            kind, name = block_of(it.block)[0], self.tail.rpartition("::")[2]
+            before, tail = r"(?:\w+::)*", f"{kind}::{name}"
+            place = "/".join(["proofs", *module_of(kind, self.crate), kind, name])
+        it.only = (tail if "(" in before else before + tail) + behind
+        it.own = paths_of(before, tail + behind)
+        it.answers = f"{place}{behind}/Answers.antt"
         return it
+
+    def trait_in(self, crate):
+        """The trait of the crate in an impl of which it stands, if it does. Finds the impl's lines but its functions."""
+        found = re.search(r"(\w+)(?:<[^>]*>)? for ", self.block) if IMPL.match(self.block) else None
+        trait = copies.Trait(crate, found[1], self.tail.rpartition("::")[2]) if found else None
+        lines, last = self.text.split("\n"), self.first
+        while lines[last] != "}":
+            last += 1
+        opens = next(it for it in range(self.opened, last) if lines[it].endswith("{"))
+        self.members = copies.alone(lines[opens + 1 : last], "")
+        return trait if trait and trait.text else None
 
     def with_copy(self, texts, is_right):
         """The texts with the copy in them or beside them."""
         if not self.copies:
-            return {**texts, self.file: self.copied(texts.get(self.file, self.text), is_right)}
+            texts = {**texts, self.file: texts.get(self.file, self.text)}
+            if self.trait:
+                texts.setdefault(self.trait.file, read(f"{self.crate.folder}/{self.trait.file}"))
+                texts = self.trait.with_copy(texts, self.number, self.file)
+            return {**texts, self.file: self.copied(texts[self.file], is_right)}
         edited = self.text if is_right else changed(self.text, self.places())
         return {**texts, **self.copies.texts(texts, edited)}
 
@@ -345,9 +374,10 @@ class Edit:
         lines = (self.text if is_right else changed(self.text, self.places())).split("\n")[first : last + 1]
         lines[:at] = [CYCLE.sub("", it) for it in lines[:at]]
         lines[at] = re.sub(rf"\bfn {name}\b", f"fn {name}_copy{self.number}", lines[at])
-        self.first = text.count("\n") + bool(self.block)
+        members = self.members if self.trait else []
+        self.first = text.count("\n") + bool(self.block) + len(members)
         self.last = self.first + last - first
-        own = "".join(f"{it}\n" for it in lines)
+        own = "".join(f"{it}\n" for it in [*members, *lines])
         return text + (f"{self.block} {{\n{own}}}\n" if self.block else own)
 
     def places(self):
@@ -417,7 +447,7 @@ class Edit:
         tail, before = found[2], "".join(f"{it}::" for it in modules)
         if found[1]:
             above = next(it for it in range(self.first, -1, -1) if BLOCK.match(lines[it]))
-            self.block = header_at(lines, above)
+            self.block, self.opened = header_at(lines, above), above
             block, self.is_of_trait = block_of(self.block.removeprefix("unsafe "))
             tail = f"{block}::{tail}"
             # a type's own function has its path below the type's module, which may be another
@@ -516,7 +546,7 @@ class Kept:
 
     def __init__(self, is_anew):
         home = os.environ.get("XDG_CACHE_HOME") or os.path.expanduser("~/.cache")
-        self.at, self.is_anew, self.judge = f"{home}/dithvong/wrong", is_anew, [*map(read, (os.path.abspath(__file__), definitions.__file__))]
+        self.at, self.is_anew, self.judge = f"{home}/dithvong/wrong", is_anew, [*map(read, (os.path.abspath(__file__), copies.__file__))]
         with contextlib.suppress(OSError):
             for it in os.scandir(self.at):
                 if it.stat().st_mtime < time.time() - MONTH:

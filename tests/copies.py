@@ -1,17 +1,57 @@
-"""A wrong definition in copies: of the law that it makes false, and of the modules that stand between the two.
+"""The copies to which `tests/wrong.py` makes edits beside those that it makes in place.
 
-The copies of one edit stand in files and folders of their own, `src/lawN.rt`, `proofs/lawN/`, `specs/copyN/` and `proofs/copyN/`. They
-name one another, and beside these the crate's own. So one check takes many edits of definitions, none of which the others see.
+A wrong definition is tried in copies of the law that it makes false, and of the modules that stand between the two: those that the
+edit changes, by themselves or by what they name, and that the law stands on. The copies of one edit stand in files and folders of
+their own, `src/lawN.rt`, `proofs/lawN/`, `specs/copyN/` and `proofs/copyN/`. They name one another, and beside these the crate's
+own. So one check takes many edits of definitions, none of which the others see.
+
+An edit of a function of an impl of the crate's own trait is tried in a copy of that impl, for a copy of the trait. Both have that one
+function, by a name of its own, so that no other call means it.
 """
 import os
 import re
 
+PUBLIC = r"( *)(?:pub(?:\([^)]*\))? )?(?:unsafe )?"
+FUNCTION = re.compile(PUBLIC + r'(?:const )?(?:extern "C" )?fn (\w+)')
 USE = re.compile(r"(?:ghost )?use .*?;")
 
 
 def read(path):
     with open(path, encoding="utf-8") as it:
         return it.read()
+
+
+def end_of(lines, first, margin, is_function):
+    """The last line of an item: its closing brace, or a line that ends in ';' before a brace opens."""
+    is_open = False
+    for at in range(first, len(lines)):
+        is_open = is_open or lines[at].endswith("{")
+        is_last = not is_open and lines[at].endswith(";") and (is_function or not lines[at].startswith(margin + " "))
+        if is_last or lines[at] in [margin + it for it in ("}", "};", "];", "{}")]:
+            return at
+    return len(lines) - 1
+
+
+def above(lines, first):
+    """The first line of the attributes above an item."""
+    while lines[first - 1].lstrip().startswith("#["):
+        first -= 1
+    return first
+
+
+def alone(lines, name):
+    """The lines of a block but its other functions, and what is said of its items."""
+    found, at = [], 0
+    while at < len(lines):
+        named = FUNCTION.match(lines[at])
+        last = end_of(lines, at, named[1], True) if named else at
+        if named and named[2] != name:
+            while found and found[-1].lstrip().startswith("#["):
+                found.pop()
+        elif not lines[at].lstrip().startswith("//"):
+            found += lines[at : last + 1]
+        at = last + 1
+    return found
 
 
 def modules_of(crate):
@@ -59,7 +99,7 @@ class Law:
 
 
 class Copies:
-    """The modules that an edit of a definition changes, by themselves or by what they name, and that the law stands on."""
+    """The copies of an edit of a definition."""
 
     def __init__(self, law, file, number):
         self.law, self.number, self.modules = law, number, modules_of(law.crate)
@@ -125,6 +165,34 @@ class Copies:
     def placed(self, name):
         part, _, rest = name.partition(".")
         return f"{part}/{self.name}/{rest.replace('.', '/')}.antt"
+
+
+class Trait:
+    """A trait of the crate, of which a copy has one function, for the edits of an impl's."""
+
+    def __init__(self, crate, name, function):
+        self.name, self.function, self.file, self.text = name, function, "", ""
+        for at, _, names in os.walk(f"{crate.folder}/src"):
+            for path in [f"{at}/{it}" for it in sorted(names)]:
+                found = re.search(rf"(?m)^(?:pub(?:\([^)]*\))? )?trait {name}\b(?:.*\n)*?\}}\n", read(path))
+                if found:
+                    self.file, self.text = os.path.relpath(path, crate.folder), found[0]
+
+    def copy_name(self, number):
+        return f"{self.name}_{self.function}_copy{number}"
+
+    def with_copy(self, texts, number, file):
+        """The texts with the copy of that number, and with an import of it in the file of an impl of it."""
+        name, found = self.copy_name(number), dict(texts)
+        if f"trait {name}" not in found[self.file]:
+            lines = "\n".join(alone(self.text.split("\n"), self.function))
+            lines = re.sub(rf"\btrait {self.name}\b", f"trait {name}", lines)
+            found[self.file] += re.sub(rf"\bfn {self.function}\b", f"fn {self.function}_copy{number}", lines)
+        path = "::".join(it for it in self.file.removeprefix("src/").removesuffix(".rt").split("/") if it != "lib")
+        line = f"use crate::{path}::{name};\n"
+        if file != self.file and line not in found[file]:
+            found[file] += line
+        return found
 
 
 def reached(begins, edges):
