@@ -5,8 +5,8 @@ edit changes, by themselves or by what they name, and that the law stands on. Th
 their own, `src/lawN.rt`, `proofs/lawN/`, `specs/copyN/` and `proofs/copyN/`. They name one another, and beside these the crate's
 own. So one check takes many edits of definitions, none of which the others see.
 
-An edit of a function of an impl of the crate's own trait is tried in a copy of that impl, for a copy of the trait. Both have that one
-function, by a name of its own, so that no other call means it.
+An edit of a function of an impl is tried in a copy of that impl, for a copy of the trait, where that is the crate's own, one of a crate
+below it, or one of three of the kit. Both have that one function, by a name of its own, so that no other call means it.
 """
 import os
 import re
@@ -14,6 +14,54 @@ import re
 PUBLIC = r"( *)(?:pub(?:\([^)]*\))? )?(?:unsafe )?"
 FUNCTION = re.compile(PUBLIC + r'(?:const )?(?:extern "C" )?fn (\w+)')
 USE = re.compile(r"(?:ghost )?use .*?;")
+
+# of some traits of the kit, what one function is to do, in the kit's terms, and the imports of that
+OF_KIT = {
+    ("Hash", "hash"): (
+        """ghost use Rattle.std.specs.Prelude.{◌≡◌, ℕ, List, IsTrue};
+ghost use Rattle.std.specs.List.{fold};
+use std::hash::Hasher;
+""",
+        """pub trait Hash: Eq {
+    ghost hash_input: { Self → List (List ℕ) };
+    fn hash<H: Hasher>(&self, state: &mut H)
+        ensures { state.new ≡ fold H.write state.old (hash_input self.now) };
+    ghost respects_eq: { (x y : Self) → IsTrue (Self.eq x y) → hash_input x ≡ hash_input y };
+}
+""",
+    ),
+    ("Ord", "cmp"): (
+        """ghost use Rattle.std.specs.Prelude.{◌≡◌, Some};
+ghost use Rattle.std.specs.Cmp.{IsTotalOrder};
+ghost use Rattle.std.specs.declared.cmp.Ordering.{Ordering};
+ghost use Rattle.std.specs.Ordering.{is_eq};
+use std::cmp::Ordering;
+""",
+        """pub trait Ord: Eq + PartialOrd {
+    ghost cmp: { Self → Self → Ordering };
+    fn cmp(&self, other: &Self) -> Ordering
+        ensures { result ≡ cmp self.now other.now };
+    ghost total: { IsTotalOrder cmp };
+    ghost matches_partial_cmp: { (x y : Self) → Self.partial_cmp x y ≡ Some (cmp x y) };
+    ghost matches_eq: { (x y : Self) → Self.eq x y ≡ is_eq (cmp x y) };
+}
+""",
+    ),
+    ("Iterator", "next"): (
+        """ghost use Rattle.std.specs.Prelude.{Option, ⊤};
+ghost use Rattle.std.specs.Iterator.{Count, MakesProgress};
+""",
+        """pub trait Iterator: Drop {
+    type Item;
+    ghost next_gives: { Self → Option Self.Item → Self → Type 0 };
+    ghost remaining: { Self → Count };
+    fn next(&mut self) -> Option<Self::Item>
+        ensures steps { next_gives self.old result self.new }
+        ensures goes { MakesProgress (λ _. ⊤) remaining self.old result self.new };
+}
+""",
+    ),
+}
 
 
 def read(path):
@@ -69,6 +117,12 @@ def parent_of(module):
     return module.rpartition(".")[0]
 
 
+def imports_of(source, text):
+    """The imports of a file that a text of it names, or whose operators it may write."""
+    named, lines = {*re.findall(r"\w+", text)}, [it for it in source.split("\n") if USE.fullmatch(it)]
+    return [it for it in lines if "◌" in it or named & {*re.findall(r"\w+", re.split(r"[.:](?=\{|\w+[ ;])", it)[-1])}]
+
+
 class Law:
     """A law: a function without a body, in the file of its module."""
 
@@ -86,9 +140,7 @@ class Law:
 
     def imports(self):
         """The imports of its module that it names, or whose operators it may write, and of what its module declares."""
-        named = {*re.findall(r"\w+", self.text)}
-        lines = [it for it in self.source.split("\n") if USE.fullmatch(it)]
-        kept = [it for it in lines if "◌" in it or named & {*re.findall(r"\w+", re.split(r"[.:](?=\{|\w+[ ;])", it)[-1])}]
+        named, kept = {*re.findall(r"\w+", self.text)}, imports_of(self.source, self.text)
         declared = sorted({*re.findall(r"(?m)^pub (?:struct|enum|trait) (\w+)", self.source)} & named)
         return "\n".join([*kept, *(f"use crate::{'::'.join(self.modules)}::{it};" for it in declared)])
 
@@ -168,15 +220,21 @@ class Copies:
 
 
 class Trait:
-    """A trait of the crate, of which a copy has one function, for the edits of an impl's."""
+    """A trait, of which a copy has one function, for the edits of an impl's. That of another crate is copied into a file of its own."""
 
     def __init__(self, crate, name, function):
-        self.name, self.function, self.file, self.text = name, function, "", ""
-        for at, _, names in os.walk(f"{crate.folder}/src"):
-            for path in [f"{at}/{it}" for it in sorted(names)]:
+        self.name, self.function, self.folder = name, function, crate.folder
+        self.file, self.text, self.head = f"src/copied_{name.lower()}.rt", "", None
+        for owner in [crate, *crate.below()]:
+            for path in sources(owner.folder) if not self.text else ():
                 found = re.search(rf"(?m)^(?:pub(?:\([^)]*\))? )?trait {name}\b(?:.*\n)*?\}}\n", read(path))
-                if found:
+                if found and owner is crate:
                     self.file, self.text = os.path.relpath(path, crate.folder), found[0]
+                elif found and found[0].startswith("pub trait"):
+                    self.text, head = found[0], "".join(f"{it}\n" for it in imports_of(read(path), found[0]))
+                    self.head = head.replace("crate::", f"{owner.name}::")
+        if not self.text:
+            self.head, self.text = OF_KIT.get((name, function), (None, ""))
 
     def copy_name(self, number):
         return f"{self.name}_{self.function}_copy{number}"
@@ -184,15 +242,27 @@ class Trait:
     def with_copy(self, texts, number, file):
         """The texts with the copy of that number, and with an import of it in the file of an impl of it."""
         name, found = self.copy_name(number), dict(texts)
-        if f"trait {name}" not in found[self.file]:
+        module = self.file.removeprefix("src/").removesuffix(".rt").replace("/", "::")
+
+        def add(path, lines):
+            found[path] = (found[path] if path in found else read(f"{self.folder}/{path}")) + lines
+
+        if self.head is not None and self.file not in found:
+            found[self.file] = self.head
+            add("src/lib.rt", f"mod {module};\n")
+        if f"trait {name}" not in found.get(self.file, ""):
             lines = "\n".join(alone(self.text.split("\n"), self.function))
             lines = re.sub(rf"\btrait {self.name}\b", f"trait {name}", lines)
-            found[self.file] += re.sub(rf"\bfn {self.function}\b", f"fn {self.function}_copy{number}", lines)
-        path = "::".join(it for it in self.file.removeprefix("src/").removesuffix(".rt").split("/") if it != "lib")
-        line = f"use crate::{path}::{name};\n"
+            add(self.file, re.sub(rf"\bfn {self.function}\b", f"fn {self.function}_copy{number}", lines))
+        path = "::".join(it for it in ("crate", module, name) if it != "lib")
+        line = f"use {path};\n"
         if file != self.file and line not in found[file]:
             found[file] += line
         return found
+
+
+def sources(folder):
+    return [f"{at}/{it}" for at, _, names in os.walk(f"{folder}/src") for it in sorted(names)]
 
 
 def reached(begins, edges):

@@ -17,9 +17,9 @@ that the edit names counts. Behind a name, 'by grind' says that `grind` proves t
 
 A check takes an edit of each of many functions. A function is proved over the contracts of what it calls, so the other functions have
 no body, but each `drop` has. Each further edit of a function is made to a copy of it at the end of its file, with its attributes, its
-contract and its proof by hand. In an impl of a trait that is to be the crate's own, and then the impl and the trait are copied too
-(tests/copies.py), or the function is to have clauses of its own, and then the copy has those alone; else the edit is made in its
-place, in a further check. To a copy is made too each edit of a function that calls itself, or that stands in a cycle of calls: the
+contract and its proof by hand. Of a trait's function the impl and the trait are copied too, where tests/copies.py can; or the copy has
+the function's own clauses alone, where it has some and the trait asks nothing of who calls; else the edit is made in its place, in a
+further check. To a copy is made too each edit of a function that calls itself, or that stands in a cycle of calls: the
 copy calls functions without a body, and so is in no cycle, and of the cycle's proof by hand it has its own part. An edit is refused
 where a goal of its function's contract is not proved: a return's, or an invariant's, but not that a sum fits, that a call is allowed
 or that a loop ends. What a copy does not show to be refused is tried in its place, but not where that is in a cycle of calls, and
@@ -58,7 +58,7 @@ from concurrent.futures import ThreadPoolExecutor
 
 sys.dont_write_bytecode = True
 import copies  # noqa: E402  (beside this script; no file of it is kept)
-from copies import FUNCTION, PUBLIC, above, end_of  # noqa: E402
+from copies import FUNCTION, PUBLIC, above, end_of, read  # noqa: E402
 
 ITEM = re.compile(PUBLIC + r"(?:const|static|struct|enum|trait|type|impl)\b")
 BLOCK = re.compile(PUBLIC + r"(?:impl|trait)\b")
@@ -109,11 +109,6 @@ def say(line):
     """Prints a line in one piece, whichever crates are tried beside."""
     sys.stdout.write(f"{line}\n")
     sys.stdout.flush()
-
-
-def read(path):
-    with open(path, encoding="utf-8") as it:
-        return it.read()
 
 
 def is_current(crate):
@@ -222,7 +217,7 @@ class Edit:
         self.cycle, self.told_as = "", ""
         # the law that an edit of a definition makes false, where that can be copied, and the copies of a copy
         self.law = self.copies = None
-        # the trait in an impl of which it stands, if that is the crate's own
+        # the trait in an impl of which it stands, if that can be copied
         self.trait, self.members = None, []
         text = read(path)
         self.file = "".join(re.findall(r"(?m)^file: (\S+)", text)[:1])
@@ -346,7 +341,7 @@ class Edit:
         return it
 
     def trait_in(self, crate):
-        """The trait of the crate in an impl of which it stands, if it does. Finds the impl's lines but its functions."""
+        """The trait in an impl of which it stands, if that can be copied. Finds the impl's lines but its functions."""
         found = re.search(r"(\w+)(?:<[^>]*>)? for ", self.block) if IMPL.match(self.block) else None
         trait = copies.Trait(crate, found[1], self.tail.rpartition("::")[2]) if found else None
         lines, last = self.text.split("\n"), self.first
@@ -360,9 +355,7 @@ class Edit:
         """The texts with the copy in them or beside them."""
         if not self.copies:
             texts = {**texts, self.file: texts.get(self.file, self.text)}
-            if self.trait:
-                texts.setdefault(self.trait.file, read(f"{self.crate.folder}/{self.trait.file}"))
-                texts = self.trait.with_copy(texts, self.number, self.file)
+            texts = self.trait.with_copy(texts, self.number, self.file) if self.trait else texts
             return {**texts, self.file: self.copied(texts[self.file], is_right)}
         edited = self.text if is_right else changed(self.text, self.places())
         return {**texts, **self.copies.texts(texts, edited)}
@@ -517,6 +510,10 @@ class Said:
         found = [it for it in [*self.by_hand, *opened] if is_of_contract(it)]
         return [*(it for it in found if it in (self.edit.goals or found)), *lemmas]
 
+    def unread(self):
+        """What the prover could not read of the code or of a definition."""
+        return [it for it in self.lines if re.match(r"(?:\./)?(?:src|specs)/\S+: error", it)]
+
     def cause(self):
         """Why the edit is not refused."""
         if not self.reached:
@@ -526,7 +523,7 @@ class Said:
         rest = "; ".join(it for it in self.statuses if it != "proved")[:200]
         if not rest:
             return "still proved"
-        unread = [it for it in self.lines if re.match(r"(?:\./)?(?:src|specs)/\S+: error", it)]
+        unread = self.unread()
         safe = [it for it in dict.fromkeys([*self.by_hand, *self.open]) if not is_of_contract(it)]
         causes = {
             f"refused only by: {', '.join(safe)}": safe,
@@ -827,7 +824,8 @@ class Trial:
         for ask in asks:
             said = Said(ask.edit, lines)
             lost = [goal for _, goal in said.lost if goal not in ask.edit.goals]
-            is_open = not (said.reached and said.statuses) or lost or said.lemmas or any(map(is_of_contract, [*said.by_hand, *said.open]))
+            is_told = said.reached and said.statuses and not said.unread()
+            is_open = not is_told or lost or said.lemmas or any(map(is_of_contract, [*said.by_hand, *said.open]))
             self.counts[bool(is_open)] += 1
             say(f"{'FAIL' if is_open else 'pass'} {ask.title}{f': {said.cause()}' if is_open else ''}")
 
