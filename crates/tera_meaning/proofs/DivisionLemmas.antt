@@ -1,5 +1,5 @@
 -- A number has one quotient and one remainder by each other number than 0.
-use Rattle.std.specs.Prelude.{◌≡◌, ◌<◌, ◌*◌, ℕ, suc, ℤ, pos, negsuc, ◌+ℤ◌, ◌-ℤ◌, ◌*ℤ◌, ◌≤ℤ◌, ◌<ℤ◌, unsigned_abs}
+use Rattle.std.specs.Prelude.{◌≡◌, ◌<◌, ◌*◌, ℕ, zero, suc, ℤ, pos, negsuc, ◌+ℤ◌, ◌-ℤ◌, ◌*ℤ◌, ◌≤ℤ◌, ◌<ℤ◌, unsigned_abs}
 use Rattle.std.proofs.Common.{sym, ◌∙◌, ap, subst, arith, rules}
 use Rattle.std.proofs.lemmas.Int.{ints, unsigned_abs-mul}
 use Rattle.std.proofs.Math.IntN.{suc_ℤ, pred_ℤ, suc_ℤ-+ℤ, pred_ℤ-+ℤ, suc_ℤ-*ℤ, pred_ℤ-*ℤ, *ℤ_comm}
@@ -23,9 +23,10 @@ module _ (y z : ℤ) where
   none_times = search rules
 
   pub sum_times : (x : ℤ) → (x +ℤ y) *ℤ z ≡ x *ℤ z +ℤ y *ℤ z
-  sum_times (pos (suc n)) = search (rules, up, (sum_times (pos n)))
-  sum_times (negsuc (suc n)) = search (rules, down, (sum_times (negsuc n)))
-  sum_times x0 = search (rules, none_times, down)
+  sum_times (pos zero) = none_times
+  sum_times (pos (suc n)) = up (pos n) (sum_times (pos n))
+  sum_times (negsuc zero) = down (pos 0) none_times
+  sum_times (negsuc (suc n)) = down (negsuc n) (sum_times (negsuc n))
 
 -- two numbers from 0 up to a bound are less than the bound apart
 apart : (r s : ℤ) (n : ℕ) → pos 0 ≤ℤ r → r <ℤ pos n → pos 0 ≤ℤ s → s <ℤ pos n → unsigned_abs (s -ℤ r) < n

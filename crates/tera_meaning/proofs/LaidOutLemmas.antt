@@ -4,14 +4,16 @@ use Rattle.std.proofs.Common.{ap, rules}
 use Rattle.std.specs.Option.{option_map, unwrap_or}
 use Rattle.std.specs.Cmp.Lexicographic.{slice_cmp, nat_list_cmp_total}
 use Rattle.std.specs.FinMap.{get as held_at, insert, remove as without, get-insert, get-remove}
-use Rattle.tera_report.specs.Refusal.{Refusal, shape as refusal_shape}
+use Rattle.tera_report.specs.Refusal.{Refusal, Operator, shape as refusal_shape}
 use Rattle.tera_meaning.specs.Alike.{LaidOutTheSame, MeanTheSame}
+use Rattle.tera_meaning.specs.Conversion.{IntegerType}
 use Rattle.tera_meaning.specs.Form.{Form}
+use Rattle.tera_meaning.specs.Lookup.{seen_by}
 use Rattle.tera_meaning.specs.Meaning.{Layout, layout, meaning, sorted}
 use Rattle.tera_meaning.specs.Read.{marked_safe}
 use Rattle.tera_meaning.specs.Request.{Request, set, extend, remove, mark_safe, find, Command}
 use Rattle.tera_meaning.specs.Run.{state_after_all}
-use Rattle.tera_meaning.specs.Search.{Search, Found, found_at}
+use Rattle.tera_meaning.specs.Search.{Search, Found, found_at, one_found}
 use Rattle.tera_meaning.specs.State.{State, form_at, layout_at, extended}
 use Rattle.tera_meaning.specs.Step.{keeping, leaves, marking_into, state_after}
 use Rattle.tera_meaning.specs.Tree.{undefined}
@@ -30,15 +32,33 @@ found_layout (Err refusal) = Err (refusal_shape refusal)
 pub layout_alike : (f g : State) → LaidOutTheSame f g → (name : List ℕ) → layout_at f name ≡ layout_at g name
 layout_alike f g h name = search rules
 
+one_laid_out_alike : (r s : Result Form Refusal) → seen_by layout r ≡ seen_by layout s → found_layout (one_found r) ≡ found_layout (one_found s)
+one_laid_out_alike r s e = search rules
+
+calculated_laid_out : (operator : Operator) (left right : List ℕ) (f g : State) → LaidOutTheSame f g
+    → found_layout (found_at f (Search.calculate operator left right)) ≡ found_layout (found_at g (Search.calculate operator left right))
+calculated_laid_out operator left right f g h = search (rules, layout_alike)
+
+negated_laid_out : (name : List ℕ) (f g : State) → LaidOutTheSame f g
+    → found_layout (found_at f (Search.negate name)) ≡ found_layout (found_at g (Search.negate name))
+negated_laid_out name f g h = search (rules, layout_alike)
+
+read_laid_out : (type : IntegerType) (name : List ℕ) (f g : State) → LaidOutTheSame f g
+    → found_layout (found_at f (Search.read type name)) ≡ found_layout (found_at g (Search.read type name))
+read_laid_out type name f g h = search (rules, layout_alike)
+
 found_laid_out_alike : (call : Search) (f g : State) → LaidOutTheSame f g → found_layout (found_at f call) ≡ found_layout (found_at g call)
-found_laid_out_alike (Search.path name p) f g h = search (rules, layout_alike, Path.by_layout)
-found_laid_out_alike (Search.attr name t) f g h = search (rules, layout_alike, Attr.by_layout)
+found_laid_out_alike (Search.get name) f g h = ap Ok (h name)
+found_laid_out_alike (Search.path name p) f g h = ap Ok (Path.by_layout p _ _ (layout_alike f g h name))
+found_laid_out_alike (Search.attr name t) f g h = ap Ok (Attr.by_layout t _ _ (layout_alike f g h name))
 found_laid_out_alike (Search.item name i) f g h =
-    search (rules, (Item.by_layout (form_at f name) (form_at f i) (form_at g name) (form_at g i) (layout_alike f g h name) (ap sorted (layout_alike f g h i))))
+    one_laid_out_alike _ _ (Item.by_layout _ (form_at f i) _ (form_at g i) (layout_alike f g h name) (ap sorted (layout_alike f g h i)))
 found_laid_out_alike (Search.slice name start end step) f g h =
-    search (rules, (Slice.by_layout start end step (form_at f name) (form_at g name) (layout_alike f g h name)))
-found_laid_out_alike (Search.reverse name) f g h = search (rules, (Reverse.by_layout (form_at f name) (form_at g name) (layout_alike f g h name)))
-found_laid_out_alike call f g h = search (rules, layout_alike)
+    one_laid_out_alike _ _ (Slice.by_layout start end step _ (form_at g name) (layout_alike f g h name))
+found_laid_out_alike (Search.reverse name) f g h = one_laid_out_alike _ _ (Reverse.by_layout _ (form_at g name) (layout_alike f g h name))
+found_laid_out_alike (Search.calculate operator left right) f g h = calculated_laid_out operator left right f g h
+found_laid_out_alike (Search.negate name) f g h = negated_laid_out name f g h
+found_laid_out_alike (Search.read type name) f g h = read_laid_out type name f g h
 
 some_laid_out : (v w : Form) → option_map layout (Some v) ≡ option_map layout (Some w) → layout v ≡ layout w
 some_laid_out v w e = ap (λ o. unwrap_or o undefined) e

@@ -1,7 +1,7 @@
 -- What single steps answer and leave.
 use Rattle.std.specs.Prelude.{◌≡◌, ◌≢◌, ℕ, ℤ, Bool, false, cond, List, [], Option, Some, None, Result, Ok, Err}
 use Rattle.std.proofs.lemmas.Bool.{false≢true}
-use Rattle.std.proofs.Common.{sym, ◌∙◌, ap, subst, inl, inr, rules}
+use Rattle.std.proofs.Common.{sym, ◌∙◌, ap, subst, refl, inl, inr, rules}
 use Rattle.std.specs.Option.{option_map, unwrap_or}
 use Rattle.std.specs.Ordering.{nat_cmp, eq_by_cmp}
 use Rattle.std.specs.Cmp.{Equal-is}
@@ -10,13 +10,14 @@ use Rattle.std.specs.FinMap.{get as held_at, get-insert}
 use Rattle.tera_report.specs.Escaping.{escaped}
 use Rattle.tera_report.specs.Refusal.{Refusal}
 use Rattle.tera_report.proofs.EscapeLaws.{escaped_from_spelling}
+use Rattle.tera_meaning.specs.Conversion.{IntegerType, read_as}
 use Rattle.tera_meaning.specs.Form.{Form}
 use Rattle.tera_meaning.specs.Meaning.{layout, meaning}
 use Rattle.tera_meaning.specs.Printed.{printed, IsExact, PrintsNothing}
 use Rattle.tera_meaning.specs.Read.{iterable_in, marked_safe}
-use Rattle.tera_meaning.specs.Arithmetic.{each_ok, negated}
-use Rattle.tera_meaning.specs.Search.{Search, found_at, CopyTakes, FoundTakes, get, path, attr, item, slice, reverse, calculate, negate, read}
-use Rattle.tera_meaning.specs.State.{State, layout_at, meaning_at}
+use Rattle.tera_meaning.specs.Arithmetic.{each_ok, negated, as_i128}
+use Rattle.tera_meaning.specs.Search.{Search, found_at, one_found, CopyTakes, FoundTakes, get, path, attr, item, slice, reverse, calculate, negate, read}
+use Rattle.tera_meaning.specs.State.{State, form_at, layout_at, meaning_at}
 use Rattle.tera_meaning.proofs.StateLaws.{get_set, meaning_set, name_exact, get_other}
 use Rattle.tera_meaning.specs.Alike.{MeanTheSame, meaning_held}
 use Rattle.tera_meaning.specs.Answer
@@ -86,6 +87,15 @@ each_number f x1 x h e = search rules
 negated_number : (v x : Form) → negated v ≡ Ok x → iterable_in x ≡ false
 negated_number v x e = search rules
 
+read_number : (type : IntegerType) (v x : Form) → read_as type v ≡ Ok x → iterable_in x ≡ false
+read_number type v x e = search (rules, each_number)
+
+one_is : (made : Result Form Refusal) (x : Form) → one_found made ≡ Ok (Some x) → made ≡ Ok x
+one_is made x e = search rules
+
+no_number_copied : (value : Form) → CopyTakes value → iterable_in value ≡ false → ⊥
+no_number_copied value (parts, some) none = false≢true (sym none ∙ parts)
+
 -- where a copy of what is found takes memory, what is made does
 pub copy_takes : (state : State) (search : Search) (value : Form) → found_at state search ≡ Ok (Some value)
     → CopyTakes value → FoundTakes search (found_at state search)
@@ -95,11 +105,11 @@ copy_takes state (attr name t) value e h = subst (FoundTakes (attr name t)) (sym
 copy_takes state (item name i) value e h = subst (FoundTakes (item name i)) (sym e) h
 copy_takes state (slice name start end step) value e h = subst (FoundTakes (slice name start end step)) (sym e) h
 copy_takes state (reverse name) value e h = subst (FoundTakes (reverse name)) (sym e) h
-copy_takes state (calculate operator left right) value e (parts, some) =
-    let none : iterable_in value ≡ false = search (rules, each_number) in absurd (false≢true (sym none ∙ parts))
-copy_takes state (negate name) value e (parts, some) =
-    let none : iterable_in value ≡ false = search (rules, negated_number) in absurd (false≢true (sym none ∙ parts))
-copy_takes state (read type name) value e (parts, some) =
-    let none : iterable_in value ≡ false = search (rules, each_number) in absurd (false≢true (sym none ∙ parts))
+copy_takes state (calculate operator left right) value e h =
+    absurd (no_number_copied value h (each_number as_i128 _ value (λ z. refl) (one_is _ value e)))
+copy_takes state (negate name) value e h =
+    absurd (no_number_copied value h (negated_number (form_at state name) value (one_is (negated (form_at state name)) value e)))
+copy_takes state (read type name) value e h =
+    absurd (no_number_copied value h (read_number type (form_at state name) value (one_is (read_as type (form_at state name)) value e)))
 
 pub ruleset marks = (marked_alike, marked_meaning, marked_absent, get_set, get_other)

@@ -1,10 +1,11 @@
 -- Texts: what is read byte by byte is spelled so, and what is spelled so is read.
 use Rattle.std.proofs.Common.{◌≡◌, ◌≢◌, ℕ, ◌+◌, ◌*◌, ◌^◌, ◌-◌, ◌<◌, ◌≤◌, ◌⊎◌, inl, inr, zero, suc, suc-le-suc, List, [], ◌∷◌, ◌++◌, length, get_or, take, drop}
 use Rattle.std.proofs.Common.{Option, Some, None, refl, sym, ap, ◌∙◌, subst, arith, append_assoc, append-nil, length-append, add-zero}
-use Rattle.std.specs.Prelude.{flat_map, encode_utf8, IsUtf8}
+use Rattle.std.specs.Prelude.{flat_map, encode_utf8, IsUtf8, cond, Bool, true, false, ◌&&◌, ◌==◌, nat_lt}
+use lib.Utf8.{scalar}
 use Rattle.std.specs.Char.{digit_value, IsScalar}
 use Rattle.std.specs.List.{AllByRecursion}
-use Rattle.std.specs.Option.{option_and_then}
+use Rattle.std.specs.Option.{option_and_then, option_map}
 use Rattle.std.specs.Str.Parse.{AllDigits, digits_value, digits_value_after}
 use Rattle.std.proofs.Math.Nat.{pow-le-pow_right}
 use Rattle.std.proofs.lemmas.Bool.Decides.{nat_tests}
@@ -12,7 +13,8 @@ use Rattle.std.proofs.lemmas.Int.Digits.{digits_value_push, digits_push}
 use Rattle.std.proofs.lemmas.List.{append_cancel_right}
 use Rattle.std.proofs.lemmas.Option.{some_pair_parts}
 use Rattle.tera_script.specs.Text.{Token, itself, character, spelling, decoding, IsToken, SpellsText, BeginsWithText}
-use Rattle.tera_script.specs.TextParts.{IsPlain, IsNoRun, BeginsWithRun, Place, at_token, at_letter, at_brace, at_digit, letter_token, text_from, escape_at}
+use Rattle.tera_script.specs.TextParts.{IsPlain, IsNoRun, BeginsWithRun, Place, at_token, at_letter, at_brace, at_digit, letter_token, behind_token}
+use Rattle.tera_script.specs.TextParts.{text_from, escape_at}
 use Rattle.tera_script.specs.Readers.{behind}
 use Rattle.tera_script.proofs.Fronts.{behind_nothing, behind_both, behind_found}
 use Rattle.tera_script.proofs.Utf8.{utf8_tokens}
@@ -171,13 +173,25 @@ IsInside place = Unit {0}
 abbrev then_text : Option (List ℕ × List ℕ) → Option (List ℕ × List ℕ)
 then_text read = option_and_then (λ found. behind found.0 (text_from found.1 at_token)) read
 
+cond_then : (c : Bool) (x y : Option (List ℕ × List ℕ)) {s t : Option (List ℕ × List ℕ)} → s ≡ then_text x → t ≡ then_text y
+    → cond c s t ≡ then_text (cond c x y)
+cond_then true x y h g = h
+cond_then false x y h g = g
+
+letter_then : (found : Option Token) (bytes : List ℕ)
+    → behind_token found (text_from bytes at_token) ≡ then_text (option_map (λ token. (decoding token, bytes)) found)
+letter_then None bytes = refl
+letter_then (Some token) bytes = refl
+
 escapes : (bytes : List ℕ) (place : Place) → IsInside place → text_from bytes place ≡ then_text (escape_at bytes place)
 unfolding text_from escape_at
 escapes [] place inside = refl
 escapes (b ∷ bytes) at_token inside = absurd inside
-escapes (b ∷ bytes) at_letter inside = grind (arith, nat_tests, escapes bytes at_brace tt)
-escapes (b ∷ bytes) at_brace inside = grind (arith, nat_tests, escapes bytes (at_digit 0 0) tt)
-escapes (b ∷ bytes) (at_digit n count) inside = grind (arith, nat_tests, escapes bytes (at_digit (n * 16 + digit_value b) (count + 1)) tt)
+escapes (b ∷ bytes) at_letter inside = cond_then (b == 117) _ _ (escapes bytes at_brace tt) (letter_then (letter_token b) bytes)
+escapes (b ∷ bytes) at_brace inside = cond_then (b == 123) _ _ (escapes bytes (at_digit 0 0) tt) refl
+escapes (b ∷ bytes) (at_digit n count) inside =
+    cond_then ((b == 125) && nat_lt 0 count) _ _ (cond_then (scalar n) _ _ refl refl)
+    (cond_then (nat_lt (digit_value b) 16 && nat_lt count 6) _ _ (escapes bytes (at_digit (n * 16 + digit_value b) (count + 1)) tt) refl)
 
 -- what stands behind a run, if it is no closing quote, is a backslash
 letter_next : {rest after : List ℕ} {byte : ℕ} → rest ≡ byte ∷ after → IsNoRun rest → byte ≢ 34
