@@ -1,6 +1,6 @@
 -- The outcomes of runs, in which some steps may want memory.
 use Rattle.std.specs.Prelude.{◌≡◌, ◌≢◌, ℕ, Bool, true, false, List, [], ◌∷◌, ◌++◌, length, Option, Ok, refl}
-use Rattle.std.proofs.Common.{sym, ◌∙◌, ap, subst, inl, arith, rules}
+use Rattle.std.proofs.Common.{sym, ◌∙◌, ap, subst, inl, inr, arith, rules}
 use Rattle.tera_report.specs.Escaping.{escaped}
 use Rattle.tera_report.proofs.EscapeLaws.{Spells-escaped}
 use Rattle.tera_meaning.specs.Answer
@@ -102,7 +102,11 @@ done_in_want old mid v next others new left run = (next, others, (refl, refl), s
 done_first : (old : State) (command : Command) (commands : List Command) (outcome : Outcome) (outcomes : List Outcome)
     (mid new : State) (b : Bool) → is_want outcome ≡ b → IsStep old command outcome mid
     → DoneRun mid commands outcomes new → DoneRun old (command ∷ commands) (outcome ∷ outcomes) new
-done_first old command commands outcome outcomes mid new true h step (next, others, are, run) = search (rules, is_out_of_memory, left_in_want, done_in_want)
+done_first old command commands outcome outcomes mid new true h step (next, others, are, run) =
+    let want : outcome ≡ out_of_memory = is_out_of_memory outcome h in
+    let left : LeavesInWant old command.request mid = left_in_want old command mid (subst (λ o. IsStep old command o mid) want step) in
+    let (done, answers, was, ample) = done_in_want old mid command.request next others new left run in
+    (done, answers, (next, others, inr (want, was), are), ample)
 done_first old command commands outcome outcomes mid new false h step (next, others, are, run) =
     let found : outcome ≢ out_of_memory = no_want outcome h in
     (command ∷ next, outcome ∷ others, (next, others, inl (found, refl, refl), are), ((mid, step, run.0), (found, run.1)))

@@ -1,11 +1,13 @@
 -- What is found in states of one meaning is the same up to meaning, and is well made where the states are.
-use Rattle.std.proofs.Common.{rules}
-use Rattle.std.specs.Prelude.{◌≡◌, Result, IfOk, IfSome}
+use Rattle.std.proofs.Common.{rules, ap}
+use Rattle.std.specs.Prelude.{◌≡◌, Result, Ok, IfOk, IfSome}
 use Rattle.tera_report.specs.Refusal.{Refusal, Operator}
 use Rattle.tera_meaning.specs.Arithmetic.{calculated, negated}
 use Rattle.tera_meaning.specs.Conversion.{IntegerType, read_as}
 use Rattle.tera_meaning.specs.Form.{Form}
 use Rattle.tera_meaning.specs.Alike.{MeanTheSame}
+use Rattle.tera_meaning.specs.Lookup.{seen_by}
+use Rattle.tera_meaning.specs.Meaning.{meaning}
 use Rattle.tera_meaning.specs.Search
 use Rattle.tera_meaning.specs.Search.{Search, found_at, one_found}
 use Rattle.tera_meaning.specs.State.{State, form_at}
@@ -19,15 +21,32 @@ pub mod Path
 pub mod Reverse
 pub mod Slice
 
+-- what is found as one value that means the same is found the same
+one_alike : (made other : Result Form Refusal) → seen_by meaning made ≡ seen_by meaning other
+    → found_shape (one_found made) ≡ found_shape (one_found other)
+one_alike made other e = search rules
+
+calculated_alike : (operator : Operator) (v w x y : Form) → meaning v ≡ meaning w → meaning x ≡ meaning y
+    → seen_by meaning (calculated operator v x) ≡ seen_by meaning (calculated operator w y)
+calculated_alike operator v w x y left right = search rules
+
+negated_alike : (v w : Form) → meaning v ≡ meaning w → seen_by meaning (negated v) ≡ seen_by meaning (negated w)
+negated_alike v w e = search rules
+
+read_alike : (type : IntegerType) (v w : Form) → meaning v ≡ meaning w → seen_by meaning (read_as type v) ≡ seen_by meaning (read_as type w)
+read_alike type v w e = search rules
+
 pub found_alike : (call : Search) (f g : State) → MeanTheSame f g → found_shape (found_at f call) ≡ found_shape (found_at g call)
-found_alike (Search.path name p) f g h = search (rules, meaning_alike, Path.by_meaning)
-found_alike (Search.attr name t) f g h = search (rules, meaning_alike, Attr.by_meaning)
-found_alike (Search.item name i) f g h =
-    search (rules, (Item.by_meaning (form_at f name) (form_at f i) (form_at g name) (form_at g i) (meaning_alike f g h name) (meaning_alike f g h i)))
-found_alike (Search.slice name start end step) f g h =
-    search (rules, (Slice.by_meaning start end step (form_at f name) (form_at g name) (meaning_alike f g h name)))
-found_alike (Search.reverse name) f g h = search (rules, (Reverse.by_meaning (form_at f name) (form_at g name) (meaning_alike f g h name)))
-found_alike call f g h = search (rules, meaning_alike)
+found_alike (Search.get name) f g h = ap Ok (h name)
+found_alike (Search.path name p) f g h = ap Ok (Path.by_meaning p _ _ (meaning_alike f g h name))
+found_alike (Search.attr name t) f g h = ap Ok (Attr.by_meaning t _ _ (meaning_alike f g h name))
+found_alike (Search.item name i) f g h = one_alike _ _ (Item.by_meaning _ _ _ _ (meaning_alike f g h name) (meaning_alike f g h i))
+found_alike (Search.slice name start end step) f g h = one_alike _ _ (Slice.by_meaning start end step _ _ (meaning_alike f g h name))
+found_alike (Search.reverse name) f g h = one_alike _ _ (Reverse.by_meaning _ _ (meaning_alike f g h name))
+found_alike (Search.calculate operator left right) f g h =
+    one_alike _ _ (calculated_alike operator _ _ _ _ (meaning_alike f g h left) (meaning_alike f g h right))
+found_alike (Search.negate name) f g h = one_alike _ _ (negated_alike _ _ (meaning_alike f g h name))
+found_alike (Search.read type name) f g h = one_alike _ _ (read_alike type _ _ (meaning_alike f g h name))
 
 some_well : (made : Result Form Refusal) → IfOk made IsWellMade → IfOk (one_found made) (λ o. IfSome o IsWellMade)
 some_well made h = search rules
