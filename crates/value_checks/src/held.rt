@@ -7,3 +7,8 @@ pub fn hold(rt: &impl Abort, rows: &[bool]) {
         assert!(rt; *row, "row {i}");
     }
 }
+
+/// Whether each row holds.
+pub fn all(rows: &[bool]) -> bool {
+    !rows.contains(&false)
+}

@@ -1,7 +1,9 @@
-//! Tests of values and of keys through their public calls: how they compare, what is read of them,
-//! what they become, and what keys show.
+//! Tests of values, of keys and of arguments through their public calls: how they compare, what is
+//! read of them, what they become, what keys show, and what functions of templates take and give.
 #![tactic(auto)]
 
+#[cfg(test)]
+mod arguments;
 #[cfg(test)]
 mod conversions;
 #[cfg(test)]

@@ -1,7 +1,7 @@
 //! The integer types of Rust at their ends: each takes its least and its greatest number, and
 //! refuses what is beside them and what is no number, by its own name.
+use crate::arguments::taken::{is_no, refuses, takes};
 use crate::held::hold;
-use crate::taken::{is_no, refuses, takes};
 use std::alloc::Global;
 use tera_arguments::ArgFromValue;
 use tera_values::Value;

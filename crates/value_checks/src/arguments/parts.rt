@@ -1,8 +1,8 @@
 //! What arrays and maps are taken as: copied or lent, and lists item by item.
-use crate::given::is_held;
+use crate::arguments::given::is_held;
+use crate::arguments::made::{none_of, one_of, owned, two_of};
+use crate::arguments::taken::{is_no, one_pair_of, refuses, taken, takes};
 use crate::held::hold;
-use crate::made::{none_of, one_of, owned, two_of};
-use crate::taken::{is_no, one_pair_of, refuses, taken, takes};
 use made_values::{
     at_texts, bytes, no_items, no_pairs, numbers, one_item, or_undefined, text, two_items,
 };

@@ -1,8 +1,8 @@
 //! In which order the pairs of maps stand that are given, named and walked over.
-use crate::given::gives;
+use crate::arguments::given::gives;
+use crate::arguments::made::{many_in_table, row_of, tree_of};
+use crate::arguments::named::{comes_as, have_names, is_shown, or_none, thousand_pairs};
 use crate::held::hold;
-use crate::made::{many_in_table, row_of, tree_of};
-use crate::named::{comes_as, have_names, is_shown, or_none, thousand_pairs};
 use made_values::{or_undefined, printed, with};
 use std::alloc::Global;
 use std::collections::{BTreeMap, HashMap};

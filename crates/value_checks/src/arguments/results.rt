@@ -1,7 +1,7 @@
 //! What functions of templates answer.
-use crate::given::is_held;
+use crate::arguments::given::is_held;
+use crate::arguments::made::{displays, one_of, owned, row_of, set_of, table_of, tree_of};
 use crate::held::hold;
-use crate::made::{displays, one_of, owned, row_of, set_of, table_of, tree_of};
 use made_values::{or_undefined, safe, with};
 use std::alloc::Global;
 use std::borrow::CowStr;

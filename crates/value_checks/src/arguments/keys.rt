@@ -1,7 +1,7 @@
 //! Which keys are given, and in which form.
-use crate::given::text_key;
+use crate::arguments::given::text_key;
+use crate::arguments::made::owned;
 use crate::held::hold;
-use crate::made::owned;
 use made_values::shows;
 use std::alloc::Global;
 use std::borrow::CowStr;

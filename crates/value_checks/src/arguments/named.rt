@@ -1,7 +1,7 @@
 //! Arguments by their names.
+use crate::arguments::made::owned;
+use crate::arguments::taken::{is_refused, is_that};
 use crate::held::hold;
-use crate::made::owned;
-use crate::taken::{is_refused, is_that};
 use made_values::{many_pairs, one_pair, safe, shows, text};
 use std::alloc::Global;
 use tera_arguments::{ArgFromValue, Kwargs, KwargsIter, KwargsOf, Parts};

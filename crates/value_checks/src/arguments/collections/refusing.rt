@@ -1,8 +1,8 @@
 //! What collections answer where a part or a key refuses with an error of its own.
 ghost use Rattle.std.specs.Prelude.{⊤};
 
+use crate::arguments::made::{one_of, row_of, set_of, table_of, tree_of, two_of, with_item};
 use crate::held::hold;
-use crate::made::{one_of, row_of, set_of, table_of, tree_of, two_of, with_item};
 use indexmap::IndexMap;
 use made_values::shows;
 use std::alloc::Global;

@@ -1,10 +1,10 @@
 //! Texts as a filter takes them, and how they are shown.
 ghost use Rattle.tera_report.specs.Errors.{IsOutOfMemory};
 
-use crate::given::is_held;
+use crate::arguments::given::is_held;
+use crate::arguments::made::owned;
+use crate::arguments::taken::{is_lent, is_owned, taken};
 use crate::held::hold;
-use crate::made::owned;
-use crate::taken::{is_lent, is_owned, taken};
 use made_values::{or_undefined, safe, shows, text};
 use std::alloc::Global;
 use std::borrow::CowStr;

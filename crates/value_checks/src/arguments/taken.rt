@@ -1,8 +1,8 @@
 //! What values are taken as, and what is refused. What is generic takes its value by reference, and
 //! each owner is handed to `drop`, so that no function writes out how a value ends.
-use crate::given::{is_held, tells_held};
+use crate::arguments::given::{is_held, tells_held};
+use crate::arguments::made::{displays, owned};
 use crate::held::hold;
-use crate::made::{displays, owned};
 use made_values::{at_texts, bytes, numbers, one_item, or_undefined, safe, text, two_items};
 use std::alloc::Global;
 use std::borrow::CowStr;

@@ -1,9 +1,11 @@
 //! What collections give, by what their parts give.
 mod refusing;
 
-use crate::given::{gives, text_key};
+use crate::arguments::given::{gives, text_key};
+use crate::arguments::made::{
+    none_of, one_of, owned, set_of, table_of, tree_of, two_of, with_item,
+};
 use crate::held::hold;
-use crate::made::{none_of, one_of, owned, set_of, table_of, tree_of, two_of, with_item};
 use made_values::safe;
 use std::alloc::Global;
 use std::collections::{BTreeMap, HashMap};

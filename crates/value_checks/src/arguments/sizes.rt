@@ -1,7 +1,7 @@
 //! What is lent of values without parts, with one and with 1,000.
+use crate::arguments::inputs::rendered;
+use crate::arguments::taken::{is_lent, taken, takes};
 use crate::held::{all, hold};
-use crate::inputs::rendered;
-use crate::taken::{is_lent, taken, takes};
 use made_values::{many_items, many_pairs, repeated};
 use std::alloc::Global;
 use tera_values::{Map, Value};

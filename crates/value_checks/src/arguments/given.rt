@@ -1,6 +1,6 @@
 //! What single values are made of: the kind, and the flag of a text.
+use crate::arguments::made::owned;
 use crate::held::hold;
-use crate::made::owned;
 use made_values::{or_undefined, safe, shows, text};
 use std::alloc::Global;
 use std::borrow::CowStr;
