@@ -977,6 +977,9 @@ def main():
     rt = kit()
     rt.rtlib.guarded()
     crates = [it for it in rt.rtlib.crates_below(os.getcwd()) if not given.names or it.name in given.names]
+    for it in crates:
+        # as a static library it would be checked with the code of all libraries below it, by which no edit is refused
+        it.is_static = False
     edits = {it: [edit for edit in edits_below(f"{it.folder}/{given.folder}", it) if given.edit in edit.path] for it in crates}
     # how long a crate takes, about: an edit takes the longer, the more crates stand below its own
     taking = {it: len(edits[it]) * (4 + len(it.below())) for it in crates if edits[it]}
