@@ -33,8 +33,8 @@ calculated_alike operator v w x y left right = search rules
 negated_alike : (v w : Form) → meaning v ≡ meaning w → seen_by meaning (negated v) ≡ seen_by meaning (negated w)
 negated_alike v w e = search rules
 
-read_alike : (type : IntegerType) (v w : Form) → meaning v ≡ meaning w → seen_by meaning (read_as type v) ≡ seen_by meaning (read_as type w)
-read_alike type v w e = search rules
+read_as_alike : (type : IntegerType) (v w : Form) → meaning v ≡ meaning w → seen_by meaning (read_as type v) ≡ seen_by meaning (read_as type w)
+read_as_alike type v w e = search rules
 
 pub found_alike : (call : Search) (f g : State) → MeanTheSame f g → found_shape (found_at f call) ≡ found_shape (found_at g call)
 found_alike (Search.get name) f g h = ap Ok (h name)
@@ -46,7 +46,7 @@ found_alike (Search.reverse name) f g h = one_alike _ _ (Reverse.by_meaning _ _ 
 found_alike (Search.calculate operator left right) f g h =
     one_alike _ _ (calculated_alike operator _ _ _ _ (meaning_alike f g h left) (meaning_alike f g h right))
 found_alike (Search.negate name) f g h = one_alike _ _ (negated_alike _ _ (meaning_alike f g h name))
-found_alike (Search.read type name) f g h = one_alike _ _ (read_alike type _ _ (meaning_alike f g h name))
+found_alike (Search.read type name) f g h = one_alike _ _ (read_as_alike type _ _ (meaning_alike f g h name))
 
 some_well : (made : Result Form Refusal) → IfOk made IsWellMade → IfOk (one_found made) (λ o. IfSome o IsWellMade)
 some_well made h = search rules
