@@ -11,7 +11,7 @@ all answers are compared, byte by byte: a program whose answers differ from the 
 
 --only PREFIX,..  rows whose names begin so
 --instructions    what `valgrind --tool=callgrind` counts; done where --seconds is not asked for
---seconds         processor seconds over five times the lines, the least of --runs N (5); the programs take turns
+--seconds         processor seconds over ten times the lines, the least of --runs N (5); the programs take turns
 --memory          the peak of the heap in bytes, by `valgrind --tool=dhat`, over a tenth of the lines and over all
 --jobs N          how many programs are counted at a time: as many as there are processors; seconds go one by one
 --keep FILE       counts are written there, and one that stands there for the same program and script is taken
@@ -37,7 +37,7 @@ import suite_plot
 import suite_rows
 
 LEAST_SECONDS = 0.05  # a ratio of seconds counts where the best other takes so many
-TIMED_SHARE = 5
+TIMED_SHARE = 10
 CHANCES = 8  # how often a row is counted whose cost hangs on a seed
 MEMORY_ROWS = "a_small b_reverse_10k c_set_100 c_eq_100 d_slice_1000 e_arith".split()
 
