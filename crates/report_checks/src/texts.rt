@@ -1,6 +1,6 @@
 //! What errors display and tell, and their causes.
 use crate::held::hold;
-use crate::made::{displays, is_text, names};
+use crate::made::{displays, is_text, names, or_empty};
 use crate::told::tells;
 use std::alloc::Global;
 use std::io;
@@ -73,32 +73,68 @@ fn texts_of_names(rt: HostRuntime) {
     );
 }
 
+// Each kind of a fault, and its name.
+const IO_KINDS: [(io::ErrorKind, &str); 42] = [
+    (io::ErrorKind::NotFound, "NotFound"),
+    (io::ErrorKind::PermissionDenied, "PermissionDenied"),
+    (io::ErrorKind::ConnectionRefused, "ConnectionRefused"),
+    (io::ErrorKind::ConnectionReset, "ConnectionReset"),
+    (io::ErrorKind::HostUnreachable, "HostUnreachable"),
+    (io::ErrorKind::NetworkUnreachable, "NetworkUnreachable"),
+    (io::ErrorKind::ConnectionAborted, "ConnectionAborted"),
+    (io::ErrorKind::NotConnected, "NotConnected"),
+    (io::ErrorKind::AddrInUse, "AddrInUse"),
+    (io::ErrorKind::AddrNotAvailable, "AddrNotAvailable"),
+    (io::ErrorKind::NetworkDown, "NetworkDown"),
+    (io::ErrorKind::BrokenPipe, "BrokenPipe"),
+    (io::ErrorKind::AlreadyExists, "AlreadyExists"),
+    (io::ErrorKind::WouldBlock, "WouldBlock"),
+    (io::ErrorKind::NotADirectory, "NotADirectory"),
+    (io::ErrorKind::IsADirectory, "IsADirectory"),
+    (io::ErrorKind::DirectoryNotEmpty, "DirectoryNotEmpty"),
+    (io::ErrorKind::ReadOnlyFilesystem, "ReadOnlyFilesystem"),
+    (io::ErrorKind::FilesystemLoop, "FilesystemLoop"),
+    (
+        io::ErrorKind::StaleNetworkFileHandle,
+        "StaleNetworkFileHandle",
+    ),
+    (io::ErrorKind::InvalidInput, "InvalidInput"),
+    (io::ErrorKind::InvalidData, "InvalidData"),
+    (io::ErrorKind::TimedOut, "TimedOut"),
+    (io::ErrorKind::WriteZero, "WriteZero"),
+    (io::ErrorKind::StorageFull, "StorageFull"),
+    (io::ErrorKind::NotSeekable, "NotSeekable"),
+    (io::ErrorKind::QuotaExceeded, "QuotaExceeded"),
+    (io::ErrorKind::FileTooLarge, "FileTooLarge"),
+    (io::ErrorKind::ResourceBusy, "ResourceBusy"),
+    (io::ErrorKind::ExecutableFileBusy, "ExecutableFileBusy"),
+    (io::ErrorKind::Deadlock, "Deadlock"),
+    (io::ErrorKind::CrossesDevices, "CrossesDevices"),
+    (io::ErrorKind::TooManyLinks, "TooManyLinks"),
+    (io::ErrorKind::InvalidFilename, "InvalidFilename"),
+    (io::ErrorKind::ArgumentListTooLong, "ArgumentListTooLong"),
+    (io::ErrorKind::Interrupted, "Interrupted"),
+    (io::ErrorKind::Unsupported, "Unsupported"),
+    (io::ErrorKind::UnexpectedEof, "UnexpectedEof"),
+    (io::ErrorKind::OutOfMemory, "OutOfMemory"),
+    (io::ErrorKind::InProgress, "InProgress"),
+    (io::ErrorKind::Other, "Other"),
+    (io::ErrorKind::Uncategorized, "Uncategorized"),
+];
+
+// An error of that kind says that name behind its words.
+fn says_kind(alloc: Global, kind: io::ErrorKind, name: &str) -> bool {
+    let text = format!(in alloc; "Io error while writing rendered value to output: {name}");
+    let wanted = or_empty(alloc, text);
+    let is_so = says(alloc, Error::from(io::Error::from(kind)), wanted.as_str());
+    drop(wanted);
+    is_so
+}
+
 #[test]
 fn io_kinds_by_name(rt: HostRuntime) {
-    for (kind, wanted) in [
-        (
-            io::ErrorKind::NotFound,
-            "Io error while writing rendered value to output: NotFound",
-        ),
-        (
-            io::ErrorKind::BrokenPipe,
-            "Io error while writing rendered value to output: BrokenPipe",
-        ),
-        (
-            io::ErrorKind::WriteZero,
-            "Io error while writing rendered value to output: WriteZero",
-        ),
-        (
-            io::ErrorKind::OutOfMemory,
-            "Io error while writing rendered value to output: OutOfMemory",
-        ),
-        (
-            io::ErrorKind::StaleNetworkFileHandle,
-            "Io error while writing rendered value to output: StaleNetworkFileHandle",
-        ),
-    ] {
-        let error = Error::from(io::Error::from(kind));
-        assert!(rt; says(rt.alloc(), error, wanted), "{wanted}");
+    for (kind, name) in IO_KINDS {
+        assert!(rt; says_kind(rt.alloc(), kind, name), "{name}");
     }
 }
 

@@ -1,24 +1,22 @@
 -- Where a text is cut at its first marked character, and what stands for that character.
-use Rattle.std.proofs.Common.{map, None, Some, if◌then◌else◌, ◌≡◌, ℕ, zero, suc, ◌+◌, ◌-◌, ◌<◌, ◌≤◌, Bool, true, false, ◌==◌, IsTrue, cond, List, [], ◌∷◌, ◌++◌}
-use Rattle.std.proofs.Common.{length, get_or, take, drop, bytes_eq, refl, sym, ap, subst, ◌∙◌, arith, ne_eqb, append_assoc, take-append-drop, take_at, ltb-true}
-use Rattle.std.proofs.Common.{encode_utf8_all, IsUtf8, length-append, length-take-le, length-drop}
-use Rattle.std.proofs.lemmas.Bool.{cond-false, and_parts, agree_below_at}
+use Rattle.std.proofs.Common.{map, if◌then◌else◌, ◌≡◌, ℕ, zero, suc, ◌+◌, ◌-◌, ◌<◌, ◌≤◌, true, false, ◌==◌, cond, List, [], ◌∷◌, ◌++◌, length, get_or}
+use Rattle.std.proofs.Common.{take, drop, bytes_eq, refl, sym, ap, subst, ◌∙◌, arith, ne_eqb, append_assoc, append-nil, take-append-drop, take_at}
+use Rattle.std.proofs.Common.{subst₂, ⊎_elim, encode_utf8_all, IsUtf8, length-append, length-take-le, length-drop}
+use Rattle.std.proofs.lemmas.Bool.{cond-false, agree_below_at, cases_lt}
 use Rattle.std.proofs.lemmas.Bool.Decides.{nat_tests}
 use Rattle.std.proofs.lemmas.List.{get_or-take}
 use Rattle.std.proofs.lemmas.List.Concat.{flat_map-append}
-use Rattle.std.proofs.lemmas.List.Folds.{list_all-append}
 use Rattle.std.proofs.Math.Seq.{drop-cons}
-use Rattle.std.proofs.lemmas.Str.{char_from_byte, encode_ascii, length-encode, len_utf8_bounds, IsCharBoundary-start, IsCharBoundary-after_ascii}
+use Rattle.std.proofs.lemmas.Str.{byte_from_char, encode_ascii, length-encode, len_utf8_bounds, IsCharBoundary-start, IsCharBoundary-after_ascii}
 use Rattle.std.proofs.lemmas.Str.{IsCharBoundary-at_seam}
 use Rattle.std.specs.Str.{IsCharBoundary}
-use Rattle.std.specs.Char.{encode_utf8, is_ascii}
-use Rattle.std.specs.Char.Escape.{IsEscapeDebug, escape_default}
+use Rattle.std.specs.Char.{encode_utf8, IsScalar}
+use Rattle.std.specs.Char.Escape.{IsEscapeDebug, escape_default, escape_unicode}
 use Rattle.std.specs.Cmp.Lexicographic.{bytes_decides}
-use Rattle.std.specs.Fmt.{◌++?◌, debug_escape, debug_str, debug_items, comma_space, digits}
-use Rattle.std.specs.List.{list_all}
-use Rattle.tera_report.specs.Quoted.{IsText, is_ascii_text, escapes, quoted, Quotes}
-use Rattle.tera_report.specs.inner.Quoted.{is_marked, QuotesItems, Cuts, SkipsPlain, PlainBetween, Escapes, EscapesMarked}
-use Rattle.tera_report.proofs.PutLaws.{texts_joined}
+use Rattle.std.specs.Fmt.{debug_escape, comma_space, digits}
+use Rattle.tera_report.specs.Quoted.{escapes, Quotes, QuotesItems, Escapes, by_code}
+use Rattle.tera_report.specs.inner.Quoted.{is_marked, Cuts, SkipsPlain, PlainBetween, EscapesMarked}
+use Rattle.tera_report.proofs.QuoteLaws.{escapes_char, plain_bounds, escapes_by_rule, escapes_joined, encodes_code, escapes_itself}
 
 -- what `escape_debug` gives for an ASCII character
 abbrev escape_chars : ℕ → List ℕ
@@ -30,21 +28,6 @@ unfolding debug_escape digits encode_utf8
 each_escape c h =
     (bytes_decides _ _).0 (agree_below_at (λ n. bytes_eq (debug_escape 34 n) (if is_marked n then encode_utf8_all (escape_chars n) else n ∷ [])) (λ _. true)
     128 c refl h)
-
--- what `escape_debug` gives for a marked character stands for it
-pub marked_escape : (c : ℕ) (given bytes : List ℕ) → IsEscapeDebug c given → bytes ≡ encode_utf8_all given → EscapesMarked c bytes
-marked_escape c given bytes e spelled marked low =
-    spelled ∙ ap encode_utf8_all (given_chars c given e low)
-    ∙ sym (each_escape c low ∙ ap (λ m. if m then encode_utf8_all (escape_chars c) else c ∷ []) marked)
-  where
-    given_chars : (c : ℕ) (given : List ℕ) → IsEscapeDebug c given → c < 128 → given ≡ escape_chars c
-    given_chars zero given e low = e.0 refl
-    given_chars (suc n) given e low = e.1 (omega arith) low
-        ∙ sym (cond-false _ _ _ (ne_eqb (suc n) 0 (λ h. omega arith)))
-
--- a byte that is not marked stands for itself
-pub plain_bounds : (b : ℕ) → is_marked b ≡ false → (32 ≤ b) × (b < 127)
-plain_bounds b h = (grind (arith, nat_tests), grind (arith, nat_tests))
 
 plain_escape : (b : ℕ) → is_marked b ≡ false → debug_escape 34 b ≡ b ∷ []
 plain_escape b h =
@@ -71,24 +54,36 @@ boundary_after_plain bs (suc n) u within plain =
     let next : n + 1 ≡ suc n = omega arith in
     subst (λ k. IsCharBoundary bs k) next (IsCharBoundary-after_ascii bs n u (omega arith) (omega arith))
 
--- what is left of an ASCII text is ASCII
-ascii_after : (text after : List ℕ) → SkipsPlain text after → IsTrue (is_ascii_text text) → IsTrue (is_ascii_text after)
-ascii_after text after skips ascii =
-    (and_parts (list_all is_ascii skips.run) _ (sym (list_all-append is_ascii skips.run after)
-    ∙ ap (list_all is_ascii) (sym skips.parts) ∙ ascii)).1
+-- what `escape_debug` gives for a marked character stands for it
+pub marked_escape : (c : ℕ) (given bytes : List ℕ) → IsScalar c → IsEscapeDebug c given → bytes ≡ encode_utf8_all given → EscapesMarked c bytes
+marked_escape c given bytes scalar e spelled marked = ⊎_elim low past (cases_lt c 128)
+  where
+    given_chars : (c : ℕ) (given : List ℕ) → IsEscapeDebug c given → c < 128 → given ≡ escape_chars c
+    given_chars zero given e low = e.0 refl
+    given_chars (suc n) given e low = e.1 (omega arith) low
+        ∙ sym (cond-false _ _ _ (ne_eqb (suc n) 0 (λ h. omega arith)))
 
--- the first character of an ASCII text is one byte
-first_char : (bs rest : List ℕ) (c : ℕ) → bs ≡ encode_utf8 c ++ rest → 0 < length bs → IsTrue (is_ascii_text bs)
-    → (c < 128) × (bs ≡ c ∷ rest) × IsTrue (is_ascii_text rest)
-first_char [] rest c e some ascii = absurd (omega arith)
-first_char (b ∷ bs) rest c e some ascii =
-    let parts = and_parts (is_ascii b) (list_all is_ascii bs) ascii in
-    let low : b < 128 = ltb-true b 128 parts.0 in
-    let is : c ≡ b = char_from_byte (b ∷ bs) rest c e low some in
-    let small : c < 128 = omega arith in
-    let whole : b ∷ bs ≡ c ∷ rest = e ∙ ap (λ l. l ++ rest) (encode_ascii c small) in
-    let tail : bs ≡ rest = cc in
-    (small, whole, subst (λ l. IsTrue (is_ascii_text l)) tail parts.1)
+    low : c < 128 → Escapes (encode_utf8 c) bytes
+    low h =
+        let is : bytes ≡ debug_escape 34 c =
+        spelled ∙ ap encode_utf8_all (given_chars c given e h)
+        ∙ sym (each_escape c h ∙ ap (λ m. if m then encode_utf8_all (escape_chars c) else c ∷ []) marked) in
+        subst₂ Escapes (sym (encode_ascii c h)) (append-nil (debug_escape 34 c) ∙ sym is) (escapes_by_rule (c ∷ []))
+
+    by_itself : 127 < c → given ≡ c ∷ [] → Escapes (encode_utf8 c) bytes
+    by_itself h is =
+        subst (Escapes (encode_utf8 c)) (sym (spelled ∙ ap encode_utf8_all is ∙ append-nil (encode_utf8 c))) (escapes_itself (encode_utf8 c) (escapes_char c h))
+
+    by_its_code : 127 < c → given ≡ escape_unicode c → Escapes (encode_utf8 c) bytes
+    by_its_code h is = record {
+      parts = by_code c ∷ [];
+      proper = ((h, scalar), tt);
+      joined = append-nil (encode_utf8 c);
+      escaped = append-nil (escape_unicode c) ∙ sym (spelled ∙ ap encode_utf8_all is ∙ encodes_code c);
+    }
+
+    past : 128 ≤ c → Escapes (encode_utf8 c) bytes
+    past h = ⊎_elim (by_itself (omega arith)) (by_its_code (omega arith)) (e.2 (omega arith))
 
 -- past a run of plain bytes
 pub past_plain : (text after : List ℕ) (at : ℕ) → at ≤ length text
@@ -126,54 +121,53 @@ pub ends_later : (text front rest run after : List ℕ) → text ≡ front ++ re
     → text ≡ (front ++ run) ++ after
 ends_later text front rest run after parts more = parts ∙ ap (λ l. front ++ l) more ∙ sym (append_assoc front run after)
 
--- in an ASCII text no character is past ASCII
-pub none_past_ascii : {P : Type 0} (text after tail : List ℕ) (c : ℕ) → SkipsPlain text after
-    → after ≡ encode_utf8 c ++ tail → 127 < c → IsTrue (is_ascii_text text) → P
-none_past_ascii text after tail c skips cut past ascii =
-    let later = ascii_after text after skips ascii in
-    let first = first_char after tail c cut (omega (arith, some_left after tail c cut)) later in
-    absurd (omega (arith, first.0))
+-- what is before a run that stands for itself, and the run, stand for themselves
+pub plain_before : (front run : List ℕ) → escapes front ≡ front → escapes run ≡ run → escapes (front ++ run) ≡ front ++ run
+plain_before front run a b = flat_map-append (debug_escape 34) front run ∙ (λ i. a i ++ b i)
 
--- where an ASCII text is cut
-pub cut_here : (text run after tail : List ℕ) (c : ℕ) → SkipsPlain text after → after ≡ encode_utf8 c ++ tail
-    → run ≡ take (length text - length after) text → IsTrue (is_ascii_text text) → Cuts text run c tail
-cut_here text run after tail c skips cut run_is ascii =
-    let some : 0 < length after = omega (arith, some_left after tail c cut) in
-    let first = first_char after tail c cut some (ascii_after text after skips ascii) in
-    let here : length skips.run ≡ length text - length after = omega (
+-- the same with a character past ASCII behind them
+pub plain_through : (front run : List ℕ) (c : ℕ) → escapes front ≡ front → escapes run ≡ run → 127 < c
+    → escapes ((front ++ run) ++ encode_utf8 c) ≡ (front ++ run) ++ encode_utf8 c
+plain_through front run c a b past = plain_before (front ++ run) (encode_utf8 c) (plain_before front run a b) (escapes_char c past)
+
+-- a character is marked where its first byte is
+marked_char : (after tail : List ℕ) (c : ℕ) → after ≡ encode_utf8 c ++ tail → (0 < length after → is_marked (get_or after 0 0) ≡ true) → is_marked c ≡ true
+marked_char after tail c cut stops = ⊎_elim low past (cases_lt c 128)
+  where
+    low : c < 128 → is_marked c ≡ true
+    low h = subst (λ b. is_marked b ≡ true) (byte_from_char after tail c cut h) (stops (omega (arith, some_left after tail c cut)))
+
+    past : 128 ≤ c → is_marked c ≡ true
+    past h = grind (arith, nat_tests)
+
+-- where a text is cut
+pub cut_here : (text front rest after tail taken : List ℕ) (c : ℕ) → text ≡ front ++ rest → escapes front ≡ front → SkipsPlain rest after
+    → after ≡ encode_utf8 c ++ tail → taken ≡ take (length text - length after) text → Cuts text taken c tail
+cut_here text front rest after tail taken c before itself skips cut taken_is =
+    let left = ends_later text front rest skips.run after before skips.parts in
+    let here : length (front ++ skips.run) ≡ length text - length after = omega (
       arith,
-      ap length skips.parts,
-      length-append skips.run after,
+      ap length left,
+      length-append (front ++ skips.run) after,
     ) in
-    let same : run ≡ skips.run = run_is ∙ ap (take (length text - length after)) skips.parts
-    ∙ take_at skips.run after _ here in
+    let same : taken ≡ front ++ skips.run = taken_is ∙ ap (take (length text - length after)) left
+    ∙ take_at (front ++ skips.run) after _ here in
     record {
-      marked = subst (λ l. is_marked (get_or l 0 0) ≡ true) first.1 (skips.stops some);
-      ascii = first.0;
-      ascii_rest = first.2;
-      whole = ap escapes skips.parts ∙ flat_map-append (debug_escape 34) skips.run after
-          ∙ ap (λ l. l ++ escapes after) (skips.plain ∙ sym same) ∙ ap (λ l. run ++ escapes l) first.1;
+      marked = marked_char after tail c cut skips.stops;
+      plain = subst (λ l. escapes l ≡ l) (sym same) (plain_before front skips.run itself skips.plain);
+      whole = left ∙ (λ i. sym same i ++ cut i);
     }
 
 -- a run, what stands for a marked character, and what stands for the rest stand for a text
-pub run_stands : (text run after bytes : List ℕ) (c : ℕ) → (IsTrue (is_ascii_text text) → Cuts text run c after) → EscapesMarked c bytes
+pub run_stands : (text run after bytes : List ℕ) (c : ℕ) → Cuts text run c after → EscapesMarked c bytes
     → (rest : List ℕ) → Escapes after rest → Escapes text (run ++ (bytes ++ rest))
-run_stands text run after bytes c cut stands rest others ascii =
-    let at = cut ascii in (λ i. run ++ (stands at.marked at.ascii i ++ others at.ascii_rest i)) ∙ sym at.whole
-
--- what stands for a quoted text is its debug form, where that is known
-known_if : (b : Bool) (known bytes : List ℕ) → (b ≡ true → bytes ≡ known) → IsText (if b then Some known else None) bytes
-known_if true known bytes h = h refl
-known_if false known bytes h = tt
-
-quoted_known : (text bytes : List ℕ) → Quotes text bytes → IsText (debug_str text) bytes
-quoted_known text bytes stands = known_if (list_all is_ascii text) (quoted text) bytes stands
+run_stands text run after bytes c cut stands rest others =
+    subst (λ l. Escapes l (run ++ (bytes ++ rest))) (sym cut.whole)
+    (escapes_joined run (encode_utf8 c ++ after) run (bytes ++ rest) (escapes_itself run cut.plain)
+    (escapes_joined (encode_utf8 c) after bytes rest (stands cut.marked) others))
 
 -- what stands for a text and for the texts after it stands for all of them
 pub items_more : {A : Type 0} (f : A → List ℕ) (left : List A) (x : A) (others : List A) (lead bytes : List ℕ) → left ≡ x ∷ others → Quotes (f x) bytes
     → (later : List ℕ) → QuotesItems comma_space (map f others) later → QuotesItems lead (map f left) (lead ++ (bytes ++ later))
 items_more f left x others lead bytes is stands later rest =
-    let behind = debug_items debug_str comma_space (map f others) in
-    subst (λ l. QuotesItems lead (map f l) (lead ++ (bytes ++ later))) (sym is)
-    (texts_joined (Some lead) (debug_str (f x) ++? behind) lead (bytes ++ later) refl
-    (texts_joined (debug_str (f x)) behind bytes later (quoted_known (f x) bytes stands) rest))
+    subst (λ l. QuotesItems lead (map f l) (lead ++ (bytes ++ later))) (sym is) (bytes, later, stands, rest, refl)

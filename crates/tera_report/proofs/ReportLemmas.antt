@@ -25,6 +25,10 @@ run_cut n k c low within = (
 pub run_front : (n k c : ℕ) → k ≤ n → slice_range (replicate n c) 0 k ≡ replicate k c
 run_front n k c within = let all : k - 0 ≡ k = omega arith in ap (λ m. take m (replicate n c)) all ∙ take-replicate k n c within
 
+-- what is made of each element is none where there is none
+pub no_notes : {X Y : Type 0} (f : X → Y) (xs : List X) → map f xs ≡ [] → length xs ≡ 0
+no_notes f xs e = sym (length-map xs f) ∙ ap length e
+
 pub no_characters : (xs : List ℕ) → length xs ≡ 0 → chars xs ≡ []
 no_characters xs e = ap chars (nil_from_length xs e) ∙ chars-nil
 

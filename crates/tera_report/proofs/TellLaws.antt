@@ -9,6 +9,7 @@ use Rattle.tera_report.specs.Refusal.{Refusal, circular_extend, circular_include
 use Rattle.tera_report.specs.Refusal.{include_words, text_of, Tells, TellsChain}
 use Rattle.tera_report.specs.Sink.{Puts, FormatterTakes}
 use Rattle.tera_report.proofs.PutLaws.{texts_joined, some_text}
+use Rattle.tera_report.proofs.QuoteLaws.{list_known, known_list, some_list}
 
 module _ {W : Type 0} (took : W → List ℕ → W → Type 0) (P : List ℕ → Type 0) (f g : Formatter W) where
   -- what was put into a formatter is what it displays, under any options
@@ -32,7 +33,7 @@ told_chain words chain bytes (names, stands, is) =
     let names_text = debug_list debug_str chain in
     subst (IsText (Some words ++? names_text ++? Some (codes "`"))) (sym is)
     (texts_joined (Some words) (names_text ++? Some (codes "`")) words (names ++ codes "`") refl
-    (texts_joined names_text (Some (codes "`")) names (codes "`") stands refl))
+    (texts_joined names_text (Some (codes "`")) names (codes "`") (list_known chain names stands) refl))
 
 -- what tells a refusal is its text, where that is known
 pub told_known : (refusal : Refusal) (bytes : List ℕ) → Tells refusal bytes → IsText (text_of refusal) bytes
@@ -46,7 +47,7 @@ text_chain : (words : List ℕ) (chain : List (List ℕ)) (bytes : List ℕ) (na
     → Some words ++? names ++? Some (codes "`") ≡ Some bytes → TellsChain words chain bytes
 text_chain words chain bytes None known is = absurd (cc)
 text_chain words chain bytes (Some names) known is =
-    (names, subst (λ o. IsText o names) (sym known) refl, sym (Some-same is))
+    (names, known_list chain names known, sym (Some-same is))
   where
     Some-same : {a b : List ℕ} → Some a ≡ Some b → a ≡ b
     Some-same e = cc
@@ -58,7 +59,7 @@ text_tells (writing_failed kind) bytes is = absurd (cc)
 text_tells refusal bytes is = subst (λ o. IsText o bytes) (sym is) refl
 
 some_chain : (words : List ℕ) (chain : List (List ℕ)) → (bytes : List ℕ) × TellsChain words chain bytes
-some_chain words chain = let names = some_text (debug_list debug_str chain) in (words ++ (names.0 ++ codes "`"), (names.0, names.1, refl))
+some_chain words chain = let names = some_list chain in (words ++ (names.0 ++ codes "`"), (names.0, names.1, refl))
 
 -- some bytes tell a refusal
 pub some_telling : (refusal : Refusal) → (bytes : List ℕ) × Tells refusal bytes

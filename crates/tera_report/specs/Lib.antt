@@ -1,3 +1,4 @@
+pub mod EmptyReport
 pub mod Errors
 pub mod Escaping
 pub mod Growing

@@ -158,8 +158,8 @@ TellsChain words chain bytes =
     (names : List ℕ) × QuotesList chain names × (bytes ≡ words ++ (names ++ codes "`"))
 
 -- The bytes tell the refusal: they are its text where that is known. Where it is not, they are the
--- words of the text around some bytes for the list of names, or before some bytes for the name of
--- the io kind.
+-- words of the text around bytes that stand for the list of names, or before some bytes for the
+-- name of the io kind.
 abbrev pub Tells : Refusal → List ℕ → Type 0
 Tells (circular_extend template chain) bytes = TellsChain (extend_words template) chain bytes
 Tells (circular_include template chain) bytes = TellsChain (include_words template) chain bytes

@@ -1,18 +1,20 @@
 //! Texts in debug form: one between double quotes, and a list of them between brackets.
-ghost use Rattle.std.specs.Prelude.{◌≡◌, ◌<◌, ◌≤◌, true, false, ℕ, [], length, slice_index, IsTrue};
-ghost use Rattle.std.specs.Prelude.{IfSome, IfNone, map, string_bytes, ◌+◌};
+ghost use Rattle.std.specs.Prelude.{◌≡◌, ◌<◌, ◌≤◌, true, false, ℕ, List, [], length, slice_index};
+ghost use Rattle.std.specs.Prelude.{IfSome, IfNone, IsTrue, map, string_bytes, ◌+◌, ◌∷◌};
 ghost use Rattle.std.specs.Bool.{OnTrue};
-ghost use Rattle.tera_report.specs.Quoted.{Quotes, QuotesList, is_ascii_text, escapes};
-ghost use Rattle.tera_report.specs.inner.Quoted.{QuotesItems, Escapes, EscapesMarked, Cuts};
-ghost use Rattle.tera_report.specs.inner.Quoted.{SkipsPlain, PlainBetween, is_marked};
+ghost use Rattle.std.specs.Fmt.{debug_list, debug_str};
+ghost use Rattle.tera_report.specs.Quoted.{Quotes, QuotesList, QuotesItems, Escapes, IsText};
+ghost use Rattle.tera_report.specs.Quoted.{is_ascii_text, escapes, quoted, closes};
+ghost use Rattle.tera_report.specs.inner.Quoted.{EscapesMarked, Cuts, SkipsPlain};
+ghost use Rattle.tera_report.specs.inner.Quoted.{PlainBetween, is_marked};
 ghost use Rattle.tera_report.specs.Sink.{Puts};
 
 use crate::sink::Sink;
 use std::simd::prelude::*;
 
 /// Puts the text in debug form: between double quotes, with escapes for quotes, backslashes and
-/// control characters. Which characters past ASCII have an escape is the library's choice. Answers
-/// an error only where the sink refused a piece. Takes no memory of its own.
+/// control characters. Each character past ASCII stands for itself or for its code, as the library
+/// chooses. Answers an error only where the sink refused a piece. Takes no memory of its own.
 pub fn put_quoted<S: Sink>(text: &str, out: &mut S) -> Result<(), S::Fault>
     ensures { Puts S.takes S.fails result (Quotes text.now) out.old out.new }
 {
@@ -31,6 +33,32 @@ pub fn put_quoted_list<S: Sink>(texts: &[String], out: &mut S) -> Result<(), S::
     put_quoted_items(texts, out)?;
     out.put("]")
 }
+
+/// An ASCII text has one quoting, and a list of such texts one too.
+pub fn one_quoting()
+    ensures text { (text bytes : List ℕ) → IsTrue (is_ascii_text text) → Quotes text bytes
+        → bytes ≡ quoted text }
+    ensures list { (texts : List (List ℕ)) (bytes : List ℕ) → QuotesList texts bytes
+        → IsText (debug_list debug_str texts) bytes }
+{}
+
+/// Each text has a quoting, whatever its bytes are, and each list of texts has one.
+pub fn some_quoting()
+    ensures text { (text : List ℕ) → Quotes text (quoted text) }
+    ensures list { (texts : List (List ℕ)) → (bytes : List ℕ) × QuotesList texts bytes }
+{}
+
+/// A quoted text ends at the first quote behind its opening one that no backslash escapes, and
+/// holds no control character.
+pub fn quotes_close()
+    ensures { (text bytes : List ℕ) → Quotes text bytes
+        → (rest : List ℕ) × (bytes ≡ 34 ∷ rest) × IsTrue (closes false rest) }
+{}
+
+/// Bytes that quote stand for one text only.
+pub fn one_original()
+    ensures { (text other bytes : List ℕ) → Quotes text bytes → Quotes other bytes → text ≡ other }
+{}
 
 // Puts the texts in debug form, joined by commas.
 fn put_quoted_items<S: Sink>(texts: &[String], out: &mut S) -> Result<(), S::Fault>
@@ -85,10 +113,9 @@ fn put_marked<S: Sink>(c: char, out: &mut S) -> Result<(), S::Fault>
 // The text before the first marked character, that character, and the text after it. A character
 // past ASCII is marked where the library has an escape for it.
 fn split_marked(text: &str) -> Option<(&str, char, &str)>
-    ensures cut { IfSome result (λ cut.
-        IsTrue (is_ascii_text text.now) → Cuts text.now cut.0.now cut.1 cut.2.now) }
+    ensures cut { IfSome result (λ cut. Cuts text.now cut.0.now cut.1 cut.2.now) }
     ensures shorter { IfSome result (λ cut. length cut.2.now < length text.now) }
-    ensures plain { IfNone result (IsTrue (is_ascii_text text.now) → escapes text.now ≡ text.now) }
+    ensures plain { IfNone result (escapes text.now ≡ text.now) }
 {
     let mut rest = text;
     'bare: loop {

@@ -2,6 +2,7 @@
 ghost use Rattle.std.specs.Prelude.{◌≡◌, ◌↔◌, [], ◌++◌, ◌∷◌, IfOk, IfErr, OnOk, OnErr, IsTrue, map};
 ghost use Rattle.std.specs.Prelude.{IsOk, codes, string_bytes};
 ghost use Rattle.tera_report.specs.Errors.{IsOutOfMemory, report_of, note_of};
+ghost use Rattle.tera_report.specs.EmptyReport.{IsEmptyReport};
 ghost use Rattle.tera_report.specs.Report.{report_text};
 ghost use Rattle.tera_report.specs.declared.report.ReportError.{ReportError};
 
@@ -189,16 +190,17 @@ impl ReportError {
         self.filename.as_str()
     }
 
-    /// The same report with texts of its own. `Out of memory` where they find none. Stands for
-    /// `clone` of Rust's `Clone`.
+    /// The same report with texts of its own. `Out of memory` where they find none; a report whose
+    /// texts are empty, and that has no notes, takes none. Stands for `clone` of Rust's `Clone`.
     pub fn clone(&self, alloc: Global) -> TeraResult<ReportError>
         ensures ok { IfOk result (λ copy. report_of copy ≡ report_of self.now) }
         ensures err { IfErr result IsOutOfMemory }
+        ensures succeeds { IsEmptyReport (report_of self.now) → IsOk result }
     {
         Ok(ReportError {
-            message: String::from_str(alloc, self.message.as_str())?,
-            filename: String::from_str(alloc, self.filename.as_str())?,
-            source: String::from_str(alloc, self.source.as_str())?,
+            message: text_of(alloc, self.message.as_str())?,
+            filename: text_of(alloc, self.filename.as_str())?,
+            source: text_of(alloc, self.source.as_str())?,
             span: self.span.copy(),
             notes: copied_notes(alloc, &self.notes)?,
         })
@@ -243,9 +245,10 @@ impl Note {
     }
 }
 
-#[tactic(auto, using(std::proofs::lemmas::List::map_more))]
+#[tactic(auto, using(std::proofs::lemmas::List::map_more, crate::proofs::ReportLemmas::no_notes))]
 fn copied_notes(alloc: Global, notes: &[Note]) -> Result<Vec<Note>, AllocError>
-    ensures { IfOk result (λ copies. map note_of copies.items ≡ map note_of notes.now) }
+    ensures ok { IfOk result (λ copies. map note_of copies.items ≡ map note_of notes.now) }
+    ensures succeeds { map note_of notes.now ≡ [] → IsOk result }
 {
     let mut copies = Vec::with_capacity(alloc, notes.len())?;
     for note in notes {

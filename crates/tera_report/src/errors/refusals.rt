@@ -12,7 +12,7 @@ ghost use Rattle.tera_report.specs.Refusal.{number_out_of_range, number_outside_
 ghost use Rattle.tera_report.specs.Refusal.{memory_refused, message, out_of_range, stated, shape};
 ghost use Rattle.tera_report.specs.Refusal.{text_of, plus, minus, times, remainder, floor_division};
 ghost use Rattle.tera_report.specs.Refusal.{power, Refusal, in_array, in_text, actual_in};
-ghost use Rattle.tera_report.specs.Quoted.{IsText};
+ghost use Rattle.tera_report.specs.Quoted.{IsText, QuotesList};
 ghost use Rattle.tera_report.specs.Refusal.{with_actual, Tells, writing_failed, circular_extend};
 ghost use Rattle.tera_report.specs.Refusal.{circular_include};
 ghost use Rattle.std.specs.declared.io.ErrorKind.{ErrorKind};
@@ -89,8 +89,9 @@ pub fn errors_say_the_text_of_their_refusal()
         ≡ out_of_range (codes "300") (codes "u8") }
 {}
 
-/// Some bytes tell each refusal, and its text alone where that is known; else its words around some
-/// bytes. The error of a refusal is told by what tells the refusal.
+/// Some bytes tell each refusal, and its text alone where that is known; else its words around what
+/// quotes its list of names, or before some bytes. The error of a refusal is told by what tells the
+/// refusal.
 pub fn refusals_are_told_by_their_text()
     ensures some { (refusal : Refusal) → (bytes : List ℕ) × Tells refusal bytes }
     ensures text { (refusal : Refusal) (bytes : List ℕ)
@@ -104,10 +105,12 @@ pub fn refusals_are_told_by_their_text()
         × (bytes ≡ codes "Io error while writing rendered value to output: " ++ name) }
     ensures extend { (chain : List (List ℕ)) (bytes : List ℕ)
         → Tells (circular_extend (codes "a") chain) bytes → (names : List ℕ)
+        × QuotesList chain names
         × (bytes ≡ codes "Circular extend detected for template 'a'. Inheritance chain: `"
         ++ (names ++ codes "`")) }
     ensures include { (chain : List (List ℕ)) (bytes : List ℕ)
         → Tells (circular_include (codes "a") chain) bytes → (names : List ℕ)
+        × QuotesList chain names
         × (bytes ≡ codes "Circular include detected for template 'a'. Include chain: `"
         ++ (names ++ codes "`")) }
 {}

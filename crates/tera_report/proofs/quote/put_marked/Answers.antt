@@ -7,7 +7,7 @@ use Rattle.tera_report.proofs.quote.put_marked.Goals as goal
 pub parts-init : goal.parts-init
 parts-init g c =
     let made = c.escape_debug-escape.ensures in
-    (made.bound, record { done = []; leads = λ rest is. marked_escape c.args.c _ rest made.rest is; took = g.met.S.Sink.nothing _ })
+    (made.bound, record { done = []; leads = λ rest is. marked_escape c.args.c _ rest c.ranges.c.0 made.rest is; took = g.met.S.Sink.nothing _ })
 
 pub parts-preserved : goal.parts-preserved
 parts-preserved g c =

@@ -1,9 +1,9 @@
 use Rattle.std.proofs.Common.{rules, refl, ◌+◌, ◌∷◌, [], map, string_bytes, drop, sym, ap, ◌∙◌, subst}
 use Rattle.std.proofs.lemmas.List.{drop_more, drop_all}
-use Rattle.std.specs.Fmt.{debug_str, debug_items, comma_space}
-use Rattle.tera_report.specs.Quoted.{Quotes, quoted}
-use Rattle.tera_report.specs.inner.Quoted.{QuotesItems}
-use Rattle.tera_report.proofs.PutLaws.{some_text, leads_on, leads_more, leads_broke, leads_done}
+use Rattle.std.specs.Fmt.{comma_space}
+use Rattle.tera_report.specs.Quoted.{Quotes, QuotesItems, quoted}
+use Rattle.tera_report.proofs.PutLaws.{leads_on, leads_more, leads_broke, leads_done}
+use Rattle.tera_report.proofs.QuoteLaws.{some_items, quotes_by_rule}
 use Rattle.tera_report.proofs.QuoteLemmas.{items_more}
 use Rattle.tera_report.proofs.quote.put_quoted_items.Goals as goal
 
@@ -26,9 +26,10 @@ returns-in_err-put g c =
     let all = c.args.texts.now in
     let i = c.loop-text.text-index in
     let left = drop_more all i c.text-item.result c.loop-text-test.true ∙ ap (λ v. v ∷ drop (i + 1) all) (sym c.text-item.is) in
-    let later = some_text (debug_items debug_str comma_space (map string_bytes (drop (i + 1) all))) in
+    let later = some_items comma_space (map string_bytes (drop (i + 1) all)) in
+    let text = string_bytes c.text-item.result in
     let bad = leads_broke g.S.Sink.takes g.S.Sink.fails g.met.S.Sink.failed_later g.met.S.Sink.failed_early _ _ c.loop-text.invariant.1
-    (items_more string_bytes _ c.text-item.result _ _ (quoted (string_bytes c.text-item.result)) left (λ _. refl) later.0 later.1) c.in_err-put.ensures in
+    (items_more string_bytes _ c.text-item.result _ _ (quoted text) left (quotes_by_rule text) later.0 later.1) c.in_err-put.ensures in
     search rules
 
 pub returns-in_err-put_quoted : goal.returns-in_err-put_quoted
@@ -37,7 +38,7 @@ returns-in_err-put_quoted g c =
     let i = c.loop-text.text-index in
     let lead = c.loop-text.lead.now in
     let left = drop_more all i c.text-item.result c.loop-text-test.true ∙ ap (λ v. v ∷ drop (i + 1) all) (sym c.text-item.is) in
-    let later = some_text (debug_items debug_str comma_space (map string_bytes (drop (i + 1) all))) in
+    let later = some_items comma_space (map string_bytes (drop (i + 1) all)) in
     let (bytes, stands, refused) = c.in_err-put_quoted.ensures in
     let quotes = subst (λ t. Quotes t bytes) c.as_str.ensures.value stands in
     let first = leads_on g.S.Sink.takes g.met.S.Sink.joined lead c.loop-text.invariant.1 c.in_ok-put.ensures in

@@ -2,7 +2,7 @@
 use Rattle.std.proofs.Common.{[], map, drop, string_bytes}
 use denote.Text.{Utf8}
 use denote.Shadow.{shadow}
-use Rattle.tera_report.specs.inner.Quoted.{QuotesItems}
+use Rattle.tera_report.specs.Quoted.{QuotesItems}
 use Rattle.tera_report.proofs.PutLaws.{Leads}
 use Rattle.tera_report.proofs.quote.put_quoted_items.Given as goal
 

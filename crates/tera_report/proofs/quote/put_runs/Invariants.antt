@@ -2,7 +2,7 @@
 use Rattle.std.proofs.Common.{length}
 use denote.Text.{Utf8}
 use denote.Shadow.{shadow}
-use Rattle.tera_report.specs.inner.Quoted.{Escapes}
+use Rattle.tera_report.specs.Quoted.{Escapes}
 use Rattle.tera_report.proofs.PutLaws.{Leads}
 use Rattle.tera_report.proofs.quote.put_runs.Given as goal
 

@@ -8,6 +8,6 @@ returns c = record {
   known = text_tells;
   stated = telling_stated;
   io = λ kind bytes told. told;
-  extend = λ chain bytes told. (told.0, told.2);
-  include = λ chain bytes told. (told.0, told.2);
+  extend = λ chain bytes told. told;
+  include = λ chain bytes told. told;
 }

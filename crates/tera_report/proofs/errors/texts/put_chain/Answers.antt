@@ -1,16 +1,16 @@
 use Rattle.std.proofs.Common.{rules, refl, ◌++◌, map, string_bytes, codes, append_assoc}
 use Rattle.std.proofs.lemmas.Result.{MatchResult-weaker}
-use Rattle.std.specs.Fmt.{debug_str, debug_list}
 use Rattle.std.specs.List.{flat_map}
 use Rattle.tera_report.specs.Refusal.{TellsChain}
-use Rattle.tera_report.proofs.PutLaws.{failed_of, some_text}
+use Rattle.tera_report.proofs.PutLaws.{failed_of}
+use Rattle.tera_report.proofs.QuoteLaws.{some_list}
 use Rattle.tera_report.proofs.errors.texts.put_chain.Goals as goal
 
 pub returns-in_err-put_all : goal.returns-in_err-put_all
 returns-in_err-put_all g c =
     let texts = map string_bytes c.args.names.now in
     let words = flat_map (λ p. p.now) c.args.words.now in
-    let names = some_text (debug_list debug_str texts) in
+    let names = some_list texts in
     let failed = g.met.S.Sink.failed_early _ _ _ (names.0 ++ codes "`") c.in_err-put_all.ensures in
     let bad = failed_of g.S.Sink.fails (TellsChain words texts) _ _ _ (names.0, names.1, refl) failed in
     search rules
