@@ -9,8 +9,8 @@ use Rattle.tera_report.specs.Escaping.{Spells}
 use Rattle.tera_report.specs.Refusal.{Refusal}
 use Rattle.tera_report.proofs.EscapeLaws.{one_spelling_each}
 use Rattle.tera_meaning.specs.Form.{Form}
-use Rattle.tera_meaning.specs.Meaning.{Layout, layout, meaning}
-use Rattle.tera_meaning.specs.Printed.{printed, IsExact, Prints}
+use Rattle.tera_meaning.specs.Meaning.{layout, meaning}
+use Rattle.tera_meaning.proofs.QuotedLaws.{alone_alike}
 use Rattle.tera_meaning.specs.Read.{marked_safe, size_in}
 use Rattle.tera_meaning.specs.State.{State, read}
 use Rattle.tera_meaning.specs.Alike.{MeanTheSame, RequestTheSame, AskTheSame, AllAskTheSame, IsSettled, AreAlike}
@@ -43,9 +43,6 @@ kept_shape : (into : Option (List ℕ)) (found also : Found) → found_shape fou
     → shape (found_or_kept into found) ≡ shape (found_or_kept into also)
 kept_shape into found also e = search rules
 
-text_alike : (x y : Layout) (s t : List ℕ) → (x ≡ y) × IsExact x → Prints x s → Prints y t → s ≡ t
-text_alike x y s t (e, exact) p q = p exact ∙ ap printed e ∙ sym (q (subst IsExact e exact))
-
 pub word_alike : (v w s t : List ℕ) → s ≡ t → Spells v s → Spells w t → v ≡ w
 word_alike v w s t e p q = one_spelling_each v w t (subst (Spells v) e p) q
 
@@ -60,8 +57,10 @@ asked_alike : (question : Question) (held also : Option Form) (o p : Outcome) �
 asked_alike Question.has held also o p h e d s = both e d (λ i. Ok (Answer.truth (held_alike held also h i)))
 asked_alike Question.truthy held also o p h e d s = search (rules, both, read_alike)
 asked_alike Question.len held also o p h e d s = both e d (λ i. Ok (Answer.size (size_in (read_alike held also h i))))
-asked_alike Question.print held also o p h (t, prints, e) (u, again, d) s = search (rules, both, text_alike)
-asked_alike Question.escape held also o p h (t, v, prints, spells, e) (u, w, again, spelled, d) s = search (rules, both, word_alike, text_alike)
+asked_alike Question.print held also o p h (t, prints, e) (u, again, d) (s, exact) =
+    both e d (ap (λ text. Ok (Answer.text text)) (alone_alike _ _ t u s exact prints again))
+asked_alike Question.escape held also o p h (t, v, prints, spells, e) (u, w, again, spelled, d) (s, exact) =
+    both e d (ap (λ text. Ok (Answer.text text)) (word_alike v w t u (alone_alike _ _ t u s exact prints again) spells spelled))
 asked_alike Question.fields held also o p h e d s = search (rules, both, fields_by_meaning, read_alike)
 asked_alike Question.walk held also o p h e d s = both e d (ap (λ ts. Ok (Answer.walked ts)) (shown_by_layout (read held) (read also) s))
 asked_alike Question.is_safe held also o p h e d s = absurd s

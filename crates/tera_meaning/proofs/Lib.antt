@@ -23,8 +23,10 @@ mod PathLemmas
 pub mod PowerLaws
 mod PrintedLemmas
 pub mod PutLaws
+pub mod QuotedLaws
 mod ReadLemmas
 pub mod RefusalLaws
+pub mod RunLaws
 mod RunLemmas
 pub mod SliceLaws
 mod SortedLemmas

@@ -15,6 +15,7 @@ use Rattle.tera_meaning.specs.Step.{ComesTo, IsOutcome, IsFixed, LeavesInWant, I
 use Rattle.tera_meaning.specs.Run.{IsRun, AreOutcomes, AreFixed, state_after_all, WasDone, WasDoneInWant, IsDoneOf, NoneWantsMemory, IsAmpleRun}
 use Rattle.tera_meaning.specs.Alike.{MeanTheSame, AllAskTheSame, AreAlike}
 use Rattle.tera_meaning.proofs.AlikeLemmas.{word_alike, all_outcomes_alike, states_alike}
+use Rattle.tera_meaning.proofs.QuotedLaws.{alone_alike, alone_prints}
 
 pub never_wanted : (state : State) (request : Request) (into : Option (List ℕ))
     → ComesTo state request into out_of_memory → ⊥
@@ -23,10 +24,10 @@ never_wanted state v into e = search rules
 -- each request comes to some outcome
 some_answer : (question : Question) (held : Option Form) → (outcome : Outcome) × IsAnswered question held outcome
 some_answer Question.print held =
-    let t : List ℕ = printed (layout (read held)) in (Ok (Answer.text t), (t, (λ exact. refl), refl))
+    let t : List ℕ = printed (layout (read held)) in (Ok (Answer.text t), (t, alone_prints (layout (read held)), refl))
 some_answer Question.escape held =
     let t : List ℕ = printed (layout (read held)) in
-    (Ok (Answer.text (escaped t)), (t, escaped t, (λ exact. refl), Spells-escaped t, refl))
+    (Ok (Answer.text (escaped t)), (t, escaped t, alone_prints (layout (read held)), Spells-escaped t, refl))
 some_answer question held = (_, refl)
 
 pub some_outcome : (state : State) (request : Request) (into : Option (List ℕ))
@@ -37,9 +38,10 @@ some_outcome state v into = (_, refl)
 -- and to one alone, where what is printed is exact
 one_answer : (question : Question) (held : Option Form) (o p : Outcome) → IsFixedAnswer question (layout (read held))
     → IsAnswered question held o → IsAnswered question held p → o ≡ p
-one_answer Question.print held o p f (t, prints, e) (u, also, d) = search rules
+one_answer Question.print held o p f (t, prints, e) (u, also, d) =
+    e ∙ ap (λ s. Ok (Answer.text s)) (alone_alike _ _ t u refl f prints also) ∙ sym d
 one_answer Question.escape held o p f (t, v, prints, spells, e) (u, w, also, spelled, d) =
-    e ∙ ap (λ s. Ok (Answer.text s)) (word_alike v w t u (prints f ∙ sym (also f)) spells spelled) ∙ sym d
+    e ∙ ap (λ s. Ok (Answer.text s)) (word_alike v w t u (alone_alike _ _ t u refl f prints also) spells spelled) ∙ sym d
 one_answer question held o p f e d = e ∙ sym d
 
 pub one_outcome : (state : State) (request : Request) (into : Option (List ℕ)) (o p : Outcome) → IsFixed state request

@@ -1,5 +1,5 @@
 -- What single steps answer and leave.
-use Rattle.std.specs.Prelude.{◌≡◌, ◌≢◌, ℕ, ℤ, Bool, false, cond, List, [], Option, Some, None, Result, Ok, Err}
+use Rattle.std.specs.Prelude.{◌≡◌, ℕ, ℤ, Bool, false, cond, List, [], Option, Some, None, Result, Ok, Err}
 use Rattle.std.proofs.lemmas.Bool.{false≢true}
 use Rattle.std.proofs.Common.{sym, ◌∙◌, ap, subst, refl, inl, inr, rules}
 use Rattle.std.specs.Option.{option_map, unwrap_or}
@@ -18,6 +18,7 @@ use Rattle.tera_meaning.specs.Read.{iterable_in, marked_safe}
 use Rattle.tera_meaning.specs.Arithmetic.{each_ok, negated, as_i128}
 use Rattle.tera_meaning.specs.Search.{Search, found_at, one_found, CopyTakes, FoundTakes, get, path, attr, item, slice, reverse, calculate, negate, read}
 use Rattle.tera_meaning.specs.State.{State, form_at, layout_at, meaning_at}
+use Rattle.tera_meaning.proofs.QuotedLaws.{alone_exact}
 use Rattle.tera_meaning.proofs.StateLaws.{get_set, meaning_set, name_exact, get_other}
 use Rattle.tera_meaning.specs.Alike.{MeanTheSame, meaning_held}
 use Rattle.tera_meaning.specs.Answer
@@ -27,19 +28,37 @@ use Rattle.tera_meaning.specs.Step.{marking, found_or_kept, keeping, ComesOnlyTo
 use Rattle.tera_meaning.specs.Steps.{StepsOnlyTo}
 use Rattle.tera_meaning.specs.Tree.{undefined}
 
+-- what is printed of a name that holds this form
+pub prints : (state : State) (name : List ℕ) (o : Option Form) → held_at state name ≡ o
+    → IsExact (layout (unwrap_or o undefined))
+    → ComesOnlyTo state (ask Question.print name) (Ok (Answer.text (printed (layout (unwrap_or o undefined)))))
+prints state name o e exact given (t, is, d) =
+    let at : layout_at state name ≡ layout (unwrap_or o undefined) = ap (λ p. layout (unwrap_or p undefined)) e in
+    d ∙ ap (λ s. Ok (Answer.text s)) (alone_exact _ t (subst IsExact (sym at) exact) is ∙ ap printed at)
+
 -- what is escaped of a name that holds this form
 pub escapes : (state : State) (name : List ℕ) (o : Option Form) → held_at state name ≡ o
     → IsExact (layout (unwrap_or o undefined))
     → ComesOnlyTo state (ask Question.escape name) (Ok (Answer.text (escaped (printed (layout (unwrap_or o undefined))))))
 escapes state name o e exact given (t, w, is, spells, d) =
     let at : layout_at state name ≡ layout (unwrap_or o undefined) = ap (λ p. layout (unwrap_or p undefined)) e in
-    d ∙ ap (λ s. Ok (Answer.text s)) (sym (escaped_from_spelling w t spells) ∙ ap escaped (is (subst IsExact (sym at) exact) ∙ ap printed at))
+    d ∙ ap (λ s. Ok (Answer.text s)) (sym (escaped_from_spelling w t spells) ∙ ap escaped (alone_exact _ t (subst IsExact (sym at) exact) is ∙ ap printed at))
 
 -- what is exact prints one text, and escapes to one
 module _ (state : State) (name : List ℕ) where
   pub escapes_one : IsExact (layout_at state name)
       → ComesOnlyTo state (ask Question.escape name) (Ok (Answer.text (escaped (printed (layout_at state name)))))
   escapes_one = search (rules, escapes)
+
+  pub prints_one : IsExact (layout_at state name)
+      → ComesOnlyTo state (ask Question.print name) (Ok (Answer.text (printed (layout_at state name))))
+  prints_one = search (rules, prints)
+
+  pub prints_nothing : (into : Option (List ℕ)) → PrintsNothing (layout_at state name)
+      → StepsOnlyTo state (ask Question.print name) into (Answer.text []) state
+  prints_nothing into nothing new outcome (inl step) =
+      (prints_one nothing.0 outcome step.0 ∙ ap (λ t. Ok (Answer.text t)) nothing.1, step.1)
+  prints_nothing into nothing new outcome (inr want) = absurd (want.0 nothing)
 
   -- of what prints nothing nothing is escaped
   escaped_nothing : PrintsNothing (layout_at state name) → ComesOnlyTo state (ask Question.escape name) (Ok (Answer.text []))

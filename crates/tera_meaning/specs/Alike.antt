@@ -1,16 +1,20 @@
 -- States, commands and answers of equal meaning.
-use Rattle.std.specs.Prelude.{◌≡◌, ℕ, ⊤, List, [], ◌∷◌, Option}
+use Rattle.std.specs.Prelude.{◌≡◌, ℕ, ⊤, List, [], ◌∷◌, Option, Result, Ok, Err}
 use Rattle.std.specs.List.{AllZip}
 use Rattle.std.specs.Option.{option_map}
 use Rattle.std.specs.FinMap.{get as held_at}
+use Rattle.tera_report.specs.Refusal.{Refusal, shape as refusal_shape}
+use Rattle.tera_meaning.specs.Answer
+use Rattle.tera_meaning.specs.Answer.{AnswerOf}
 use Rattle.tera_meaning.specs.Form.{Form}
-use Rattle.tera_meaning.specs.Meaning.{Meaning, layout, meaning}
-use Rattle.tera_meaning.specs.Outcome.{Outcome, shape}
+use Rattle.tera_meaning.specs.Meaning.{Layout, Meaning, layout, meaning}
+use Rattle.tera_meaning.specs.Outcome.{Outcome, OutcomeOf, shape}
 use Rattle.tera_meaning.specs.Question
 use Rattle.tera_meaning.specs.Question.{IsSettledAnswer}
 use Rattle.tera_meaning.specs.Request.{Request, set, extend, remove, mark_safe, ask, weigh, find}
 use Rattle.tera_meaning.specs.Request.{Command, asking}
 use Rattle.tera_meaning.specs.Run.{AreOutcomes, IsAmpleRun}
+use Rattle.tera_meaning.specs.Search.{Found}
 use Rattle.tera_meaning.specs.State.{State, layout_at}
 use Rattle.tera_meaning.specs.Step.{state_after}
 use Rattle.tera_meaning.specs.Weighing
@@ -27,6 +31,28 @@ MeanTheSame f g = (name : List ℕ) → meaning_held f name ≡ meaning_held g n
 abbrev pub LaidOutTheSame : State → State → Type 0
 LaidOutTheSame f g =
     (name : List ℕ) → option_map layout (held_at f name) ≡ option_map layout (held_at g name)
+
+-- what is found by its layout, and a refusal without the name of a value's kind
+abbrev pub found_layout : Found → Result (Option Layout) Refusal
+found_layout (Ok value) = Ok (option_map layout value)
+found_layout (Err refusal) = Err (refusal_shape refusal)
+
+-- an answer with what is found by its layout
+abbrev pub answer_layout : AnswerOf Form → AnswerOf Layout
+answer_layout Answer.done = Answer.done
+answer_layout (Answer.truth b) = Answer.truth b
+answer_layout (Answer.order o) = Answer.order o
+answer_layout (Answer.found value) = Answer.found (option_map layout value)
+answer_layout (Answer.size n) = Answer.size n
+answer_layout (Answer.kind k) = Answer.kind k
+answer_layout (Answer.text t) = Answer.text t
+answer_layout (Answer.texts ts) = Answer.texts ts
+answer_layout (Answer.walked ts) = Answer.walked ts
+
+-- an outcome with what is found by its layout, and a refusal without the name of a value's kind
+abbrev pub outcome_layout : Outcome → OutcomeOf Layout
+outcome_layout (Ok answer) = Ok (answer_layout answer)
+outcome_layout (Err refusal) = Err (refusal_shape refusal)
 
 -- the same request; and where it keeps values, these of the same meaning
 abbrev pub RequestTheSame : Request → Request → Type 0

@@ -5,6 +5,7 @@ pub mod Form
 pub mod Meaning
 pub mod Order
 pub mod Printed
+pub mod Quoted
 pub mod Kind
 pub mod Read
 pub mod Stored

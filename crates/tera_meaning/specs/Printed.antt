@@ -109,14 +109,6 @@ IsExactInside x = IsTrue (is_exact_inside x)
 abbrev pub IsExactKey : KeyMeaning → Type 0
 IsExactKey k = IsTrue (is_exact_key k)
 
--- what is printed of a layout: some bytes, and these where it is exact
-abbrev pub Prints : Layout → List ℕ → Type 0
-Prints x written = IsExact x → written ≡ printed x
-
--- what is written for a layout that stands in an array or map, where texts are quoted
-abbrev pub PrintsInside : Layout → List ℕ → Type 0
-PrintsInside x written = IsExactInside x → written ≡ printed_with quoted x
-
 -- it is known that nothing is printed
 abbrev pub PrintsNothing : Layout → Type 0
 PrintsNothing x = IsExact x × (printed x ≡ [])

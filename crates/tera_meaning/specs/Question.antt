@@ -7,7 +7,8 @@ use Rattle.tera_meaning.specs.Form.{Form}
 use Rattle.tera_meaning.specs.Kind.{kind_in}
 use Rattle.tera_meaning.specs.Meaning.{Layout, layout, meaning}
 use Rattle.tera_meaning.specs.Outcome.{Outcome}
-use Rattle.tera_meaning.specs.Printed.{IsExact, Prints, PrintsNothing}
+use Rattle.tera_meaning.specs.Printed.{IsExact, PrintsNothing}
+use Rattle.tera_meaning.specs.Quoted.{Prints}
 use Rattle.tera_meaning.specs.Read.{safe_in, size_in, truthy_in}
 use Rattle.tera_meaning.specs.State.{read}
 
@@ -23,8 +24,8 @@ pub data Question : Type 0 where
   walk : Question
 
 -- what is answered of what a name holds, which reads as undefined where it holds nothing. What is
--- printed is some text, and one text alone where the layout is exact. A walk tells what the keys of
--- a map print, along its pairs
+-- printed is one text alone where the layout is exact. A walk tells what the keys of a map print,
+-- along its pairs
 abbrev pub IsAnswered : Question → Option Form → Outcome → Type 0
 IsAnswered has held outcome = outcome ≡ Ok (Answer.truth (is_some held))
 IsAnswered truthy held outcome = outcome ≡ Ok (Answer.truth (truthy_in (meaning (read held))))

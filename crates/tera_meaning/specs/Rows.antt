@@ -1,15 +1,17 @@
 -- Small meanings, on which the definitions are tried.
-use Rattle.std.specs.Prelude.{◌≡◌, ◌-◌, ◌^◌, ℕ, Bool, true, false, ◌&&◌, ℤ, pos, negsuc, List, []}
-use Rattle.std.specs.Prelude.{◌∷◌, Option, None, is_none}
+use Rattle.std.specs.Prelude.{◌≡◌, ◌↔◌, ◌-◌, ◌^◌, ◌≤ℤ◌, ◌<ℤ◌, ℕ, Bool, true, false, ◌&&◌, ℤ, pos}
+use Rattle.std.specs.Prelude.{negsuc, List, [], ◌∷◌, Option, None, IsTrue, is_none}
 use Rattle.std.specs.List.{list_all}
 use Rattle.std.specs.Ordering.{is_lt}
 use Rattle.std.specs.declared.cmp.Ordering.{Ordering}
+use Rattle.tera_meaning.specs.Conversion.{IntegerType, has_number}
 use Rattle.tera_meaning.specs.Decided.{decided}
 use Rattle.tera_meaning.specs.Form.{Form}
 use Rattle.tera_meaning.specs.Integer.{IntegerKind}
 use Rattle.tera_meaning.specs.KeyMeaning.{KeyMeaning, KeyForm, number_key, text_key, owned}
 use Rattle.tera_meaning.specs.Meaning.{Meaning}
 use Rattle.tera_meaning.specs.Order.{compare}
+use Rattle.tera_meaning.specs.Read.{iterable_in}
 use Rattle.tera_meaning.specs.SliceRule.{IsSliceOf}
 use Rattle.tera_meaning.specs.Tree.{Tree, none, number, text, array, object, items, members}
 
@@ -52,6 +54,10 @@ least = negsuc (2 ^ 127 - 1)
 abbrev pub greatest : ℤ
 greatest = pos (2 ^ 127 - 1)
 
+-- a type has the numbers from the first on, up to another without this, and no more
+abbrev pub HasJust : IntegerType → ℤ → ℤ → Type 0
+HasJust type first end = (z : ℤ) → IsTrue (has_number type z) ↔ ((first ≤ℤ z) × (z <ℤ end))
+
 -- a number as a key holds it
 abbrev pub key_of : IntegerKind → ℕ → KeyForm
 key_of kind n = number_key (record { kind = kind; value = pos n })
@@ -72,6 +78,10 @@ SlicesTo xs start end step ys = IsSliceOf xs start end step ys
 -- a text as a key holds it
 abbrev pub named : List ℕ → KeyForm
 named t = text_key (owned t)
+
+-- whether a form has parts
+abbrev pub has_parts : Form → Bool
+has_parts value = iterable_in value
 
 -- an array and a map of forms
 abbrev pub listed : List Form → Form

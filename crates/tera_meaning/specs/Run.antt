@@ -1,5 +1,5 @@
 -- Whole runs.
-use Rattle.std.specs.Prelude.{◌≡◌, ◌≢◌, ◌⊎◌, ⊤, List, [], ◌∷◌, Ok}
+use Rattle.std.specs.Prelude.{◌≡◌, ◌≢◌, ◌⊎◌, ⊤, List, [], ◌∷◌, Ok, OnErr}
 use Rattle.std.specs.List.{AllByRecursion, fold}
 use Rattle.tera_meaning.specs.Answer
 use Rattle.tera_meaning.specs.State.{State, IsProperBeginning}
@@ -14,6 +14,15 @@ IsRun old (command ∷ commands) (outcome ∷ outcomes) new =
     (mid : State) × IsStep old command outcome mid × IsRun mid commands outcomes new
 IsRun old [] (outcome ∷ outcomes) new = ⊥
 IsRun old (command ∷ commands) [] new = ⊥
+
+-- a run in which what is refused changes nothing
+abbrev pub IsKeepingRun : State → List Command → List Outcome → State → Type 0
+IsKeepingRun old [] [] new = new ≡ old
+IsKeepingRun old (command ∷ commands) (outcome ∷ outcomes) new =
+    (mid : State) × IsStep old command outcome mid × OnErr outcome (mid ≡ old)
+    × IsKeepingRun mid commands outcomes new
+IsKeepingRun old [] (outcome ∷ outcomes) new = ⊥
+IsKeepingRun old (command ∷ commands) [] new = ⊥
 
 -- the commands come to these, one after another, where none wants memory
 abbrev pub AreOutcomes : State → List Command → List Outcome → Type 0

@@ -1,5 +1,5 @@
 -- One step of the model: what a request comes to, and what it leaves.
-use Rattle.std.specs.Prelude.{◌≡◌, ◌⊎◌, ⊤, ℕ, List, Option, Some, None, Ok, Err, IsErr}
+use Rattle.std.specs.Prelude.{◌≡◌, ◌⊎◌, ⊤, ℕ, List, Option, Some, None, Ok, Err, IsErr, IsSome}
 use Rattle.std.specs.FinMap.{get as held_at, insert, remove as without}
 use Rattle.tera_meaning.specs.Answer
 use Rattle.tera_meaning.specs.Search.{Found, found_at, CopyTakes, FoundTakes}
@@ -85,11 +85,15 @@ abbrev pub FoundKeepTakes : State → Option (List ℕ) → Found → Type 0
 FoundKeepTakes state (Some into) (Ok (Some value)) = KeepTakes state into
 FoundKeepTakes state into found = ⊥
 
+-- to take over a source takes memory: it has a name that is new
+abbrev pub ExtendTakes : State → State → Type 0
+ExtendTakes state source = (name : List ℕ) × IsSome (held_at source name) × KeepTakes state name
+
 -- a request may want memory: to keep values or a copy, for an answer that takes memory, and for the
 -- text of a refusal
 abbrev pub MayWant : State → Request → Option (List ℕ) → Type 0
 MayWant state (set name value) into = KeepTakes state name
-MayWant state (extend source) into = ⊤
+MayWant state (extend source) into = ExtendTakes state source
 MayWant state (remove name) into = ⊥
 MayWant state (mark_safe name) None = ⊥
 MayWant state (mark_safe name) (Some into) =

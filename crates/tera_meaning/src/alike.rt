@@ -5,6 +5,7 @@ ghost use Rattle.std.specs.Prelude.{◌≡◌, ◌≢◌, ◌↔◌, ℕ, List, 
 ghost use Rattle.tera_meaning.specs.Alike.{meaning_held, MeanTheSame, AskTheSame, AllAskTheSame};
 ghost use Rattle.tera_meaning.specs.Alike.{AnswerAlike, AreAlike, AreToldApartBy, RunsAreToldApart};
 ghost use Rattle.tera_meaning.specs.Alike.{IsSettled, IsAlwaysSettled, LaidOutTheSame, probe};
+ghost use Rattle.tera_meaning.specs.Alike.{found_layout, outcome_layout};
 ghost use Rattle.std.specs.FinMap.{insert};
 ghost use Rattle.std.specs.Str.{IsUtf8};
 ghost use Rattle.tera_meaning.specs.Form.{Form};
@@ -15,7 +16,7 @@ ghost use Rattle.tera_meaning.specs.Question;
 ghost use Rattle.tera_meaning.specs.Request.{Command, set, extend, remove, mark_safe, ask, weigh};
 ghost use Rattle.tera_meaning.specs.Request.{find};
 ghost use Rattle.tera_meaning.specs.Run.{AreOutcomes, state_after_all};
-ghost use Rattle.tera_meaning.specs.Search.{Search};
+ghost use Rattle.tera_meaning.specs.Search.{Search, found_at};
 ghost use Rattle.tera_meaning.specs.State.{State, form_at, layout_at};
 ghost use Rattle.tera_meaning.specs.Step.{IsOutcome, state_after};
 ghost use Rattle.tera_meaning.specs.Weighing.{Weighing};
@@ -62,6 +63,18 @@ pub fn states_that_are_laid_out_the_same_stay_so()
     ensures meaning { (f g : State) → LaidOutTheSame f g → MeanTheSame f g }
     ensures set { (state : State) (name : List ℕ) (v w : Form) → layout v ≡ layout w
         → LaidOutTheSame (insert state name v) (insert state name w) }
+{}
+
+/// From states that are laid out the same, a search finds what is laid out the same, or nothing in
+/// both, or refuses in both with refusals of one shape; and a command comes to outcomes that are
+/// laid out the same, where these are settled.
+#[tactic(auto, using(crate::proofs::LaidOutLemmas::outcome_laws))]
+pub fn what_is_found_is_laid_out_the_same()
+    ensures found { (f g : State) (search : Search) → LaidOutTheSame f g
+        → found_layout (found_at f search) ≡ found_layout (found_at g search) }
+    ensures answer { (f g : State) (command : Command) (outcome other : Outcome)
+        → LaidOutTheSame f g → IsOutcome f command outcome → IsOutcome g command other
+        → IsSettled f g command.request → outcome_layout outcome ≡ outcome_layout other }
 {}
 
 /// Whatever two states hold, the outcomes of these requests are settled: of all but the questions

@@ -20,7 +20,7 @@ ghost use Rattle.tera_meaning.specs.Integer.{is_small, u64, i64, u128, i128};
 ghost use Rattle.tera_meaning.specs.Lookup.{seen_by};
 ghost use Rattle.tera_meaning.specs.Meaning.{meaning};
 ghost use Rattle.tera_meaning.specs.Read.{number_in};
-ghost use Rattle.tera_meaning.specs.Rows.{integer, least, greatest, normal};
+ghost use Rattle.tera_meaning.specs.Rows.{HasJust, integer, least, greatest, normal};
 ghost use Rattle.tera_meaning.specs.Tree.{none, truth};
 ghost use Rattle.tera_meaning.specs.WellMade.{IsWellMade};
 
@@ -217,4 +217,36 @@ pub fn types_have_their_numbers()
     ensures kept { held_as IntegerType.u8 (pos 7) ≡ integer u64 (pos 7) }
     ensures truth { as_truth (truth true) ≡ Ok true }
     ensures no_truth { as_truth none ≡ Err (invalid_argument (codes "bool") (codes "none")) }
+{}
+
+/// Each type has all numbers from its least one on and below a power of two, and no other.
+pub fn types_have_just_these_numbers()
+    ensures u8 { HasJust IntegerType.u8 (pos 0) (pos (2 ^ 8)) }
+    ensures u16 { HasJust IntegerType.u16 (pos 0) (pos (2 ^ 16)) }
+    ensures u32 { HasJust IntegerType.u32 (pos 0) (pos (2 ^ 32)) }
+    ensures u64 { HasJust IntegerType.u64 (pos 0) (pos (2 ^ 64)) }
+    ensures u128 { HasJust IntegerType.u128 (pos 0) (pos (2 ^ 128)) }
+    ensures usize { HasJust IntegerType.usize (pos 0) (pos (2 ^ 64)) }
+    ensures i8 { HasJust IntegerType.i8 (neg_ℤ (pos (2 ^ 7))) (pos (2 ^ 7)) }
+    ensures i16 { HasJust IntegerType.i16 (neg_ℤ (pos (2 ^ 15))) (pos (2 ^ 15)) }
+    ensures i32 { HasJust IntegerType.i32 (neg_ℤ (pos (2 ^ 31))) (pos (2 ^ 31)) }
+    ensures i64 { HasJust IntegerType.i64 (neg_ℤ (pos (2 ^ 63))) (pos (2 ^ 63)) }
+    ensures i128 { HasJust IntegerType.i128 (neg_ℤ (pos (2 ^ 127))) (pos (2 ^ 127)) }
+    ensures isize { HasJust IntegerType.isize (neg_ℤ (pos (2 ^ 63))) (pos (2 ^ 63)) }
+{}
+
+/// A number of a type is held in the kind of 64 or of 128 bits, with a sign where the type has one.
+pub fn types_are_held_in_these_kinds()
+    ensures u8 { (z : ℤ) → held_as IntegerType.u8 z ≡ integer u64 z }
+    ensures u16 { (z : ℤ) → held_as IntegerType.u16 z ≡ integer u64 z }
+    ensures u32 { (z : ℤ) → held_as IntegerType.u32 z ≡ integer u64 z }
+    ensures u64 { (z : ℤ) → held_as IntegerType.u64 z ≡ integer u64 z }
+    ensures u128 { (z : ℤ) → held_as IntegerType.u128 z ≡ integer u128 z }
+    ensures usize { (z : ℤ) → held_as IntegerType.usize z ≡ integer u64 z }
+    ensures i8 { (z : ℤ) → held_as IntegerType.i8 z ≡ integer i64 z }
+    ensures i16 { (z : ℤ) → held_as IntegerType.i16 z ≡ integer i64 z }
+    ensures i32 { (z : ℤ) → held_as IntegerType.i32 z ≡ integer i64 z }
+    ensures i64 { (z : ℤ) → held_as IntegerType.i64 z ≡ integer i64 z }
+    ensures i128 { (z : ℤ) → held_as IntegerType.i128 z ≡ integer i128 z }
+    ensures isize { (z : ℤ) → held_as IntegerType.isize z ≡ integer i64 z }
 {}

@@ -11,6 +11,7 @@ pub mod marks;
 pub mod order;
 pub mod pairs;
 pub mod printed;
+pub mod quoted;
 pub mod refusals;
 pub mod rows;
 pub mod runs;

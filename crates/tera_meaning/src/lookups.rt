@@ -1,9 +1,10 @@
 //! The laws of look-ups, and the definitions at work on small values. Each function here does
 //! nothing: its clauses are the law, or the rows.
-ghost use Rattle.std.specs.Prelude.{◌≡◌, ◌↔◌, ℕ, List, Some, IsTrue, pos, negsuc, slice_get};
-ghost use Rattle.std.specs.Prelude.{reverse, IfSome, IfOk};
+ghost use Rattle.std.specs.Prelude.{◌≡◌, ◌↔◌, ℕ, Bool, List, [], Some, IsTrue, pos, negsuc};
+ghost use Rattle.std.specs.Prelude.{reverse, slice_get, IfSome, IfOk};
 ghost use Rattle.std.specs.Str.Iter.{HasSubslice};
-ghost use Rattle.tera_meaning.specs.Form.{Form};
+ghost use Rattle.tera_meaning.specs.Form.{Form, MarkedText};
+ghost use Rattle.tera_meaning.specs.Integer.{Integer};
 ghost use Rattle.tera_meaning.specs.KeyMeaning.{KeyForm, text_key, owned, key_meaning};
 ghost use Rattle.tera_meaning.specs.Lookup.{attr, as_key, item, holds, seen_by, occurs, part_at};
 ghost use Rattle.tera_meaning.specs.Fields.{fields, AreRisingOf, shown_in};
@@ -11,7 +12,8 @@ ghost use Rattle.tera_meaning.specs.Meaning.{meaning};
 ghost use Rattle.tera_meaning.specs.Path.{path, AreElements, elements_of, place, IsPlace};
 ghost use Rattle.std.specs.Option.{option_map};
 ghost use Rattle.tera_meaning.specs.Pairs.{key_form_order, value_at};
-ghost use Rattle.tera_meaning.specs.Tree.{object, members};
+ghost use Rattle.tera_meaning.specs.Tree.{undefined, none, truth, number, text, bytes, array};
+ghost use Rattle.tera_meaning.specs.Tree.{object, items, members};
 ghost use Rattle.tera_meaning.specs.WellMade.{IsWellMade, IsWellMadeKey};
 
 /// The attribute of a map is what a look-up of that text in its pairs finds, however many these
@@ -75,6 +77,18 @@ pub fn fields_have_one_list_of_names()
     ensures are { (v : Form) → AreRisingOf (shown_in v) (fields v) }
     ensures only { (v : Form) (names : List (List ℕ)) → AreRisingOf (shown_in v) names
         → names ≡ fields v }
+{}
+
+/// Maps alone have keys that print, and fields.
+pub fn maps_alone_have_fields()
+    ensures undefined { (shown_in undefined ≡ []) × (fields undefined ≡ []) }
+    ensures none { (shown_in none ≡ []) × (fields none ≡ []) }
+    ensures truth { (b : Bool) → (shown_in (truth b) ≡ []) × (fields (truth b) ≡ []) }
+    ensures number { (n : Integer) → (shown_in (number n) ≡ []) × (fields (number n) ≡ []) }
+    ensures text { (t : MarkedText) → (shown_in (text t) ≡ []) × (fields (text t) ≡ []) }
+    ensures bytes { (bs : List ℕ) → (shown_in (bytes bs) ≡ []) × (fields (bytes bs) ≡ []) }
+    ensures array { (xs : List Form)
+        → (shown_in (array (items xs)) ≡ []) × (fields (array (items xs)) ≡ []) }
 {}
 
 /// What look-ups find in a well-made value is well made, and so is the key that one is.

@@ -14,8 +14,9 @@ ghost use Rattle.tera_meaning.specs.Order.{compare, same};
 ghost use Rattle.tera_meaning.specs.Pairs.{key_form_order, put_all};
 ghost use Rattle.tera_meaning.specs.Printed.{is_exact, printed, shown_in_page};
 ghost use Rattle.tera_meaning.specs.Read.{safe_in, size_in, truthy_in};
-ghost use Rattle.tera_meaning.specs.Rows.{at_name, count, held, key_of, list_of, listed};
+ghost use Rattle.tera_meaning.specs.Rows.{at_name, count, has_parts, held, key_of, list_of, listed};
 ghost use Rattle.tera_meaning.specs.Rows.{map_at, map_of, mapped, marked, named, normal, rises};
+ghost use Rattle.tera_meaning.specs.Search.{CopyTakes};
 ghost use Rattle.tera_meaning.specs.Tree.{undefined, none, truth, number, text, bytes, array};
 ghost use Rattle.tera_meaning.specs.Tree.{object, items, members};
 
@@ -139,6 +140,21 @@ pub fn what_is_empty_is_false()
     ensures bytes { truthy_in (bytes []) ≡ false × (truthy_in (bytes (0 ∷ [])) ≡ true) }
     ensures lists { truthy_in (list_of []) ≡ false × (truthy_in (list_of (none ∷ [])) ≡ true) }
     ensures maps { truthy_in (map_of []) ≡ false × (truthy_in (map_at (truth_key false)) ≡ true) }
+{}
+
+/// Texts, bytes, arrays and maps have parts, and may be copied; all else has none. So a copy of one
+/// byte takes memory, and one of no byte takes none.
+pub fn texts_bytes_arrays_and_maps_have_parts()
+    ensures text { (t : MarkedText) → has_parts (text t) ≡ true }
+    ensures bytes { (bs : List ℕ) → has_parts (bytes bs) ≡ true }
+    ensures array { (xs : List Form) → has_parts (array (items xs)) ≡ true }
+    ensures map { (ps : List (KeyForm × Form)) → has_parts (object (members ps)) ≡ true }
+    ensures number { (n : Integer) → has_parts (number n) ≡ false }
+    ensures truth { (b : Bool) → has_parts (truth b) ≡ false }
+    ensures none { has_parts none ≡ false }
+    ensures undefined { has_parts undefined ≡ false }
+    ensures copied { CopyTakes (bytes (0 ∷ [])) × CopyTakes (listed (none ∷ [])) }
+    ensures empty { ¬ CopyTakes (bytes []) × (¬ CopyTakes (listed [])) }
 {}
 
 /// A text is safe by its flag; arrays, maps and bytes are not safe, and all else is.

@@ -9,7 +9,7 @@ ghost use Rattle.tera_meaning.specs.Question.{Question};
 ghost use Rattle.tera_meaning.specs.Request.{Command, set, extend, remove, mark_safe, ask, weigh};
 ghost use Rattle.tera_meaning.specs.Request.{find};
 ghost use Rattle.tera_meaning.specs.Run.{IsRun, IsAmpleRun, AreOutcomes, AreFixed, state_after_all};
-ghost use Rattle.tera_meaning.specs.Run.{IsDoneOf, NoneWantsMemory};
+ghost use Rattle.tera_meaning.specs.Run.{IsDoneOf, IsKeepingRun, NoneWantsMemory};
 ghost use Rattle.tera_meaning.specs.Search.{Search};
 ghost use Rattle.tera_meaning.specs.State.{State, layout_at};
 ghost use Rattle.tera_meaning.specs.Step.{IsOutcome, IsFixed, IsStep};
@@ -76,6 +76,16 @@ pub fn runs_give_their_outcomes()
     ensures given { (old : State) (commands : List Command) (outcomes : List Outcome)
         → AreOutcomes old commands outcomes
         → IsAmpleRun old commands outcomes (state_after_all old commands) }
+{}
+
+/// A run in which what is refused changes nothing is a run, and a run in which no step wants memory
+/// is one: what is refused otherwise changes nothing of itself.
+#[tactic(auto, using(crate::proofs::RunLaws::laws))]
+pub fn what_is_refused_changes_nothing()
+    ensures run { (old : State) (commands : List Command) (outcomes : List Outcome) (new : State)
+        → IsKeepingRun old commands outcomes new → IsRun old commands outcomes new }
+    ensures ample { (old : State) (commands : List Command) (outcomes : List Outcome) (new : State)
+        → IsAmpleRun old commands outcomes new → IsKeepingRun old commands outcomes new }
 {}
 
 /// Each list of commands comes to some outcomes, and to one list alone where all that they print is

@@ -1,17 +1,20 @@
 //! The laws of single steps. Each function here does nothing: its clauses are the law.
-ghost use Rattle.std.specs.Prelude.{◌≡◌, ◌≢◌, ℕ, true, false, [], List, Option, Some, None, Ok};
-ghost use Rattle.std.specs.Prelude.{◌↔◌, Err, IsErr, IsOk, IsSome};
+ghost use Rattle.std.specs.Prelude.{◌≡◌, ◌≢◌, ℕ, pos, Bool, true, false, [], List, Option, Some};
+ghost use Rattle.std.specs.Prelude.{◌↔◌, None, Ok, Err, IsErr, IsOk, IsSome};
 ghost use Rattle.std.specs.FinMap.{contains_key, get as held_at, insert, remove as without};
 ghost use Rattle.tera_report.specs.Escaping.{escaped};
 ghost use Rattle.tera_report.specs.Refusal.{Operator, Refusal};
 ghost use Rattle.tera_meaning.specs.Answer;
 ghost use Rattle.tera_meaning.specs.Arithmetic.{calculated, negated};
 ghost use Rattle.tera_meaning.specs.Conversion.{IntegerType, read_as};
+ghost use Rattle.tera_meaning.specs.Decided.{decided};
 ghost use Rattle.tera_meaning.specs.Search;
 ghost use Rattle.tera_meaning.specs.Search.{Search, found_at, CopyTakes};
 ghost use Rattle.tera_meaning.specs.Fields.{fields, shown_in};
 ghost use Rattle.tera_meaning.specs.Form.{Form};
+ghost use Rattle.tera_meaning.specs.Integer.{u64, i64, i128};
 ghost use Rattle.tera_meaning.specs.Kind.{kind_in, undefined_kind};
+ghost use Rattle.tera_meaning.specs.Lookup.{holds};
 ghost use Rattle.tera_meaning.specs.Meaning.{layout, meaning};
 ghost use Rattle.tera_meaning.specs.Order.{compare, same};
 ghost use Rattle.tera_meaning.specs.Outcome.{Outcome, out_of_memory};
@@ -22,7 +25,8 @@ ghost use Rattle.tera_meaning.specs.Question;
 ghost use Rattle.tera_meaning.specs.Question.{Question, IsAnswered, TakesMemory};
 ghost use Rattle.tera_meaning.specs.Request.{Request, Command, set, remove, mark_safe, ask, weigh};
 ghost use Rattle.tera_meaning.specs.Request.{extend, find, heeds_into, asking, asking_into};
-ghost use Rattle.tera_meaning.specs.State.{State, form_at, layout_at, meaning_at};
+ghost use Rattle.tera_meaning.specs.Rows.{integer};
+ghost use Rattle.tera_meaning.specs.State.{State, extended, form_at, layout_at, meaning_at};
 ghost use Rattle.tera_meaning.specs.Step.{ComesTo, ComesOnlyTo, IsOutcome, IsStep};
 ghost use Rattle.tera_meaning.specs.Step.{leaves, LeavesInWant, marking, MayWant, MayWantMemory};
 ghost use Rattle.tera_meaning.specs.Step.{state_after};
@@ -82,6 +86,27 @@ pub fn what_is_set_is_compared()
         → ComesOnlyTo (state_after state (asking (set name value)))
         (weigh Weighing.compare name other)
         (Ok (Answer.order (Some (compare (meaning value) (meaning_at state other))))) }
+{}
+
+/// Two values are weighed as the definitions say: by whether they mean the same, by the total
+/// order, by the partial one, which may decide nothing, and by whether the one holds the other.
+pub fn weighings_answer_what_is_defined()
+    ensures equal { (v w : Form)
+        → weighed Weighing.equal v w ≡ Ok (Answer.truth (same (meaning v) (meaning w))) }
+    ensures compare { (v w : Form) → weighed Weighing.compare v w
+        ≡ Ok (Answer.order (Some (compare (meaning v) (meaning w)))) }
+    ensures try_compare { (v w : Form) → weighed Weighing.try_compare v w
+        ≡ Ok (Answer.order (decided (meaning v) (meaning w))) }
+    ensures holds { (v w : Form) (told : Bool) → holds v w ≡ Ok told
+        → weighed Weighing.contains v w ≡ Ok (Answer.truth told) }
+    ensures refused { (v w : Form) (refusal : Refusal) → holds v w ≡ Err refusal
+        → weighed Weighing.contains v w ≡ Err refusal }
+    ensures less { weighed Weighing.try_compare (integer u64 (pos 1)) (integer i64 (pos 2))
+        ≡ Ok (Answer.order (Some Ordering.Less)) }
+    ensures greater { weighed Weighing.try_compare (integer i128 (pos 2)) (integer u64 (pos 1))
+        ≡ Ok (Answer.order (Some Ordering.Greater)) }
+    ensures undecided { weighed Weighing.try_compare undefined (integer u64 (pos 1))
+        ≡ Ok (Answer.order None) }
 {}
 
 /// A name that is not held reads as undefined: nothing is found, printed or named there.
@@ -214,13 +239,17 @@ pub fn these_requests_never_want_memory()
         Answer.done (marking state name (held_at state name)) }
 {}
 
-/// What takes no memory wants none. A value is set under a name that is held. Nothing is found.
-/// What is found, or marked, is no text, no bytes, no array and no map, or it is empty; and it is
-/// answered, or kept under a name that is held. Nothing is printed, and there are no names to tell.
+/// What takes no memory wants none. A value is set under a name that is held, and each name of a
+/// source that is taken over is held. Nothing is found. What is found, or marked, is no text, no
+/// bytes, no array and no map, or it is empty; and it is answered, or kept under a name that is
+/// held. Nothing is printed, and there are no names to tell.
 pub fn what_takes_no_memory_wants_none()
     ensures set { (state : State) (name : List ℕ) (value : Form) (into : Option (List ℕ))
         → IsSome (held_at state name)
         → StepsOnlyTo state (set name value) into Answer.done (insert state name value) }
+    ensures extend { (state source : State) (into : Option (List ℕ))
+        → ((name : List ℕ) → IsSome (held_at source name) → IsSome (held_at state name))
+        → StepsOnlyTo state (extend source) into Answer.done (extended state source) }
     ensures nothing { (state : State) (search : Search) (into : Option (List ℕ))
         → found_at state search ≡ Ok None
         → StepsOnlyTo state (find search) into (Answer.found None) state }
@@ -252,14 +281,16 @@ pub fn what_takes_no_memory_wants_none()
         → StepsOnlyTo state (ask Question.walk name) into (Answer.walked []) state }
 {}
 
-/// These may want memory: a value for a name that is new, and what a source holds; a text, bytes,
-/// an array or a map that is found or marked, where it is not empty; a name that is new for what is
-/// found, or marked; a text that is printed, and names that are told; and the text of a refusal.
+/// These may want memory: a value for a name that is new, and a source that holds such a name; a
+/// text, bytes, an array or a map that is found or marked, where it is not empty; a name that is
+/// new for what is found, or marked; a text that is printed, and names that are told; and the text
+/// of a refusal.
 #[tactic(auto, using(crate::proofs::StepLaws::copy_takes))]
 pub fn what_takes_memory_may_want_it()
     ensures set { (state : State) (name : List ℕ) (value : Form) (into : Option (List ℕ))
         → held_at state name ≡ None → MayWant state (set name value) into }
-    ensures extend { (state source : State) (into : Option (List ℕ))
+    ensures extend { (state source : State) (name : List ℕ) (into : Option (List ℕ))
+        → IsSome (held_at source name) → held_at state name ≡ None
         → MayWant state (extend source) into }
     ensures found { (state : State) (search : Search) (value : Form) (into : Option (List ℕ))
         → found_at state search ≡ Ok (Some value) → CopyTakes value
