@@ -7,7 +7,9 @@ use Rattle.tera_meaning.specs.Conversion.{IntegerType, type_name, where_in, numb
 use Rattle.tera_meaning.specs.Form.{Form}
 use Rattle.tera_meaning.specs.Lookup.{name_of}
 use Rattle.tera_meaning.specs.Meaning.{Meaning}
-use Rattle.tera_meaning.specs.Printed.{printed, is_exact, Prints}
+use Rattle.tera_meaning.specs.Printed.{printed, is_exact}
+use Rattle.tera_meaning.specs.Quoted.{Prints}
+use Rattle.tera_meaning.proofs.QuotedLaws.{alone_exact}
 use Rattle.tera_meaning.specs.Read.{number_in, truth_in}
 use Rattle.tera_report.specs.Quoted.{IsText}
 use Rattle.tera_report.specs.Refusal.{Refusal, invalid_argument, number_out_of_range}
@@ -37,7 +39,7 @@ no_truth_is_refused value refused none due =
 
 -- what is printed of a meaning is its text, where that is known
 pub printed_is_text : (x : Meaning) (bytes : List ℕ) → Prints x bytes → IsText (printed_if_exact x) bytes
-printed_is_text x bytes h = by (is_exact x) h
+printed_is_text x bytes h = by (is_exact x) (λ exact. alone_exact x bytes exact h)
   where
     by : (b : Bool) → (b ≡ true → bytes ≡ printed x) → IsText (if b then Some (printed x) else None) bytes
     by true g = g refl

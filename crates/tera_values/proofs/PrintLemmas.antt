@@ -1,87 +1,98 @@
 -- Items are printed one after another.
-use Rattle.std.specs.Prelude.{◌≡◌, ℕ, IsTrue, List, [], ◌∷◌, ◌++◌, codes, Some, None, Result, Ok, Err, refl}
-use Rattle.std.proofs.Common.{sym, ◌∙◌, ap, subst, append_assoc}
-use Rattle.std.proofs.lemmas.Bool.{and_parts}
+use Rattle.std.specs.Prelude.{◌≡◌, ℕ, ℤ, List, [], ◌∷◌, ◌++◌, codes, Some, None, Result, Ok, Err, refl, IsTrue}
+use Rattle.std.proofs.Common.{sym, subst, arith}
 use Rattle.tera_meaning.specs.Form.{Form}
-use Rattle.tera_meaning.specs.Meaning.{layout}
-use Rattle.tera_meaning.specs.Printed.{printed_with, printed_items, is_exact_inside, are_exact_items, Prints, PrintsInside}
+use Rattle.tera_meaning.specs.Meaning.{Layout, layout}
+use Rattle.tera_meaning.specs.Printed.{printed, printed_with, printed_key, is_exact}
+use Rattle.tera_meaning.specs.Quoted.{Prints, PrintsInside, PrintsKey, PrintsItems as PrintsItemsBehind, PrintsMembers as PrintsPairsBehind}
 use Rattle.tera_meaning.specs.Read.{text_in}
+use Rattle.tera_meaning.specs.Tree.{Items, Members, items, members, no_items, item, no_members, member}
 use Rattle.tera_meaning.specs.Tree.{undefined, none, truth, number, text, bytes, array, object}
-use Rattle.tera_values.specs.Print.{items_layout, PrintsItems}
-use Rattle.tera_report.specs.Quoted.{Quotes, is_ascii_text, quoted}
+use Rattle.tera_meaning.specs.KeyMeaning.{KeyMeaning, KeyForm, key_meaning, key_text, truth_key, number_key, text_key}
+use Rattle.tera_meaning.proofs.QuotedLaws.{alone_exact, inside_prints, key_prints}
+use Rattle.tera_values.specs.Key.{text_in_key}
+use Rattle.tera_values.specs.Print.{PrintsItems, PrintsLaterItems, PrintsPairs}
+use Rattle.tera_report.specs.Quoted.{Quotes, quoted}
 use Rattle.tera_report.specs.Sink.{Puts, PutsThese}
+use Rattle.tera_report.specs.Room.{RoomTakes, RoomFails, IsDecided}
+use Rattle.tera_report.specs.declared.room.Room.{Room}
 
--- what is printed of the items that come after others
-abbrev pub later : List Form → List ℕ
-later [] = []
-later (x ∷ xs) = codes ", " ++ printed_items (items_layout (x ∷ xs))
+-- some bytes are printed of any items and of any pairs
+pub some_items : (lead : List ℕ) (xs : Items ℤ (List ℕ) KeyMeaning) → (written : List ℕ) × PrintsItemsBehind lead xs written
+some_items lead no_items = ([], refl)
+some_items lead (item x xs) =
+    let (others, prints) = some_items (codes ", ") xs in
+    (lead ++ (printed_with quoted x ++ others), (printed_with quoted x, others, inside_prints x, prints, refl))
 
-first_printed : (x : Form) (xs : List Form)
-    → printed_items (items_layout (x ∷ xs)) ≡ printed_with quoted (layout x) ++ later xs
-first_printed x [] = refl
-first_printed x (y ∷ ys) = refl
-
--- what is done and what is printed of the items that are left are the whole, where that is exact
-abbrev pub IsDone : List Form → List ℕ → List Form → Type 0
-IsDone all done left =
-    IsTrue (are_exact_items (items_layout all)) → IsTrue (are_exact_items (items_layout left)) × (printed_items (items_layout all) ≡ done ++ later left)
-
-pub first_done : (all others : List Form) (x : Form) (written : List ℕ) → all ≡ x ∷ others
-    → PrintsInside (layout x) written → IsDone all written others
-first_done all others x written is prints exact =
-    let exact_parts = and_parts (is_exact_inside (layout x)) _ (subst (λ l. IsTrue (are_exact_items (items_layout l))) is exact) in (
-      exact_parts.1,
-      ap (λ l. printed_items (items_layout l)) is ∙ first_printed x others
-          ∙ ap (λ l. l ++ later others) (sym (prints exact_parts.0)),
+pub some_pairs : (lead : List ℕ) (ps : Members ℤ (List ℕ) KeyMeaning) → (written : List ℕ) × PrintsPairsBehind lead ps written
+some_pairs lead no_members = ([], refl)
+some_pairs lead (member k x ps) =
+    let (others, prints) = some_pairs (codes ", ") ps in (
+      lead ++ (printed_key k ++ codes ": " ++ printed_with quoted x ++ others),
+      (printed_key k, printed_with quoted x, others, key_prints k, inside_prints x, prints, refl),
     )
 
-pub next_done : (all left others : List Form) (x : Form) (done written : List ℕ) → left ≡ x ∷ others
-    → IsDone all done left → PrintsInside (layout x) written
-    → IsDone all ((done ++ codes ", ") ++ written) others
-next_done all left others x done written is before prints exact =
-    let so_far = before exact in
-    let exact_parts = and_parts (is_exact_inside (layout x)) _ (subst (λ l. IsTrue (are_exact_items (items_layout l))) is so_far.0) in (
-      exact_parts.1,
-      so_far.1 ∙ ap (λ l. done ++ later l) is
-          ∙ ap (λ l. done ++ (codes ", " ++ l)) (first_printed x others
-          ∙ ap (λ l. l ++ later others) (sym (prints exact_parts.0)))
-          ∙ sym (append_assoc done (codes ", ") (written ++ later others))
-          ∙ sym (append_assoc (done ++ codes ", ") written (later others)),
-    )
+pub array_printed : (xs : List Form) (inner : List ℕ) → PrintsItems xs inner
+    → Prints (layout (array (items xs))) (codes "[" ++ inner ++ codes "]")
+array_printed xs inner prints = (inner, prints, refl)
 
--- what is done and what is printed of the items that are left is printed of all
-pub rest_done : (all left : List Form) (done : List ℕ) → IsDone all done left → PrintsItems all (done ++ later left)
-rest_done all left done before exact = sym (before exact).1
+pub map_printed : (ps : List (KeyForm × Form)) (inner : List ℕ) → PrintsPairs ps inner
+    → Prints (layout (object (members ps))) (codes "{" ++ inner ++ codes "}")
+map_printed ps inner prints = (inner, prints, refl)
 
--- the same before the next item, where a comma comes first
-pub comma_done : (all left others : List Form) (x : Form) (done : List ℕ) → left ≡ x ∷ others → IsDone all done left
-    → PrintsItems all (done ++ (codes ", " ++ printed_items (items_layout (x ∷ others))))
-comma_done all left others x done is before exact = sym ((before exact).1 ∙ ap (λ l. done ++ later l) is)
+-- an item, and then what is printed of those behind it
+pub first_leads : (all others : List Form) (x : Form) (written : List ℕ) → all ≡ x ∷ others → PrintsInside (layout x) written
+    → (rest : List ℕ) → PrintsLaterItems others rest → PrintsItems all (written ++ rest)
+first_leads all others x written is prints rest more =
+    subst (λ l. PrintsItems l (written ++ rest)) (sym is) (written, rest, prints, more, refl)
+
+-- the same behind others
+pub next_leads : (left others : List Form) (x : Form) (written : List ℕ) → left ≡ x ∷ others → PrintsInside (layout x) written
+    → (rest : List ℕ) → PrintsLaterItems others rest → PrintsLaterItems left (codes ", " ++ (written ++ rest))
+next_leads left others x written is prints rest more =
+    subst (λ l. PrintsLaterItems l (codes ", " ++ (written ++ rest))) (sym is) (written, rest, prints, more, refl)
 
 -- inside an array a text is quoted, and all else prints as by itself
 pub text_inside : (v : Form) (t written : List ℕ) → text_in v ≡ Some t → Quotes t written
     → PrintsInside (layout v) written
-text_inside undefined t written is quotes exact = absurd (cc)
-text_inside none t written is quotes exact = absurd (cc)
-text_inside (truth b) t written is quotes exact = absurd (cc)
-text_inside (number n) t written is quotes exact = absurd (cc)
-text_inside (text s) t written is quotes exact =
-    let same : s.spelled ≡ t = cc in
-    quotes (subst (λ l. IsTrue (is_ascii_text l)) same exact) ∙ ap quoted (sym same)
-text_inside (bytes bs) t written is quotes exact = absurd (cc)
-text_inside (array xs) t written is quotes exact = absurd (cc)
-text_inside (object ps) t written is quotes exact = absurd (cc)
+text_inside undefined t written is quotes = absurd (cc)
+text_inside none t written is quotes = absurd (cc)
+text_inside (truth b) t written is quotes = absurd (cc)
+text_inside (number n) t written is quotes = absurd (cc)
+text_inside (text s) t written is quotes =
+    let same : s.spelled ≡ t = cc in subst (λ l. Quotes l written) (sym same) quotes
+text_inside (bytes bs) t written is quotes = absurd (cc)
+text_inside (array xs) t written is quotes = absurd (cc)
+text_inside (object ps) t written is quotes = absurd (cc)
+
+-- a key that is a text is quoted in a map
+pub text_key_inside : (k : KeyForm) (t written : List ℕ) → text_in_key k ≡ Some t → Quotes t written
+    → PrintsKey (key_meaning k) written
+text_key_inside (truth_key b) t written is quotes = absurd (cc)
+text_key_inside (number_key n) t written is quotes = absurd (cc)
+text_key_inside (text_key s) t written is quotes =
+    let same : key_text s ≡ t = cc in subst (λ l. Quotes l written) (sym same) quotes
 
 pub other_inside : (v : Form) (written : List ℕ) → text_in v ≡ None → Prints (layout v) written
     → PrintsInside (layout v) written
-other_inside undefined written is prints exact = prints exact
-other_inside none written is prints exact = prints exact
-other_inside (truth b) written is prints exact = prints exact
-other_inside (number n) written is prints exact = prints exact
-other_inside (text s) written is prints exact = absurd (cc)
-other_inside (bytes bs) written is prints exact = prints exact
-other_inside (array xs) written is prints exact = prints exact
-other_inside (object ps) written is prints exact = prints exact
+other_inside undefined written is prints = prints
+other_inside none written is prints = prints
+other_inside (truth b) written is prints = prints
+other_inside (number n) written is prints = prints
+other_inside (text s) written is prints = absurd (cc)
+other_inside (bytes bs) written is prints = prints
+other_inside (array xs) written is prints = prints
+other_inside (object ps) written is prints = prints
+
+-- of an exact layout it is decided where its text fits
+pub decided_where_exact : {E : Type 0} (x : Layout) (old new : Room) (result : Result (Unit {0}) E)
+    → Puts RoomTakes RoomFails result (Prints x) old new → IsTrue (is_exact x) → IsDecided result old (printed x) new
+decided_where_exact x old new (Ok done) (written, prints, took) exact =
+    let takes : RoomTakes old (printed x) new = subst (λ l. RoomTakes old l new) (alone_exact x written exact prints) took in
+    record { decided = (λ ok. takes.fits, λ fits. refl); takes = takes; fails = tt }
+decided_where_exact x old new (Err fault) (written, prints, failed) exact =
+    let fails : RoomFails old (printed x) new = subst (λ l. RoomFails old l new) (alone_exact x written exact prints) failed in
+    record { decided = (λ ok. absurd (cc), λ fits. absurd (omega (arith, fits, fails.full))); takes = tt; fails = fails }
 
 -- what is put behind bytes that were taken, be it a text or bytes with a property
 module _ {S E : Type 0} (takes fails : S → List ℕ → S → Type 0)

@@ -6,7 +6,7 @@ use Rattle.tera_meaning.specs.Conversion.{IntegerType}
 use Rattle.tera_meaning.specs.Form.{Form}
 use Rattle.tera_meaning.specs.Lookup.{name_of}
 use Rattle.tera_meaning.specs.Meaning.{layout}
-use Rattle.tera_meaning.specs.Printed.{Prints}
+use Rattle.tera_meaning.specs.Quoted.{Prints}
 use Rattle.tera_meaning.specs.Read.{number_in}
 use Rattle.tera_report.specs.Errors.{Raises, IsOutOfMemory}
 use Rattle.tera_report.specs.Refusal.{Refusal, text_of, invalid_argument, out_of_range}

@@ -12,14 +12,15 @@ use crate::copy::copies;
 use crate::keys::{
     FIRST, Keys, copied_keys, first_key, insert_key, key_slice, more_room, place_of,
 };
-use crate::{Key, Value};
+use crate::{HashState, Key, Value};
 use std::alloc::{AllocError, Global};
 use std::marker::Model;
 use std::mem;
 
-/// The keys of a map, and its values in the same order.
+/// The keys of a map, its values in the same order, and the state that the keys are hashed under.
 #[cycle(value)]
 pub(crate) struct Columns {
+    state: HashState,
     keys: Keys,
     values: Vec<Value>,
 }
@@ -28,7 +29,11 @@ impl Drop for Columns {
     #[inline(always)]
     #[cycle(value)]
     fn drop(self) {
-        let Columns { keys: _, values: _ } = self;
+        let Columns {
+            state: _,
+            keys: _,
+            values: _,
+        } = self;
     }
 }
 
@@ -60,6 +65,7 @@ impl Columns {
     /// The columns of one pair.
     pub(crate) fn of_pair(
         alloc: Global,
+        state: HashState,
         key: Key<'static>,
         value: Value,
     ) -> Result<Box<Columns>, AllocError>
@@ -68,7 +74,19 @@ impl Columns {
         let keys = first_key(alloc, key)?;
         let mut values = Vec::with_capacity(alloc, FIRST)?;
         values.push_reserved(value);
-        boxed(alloc, Columns { keys, values })
+        boxed(
+            alloc,
+            Columns {
+                state,
+                keys,
+                values,
+            },
+        )
+    }
+
+    /// The state that the keys are hashed under.
+    pub(crate) fn state(&self) -> HashState {
+        self.state
     }
 
     /// The keys, and the values in the same order.
@@ -108,7 +126,12 @@ impl Columns {
             drop(key);
             return Err(refused);
         }
-        let (place, is_new) = insert_key(*self.values.allocator(), &mut self.keys, key)?;
+        let (place, is_new) = insert_key(
+            *self.values.allocator(),
+            self.state,
+            &mut self.keys,
+            key,
+        )?;
         if is_new {
             self.values.push_reserved(value);
             return Ok(None);
@@ -121,21 +144,33 @@ impl Columns {
     pub(crate) fn copy(&self, alloc: Global) -> Result<Box<Columns>, AllocError>
         ensures { IfOk result (λ made. made.value ≡ self.now) }
     {
-        let keys = copied_keys(alloc, &self.keys)?;
+        let keys = copied_keys(alloc, self.state, &self.keys)?;
         let values = copies(alloc, self.values.as_slice())?;
-        boxed(alloc, Columns { keys, values })
+        boxed(
+            alloc,
+            Columns {
+                state: self.state,
+                keys,
+                values,
+            },
+        )
     }
 
     /// The keys, and the values in the same order, given away.
     pub(crate) fn into_lists(self) -> (Keys, Vec<Value>)
         ensures { AreListsOf self (keys_held result.0) result.1.items }
     {
-        let Columns { keys, values } = self;
+        let Columns {
+            state: _,
+            keys,
+            values,
+        } = self;
         (keys, values)
     }
 }
 
 // The columns behind a pointer.
+#[inline(never)]
 fn boxed(alloc: Global, columns: Columns) -> Result<Box<Columns>, AllocError>
     ensures { IfOk result (λ made. made.value ≡ columns) }
 {

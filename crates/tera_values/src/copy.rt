@@ -4,6 +4,7 @@ ghost use Rattle.std.specs.Prelude.{IsOk, OnOk, MatchOption, string_bytes};
 ghost use Rattle.std.specs.Vec.{vec_len, vec_capacity};
 ghost use Rattle.tera_meaning.specs.Meaning.{meaning};
 ghost use Rattle.tera_meaning.specs.Read.{iterable_in, truthy_in};
+ghost use Rattle.tera_meaning.specs.Tree.{bytes};
 ghost use Rattle.tera_report.specs.Errors.{IsOutOfMemory};
 ghost use Rattle.tera_values.specs.View.{marked};
 
@@ -72,15 +73,16 @@ impl Value {
         match &self.inner {
             ValueInner::String(safe, text) => text_copy(alloc, *safe, text.as_str()),
             ValueInner::Array(all) => copies(alloc, all.as_slice()).map(Value::of_array),
-            ValueInner::Bytes(held) => bytes_of(alloc, held.as_slice()).map(Value::bytes),
+            ValueInner::Bytes(held) => bytes_copy(alloc, held.as_slice()),
             ValueInner::Map(all) => all.copy(alloc).map(Value::of_map),
             _ => unreachable!(),
         }
     }
 }
 
-// A copy of a text with its flag.
-#[inline(always)]
+// A copy of a text with its flag. It stands apart, as what follows it does, so that a level of
+// arrays and maps needs little stack.
+#[inline(never)]
 fn text_copy(alloc: Global, safe: bool, text: &str) -> Result<Value, AllocError>
     ensures ok { IfOk result (λ v. v ≡ marked text.now safe) }
     ensures succeeds { text.now ≡ [] → IsOk result }
@@ -88,6 +90,15 @@ fn text_copy(alloc: Global, safe: bool, text: &str) -> Result<Value, AllocError>
     Ok(Value {
         inner: ValueInner::String(safe, text_of(alloc, text)?),
     })
+}
+
+// A copy of bytes.
+#[inline(never)]
+fn bytes_copy(alloc: Global, held: &[u8]) -> Result<Value, AllocError>
+    ensures ok { IfOk result (λ v. v ≡ bytes held.now) }
+    ensures succeeds { held.now ≡ [] → IsOk result }
+{
+    Ok(Value::bytes(bytes_of(alloc, held)?))
 }
 
 /// A text of its own. The empty one takes no memory.

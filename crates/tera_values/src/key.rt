@@ -1,7 +1,7 @@
 //! The keys of maps: truth values, numbers and texts. Keys of one meaning are one key, whatever
 //! kind of integer or of text holds them.
-ghost use Rattle.std.specs.Prelude.{◌≡◌, pos, Some, None, IfSome, IfOk, IfErr, IsOk, OnOk, OnErr};
-ghost use Rattle.std.specs.Prelude.{MatchOption, fold};
+ghost use Rattle.std.specs.Prelude.{◌≡◌, pos, [], Some, None, IfSome, IfOk, IfErr, IsOk, OnOk};
+ghost use Rattle.std.specs.Prelude.{OnErr, MatchOption, fold};
 ghost use Rattle.std.specs.Cmp.{on_total, on_equiv, on_per, on_po, partial_equiv_from_equiv};
 ghost use Rattle.std.specs.Io.KnownBytes.{Appends};
 ghost use Rattle.std.specs.Option.{option_map};
@@ -19,6 +19,7 @@ ghost use Rattle.tera_values.specs.Key.{owned_in_key, number_in_key, key_value, 
 ghost use Rattle.tera_values.specs.Key.{fed_number, fed, FitsInline};
 ghost use Rattle.tera_scalars.specs.Whole.{whole_value};
 
+use crate::key_text::is_text_key;
 use crate::print::truth_text;
 use crate::{Value, ranks};
 use arrayvec::ArrayString;
@@ -75,11 +76,12 @@ impl<'a> Key<'a> {
     /// The value that it is: a number of the same kind, a text that is not marked safe. Mirrors
     /// `Key::as_value`.
     ///
-    /// Takes memory for a text; the only refusal is want of it, `Out of memory`.
+    /// Takes memory for a text, unless it is empty; the only refusal is want of it, `Out of
+    /// memory`.
     pub fn as_value(&self, alloc: Global) -> TeraResult<Value>
         ensures ok { IfOk result (λ v. v ≡ key_value (key_form self.now)) }
         ensures err { IfErr result IsOutOfMemory }
-        ensures succeeds { text_in_key (key_form self.now) ≡ None → IsOk result }
+        ensures succeeds { IfSome (text_in_key (key_form self.now)) (λ t. t ≡ []) → IsOk result }
     {
         match self {
             Key::Bool(b) => Ok(Value::from(*b)),
@@ -93,12 +95,12 @@ impl<'a> Key<'a> {
         }
     }
 
-    /// A key of the same form: the kind of an integer is kept, and a text that is lent stays lent.
-    /// A `Key::String` shares its text, and a `Key::Inline` is copied. Mirrors `Clone` of
-    /// `tera::value::Key`.
+    /// A key of the same form: the kind of an integer is kept, a text that is lent stays lent, and
+    /// one that is owned stays owned. Mirrors `Clone` of `tera::value::Key`.
     ///
-    /// Takes memory only where a `Key::String` has a text of more than 16 bytes whose count of
-    /// owners is full; the only refusal is want of it, `Out of memory`.
+    /// Takes no memory but for a text of more than 16 bytes that it owns; the only refusal is want
+    /// of it, `Out of memory`. No clause says that a `Key::String` shares its text, and so takes
+    /// memory only where its count of owners is full.
     pub fn clone(&self, alloc: Global) -> TeraResult<Key<'a>>
         ensures ok { IfOk result (λ k. key_form k ≡ key_form self.now) }
         ensures err { IfErr result IsOutOfMemory }
@@ -211,7 +213,12 @@ impl PartialEq for Key<'_> {
     ghost laws = { on_per meaning_of_key (partial_equiv_from_equiv key_equivalence) };
 
     fn eq(&self, other: &Self) -> bool {
-        self.cmp(other) == Ordering::Equal
+        match self {
+            Key::String(text) => is_text_key(text.as_str(), other),
+            Key::Str(text) => is_text_key(*text, other),
+            Key::Inline(text) => is_text_key(text.as_str(), other),
+            _ => self.cmp(other) == Ordering::Equal,
+        }
     }
 }
 

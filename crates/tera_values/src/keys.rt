@@ -3,14 +3,13 @@ ghost use Rattle.std.specs.Prelude.{◌≡◌, ◌∷◌, ◌++◌, ◌+◌, ◌
 ghost use Rattle.std.specs.Prelude.{IfOk, OnOk, OnErr};
 ghost use Rattle.std.specs.Prelude.{MatchOption, is_some, not, false, max, ◌-◌};
 ghost use Rattle.std.specs.List.{IsDistinct, list_any, position_or_len};
-ghost use Rattle.std.specs.Ordering.{eq_by_cmp};
 ghost use Rattle.indexmap.specs.IndexSet.{insert_key, spare};
-ghost use Rattle.tera_meaning.specs.KeyMeaning.{key_order, text_key};
 ghost use Rattle.tera_values.specs.Key.{key_form};
 ghost use Rattle.tera_values.specs.inner.Map.{keys_tie, is_text_key, keys_held, keys_left};
 ghost use Rattle.tera_values.specs.inner.Map.{AreKeysLike};
 
-use crate::Key;
+use crate::key_text::is_text_key;
+use crate::{HashState, Key};
 use indexmap::{IndexSet, set};
 use std::alloc::{AllocError, Global};
 use std::{mem, vec};
@@ -24,8 +23,11 @@ pub(crate) const FIRST: usize = 2;
 /// The keys of a map, in their order.
 pub(crate) enum Keys {
     Few(Vec<Key<'static>>),
-    Many(IndexSet<Key<'static>>),
+    Many(KeySet),
 }
+
+// A set of keys, each with its place, hashed under the state of their map.
+type KeySet = IndexSet<Key<'static>, HashState>;
 
 impl Drop for Keys {
     #[inline(always)]
@@ -64,7 +66,7 @@ pub(crate) fn place_of(keys: &Keys, key: &Key<'_>) -> Option<usize>
 // The place, in a set, of the key that is equal to this one. It stands apart, so that a look-up
 // among few keys stays short.
 #[inline(never)]
-fn place_in(many: &IndexSet<Key<'static>>, key: &Key<'_>) -> Option<usize>
+fn place_in(many: &KeySet, key: &Key<'_>) -> Option<usize>
     ensures { result ≡ position (keys_tie key.now) many.now.keys }
 {
     many.get_index_of(key)
@@ -87,36 +89,6 @@ fn place_of_text(few: &[Key<'static>], text: &str) -> Option<usize>
     ensures { result ≡ position (is_text_key text.now) few.now }
 {
     few.iter().position(|held| is_text_key(text, held))
-}
-
-// Whether a key is this text.
-#[inline(always)]
-fn is_text_key(text: &str, held: &Key<'static>) -> bool
-    ensures { result ≡ is_text_key text.now held.now }
-{
-    match held {
-        Key::String(other) => is_text(text, other.as_str()),
-        Key::Str(other) => is_text(text, *other),
-        Key::Inline(other) => is_text(text, other.as_str()),
-        _ => false,
-    }
-}
-
-// Whether two texts are equal. Most keys of one length that differ do so in the last byte.
-#[inline(always)]
-#[tactic(auto, using(crate::proofs::KeyLemmas::unlike))]
-fn is_text(text: &str, other: &str) -> bool
-    ensures { result ≡ eq_by_cmp key_order (text_key text.now) (text_key other.now) }
-{
-    let (left, right) = (text.as_bytes(), other.as_bytes());
-    let len = left.len();
-    if len != right.len() {
-        return false;
-    }
-    if len != 0 && left[len - 1] != right[len - 1] {
-        return false;
-    }
-    text == other
 }
 
 // The place of the key that is equal to this one, or else that behind all, and whether it is new.
@@ -145,6 +117,7 @@ pub(crate) fn key_slice(keys: &Keys) -> &[Key<'static>]
 /// or of the new one, and whether it is new.
 pub(crate) fn insert_key(
     alloc: Global,
+    state: HashState,
     keys: &mut Keys,
     key: Key<'static>,
 ) -> Result<(usize, bool), AllocError>
@@ -171,7 +144,7 @@ pub(crate) fn insert_key(
                 push_key(few, key)?;
                 return Ok((place, true));
             }
-            *keys = Keys::Many(set_with(alloc, few, key)?);
+            *keys = Keys::Many(set_with(alloc, state, few, key)?);
             Ok((place, true))
         }
         Keys::Many(many) => insert_in(many, key),
@@ -199,10 +172,7 @@ fn push_key(few: &mut Vec<Key<'static>>, key: Key<'static>) -> Result<(), AllocE
 }
 
 // Inserts a key into a set, behind the others, where none is equal to it.
-fn insert_in(
-    held: &mut IndexSet<Key<'static>>,
-    key: Key<'static>,
-) -> Result<(usize, bool), AllocError>
+fn insert_in(held: &mut KeySet, key: Key<'static>) -> Result<(usize, bool), AllocError>
     ensures keys { OnOk result (held.new.keys ≡ insert_key keys_tie held.old.keys key.entry) }
     ensures place { IfOk result (λ found. found.0
         ≡ position_or_len (keys_tie key.entry) held.old.keys) }
@@ -231,34 +201,40 @@ pub(crate) fn first_key(alloc: Global, key: Key<'static>) -> Result<Keys, AllocE
 // it is.
 fn set_with(
     alloc: Global,
+    state: HashState,
     few: &mut Vec<Key<'static>>,
     key: Key<'static>,
-) -> Result<IndexSet<Key<'static>>, AllocError>
+) -> Result<KeySet, AllocError>
     requires distinct { IsDistinct keys_tie few.old.items }
     requires new { list_any (keys_tie key) few.old.items ≡ false }
     ensures keys { IfOk result (λ many. many.keys ≡ few.old.items ++ key.entry ∷ []) }
     ensures err { OnErr result (few.new.items ≡ few.old.items) }
 {
-    let mut many = set_of(alloc, few)?;
+    let mut many = set_of(alloc, state, few)?;
     many.insert(key).unwrap();
     Ok(many)
 }
 
 // The set of the keys of a list, with room for one more, into which they are moved. For want of
 // memory the list stays as it is.
-fn set_of(alloc: Global, few: &mut Vec<Key<'static>>) -> Result<IndexSet<Key<'static>>, AllocError>
+fn set_of(
+    alloc: Global,
+    state: HashState,
+    few: &mut Vec<Key<'static>>,
+) -> Result<KeySet, AllocError>
     requires { IsDistinct keys_tie few.old.items }
     ensures keys { IfOk result (λ many. many.keys ≡ few.old.items) }
     ensures room { IfOk result (λ many. 1 ≤ spare many) }
     ensures err { OnErr result (few.new.items ≡ few.old.items) }
 {
-    let mut many: IndexSet<Key<'static>> = IndexSet::with_capacity(alloc, few.len() + FEW)?;
+    let room = few.len() + FEW;
+    let mut many: KeySet = IndexSet::with_capacity_and_hasher(alloc, room, state)?;
     insert_all(&mut many, mem::replace(few, Vec::new(alloc)));
     Ok(many)
 }
 
 // Inserts distinct keys into an empty set with room for them and one more, in their order.
-fn insert_all(many: &mut IndexSet<Key<'static>>, keys: Vec<Key<'static>>)
+fn insert_all(many: &mut KeySet, keys: Vec<Key<'static>>)
     requires distinct { IsDistinct keys_tie keys.items }
     requires empty { many.old.keys ≡ [] }
     requires room { length keys.items + 1 ≤ spare many.old }
@@ -270,14 +246,15 @@ fn insert_all(many: &mut IndexSet<Key<'static>>, keys: Vec<Key<'static>>)
     }
 }
 
-/// Copies of the keys, in their order.
-pub(crate) fn copied_keys(alloc: Global, keys: &Keys) -> Result<Keys, AllocError>
+/// Copies of the keys, in their order. It stands apart, so that a level of maps needs little stack.
+#[inline(never)]
+pub(crate) fn copied_keys(alloc: Global, state: HashState, keys: &Keys) -> Result<Keys, AllocError>
     requires { IsDistinct keys_tie (keys_held keys.now) }
     ensures { IfOk result (λ made. AreKeysLike (keys_held keys.now) (keys_held made)) }
 {
     match keys {
         Keys::Few(few) => Ok(Keys::Few(copied_list(alloc, few.as_slice())?)),
-        Keys::Many(many) => Ok(Keys::Many(copied_set(alloc, many.as_slice())?)),
+        Keys::Many(many) => Ok(Keys::Many(copied_set(alloc, state, many.as_slice())?)),
     }
 }
 
@@ -294,21 +271,17 @@ fn copied_list(alloc: Global, keys: &[Key<'static>]) -> Result<Vec<Key<'static>>
 }
 
 // A set of copies of distinct keys, in their order.
-fn copied_set(alloc: Global, keys: &[Key<'static>]) -> Result<IndexSet<Key<'static>>, AllocError>
+fn copied_set(alloc: Global, state: HashState, keys: &[Key<'static>]) -> Result<KeySet, AllocError>
     requires { IsDistinct keys_tie keys.now }
     ensures { IfOk result (λ made. AreKeysLike keys.now made.keys) }
 {
-    let mut made: IndexSet<Key<'static>> = IndexSet::with_capacity(alloc, keys.len())?;
+    let mut made: KeySet = IndexSet::with_capacity_and_hasher(alloc, keys.len(), state)?;
     insert_copies(alloc, &mut made, keys)?;
     Ok(made)
 }
 
 // Inserts copies of distinct keys into an empty set, in their order.
-fn insert_copies(
-    alloc: Global,
-    made: &mut IndexSet<Key<'static>>,
-    keys: &[Key<'static>],
-) -> Result<(), AllocError>
+fn insert_copies(alloc: Global, made: &mut KeySet, keys: &[Key<'static>]) -> Result<(), AllocError>
     requires distinct { IsDistinct keys_tie keys.now }
     requires empty { made.old.keys ≡ [] }
     ensures { OnOk result (AreKeysLike keys.now made.new.keys) }

@@ -10,8 +10,10 @@ mod decided;
 mod equal;
 mod fields;
 mod from;
+mod hash_state;
 mod integers;
 mod key;
+mod key_text;
 mod keys;
 mod kind;
 mod lookup;
@@ -30,6 +32,7 @@ mod value;
 mod well_made;
 
 pub use convert::{ConversionRefused, what_is_told_is_the_refusal};
+pub use hash_state::{HashState, KeyHasher};
 pub use integers::IntType;
 pub use key::Key;
 pub use kind::{ValueKind, kinds_equal_where_the_same};

@@ -9,7 +9,7 @@ ghost use Rattle.tera_values.specs.Key.{key_form};
 
 use crate::columns::Columns;
 use crate::keys::{Keys, OwnKeys, next_key};
-use crate::{Key, Value};
+use crate::{HashState, Key, Value};
 use std::alloc::{AllocError, Global};
 use std::marker::Model;
 use std::{fmt, slice, vec};
@@ -21,17 +21,22 @@ use tera_report::TeraResult;
 #[cycle(value)]
 pub struct Map {
     alloc: Global,
-    columns: Option<Box<Columns>>,
+    held: Held,
+}
+
+// What a map holds: the state that its keys will be hashed under, or its pairs, which know it.
+#[cycle(value)]
+#[derive(Drop)]
+pub(crate) enum Held {
+    Nothing(HashState),
+    Pairs(Box<Columns>),
 }
 
 impl Drop for Map {
     #[inline(always)]
     #[cycle(value)]
     fn drop(self) {
-        let Map {
-            alloc: _,
-            columns: _,
-        } = self;
+        let Map { alloc: _, held: _ } = self;
     }
 }
 
@@ -46,11 +51,11 @@ impl Model for Map {
 
     ghost coded = { coded_pairs };
 
-    ghost use Rattle.std.specs.Prelude.{[], ◌≢◌, IfSome};
+    ghost use Rattle.tera_values.specs.inner.Map.{HasPairs};
 
-    ghost view = { λ m. pairs_in m.columns };
+    ghost view = { λ m. pairs_in m.held };
 
-    ghost invariant = { λ m. IfSome m.columns (λ c. c.value ≢ []) };
+    ghost invariant = { λ m. HasPairs m.held };
 
     ghost use Rattle.tera_values.specs.inner.Size.{pairs_size};
 
@@ -62,13 +67,29 @@ impl Model for Map {
 }
 
 impl Map {
-    /// A map without pairs. Mirrors `IndexMap::new`. Takes no memory.
+    /// A map without pairs, hashed under the fixed state. Mirrors `IndexMap::new`. Takes no memory.
     pub fn new(alloc: Global) -> Map
+        ensures { result ≡ [] }
+    {
+        Map::with_hasher(alloc, HashState::fixed())
+    }
+
+    /// A map without pairs, hashed under a state. Mirrors `IndexMap::with_hasher`. Takes no memory.
+    pub fn with_hasher(alloc: Global, state: HashState) -> Map
         ensures { result ≡ [] }
     {
         Map {
             alloc,
-            columns: None,
+            held: Held::Nothing(state),
+        }
+    }
+
+    /// The state that its keys are hashed under; a clone has the same. Mirrors `IndexMap::hasher`.
+    /// Takes no memory.
+    pub fn hasher(&self) -> HashState {
+        match &self.held {
+            Held::Nothing(state) => *state,
+            Held::Pairs(columns) => columns.state(),
         }
     }
 
@@ -85,7 +106,7 @@ impl Map {
     pub fn is_empty(&self) -> bool
         ensures { result ≡ (length self.now == 0) }
     {
-        self.columns.is_none()
+        matches!(self.held, Held::Nothing(_))
     }
 
     /// The value at a key, lent; `None` where no key is equal to it. Mirrors `IndexMap::get`. Takes
@@ -93,9 +114,9 @@ impl Map {
     pub fn get(&self, key: &Key<'_>) -> Option<&Value>
         ensures { option_copied result ≡ value_at key_form_order self.now (key_form key.now) }
     {
-        match &self.columns {
-            Some(columns) => columns.get(key),
-            None => None,
+        match &self.held {
+            Held::Nothing(_) => None,
+            Held::Pairs(columns) => columns.get(key),
         }
     }
 
@@ -142,10 +163,10 @@ impl Map {
         ensures absent { OnErr result
             (value_at key_form_order self.old (key_form key.entry) ≡ None) }
     {
-        match &mut self.columns {
-            Some(columns) => columns.insert(key, value),
-            None => {
-                self.columns = Some(Columns::of_pair(self.alloc, key, value)?);
+        match &mut self.held {
+            Held::Pairs(columns) => columns.insert(key, value),
+            Held::Nothing(state) => {
+                self.held = Held::Pairs(Columns::of_pair(self.alloc, *state, key, value)?);
                 Ok(None)
             }
         }
@@ -169,9 +190,9 @@ impl Map {
     fn lists(&self) -> (&[Key<'static>], &[Value])
         ensures { AreListsOf self.now result.0.now result.1.now }
     {
-        match &self.columns {
-            Some(columns) => columns.lists(),
-            None => (&[], &[]),
+        match &self.held {
+            Held::Nothing(_) => (&[], &[]),
+            Held::Pairs(columns) => columns.lists(),
         }
     }
 
@@ -179,10 +200,10 @@ impl Map {
     fn into_lists(self) -> (Keys, Vec<Value>)
         ensures { AreListsOf self (keys_held result.0) result.1.items }
     {
-        let Map { alloc, columns } = self;
-        match columns {
-            Some(columns) => Box::into_inner(columns).into_lists(),
-            None => (Keys::Few(Vec::new(alloc)), Vec::new(alloc)),
+        let Map { alloc, held } = self;
+        match held {
+            Held::Nothing(_) => (Keys::Few(Vec::new(alloc)), Vec::new(alloc)),
+            Held::Pairs(columns) => Box::into_inner(columns).into_lists(),
         }
     }
 
@@ -204,11 +225,11 @@ impl Map {
         ensures ok { IfOk result (λ m. m ≡ self.now) }
         ensures succeeds { self.now ≡ [] → IsOk result }
     {
-        let columns = match &self.columns {
-            Some(columns) => Some(columns.copy(alloc)?),
-            None => None,
+        let held = match &self.held {
+            Held::Nothing(state) => Held::Nothing(*state),
+            Held::Pairs(columns) => Held::Pairs(columns.copy(alloc)?),
         };
-        Ok(Map { alloc, columns })
+        Ok(Map { alloc, held })
     }
 }
 

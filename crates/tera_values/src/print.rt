@@ -2,8 +2,8 @@
 ghost use Rattle.std.specs.Prelude.{◌≡◌, false, IsTrue, IsOk, OnOk, OnErr, IfOk, IfErr};
 ghost use Rattle.std.specs.String.{string_bytes};
 ghost use Rattle.tera_meaning.specs.Meaning.{layout};
-ghost use Rattle.tera_meaning.specs.Printed.{Prints, PrintsInside, is_exact, printed};
-ghost use Rattle.tera_meaning.specs.Printed.{PrintsNothing, printed_truth};
+ghost use Rattle.tera_meaning.specs.Printed.{PrintsNothing, is_exact, printed, printed_truth};
+ghost use Rattle.tera_meaning.specs.Quoted.{Prints, PrintsInside, PrintsKey};
 ghost use Rattle.tera_meaning.specs.Tree.{array, items, members, object};
 ghost use Rattle.tera_report.specs.Errors.{IsOutOfMemory};
 ghost use Rattle.tera_report.specs.Room.{RoomTakes, RoomFails, IsDecided};
@@ -12,7 +12,6 @@ ghost use Rattle.tera_report.specs.Writer.{Passes, Breaks};
 ghost use Rattle.tera_values.specs.Key.{key_form, meaning_of_key, shown_key};
 ghost use Rattle.tera_values.specs.Print.{PrintsItems, WritesInside, WritesPrinted};
 ghost use Rattle.tera_values.specs.Print.{printed_if_exact, PrintsPairs, PrintsPair};
-ghost use Rattle.tera_values.specs.Print.{PrintsKey};
 ghost use Rattle.tera_values.specs.inner.Held.{holds_values};
 
 use crate::stage::Stage;

@@ -27,14 +27,36 @@ fn let_go(refused: ConversionRefused) -> bool {
     false
 }
 
-// Both numbers become what stands beside them, the ends of the type.
+// The number becomes that from each kind that can hold it.
+fn becomes_in_each<T>(number: i128, wanted: T) -> bool
+where
+    T: TryFrom<Value, Error = ConversionRefused> + PartialEq + Copy + Drop,
+{
+    let as_u64 = match u64::try_from(number) {
+        Ok(held) => becomes(Value::from(held), wanted),
+        Err(_) => true,
+    };
+    let as_i64 = match i64::try_from(number) {
+        Ok(held) => becomes(Value::from(held), wanted),
+        Err(_) => true,
+    };
+    let as_u128 = match u128::try_from(number) {
+        Ok(held) => becomes(Value::from(held), wanted),
+        Err(_) => true,
+    };
+    as_u64 && as_i64 && as_u128 && becomes(Value::from(number), wanted)
+}
+
+// Both numbers become what stands beside them, the ends of the type, from each kind.
 fn ends<T>(least: (i128, T), greatest: (u128, T)) -> bool
 where
-    T: TryFrom<Value, Error = ConversionRefused> + PartialEq + Drop,
+    T: TryFrom<Value, Error = ConversionRefused> + PartialEq + Copy + Drop,
 {
-    let has_least = becomes(Value::from(least.0), least.1);
-    let has_greatest = becomes(Value::from(greatest.0), greatest.1);
-    has_least && has_greatest
+    let has_greatest = match i128::try_from(greatest.0) {
+        Ok(number) => becomes_in_each(number, greatest.1),
+        Err(_) => becomes(Value::from(greatest.0), greatest.1),
+    };
+    becomes_in_each(least.0, least.1) && has_greatest
 }
 
 #[test]

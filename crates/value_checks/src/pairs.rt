@@ -114,10 +114,28 @@ fn pairs_have_places(rt: HostRuntime) {
 // The first key of those that are equal stays, in the width that it has.
 #[test]
 fn the_first_key_stays(rt: HostRuntime) {
-    let one = with(Map::new(rt.alloc()), Key::U64(7), Value::from(1u8));
-    let map = with(one, Key::I128(7), Value::from(2u8));
-    assert!(rt; is_wide(map.get_index(0), 7));
-    drop(map);
+    let alloc = rt.alloc();
+    hold(
+        &rt,
+        &[
+            keeps_first(alloc, 1, 0),
+            keeps_first(alloc, 12, 11),
+            keeps_first(alloc, 13, 0),
+            keeps_first(alloc, 13, 12),
+            keeps_first(alloc, 25, 24),
+            keeps_first(alloc, 100, 13),
+        ],
+    );
+}
+
+// Of so many numbers in 64 bits the one that is put again, in 128, stays as it was.
+fn keeps_first(alloc: Global, count: u8, number: u8) -> bool {
+    let map = counted(Map::new(alloc), 0..count);
+    let again = with(map, Key::I128(i128::from(number)), Value::none());
+    let is_so = is_wide(again.get_index(usize::from(number)), u64::from(number));
+    let is_counted = again.len() == usize::from(count);
+    drop(again);
+    is_so && is_counted
 }
 
 // The key of that pair is that number in 64 bits.

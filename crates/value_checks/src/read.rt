@@ -72,6 +72,12 @@ fn what_is_gone_over(rt: HostRuntime) {
             reads(many_items(alloc, 2), ValueKind::Array, "array", true),
             reads(many_pairs(alloc, 3), ValueKind::Map, "map/struct", true),
             reads(Value::from(-1i8), ValueKind::I64, "i64", false),
+            reads(Value::from(1u8), ValueKind::U64, "u64", false),
+            reads(Value::from(1i128), ValueKind::I128, "i128", false),
+            reads(Value::from(1u128), ValueKind::U128, "u128", false),
+            reads(Value::from(true), ValueKind::Bool, "bool", false),
+            reads(Value::none(), ValueKind::None, "none", false),
+            reads(Value::undefined(), ValueKind::Undefined, "undefined", false),
         ],
     );
 }

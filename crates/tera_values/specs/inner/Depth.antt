@@ -1,16 +1,16 @@
 -- Each item of an array, and each value of a map, is less deep than the array or the map.
-use Rattle.std.specs.Prelude.{◌≡◌, ◌+◌, ◌*◌, ◌≤◌, max, Box, List, [], ◌∷◌, Option, length}
-use Rattle.std.specs.Prelude.{Some, None as NoLists}
+use Rattle.std.specs.Prelude.{◌≡◌, ◌+◌, ◌*◌, ◌≤◌, max, List, [], ◌∷◌, length}
 use Rattle.std.specs.declared.alloc.Global.{Global}
 use Rattle.std.proofs.Common.{arith}
 use denote.Param.Weighed.{most}
 use Rattle.tera_meaning.specs.Form.{Form}
-use Rattle.tera_meaning.specs.KeyMeaning.{KeyForm}
 use Rattle.tera_meaning.specs.Tree.{items, items_depth}
 use Rattle.tera_values.specs.inner.Map.{pairs_held, pairs_in, AreColumns}
 use Rattle.tera_values.specs.inner.Size.{value_size, pairs_size, columns_size}
 use Rattle.tera_values.specs.View.{form_of}
 use Rattle.tera_values.specs.declared.key.Key.{Key}
+use Rattle.tera_values.specs.declared.map.Held.{Held}
+use Rattle.tera_values.specs.declared.map.Held.TheVariants.{Nothing, Pairs}
 use Rattle.tera_values.specs.declared.map.Map.TheInside.{Inside}
 use Rattle.tera_values.specs.declared.value.ValueInner.{ValueInner}
 use Rattle.tera_values.specs.declared.value.ValueInner.TheVariants.{Undefined, None, Bool as Truth}
@@ -33,13 +33,13 @@ pub most_le-columns_size : (ks : List Key) (vs : List Form) → AreColumns ks vs
     → max (most (λ v. value_size v + 1) vs) 0 ≤ columns_size (pairs_held ks vs)
 most_le-columns_size ks vs h = omega (arith, most_le ks vs h.even)
 
-lists_le : (alloc : Global) (c : Option (Box (List (KeyForm × Form)) Global))
-    → deep-Map (record { alloc = alloc; columns = c }) ≤ pairs_size (pairs_in c)
-lists_le alloc NoLists = omega arith
-lists_le alloc (Some columns) = omega arith
+lists_le : (alloc : Global) (held : Held)
+    → deep-Map (record { alloc = alloc; held = held }) ≤ pairs_size (pairs_in held)
+lists_le alloc (Nothing state) = omega arith
+lists_le alloc (Pairs columns) = omega arith
 
-pub deep_le-pairs_size : (m : Inside) → deep-Map m ≤ pairs_size (pairs_in m.columns)
-deep_le-pairs_size m = lists_le m.alloc m.columns
+pub deep_le-pairs_size : (m : Inside) → deep-Map m ≤ pairs_size (pairs_in m.held)
+deep_le-pairs_size m = lists_le m.alloc m.held
 
 pub deep_le-value_size : (v : ValueInner) → max (deep-ValueInner v) 0 ≤ value_size (form_of v)
 deep_le-value_size Undefined = omega arith

@@ -1,5 +1,5 @@
 -- From the code's maps to pair lists.
-use Rattle.std.specs.Prelude.{◌≡◌, ℕ, Bool, Box, List, [], Option, Some, None, length, map}
+use Rattle.std.specs.Prelude.{◌≡◌, ◌≢◌, ⊤, ℕ, Bool, List, [], length, map}
 use Rattle.std.specs.List.{IsDistinct, zip}
 use Rattle.std.specs.Ordering.{on, eq_by_cmp}
 use Rattle.std.specs.Vec.Iter.{into_iter_items}
@@ -8,6 +8,8 @@ use Rattle.tera_meaning.specs.KeyMeaning.{KeyForm, key_order, text_key}
 use Rattle.tera_values.specs.Key.{key_form, meaning_of_key}
 use Rattle.tera_values.specs.declared.key.Key.{Key}
 use Rattle.tera_values.specs.declared.keys.Keys.{Keys}
+use Rattle.tera_values.specs.declared.map.Held.{Held}
+use Rattle.tera_values.specs.declared.map.Held.TheVariants.{Nothing, Pairs}
 use Rattle.tera_values.specs.declared.keys.Keys.TheVariants.{Few, Many}
 use Rattle.tera_values.specs.declared.keys.OwnKeys.{OwnKeys}
 use Rattle.tera_values.specs.declared.keys.OwnKeys.TheVariants.{Few as FewLeft, Many as ManyLeft}
@@ -34,10 +36,15 @@ keys_left (ManyLeft many) = many
 abbrev pub pairs_held : {V : Type 0} → List Key → List V → List (KeyForm × V)
 pairs_held ks vs = zip (map key_form ks) vs
 
--- the pairs of a map, which has no lists where it has no pairs
-abbrev pub pairs_in : {A : Type 0} → Option (Box (List (KeyForm × Form)) A) → List (KeyForm × Form)
-pairs_in None = []
-pairs_in (Some columns) = columns.value
+-- the pairs of a map
+abbrev pub pairs_in : Held → List (KeyForm × Form)
+pairs_in (Nothing state) = []
+pairs_in (Pairs columns) = columns.value
+
+-- a map without pairs holds no lists
+abbrev pub HasPairs : Held → Type 0
+HasPairs (Nothing state) = ⊤
+HasPairs (Pairs columns) = columns.value ≢ []
 
 -- no two keys are equal, and each has a value
 pub record AreColumns {V : Type 0} (ks : List Key) (vs : List V) : Type 0 where

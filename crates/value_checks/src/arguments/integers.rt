@@ -159,3 +159,118 @@ fn ends_of_types_with_a_sign(rt: HostRuntime) {
     drop(of_64);
     drop(of_128);
 }
+
+// The number in each kind that can hold it, and for a kind that cannot in the widest with a sign.
+fn in_each_kind(number: i128) -> [Value; 4] {
+    let as_u64 = match u64::try_from(number) {
+        Ok(held) => Value::from(held),
+        Err(_) => Value::from(number),
+    };
+    let as_i64 = match i64::try_from(number) {
+        Ok(held) => Value::from(held),
+        Err(_) => Value::from(number),
+    };
+    let as_u128 = match u128::try_from(number) {
+        Ok(held) => Value::from(held),
+        Err(_) => Value::from(number),
+    };
+    [as_u64, as_i64, as_u128, Value::from(number)]
+}
+
+// Each of the four is taken as that.
+fn takes_each<'k, V, T>(alloc: Global, of: &'k [V; 4], wanted: T) -> bool
+where
+    T: ArgFromValue<'k, V, Output = T> + PartialEq + Copy + Drop,
+{
+    let [as_u64, as_i64, as_u128, as_i128] = of;
+    takes(alloc, as_u64, wanted)
+        && takes(alloc, as_i64, wanted)
+        && takes(alloc, as_u128, wanted)
+        && takes(alloc, as_i128, wanted)
+}
+
+#[test]
+fn least_numbers_are_taken_from_each_kind(rt: HostRuntime) {
+    let alloc = rt.alloc();
+    let zero = in_each_kind(0);
+    let of_8 = in_each_kind(-128);
+    let of_16 = in_each_kind(-32768);
+    let of_32 = in_each_kind(-2147483648);
+    let of_64 = in_each_kind(-9223372036854775808);
+    let of_128 = in_each_kind(i128::MIN);
+    hold(
+        &rt,
+        &[
+            takes_each(alloc, &zero, u8::MIN),
+            takes_each(alloc, &zero, u16::MIN),
+            takes_each(alloc, &zero, u32::MIN),
+            takes_each(alloc, &zero, u64::MIN),
+            takes_each(alloc, &zero, u128::MIN),
+            takes_each(alloc, &zero, usize::MIN),
+            takes_each(alloc, &of_8, i8::MIN),
+            takes_each(alloc, &of_16, i16::MIN),
+            takes_each(alloc, &of_32, i32::MIN),
+            takes_each(alloc, &of_64, i64::MIN),
+            takes_each(alloc, &of_64, isize::MIN),
+            takes_each(alloc, &of_128, i128::MIN),
+        ],
+    );
+    drop(zero);
+    drop(of_8);
+    drop(of_16);
+    drop(of_32);
+    drop(of_64);
+    drop(of_128);
+}
+
+#[test]
+fn greatest_numbers_of_types_with_a_sign_are_taken_from_each_kind(rt: HostRuntime) {
+    let alloc = rt.alloc();
+    let of_8 = in_each_kind(127);
+    let of_16 = in_each_kind(32767);
+    let of_32 = in_each_kind(2147483647);
+    let of_64 = in_each_kind(9223372036854775807);
+    let of_128 = in_each_kind(i128::MAX);
+    hold(
+        &rt,
+        &[
+            takes_each(alloc, &of_8, i8::MAX),
+            takes_each(alloc, &of_16, i16::MAX),
+            takes_each(alloc, &of_32, i32::MAX),
+            takes_each(alloc, &of_64, i64::MAX),
+            takes_each(alloc, &of_64, isize::MAX),
+            takes_each(alloc, &of_128, i128::MAX),
+        ],
+    );
+    drop(of_8);
+    drop(of_16);
+    drop(of_32);
+    drop(of_64);
+    drop(of_128);
+}
+
+#[test]
+fn greatest_numbers_of_types_without_a_sign_are_taken_from_each_kind(rt: HostRuntime) {
+    let alloc = rt.alloc();
+    let of_8 = in_each_kind(255);
+    let of_16 = in_each_kind(65535);
+    let of_32 = in_each_kind(4294967295);
+    let of_64 = in_each_kind(18446744073709551615);
+    let of_127 = in_each_kind(i128::MAX);
+    hold(
+        &rt,
+        &[
+            takes_each(alloc, &of_8, u8::MAX),
+            takes_each(alloc, &of_16, u16::MAX),
+            takes_each(alloc, &of_32, u32::MAX),
+            takes_each(alloc, &of_64, u64::MAX),
+            takes_each(alloc, &of_64, usize::MAX),
+            takes_each(alloc, &of_127, u128::MAX >> 1),
+        ],
+    );
+    drop(of_8);
+    drop(of_16);
+    drop(of_32);
+    drop(of_64);
+    drop(of_127);
+}

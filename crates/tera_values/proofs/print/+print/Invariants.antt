@@ -1,7 +1,7 @@
-use Rattle.std.proofs.Common.{◌+◌, ◌*◌, ◌≤◌, ℕ, List, drop}
+use Rattle.std.proofs.Common.{◌+◌, ◌*◌, ◌≤◌, drop}
 use Rattle.tera_meaning.specs.Tree.{items, members, depth, items_depth, members_depth}
-use Rattle.tera_values.proofs.PrintPairs.{ArePairsDone}
-use Rattle.tera_values.proofs.PrintLemmas.{IsDone}
+use Rattle.tera_report.proofs.PutLaws.{Leads}
+use Rattle.tera_values.specs.Print.{PrintsItems, PrintsLaterItems, PrintsPairs, PrintsLaterPairs}
 use Rattle.tera_values.proofs.print.+print.Given as goal
 
 abbrev pub decreases-put_value : goal.decreases-put_value
@@ -19,10 +19,11 @@ decreases-put_items g l = 6 * items_depth (items l.items.now) + 4
 abbrev pub decreases-put_array : goal.decreases-put_array
 decreases-put_array g l = 6 * items_depth (items l.all.now) + 5
 
--- what was put is what is printed of the items before
+-- what was put is what is printed of the items before: whatever is printed of those that are left
+-- makes the whole of it
 abbrev pub invariant-put_items-loop-item : goal.invariant-put_items-loop-item
 invariant-put_items-loop-item g l =
-    (done : List ℕ) × IsDone l.fn.items done (drop l.item-index l.others) × g.S.Sink.takes l.fn.out done l.out
+    Leads g.S.Sink.takes (PrintsItems l.fn.items) (PrintsLaterItems (drop l.item-index l.others)) l.fn.out l.out
 
 abbrev pub decreases-put_pair : goal.decreases-put_pair
 decreases-put_pair g l = 6 * depth l.value.now + 4
@@ -36,5 +37,5 @@ decreases-put_map g l = 6 * members_depth (members l.map.now) + 6
 -- what was put is what is printed of the pairs before those that are left, which are no deeper
 abbrev pub invariant-put_pairs-loop-key : goal.invariant-put_pairs-loop-key
 invariant-put_pairs-loop-key g l =
-    (done : List ℕ) × ArePairsDone l.fn.map done l.key-iterator × g.S.Sink.takes l.fn.out done l.out
+    Leads g.S.Sink.takes (PrintsPairs l.fn.map) (PrintsLaterPairs l.key-iterator) l.fn.out l.out
     × (members_depth (members l.key-iterator) ≤ members_depth (members l.fn.map))

@@ -6,6 +6,7 @@ use crate::held::hold;
 use indexmap::IndexMap;
 use made_values::shows;
 use std::alloc::Global;
+use tera_arguments::Kwargs;
 use tera_conversions::{ToKey, ToValue};
 use tera_report::{Error, TeraResult};
 use tera_values::{Key, Value};
@@ -140,6 +141,34 @@ fn the_refusal_of_a_key_comes_first(rt: HostRuntime) {
                 table_of(alloc, Unfit { number: 1 }, Part::Refuses(2)),
                 first,
             ),
+        ],
+    );
+}
+
+// A pair whose key refuses with the error of that number.
+fn make_unfit(number: u8) -> (Unfit, Value) {
+    (Unfit { number }, Value::none())
+}
+
+// The arguments are refused with that error.
+fn are_refused(alloc: Global, made: TeraResult<Kwargs>, wanted: &str) -> bool {
+    match made.err() {
+        Some(error) => is_told(alloc, error, wanted),
+        None => false,
+    }
+}
+
+#[test]
+fn the_refusal_of_a_key_of_arguments_is_passed_on(rt: HostRuntime) {
+    let alloc = rt.alloc();
+    let first = "Error { kind: Msg(\"é 1\"), source: Some(the cause) }";
+    let one = Kwargs::from_pairs(alloc, [make_unfit(1)]);
+    let two = Kwargs::from_pairs(alloc, [make_unfit(1), make_unfit(2)]);
+    hold(
+        &rt,
+        &[
+            are_refused(alloc, one, first),
+            are_refused(alloc, two, first),
         ],
     );
 }

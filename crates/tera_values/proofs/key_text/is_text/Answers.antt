@@ -1,6 +1,6 @@
 use Rattle.std.proofs.Common.{◌-◌, ◌∙◌, ap, arith, length, get_or, sym}
 use Rattle.tera_values.proofs.KeyLemmas.{long_apart, byte_apart}
-use Rattle.tera_values.proofs.keys.is_text.Goals as goal
+use Rattle.tera_values.proofs.key_text.is_text.Goals as goal
 
 pub returns-then-len-right : goal.returns-then-len-right
 returns-then-len-right c =
