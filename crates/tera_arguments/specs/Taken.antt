@@ -16,7 +16,7 @@ use Rattle.tera_meaning.specs.Tree.{undefined, none, truth, number, text, bytes,
 use Rattle.tera_report.specs.Errors.{Raises}
 use Rattle.tera_report.specs.Refusal.{Refusal, stated, invalid_argument, number_outside_i128}
 use Rattle.tera_report.specs.declared.errors.Error.{Error}
-use Rattle.tera_meaning.specs.Printed.{Prints}
+use Rattle.tera_meaning.specs.Quoted.{Prints}
 
 -- the error of a call that is to give this and takes no memory for it: of its refusal, or want of
 -- memory in its place

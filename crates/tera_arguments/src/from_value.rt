@@ -1,5 +1,5 @@
 //! What a value can be handed to a filter or a function as.
-ghost use Rattle.std.specs.Prelude.{◌≡◌, ◌≢◌, true, [], None, Ok, IfOk, IfErr, MatchOption};
+ghost use Rattle.std.specs.Prelude.{◌≡◌, ◌≢◌, [], None, Ok, IfOk, IfErr, MatchOption};
 ghost use Rattle.std.specs.List.{AllZip};
 ghost use Rattle.std.specs.String.{string_bytes};
 ghost use Rattle.tera_arguments.specs.Taken.{Denies, as_text, as_number, as_pairs, as_items};
@@ -7,11 +7,13 @@ ghost use Rattle.tera_arguments.specs.Taken.{TakesText, TakesItems, DeniesItems}
 ghost use Rattle.tera_conversions.specs.Given.{PartsRefuse};
 ghost use Rattle.tera_meaning.specs.Conversion.{IntegerType, as_truth, number_of};
 ghost use Rattle.tera_meaning.specs.Meaning.{layout};
-ghost use Rattle.tera_meaning.specs.Read.{iterable_in, members_in, text_in};
+ghost use Rattle.tera_meaning.specs.Read.{members_in, text_in};
+ghost use Rattle.tera_meaning.specs.Search.{CopyTakes};
 ghost use Rattle.tera_scalars.specs.Number.{number_value};
 ghost use Rattle.tera_report.specs.Errors.{IsOutOfMemory};
 ghost use Rattle.tera_report.specs.declared.errors.Error.{Error};
-ghost use Rattle.tera_meaning.specs.Printed.{Prints, PrintsNothing};
+ghost use Rattle.tera_meaning.specs.Printed.{PrintsNothing};
+ghost use Rattle.tera_meaning.specs.Quoted.{Prints};
 
 use crate::parts::Parts;
 use crate::private::Sealed;
@@ -109,14 +111,14 @@ impl<'k> ArgFromValue<'k, Value> for CowStr<'k> {
     }
 }
 
-/// A copy, deep, with its kinds and flags. Takes memory for texts, bytes, items and pairs; the only
-/// refusal is want of it, `Out of memory`.
+/// A copy, deep, with its kinds and flags. Takes memory for texts, bytes, items and pairs, where
+/// there are some; the only refusal is want of it, `Out of memory`.
 impl<'k> ArgFromValue<'k, Value> for Value {
     type Output = Value;
 
     ghost takes = { λ value copy. copy ≡ value };
 
-    ghost denies = { λ value e. (iterable_in value ≡ true) × IsOutOfMemory e };
+    ghost denies = { λ value e. CopyTakes value × IsOutOfMemory e };
 
     fn from_value(alloc: Global, value: &'k Value) -> TeraResult<Value> {
         value.clone(alloc)

@@ -1,5 +1,5 @@
 //! The named arguments of a filter or a function.
-ghost use Rattle.std.specs.Prelude.{◌≡◌, ◌⊎◌, IfOk, IfErr, MatchOption};
+ghost use Rattle.std.specs.Prelude.{◌≡◌, ◌⊎◌, ◌<◌, [], length, IfOk, IfErr, IsOk, MatchOption};
 ghost use Rattle.std.specs.Option.{IsSomeAnd};
 ghost use Rattle.tera_arguments.specs.Named.{TakesArgument, pairs_held};
 ghost use Rattle.tera_meaning.specs.Pairs.{HasDistinctKeys, key_form_order};
@@ -35,17 +35,22 @@ impl<V: Parts> KwargsOf<V> {
     /// key and its place and the later value stand. Mirrors `From<[(&'static str, Value); N]>` of
     /// `tera::Kwargs`.
     ///
-    /// Takes memory; the first error of a key is passed on.
+    /// Takes memory, but for no pair; the first error of a key is passed on.
     pub fn from_pairs<K: ToKey + Drop, const N: usize>(
         alloc: Global,
         pairs: [(K, V); N],
     ) -> TeraResult<KwargsOf<V>>
         ensures ok { IfOk result (V.is_map K K.gives_key pairs) }
-        ensures err { IfErr result (λ e. IsOutOfMemory e
+        ensures err { IfErr result (λ e. ((0 < length pairs) × IsOutOfMemory e)
             ⊎ V.no_map K K.gives_key K.refuses_key pairs e) }
     {
+        let held = if N == 0 {
+            Vec::new(alloc)
+        } else {
+            Vec::from_array(alloc, pairs)?
+        };
         Ok(KwargsOf {
-            values: V::of_pairs(alloc, Vec::from_array(alloc, pairs)?)?,
+            values: V::of_pairs(alloc, held)?,
         })
     }
 
@@ -116,10 +121,12 @@ impl KwargsOf<Value> {
 
     /// The same arguments, deep, with their kinds and flags. Mirrors `Clone` of `tera::Kwargs`.
     ///
-    /// Takes memory; the only refusal is want of it, `Out of memory`.
+    /// Takes memory for the pairs, where there are some; the only refusal is want of it, `Out of
+    /// memory`.
     pub fn clone(&self, alloc: Global) -> TeraResult<Kwargs>
         ensures ok { IfOk result (λ k. k ≡ self.now) }
         ensures err { IfErr result IsOutOfMemory }
+        ensures succeeds { self.now ≡ object (members []) → IsOk result }
     {
         Ok(Kwargs {
             values: self.values.clone(alloc)?,

@@ -2,7 +2,7 @@
 ghost use Rattle.std.specs.Prelude.{◌≡◌, ℕ, List, Option, Some, None, MatchOption, IfOk, IfErr};
 ghost use Rattle.std.specs.Option.{option_copied};
 ghost use Rattle.tera_arguments.specs.Taken.{IsNoArray};
-ghost use Rattle.tera_conversions.specs.Given.{GivesMap, GivesPair, PartsRefuse};
+ghost use Rattle.tera_conversions.specs.Given.{GivesMap, GivesPair, LaterRefuse};
 ghost use Rattle.tera_meaning.specs.KeyMeaning.{KeyForm};
 ghost use Rattle.tera_meaning.specs.Lookup.{attr};
 ghost use Rattle.tera_meaning.specs.Read.{items_in};
@@ -37,7 +37,8 @@ pub trait Parts: SealedParts + Sized + Drop {
     /// The map of these pairs, in their order. Of two with equal keys the first key and its place
     /// and the later value stand.
     ///
-    /// Takes memory, but for no pair; the first error of a key is passed on.
+    /// Takes memory, but for no pair. The error is the first one of a key or, where the first key
+    /// was given, `Out of memory`.
     fn of_pairs<K: ToKey + Drop>(alloc: Global, pairs: Vec<(K, Self)>) -> TeraResult<Self>
         ensures ok { IfOk result (is_map K K.gives_key pairs.items) }
         ensures err { IfErr result (no_map K K.gives_key K.refuses_key pairs.items) };
@@ -65,12 +66,12 @@ impl Parts for Value {
 
     ghost is_map = { λ K key pairs v. GivesMap key (λ given v. v ≡ given) pairs v };
 
-    ghost no_map = { λ K key no_key pairs e. PartsRefuse (GivesPair key (λ given v. v ≡ given))
+    ghost no_map = { λ K key no_key pairs e. LaterRefuse (GivesPair key (λ given v. v ≡ given))
         (λ pair. no_key pair.0) pairs e };
 
     fn of_pairs<K: ToKey + Drop>(alloc: Global, pairs: Vec<(K, Value)>) -> TeraResult<Value>
         ensures ok { IfOk result (GivesMap K.gives_key (λ given v. v ≡ given) pairs.items) }
-        ensures err { IfErr result (PartsRefuse (GivesPair K.gives_key (λ given v. v ≡ given))
+        ensures err { IfErr result (LaterRefuse (GivesPair K.gives_key (λ given v. v ≡ given))
             (λ pair. K.refuses_key pair.0) pairs.items) }
     {
         let mut made = Map::new(alloc);

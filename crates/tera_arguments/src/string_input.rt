@@ -1,5 +1,5 @@
 //! A text as a filter or a function takes it, with its flag.
-ghost use Rattle.std.specs.Prelude.{◌≡◌, Bool, ℕ, List, Ok, IfOk, IfErr, MatchResult};
+ghost use Rattle.std.specs.Prelude.{◌≡◌, Bool, ℕ, List, [], Ok, IfOk, IfErr, IsOk, MatchResult};
 ghost use Rattle.std.specs.String.{string_bytes};
 ghost use Rattle.tera_arguments.specs.Taken.{Denies, as_marked_text};
 ghost use Rattle.tera_arguments.specs.Rendered.{Renders, RendersNot};
@@ -36,10 +36,12 @@ impl<'a> Model for StringInput<'a> {
 impl<'a> StringInput<'a> {
     /// A copy of the text as a value, with its flag. Mirrors `StringInput::into_value`.
     ///
-    /// Takes memory; the only refusal is want of it, `Out of memory`.
+    /// Takes memory for the text, unless it is empty; the only refusal is want of it, `Out of
+    /// memory`.
     pub fn into_value(self, alloc: Global) -> TeraResult<Value>
         ensures ok { IfOk result (λ v. v ≡ text self.entry) }
         ensures err { IfErr result IsOutOfMemory }
+        ensures succeeds { self.entry.spelled ≡ [] → IsOk result }
     {
         if self.safe {
             Value::safe_string(alloc, self.text)

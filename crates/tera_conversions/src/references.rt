@@ -1,9 +1,9 @@
 //! What is lent and can be made a value of: as what it points to.
-ghost use Rattle.std.specs.Prelude.{◌≡◌, ◌<◌, length, pos, true, false};
+ghost use Rattle.std.specs.Prelude.{◌≡◌, ◌<◌, length, pos, false};
 ghost use Rattle.std.specs.Char.{encode_utf8};
 ghost use Rattle.std.specs.String.{string_bytes};
 ghost use Rattle.tera_meaning.specs.Integer.{u64, i64, u128, i128};
-ghost use Rattle.tera_meaning.specs.Read.{iterable_in};
+ghost use Rattle.tera_meaning.specs.Search.{CopyTakes};
 ghost use Rattle.tera_meaning.specs.Tree.{truth};
 ghost use Rattle.tera_report.specs.Errors.{IsOutOfMemory};
 ghost use Rattle.tera_values.specs.View.{integer, marked};
@@ -60,12 +60,12 @@ impl ToValue for &&str {
     }
 }
 
-/// A copy, deep, with its kinds and flags. Takes memory for texts, bytes, items and pairs; the only
-/// refusal is want of it, `Out of memory`.
+/// A copy, deep, with its kinds and flags. Takes memory for texts, bytes, items and pairs, where
+/// there are some; the only refusal is want of it, `Out of memory`.
 impl ToValue for &Value {
     ghost gives = { λ lent v. v ≡ lent.now };
 
-    ghost refuses = { λ lent e. (iterable_in lent.now ≡ true) × IsOutOfMemory e };
+    ghost refuses = { λ lent e. CopyTakes lent.now × IsOutOfMemory e };
 
     fn to_value(self, alloc: Global) -> TeraResult<Value> {
         self.clone(alloc)

@@ -1,5 +1,5 @@
 //! What can be made a value of.
-ghost use Rattle.std.specs.Prelude.{◌≡◌, ◌<◌, length, pos, false, None, IfOk, IfErr};
+ghost use Rattle.std.specs.Prelude.{◌≡◌, ◌<◌, [], length, pos, false, IfSome, IfOk, IfErr};
 ghost use Rattle.std.specs.Char.{encode_utf8};
 ghost use Rattle.std.specs.Cow.{cow_str_bytes, IsOwnedStr};
 ghost use Rattle.std.specs.String.{string_bytes};
@@ -244,11 +244,12 @@ impl ToValue for CowStr<'_> {
 }
 
 /// The value that a key is: a number of the same kind, a text not marked safe. Takes memory for a
-/// text alone; the only refusal is want of it, `Out of memory`.
+/// text alone, unless it is empty; the only refusal is want of it, `Out of memory`.
 impl ToValue for Key<'static> {
     ghost gives = { λ k v. v ≡ key_value (key_form k) };
 
-    ghost refuses = { λ k e. ¬ (text_in_key (key_form k) ≡ None) × IsOutOfMemory e };
+    ghost refuses = { λ k e. ¬ IfSome (text_in_key (key_form k)) (λ t. t ≡ [])
+        × IsOutOfMemory e };
 
     fn to_value(self, alloc: Global) -> TeraResult<Value> {
         self.as_value(alloc)
