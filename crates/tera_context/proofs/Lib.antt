@@ -1,7 +1,9 @@
 mod Extends
 mod Found
+mod Kept
 mod LentLemmas
 mod Made
 mod Names
+mod Rooms
 mod Runs
 pub mod ShownLaws

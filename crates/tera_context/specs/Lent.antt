@@ -8,8 +8,8 @@ use Rattle.tera_meaning.specs.Lookup.{attr as attr_of}
 use Rattle.tera_meaning.specs.Meaning.{layout}
 use Rattle.tera_meaning.specs.Outcome.{Outcome}
 use Rattle.tera_meaning.specs.Path.{path as path_from}
-use Rattle.tera_meaning.specs.Printed.{Prints}
 use Rattle.tera_meaning.specs.Question.{Question, print}
+use Rattle.tera_meaning.specs.Quoted.{Prints}
 use Rattle.tera_meaning.specs.Read.{text_in}
 use Rattle.tera_meaning.specs.Request.{Request, Command, ask, asking, find}
 use Rattle.tera_meaning.specs.Search.{Search, get, path, attr, item}

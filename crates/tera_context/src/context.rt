@@ -1,17 +1,17 @@
 //! The values that a template's names stand for.
 ghost use Rattle.std.specs.Prelude.{◌≡◌, ◌⊎◌, ◌↔◌, ◌+◌, ◌<◌, ◌≤◌, IfOk, IfErr, IsOk, IsTrue};
-ghost use Rattle.std.specs.Prelude.{length, MatchOption, None, Some, OnOk, OnErr};
+ghost use Rattle.std.specs.Prelude.{if◌then◌else◌, MatchOption, None, Some, OnOk, OnErr};
 ghost use Rattle.std.specs.FinMap.{empty, get, contains_key, insert, remove};
 ghost use Rattle.std.specs.String.{string_bytes};
 ghost use Rattle.tera_meaning.specs.Alike.{MeanTheSame};
 ghost use Rattle.tera_meaning.specs.Form.{Form};
 ghost use Rattle.tera_meaning.specs.Read.{marked_safe};
 ghost use Rattle.tera_meaning.specs.State.{State, extended, IsProperBeginning, states_equal};
-ghost use Rattle.tera_meaning.specs.Step.{marking};
+ghost use Rattle.tera_meaning.specs.Step.{marking, ExtendTakes};
 ghost use Rattle.tera_meaning.specs.WellMade.{IsWellMadeState};
 ghost use Rattle.tera_report.specs.Errors.{IsOutOfMemory};
 ghost use Rattle.indexmap.specs.IndexMap.{spare};
-ghost use Rattle.tera_context.specs.Context.{equal_laws, state_of};
+ghost use Rattle.tera_context.specs.Context.{equal_laws, new_names, state_of};
 
 use indexmap::IndexMap;
 use std::alloc::{AllocError, Global};
@@ -19,13 +19,16 @@ use std::marker::Model;
 use std::{fmt, mem};
 use tera_conversions::ToValue;
 use tera_report::TeraResult;
-use tera_values::{Value, is_well_made};
+use tera_values::{HashState, Value, is_well_made};
 
 /// Finitely many names, and a value for each. Mirrors `tera::Context`.
 pub struct Context {
     alloc: Global,
-    values: IndexMap<String, Value>,
+    values: Names,
 }
+
+// Names with their values, hashed under the state of their context.
+type Names = IndexMap<String, Value, HashState>;
 
 /// All that it holds ends with it. Where a context ends, this is called, and not written out there.
 impl Drop for Context {
@@ -79,7 +82,7 @@ impl fmt::Debug for Context {
 // Shows the names in the order of their bytes, with their values. It takes no memory, and looks
 // for each next name among all.
 #[derive(Drop)]
-struct ByName<'a>(&'a IndexMap<String, Value>);
+struct ByName<'a>(&'a Names);
 
 impl<'a> fmt::Debug for ByName<'a> {
     fn fmt<W: fmt::Write>(&self, f: &mut fmt::Formatter<W>) -> fmt::Result {
@@ -97,7 +100,7 @@ impl<'a> fmt::Debug for ByName<'a> {
 
 // The first name behind the last one, by their bytes, and its value.
 fn first_behind<'a>(
-    values: &'a IndexMap<String, Value>,
+    values: &'a Names,
     last: Option<&'a String>,
 ) -> Option<(&'a String, &'a Value)> {
     let mut first: Option<(&'a String, &'a Value)> = None;
@@ -111,15 +114,28 @@ fn first_behind<'a>(
 }
 
 impl Context {
-    /// No names at all. Mirrors `Context::new`. Takes no memory; what is kept later takes it from
-    /// the allocator.
+    /// No names at all, hashed under the fixed state. Mirrors `Context::new`. Takes no memory; what
+    /// is kept later takes it from the allocator.
     pub fn new(alloc: Global) -> Context
+        ensures { result ≡ empty }
+    {
+        Context::with_hasher(alloc, HashState::fixed())
+    }
+
+    /// No names at all, hashed under a state: no one who does not know it can make names whose
+    /// look-ups take long. Takes no memory; what is kept later takes it from the allocator.
+    pub fn with_hasher(alloc: Global, state: HashState) -> Context
         ensures { result ≡ empty }
     {
         Context {
             alloc,
-            values: IndexMap::new(alloc),
+            values: IndexMap::with_hasher(alloc, state),
         }
+    }
+
+    /// The state that its names are hashed under; a clone has the same. Takes no memory.
+    pub fn hasher(&self) -> HashState {
+        *self.values.hasher()
     }
 
     /// Keeps what the source gives under the name, in the place of what was there. Mirrors
@@ -161,14 +177,15 @@ impl Context {
     /// Takes over each name of the source with its value, in the place of what was there. Mirrors
     /// `Context::extend`. The source is consumed.
     ///
-    /// The only error is `Out of memory`. Then some first names of the source, in the order of
-    /// their bytes, may have been taken over, and nothing else has changed. Takes memory, but for a
-    /// source of no names.
+    /// The only error is `Out of memory`, and then nothing has changed. Takes memory, but for a
+    /// source whose names are all there.
     pub fn extend(&mut self, source: Context) -> TeraResult<()>
         ensures ok { OnOk result (self.new ≡ extended self.old source) }
         ensures err { IfErr result IsOutOfMemory }
         ensures part { OnErr result ((part : State) × IsProperBeginning part source
             × (self.new ≡ extended self.old part)) }
+        ensures unchanged { OnErr result (self.new ≡ self.old) }
+        ensures absent { OnErr result (ExtendTakes self.old source) }
         ensures nothing { source ≡ empty → IsOk result }
     {
         let Context {
@@ -186,7 +203,8 @@ impl Context {
         ensures err { IfErr result IsOutOfMemory }
         ensures nothing { self.now ≡ empty → IsOk result }
     {
-        let mut values = IndexMap::with_capacity(self.alloc, self.values.len())?;
+        let len = self.values.len();
+        let mut values = IndexMap::with_capacity_and_hasher(self.alloc, len, self.hasher())?;
         fill(&mut values, &self.values, self.alloc)?;
         Ok(Context {
             alloc: self.alloc,
@@ -269,44 +287,59 @@ impl Context {
 
 // Puts the value under the name, in the place of what was there. A name that is there takes no
 // memory, nor does one that there is room for.
-fn put(values: &mut IndexMap<String, Value>, name: String, value: Value) -> Result<(), AllocError>
+fn put(values: &mut Names, name: String, value: Value) -> Result<(), AllocError>
     ensures ok { OnOk result (state_of values.new.entries
         ≡ insert (state_of values.old.entries) (string_bytes name) value) }
     ensures unchanged { OnErr result
         (state_of values.new.entries ≡ state_of values.old.entries) }
     ensures absent { OnErr result
         (get (state_of values.old.entries) (string_bytes name) ≡ None) }
-    ensures room { spare values.old ≤ spare values.new + 1 }
+    ensures room { spare values.old ≤ spare values.new
+        + (if contains_key (state_of values.old.entries) (string_bytes name) then 0 else 1) }
     ensures succeeds { 0 < spare values.old → IsOk result }
 {
-    values.insert(name, value)?;
+    let held = values.entry(name)?.or_insert(Value::undefined());
+    drop(mem::replace(held, value));
     Ok(())
 }
 
 // Takes over each name with its value, in the place of what was there.
-fn take_over(
-    values: &mut IndexMap<String, Value>,
-    taken: IndexMap<String, Value>,
-) -> Result<(), AllocError>
+fn take_over(values: &mut Names, taken: Names) -> Result<(), AllocError>
     ensures ok { OnOk result (state_of values.new.entries
         ≡ extended (state_of values.old.entries) (state_of taken.entries)) }
     ensures unchanged { OnErr result
         (state_of values.new.entries ≡ state_of values.old.entries) }
+    ensures absent { OnErr result
+        (ExtendTakes (state_of values.old.entries) (state_of taken.entries)) }
     ensures nothing { state_of taken.entries ≡ empty → IsOk result }
 {
-    // Once there is room for all of them, no name wants memory.
-    values.reserve(taken.len())?;
+    // Once there is room for the new names, no name wants memory.
+    values.reserve(count_new(values, &taken))?;
     put_all(values, taken)
 }
 
+// How many of the names are new. Where no name is there all are, and none is looked up.
+fn count_new(values: &Names, taken: &Names) -> usize
+    ensures { result ≡ new_names (state_of values.now.entries) taken.now.entries }
+{
+    if values.is_empty() {
+        return taken.len();
+    }
+    let mut count = 0;
+    for (name, _) in taken {
+        if !values.contains_key(name) {
+            count += 1;
+        }
+    }
+    count
+}
+
 // Puts each value under its name, in the place of what was there.
-fn put_all(
-    values: &mut IndexMap<String, Value>,
-    taken: IndexMap<String, Value>,
-) -> Result<(), AllocError>
+fn put_all(values: &mut Names, taken: Names) -> Result<(), AllocError>
     ensures ok { OnOk result (state_of values.new.entries
         ≡ extended (state_of values.old.entries) (state_of taken.entries)) }
-    ensures succeeds { length taken.entries ≤ spare values.old → IsOk result }
+    ensures succeeds { new_names (state_of values.old.entries) taken.entries ≤ spare values.old
+        → IsOk result }
 {
     for (name, value) in taken {
         put(values, name, value)?;
@@ -315,11 +348,7 @@ fn put_all(
 }
 
 // Fills a map of no names with copies.
-fn fill(
-    values: &mut IndexMap<String, Value>,
-    from: &IndexMap<String, Value>,
-    alloc: Global,
-) -> Result<(), AllocError>
+fn fill(values: &mut Names, from: &Names, alloc: Global) -> Result<(), AllocError>
     requires { state_of values.old.entries ≡ empty }
     ensures ok { OnOk result (state_of values.new.entries ≡ state_of from.now.entries) }
     ensures nothing { state_of from.now.entries ≡ empty → IsOk result }
@@ -332,7 +361,7 @@ fn fill(
 
 // Puts a copy of the value under a copy of the name.
 fn put_copy(
-    values: &mut IndexMap<String, Value>,
+    values: &mut Names,
     name: &String,
     value: &Value,
     alloc: Global,

@@ -5,7 +5,7 @@ ghost use Rattle.std.specs.Option.{option_map};
 ghost use Rattle.std.specs.String.{string_bytes};
 ghost use Rattle.tera_meaning.specs.Outcome.{Outcome};
 ghost use Rattle.tera_meaning.specs.Request.{set, extend, mark_safe, asking};
-ghost use Rattle.tera_meaning.specs.Run.{IsRun};
+ghost use Rattle.tera_meaning.specs.Run.{IsKeepingRun, IsRun};
 ghost use Rattle.tera_meaning.specs.Step.{IsStep};
 ghost use Rattle.tera_report.specs.Errors.{IsOutOfMemory};
 ghost use Rattle.tera_context.specs.Call.{command_of};
@@ -22,18 +22,20 @@ use tera_report::TeraResult;
 use tera_values::Value;
 
 /// One step: its answer, with what it changes of the context; or its refusal, and then nothing has
-/// changed. Only `Extend` that finds no memory may have taken over some first names of its source,
-/// in the order of their bytes, and nothing else.
+/// changed.
 ///
 /// Memory is taken, and `Out of memory` may be answered: by `Set` for a name that is new, and by
-/// `Extend`; by `Print`, `Escape`, `Fields` and `Walk` for the texts that they answer, if there are
-/// some; by `Get` and the calls that answer as it does, and by `MarkSafe` with `into`, for a copy,
-/// a slice or a reversal that is a text, bytes, an array or a map, if it is not empty, for what is
-/// kept under a name that is new, and for the text of a refusal. `Binary`, `Negate`, `Read` and
-/// `Contains` make none of these, and the other calls take none.
+/// `Extend` for a source that has such a name; by `Print`, `Escape`, `Fields` and `Walk` for the
+/// texts that they answer, if there are some; by `Get` and the calls that answer as it does, and by
+/// `MarkSafe` with `into`, for a copy, a slice or a reversal that is a text, bytes, an array or a
+/// map, if it is not empty, for what is kept under a name that is new, and for the text of a
+/// refusal. `Binary`, `Negate`, `Read` and `Contains` make none of these, and the other calls take
+/// none.
+#[tactic(auto, using(crate::proofs::Kept::laws))]
 pub fn step(context: &mut Context, step: Step) -> TeraResult<Answer>
-    ensures { ShowsOneOf result (λ outcome.
+    ensures outcome { ShowsOneOf result (λ outcome.
         IsStep context.old (command_of step) outcome context.new) }
+    ensures unchanged { OnErr result (context.new ≡ context.old) }
 {
     let Step { call, into } = step;
     let absent = absent_value();
@@ -74,8 +76,9 @@ pub fn step(context: &mut Context, step: Step) -> TeraResult<Answer>
 
 // Keeps the value under the name.
 fn set(context: &mut Context, name: String, value: Value) -> TeraResult<Answer>
-    ensures { ShowsOneOf result (λ outcome.
+    ensures outcome { ShowsOneOf result (λ outcome.
         IsStep context.old (asking (set (string_bytes name) value)) outcome context.new) }
+    ensures unchanged { OnErr result (context.new ≡ context.old) }
 {
     context.keep(name, value)?;
     Ok(Answer::Done)
@@ -83,8 +86,9 @@ fn set(context: &mut Context, name: String, value: Value) -> TeraResult<Answer>
 
 // Takes over what the source holds.
 fn extend(context: &mut Context, source: Context) -> TeraResult<Answer>
-    ensures { ShowsOneOf result (λ outcome.
+    ensures outcome { ShowsOneOf result (λ outcome.
         IsStep context.old (asking (extend source)) outcome context.new) }
+    ensures unchanged { OnErr result (context.new ≡ context.old) }
 {
     context.extend(source)?;
     Ok(Answer::Done)
@@ -93,9 +97,10 @@ fn extend(context: &mut Context, source: Context) -> TeraResult<Answer>
 // Marks the value of a name safe in its place; or keeps a marked clone under `into`, if that is
 // given.
 fn mark_safe(context: &mut Context, name: &str, into: Option<String>) -> TeraResult<Answer>
-    ensures { ShowsOneOf result (λ outcome. IsStep context.old
+    ensures outcome { ShowsOneOf result (λ outcome. IsStep context.old
         (record { request = mark_safe name.now; into = option_map string_bytes into })
         outcome context.new) }
+    ensures unchanged { OnErr result (context.new ≡ context.old) }
 {
     match into {
         Some(into) => {
@@ -115,7 +120,7 @@ fn mark_safe(context: &mut Context, name: &str, into: Option<String>) -> TeraRes
 ///
 /// The list of answers takes its memory first: where that is refused, `Out of memory` is the answer
 /// to the whole run and nothing was done. A run of no steps takes none. A step that finds no memory
-/// answers so in its place.
+/// answers so in its place. A step that is refused, for whatever cause, changes nothing.
 ///
 /// The shapes of the answers (what is found by its meaning, a refusal without a kind's name) depend
 /// on what the names mean: those of `Print`, `Escape` and `Walk` also on the order of pairs in
@@ -124,6 +129,9 @@ pub fn run(context: &mut Context, steps: Vec<Step>) -> TeraResult<Vec<TeraResult
     ensures run { IfOk result (λ answers. (outcomes : List Outcome)
         × AllZip ShowsOutcome answers.items outcomes
         × IsRun context.old (map command_of steps.items) outcomes context.new) }
+    ensures kept { IfOk result (λ answers. (outcomes : List Outcome)
+        × AllZip ShowsOutcome answers.items outcomes
+        × IsKeepingRun context.old (map command_of steps.items) outcomes context.new) }
     ensures err { IfErr result IsOutOfMemory }
     ensures unchanged { OnErr result (context.new ≡ context.old) }
     ensures nothing { steps.items ≡ [] → IsOk result }

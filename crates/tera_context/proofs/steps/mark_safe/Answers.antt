@@ -6,8 +6,8 @@ use Rattle.tera_meaning.specs.State.{form_at}
 use Rattle.tera_context.proofs.ShownLaws.{refused_where, want_passed}
 use Rattle.tera_context.proofs.steps.mark_safe.Goals as goal
 
-pub returns-in_err-value-in-Some : goal.returns-in_err-value-in-Some
-returns-in_err-value-in-Some c =
+pub returns-in_err-value-in-Some-clause-outcome : goal.returns-in_err-value-in-Some-clause-outcome
+returns-in_err-value-in-Some-clause-outcome c =
     let held : form_at c.args.context.now c.args.name.now ≡ c.value_at.result.now = search rules in
     let parts = refused_where (iterable_in c.value_at.result.now) c.copy.result _ c.in_err-value-in-Some.was
     c.copy.ensures.succeeds in
@@ -16,8 +16,8 @@ returns-in_err-value-in-Some c =
     want_passed c.from_residual.result _ c.from_residual.ensures.1
     (inr (rw (c.in-Some.is) (inl (subst CopyTakes (sym held) (parts, some))), refl, refl))
 
-pub returns-in_err-keep-in-Some : goal.returns-in_err-keep-in-Some
-returns-in_err-keep-in-Some c =
+pub returns-in_err-keep-in-Some-clause-outcome : goal.returns-in_err-keep-in-Some-clause-outcome
+returns-in_err-keep-in-Some-clause-outcome c =
     want_passed c.from_residual-in_err-keep-in-Some.result _
     c.from_residual-in_err-keep-in-Some.ensures.1
     (inr (rw (c.in-Some.is) (inr c.in_err-keep-in-Some.ensures.absent), refl, c.in_err-keep-in-Some.ensures.unchanged))
