@@ -6,13 +6,14 @@ use Rattle.tera_meaning.specs.Read.{members_in}
 use Rattle.tera_meaning.specs.Tree.{object}
 use Rattle.tera_script.specs.Line.{IsBare}
 use Rattle.tera_script.specs.Literal.{SpellsTree, tree_value}
-use Rattle.tera_script.specs.Readers.{front, past, gap_at, name_at, operand_at, plain_at, value_in, is_word_byte}
+use Rattle.tera_script.specs.Readers.{front, past, gap_at, name_at, operand_at, plain_at, value_in, is_word_byte, IsLiteralAt}
 use Rattle.tera_script.specs.Verb.{row_of, word_of}
 use Rattle.tera_script.specs.Word.{is_blank}
 use Rattle.tera_script.specs.declared.verb.Verb.{Verb}
 use Rattle.tera_script.specs.inner.Command.{IsValueAt, AreOperandsIfBare, IsCommandIfBare}
 use Rattle.tera_script.proofs.Commands.{command_answer}
 use Rattle.tera_script.proofs.Fronts.{front-past}
+use Rattle.tera_script.proofs.Literals.{plain_found}
 use Rattle.tera_script.proofs.Names.{gap_found, name_found, operand_found}
 use Rattle.tera_script.proofs.Openings.{text_front, bytes_front}
 use Rattle.tera_script.proofs.Words.{no_value_nowhere}
@@ -60,6 +61,13 @@ module _ {xs ys : List ℕ} where
 
   pub brace_opens : xs ≡ (123 ∷ []) ++ ys → IsBare xs ⊎ IsSome (plain_at xs) → ⊥
   brace_opens e = opens (123 ∷ ys) e no_value_nowhere (λ bare. bare.0.2 refl)
+
+-- where one pass read a number
+pub number_stands : (levels : ℕ) (xs : List ℕ) (found : Form × List ℕ) → Some found ≡ plain_at xs → IsLiteralAt levels xs (Some found)
+number_stands levels xs found e =
+    let plain : IsBare xs ⊎ IsSome (plain_at xs) = inr (subst IsSome e refl) in
+    plain_found levels xs (Some found) (λ ys o. quote_opens o plain) (λ ys o. safe_opens o plain) (λ ys o. hex_opens o plain)
+    (λ ys o. bracket_opens o plain) (λ ys o. brace_opens o plain) e
 
 -- no map stands there
 tree_is_no_map : (literal : List ℕ) (tree : Form) → SpellsTree literal tree → IsBare literal → members_in (tree_value tree) ≡ None

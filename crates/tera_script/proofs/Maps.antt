@@ -55,6 +55,11 @@ module _ {xs : List ℕ} {k : KeyForm} {after : List ℕ} (read : IsKeyAt xs (So
         let same : b.1 ≡ next = cc ((same_after pair rest b).1) in
         n (at_value_utf8 xs k after next read.0 e utf8) pair.1 rest (subst (λ ys. BeginsWithLiteral (past is_blank ys) pair.1 rest) same b.4) d stops
 
+    -- and before it the literal of a value
+    pub pair_found : {levels : ℕ} {v : Form} {rest : List ℕ} → IsLiteralAt levels (past is_blank next) (Some (v, rest))
+        → IsPairAt levels xs (Some (k, v, rest))
+    pair_found h = (h.0, h.1, (after, next, read.0, e, h.2), h.3, h.4)
+
 -- ---- all of them
 
 abbrev pair_value : KeyForm × Form → KeyForm × Form

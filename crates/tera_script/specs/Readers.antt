@@ -11,6 +11,7 @@ use Rattle.tera_meaning.specs.Integer.{IntegerKind, u64, i64, u128, i128, Intege
 use Rattle.tera_meaning.specs.Form.{Form, MarkedText}
 use Rattle.tera_meaning.specs.Kind.{integer_kind_name}
 use Rattle.tera_meaning.specs.KeyMeaning.{KeyForm, truth_key, number_key}
+use Rattle.tera_meaning.specs.Pairs.{key_form_order, put}
 use Rattle.tera_meaning.specs.Tree.{Items, Members, undefined, none, truth, number}
 use Rattle.tera_meaning.specs.Tree.{text as text_value, bytes as bytes_value, array, object}
 use Rattle.tera_meaning.specs.Tree.{items_list, members_list, depth}
@@ -306,6 +307,13 @@ IsPairAt levels xs (Some found) = (tree : Form) × (found.1 ≡ tree_value tree)
 IsPairAt levels xs None = IsUtf8 xs → (pair : KeyForm × Form) (rest : List ℕ)
     → BeginsWithPair xs pair rest → depth pair.1 ≤ levels → ¬ Stops is_word_byte rest
 
+-- what a reader answers that puts the pair it reads into a map of some pairs
+abbrev pub IsPairPut : ℕ → List ℕ → List (KeyForm × Form) → List (KeyForm × Form)
+    → Option (List ℕ) → Type 0
+IsPairPut levels xs pairs longer (Some rest) = (key : KeyForm) × (value : Form)
+    × IsPairAt levels xs (Some (key, value, rest)) × (longer ≡ put key_form_order pairs key value)
+IsPairPut levels xs pairs longer None = IsPairAt levels xs None
+
 -- behind a pair, and behind an opening brace: the pairs up to the closing one (125)
 abbrev pub MorePairsAt : List ℕ → Members Integer MarkedText KeyForm → List ℕ → Type 0
 MorePairsAt xs all rest = MoreIn BeginsWithPair 125 xs (members_list all) rest
@@ -320,12 +328,9 @@ IsMapAt levels xs (Some found) = (all : Members Integer MarkedText KeyForm)
 IsMapAt levels xs None = IsUtf8 xs → (all : Members Integer MarkedText KeyForm) (rest : List ℕ)
     → PairsAt xs all rest → ¬ (depth (object all) ≤ levels)
 
--- a key and a slice, by what they hold; the same of a key, a value and a slice
+-- a key and a slice, by what they hold
 abbrev pub key_rest : Key × Bor (List ℕ) → KeyForm × List ℕ
 key_rest pair = (key_form pair.0, pair.1.now)
-
-abbrev pub pair_rest : Key × Form × Bor (List ℕ) → KeyForm × Form × List ℕ
-pair_rest found = (key_form found.0, found.1, found.2.now)
 
 -- two names behind one another
 unfoldable pub names_at : List ℕ → Option ((List ℕ × List ℕ) × List ℕ)

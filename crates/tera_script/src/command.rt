@@ -14,10 +14,15 @@ use crate::verb::{Known, Shape, verb_in};
 use crate::word::take_name;
 use std::alloc::{AllocError, Global};
 use tera_context::Step;
+use tera_values::HashState;
 
 /// The step that the bytes say, up to blanks at their end. `None` where they say none. Takes memory
 /// for names, texts, byte strings, arrays and maps, and fails for want of it alone.
-pub(crate) fn read_step(alloc: Global, bytes: &[u8]) -> Result<Option<Step>, AllocError>
+pub(crate) fn read_step(
+    alloc: Global,
+    state: HashState,
+    bytes: &[u8],
+) -> Result<Option<Step>, AllocError>
     ensures command { IfOk result (λ answer. IsCommandAt bytes.now (option_map command_of answer)) }
     ensures free { IfErr result (λ error. IsCommandIfBare bytes.now) }
 {
@@ -27,11 +32,16 @@ pub(crate) fn read_step(alloc: Global, bytes: &[u8]) -> Result<Option<Step>, All
     let Some(known) = verb_in(word) else {
         return Ok(None);
     };
-    read_operands(alloc, known, operands)
+    read_operands(alloc, state, known, operands)
 }
 
 // What stands behind the word of a call.
-fn read_operands(alloc: Global, known: Known, bytes: &[u8]) -> Result<Option<Step>, AllocError>
+fn read_operands(
+    alloc: Global,
+    state: HashState,
+    known: Known,
+    bytes: &[u8],
+) -> Result<Option<Step>, AllocError>
     requires { IsKnown known }
     ensures operands { IfOk result (λ answer.
         AreOperandsOf (row_of known.verb) bytes.now (option_map command_of answer)) }
@@ -43,7 +53,7 @@ fn read_operands(alloc: Global, known: Known, bytes: &[u8]) -> Result<Option<Ste
         Shape::Text => read_text(alloc, known, bytes),
         Shape::Bounds => read_bounds(alloc, known, bytes),
         Shape::Type => read_type(alloc, known, bytes),
-        Shape::Literal => read_literal(alloc, known, bytes),
-        Shape::Map => read_map(alloc, known, bytes),
+        Shape::Literal => read_literal(alloc, state, known, bytes),
+        Shape::Map => read_map(alloc, state, known, bytes),
     }
 }

@@ -17,6 +17,7 @@ use tera_values::Key;
 /// that is not marked safe. `None` where there is none, or a byte of a word follows one without
 /// quotes. Takes memory for a text that has an escape or more than 16 bytes, or that no quote
 /// closes, and fails for want of it alone.
+#[inline(never)]
 pub(crate) fn take_key(
     alloc: Global,
     bytes: &[u8],

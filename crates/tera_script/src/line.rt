@@ -10,6 +10,7 @@ use crate::word::past_blanks;
 use std::alloc::{AllocError, Global};
 use std::str;
 use tera_context::Step;
+use tera_values::HashState;
 
 /// What a line of a script says.
 #[derive(Debug, Drop)]
@@ -22,11 +23,12 @@ pub enum Reading {
     Says(Step),
 }
 
-/// What a line says. The line comes without its end of line.
+/// What a line says. The line comes without its end of line. The maps of its literals, and the
+/// context of `extend`, are hashed under the state.
 ///
 /// Takes memory for names, texts, bytes, arrays and maps; the only refusal is want of it. A line
 /// that is skipped or is no UTF-8 takes none, nor does a bad one with no quote, bracket or brace.
-pub fn read_line(alloc: Global, line: &[u8]) -> Result<Reading, AllocError>
+pub fn read_line(alloc: Global, state: HashState, line: &[u8]) -> Result<Reading, AllocError>
     ensures reading { IfOk result (IsReadingOf line.now) }
     ensures free { IsSkipped line.now ⊎ ((¬ IsUtf8 line.now) ⊎ (IsBad line.now × IsBare line.now))
         → IsOk result }
@@ -38,7 +40,7 @@ pub fn read_line(alloc: Global, line: &[u8]) -> Result<Reading, AllocError>
     if !is_utf8(line) {
         return Ok(Reading::Bad);
     }
-    match read_step(alloc, bytes)? {
+    match read_step(alloc, state, bytes)? {
         Some(step) => Ok(Reading::Says(step)),
         None => Ok(Reading::Bad),
     }

@@ -12,7 +12,7 @@ use crate::literal::{LEVELS, take_literal};
 use crate::text::take_text;
 use crate::word::{are_blanks, past_gap, take_operand};
 use std::alloc::{AllocError, Global};
-use tera_values::Value;
+use tera_values::{HashState, Value};
 
 /// Two names behind one another, and the bytes behind them. Takes no memory.
 #[tactic(auto, unfolding(crate::specs::Readers::names_at))]
@@ -48,14 +48,18 @@ pub(crate) fn take_text_operand(
 }
 
 /// The value behind a gap, and the bytes behind it.
-pub(crate) fn take_value(alloc: Global, bytes: &[u8]) -> Result<Option<(Value, &[u8])>, AllocError>
+pub(crate) fn take_value(
+    alloc: Global,
+    state: HashState,
+    bytes: &[u8],
+) -> Result<Option<(Value, &[u8])>, AllocError>
     ensures value { IfOk result (λ answer. IsValueAt bytes.now (option_map with_rest answer)) }
     ensures free { IsBare bytes.now → IsOk result }
 {
     let Some(literal) = past_gap(bytes) else {
         return Ok(None);
     };
-    take_literal(alloc, literal, LEVELS)
+    take_literal(alloc, state, literal, LEVELS)
 }
 
 /// The name behind a gap and an arrow, where one may be, or none where no more than blanks stand

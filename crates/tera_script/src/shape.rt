@@ -19,6 +19,7 @@ use crate::verb::{Known, Operands, Verb, call_of};
 use crate::word::take_operand;
 use std::alloc::{AllocError, Global};
 use tera_context::Step;
+use tera_values::HashState;
 
 /// A name.
 pub(crate) fn read_name(
@@ -138,6 +139,7 @@ pub(crate) fn read_type(
 /// A name and a literal.
 pub(crate) fn read_literal(
     alloc: Global,
+    state: HashState,
     known: Known,
     bytes: &[u8],
 ) -> Result<Option<Step>, AllocError>
@@ -149,7 +151,7 @@ pub(crate) fn read_literal(
     let Some((name, behind)) = take_operand(bytes) else {
         return Ok(None);
     };
-    let Some((value, rest)) = take_value(alloc, behind)? else {
+    let Some((value, rest)) = take_value(alloc, state, behind)? else {
         return Ok(None);
     };
     let Some(into) = into_in(known.keeps, rest) else {
@@ -162,6 +164,7 @@ pub(crate) fn read_literal(
 /// A map whose keys are all texts.
 pub(crate) fn read_map(
     alloc: Global,
+    state: HashState,
     known: Known,
     bytes: &[u8],
 ) -> Result<Option<Step>, AllocError>
@@ -170,10 +173,10 @@ pub(crate) fn read_map(
         AreOperandsOf (row_of known.verb) bytes.now (option_map command_of answer)) }
     ensures free { IfErr result (λ error. AreOperandsIfBare (row_of known.verb) bytes.now) }
 {
-    let Some((value, rest)) = take_value(alloc, bytes)? else {
+    let Some((value, rest)) = take_value(alloc, state, bytes)? else {
         return Ok(None);
     };
-    let Some(source) = source_of(alloc, value)? else {
+    let Some(source) = source_of(alloc, state, value)? else {
         return Ok(None);
     };
     let Some(into) = into_in(known.keeps, rest) else {

@@ -8,7 +8,7 @@ pub loop-key-init : goal.loop-key-init
 loop-key-init c = record {
   done = [];
   texts = tt;
-  so_far = subst (λ state. HoldsSoFar state []) (sym c.new-source.ensures) (λ name. get-empty _ name);
+  so_far = subst (λ state. HoldsSoFar state []) (sym c.with_hasher-source.ensures) (λ name. get-empty _ name);
   whole = c.in-Some.ensures ∙ ap Some (sym c.into_iter-key-iterator.ensures.into_iter_gives.0);
   apart = subst (HasDistinctKeys key_form_order) (sym c.into_iter-key-iterator.ensures.into_iter_gives.0)
       c.into_iter-key-iterator.ensures.into_iter_gives.1;
