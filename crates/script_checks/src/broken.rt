@@ -7,12 +7,19 @@ use std::io::{Error, ErrorKind, Result, Write};
 use tera_replies::{replay, replay_from};
 use tera_report::sink::Growing;
 use tera_report::watch::Watched;
+use tera_values::HashState;
 
 // The replay of that input to `out` ends for a failed write, after so many reads.
 fn breaks_after(alloc: Global, input: Slow<'_>, out: Shelf, reads: usize) -> bool {
     let (mut input, mut out) = (input, out);
     let mut err = Growing::new(alloc);
-    let status = replay_from(alloc, &mut input, &mut Watched::new(&mut out), &mut err);
+    let status = replay_from(
+        alloc,
+        HashState::fixed(),
+        &mut input,
+        &mut Watched::new(&mut out),
+        &mut err,
+    );
     let is_so = status == 1 && input.reads == reads && err.as_str().as_bytes() == WRITING;
     drop(out);
     drop(err);
@@ -79,7 +86,13 @@ fn ends_once_failed(alloc: Global, kind: ErrorKind, wanted: Ended<'_>) -> bool {
         first: Some(kind),
     };
     let mut err = roomy(alloc);
-    let status = replay(alloc, in_pieces(FIRST, 4096), &mut out, &mut err);
+    let status = replay(
+        alloc,
+        HashState::fixed(),
+        in_pieces(FIRST, 4096),
+        &mut out,
+        &mut err,
+    );
     let (ended, answers, report) = wanted;
     let is_so = status == ended && out.held.as_slice() == answers && err.held.as_slice() == report;
     drop(out);

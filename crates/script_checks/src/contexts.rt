@@ -5,7 +5,7 @@ use std::alloc::{AllocError, Global};
 use tera_context::{Context, Step, context, lend, run, step};
 use tera_report::TeraResult;
 use tera_script::{Reading, read_line};
-use tera_values::Value;
+use tera_values::{HashState, Value};
 
 // What was made, or no name.
 fn or_empty(alloc: Global, made: TeraResult<Context>) -> Context {
@@ -206,8 +206,8 @@ fn an_empty_run_answers_nothing(rt: HostRuntime) {
 }
 
 // The step that the line says.
-fn step_of(alloc: Global, line: &str) -> Option<Step> {
-    match read_line(alloc, line.as_bytes()).ok()? {
+fn step_of(alloc: Global, state: HashState, line: &str) -> Option<Step> {
+    match read_line(alloc, state, line.as_bytes()).ok()? {
         Reading::Says(said) => Some(said),
         other => no_step(other),
     }
@@ -219,8 +219,8 @@ fn no_step(reading: Reading) -> Option<Step> {
 }
 
 // The step that the line says is answered so, in words of Debug.
-fn answers(alloc: Global, context: &mut Context, line: &str, wanted: &str) -> bool {
-    match step_of(alloc, line) {
+pub(crate) fn answers(alloc: Global, context: &mut Context, line: &str, wanted: &str) -> bool {
+    match step_of(alloc, context.hasher(), line) {
         Some(said) => is_answered(alloc, context, said, wanted),
         None => false,
     }
@@ -319,7 +319,7 @@ fn answers_show_what_they_hold(rt: HostRuntime) {
 
 // What the context lends for the step that the line says, in words of Debug.
 fn lends(alloc: Global, context: &Context, line: &str, wanted: &str) -> bool {
-    match step_of(alloc, line) {
+    match step_of(alloc, context.hasher(), line) {
         Some(said) => is_lent(alloc, context, said, wanted),
         None => false,
     }

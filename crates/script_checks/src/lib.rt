@@ -9,3 +9,5 @@ mod contexts;
 mod lines;
 #[cfg(test)]
 mod replays;
+#[cfg(test)]
+mod states;

@@ -3,6 +3,7 @@ use std::alloc::Global;
 use std::io::{BufWriter, Error, ErrorKind, Read, Result, Write};
 use tera_replies::{InputPieces, replay, replay_from};
 use tera_report::sink::Growing;
+use tera_values::HashState;
 
 // Gives these bytes, at most `size` at a read, and then ends. Where there are later bytes, one read
 // between these and those is interrupted. Counts its reads.
@@ -96,7 +97,7 @@ pub(crate) type Ended<'a> = (u8, &'a [u8], &'a [u8]);
 // The replay of that input to these writers ends so.
 fn ends(alloc: Global, input: Slow<'_>, out: Shelf, err: Shelf, wanted: Ended<'_>) -> bool {
     let (mut out, mut err) = (out, err);
-    let status = replay(alloc, input, &mut out, &mut err);
+    let status = replay(alloc, HashState::fixed(), input, &mut out, &mut err);
     let (ended, answers, report) = wanted;
     let is_so = status == ended && out.held.as_slice() == answers && err.held.as_slice() == report;
     drop(out);
@@ -209,6 +210,8 @@ fn an_interrupted_read_is_a_failed_one(rt: HostRuntime) {
     for (script, answers) in [
         (b"eq a b\neq a".as_slice(), b"true\n".as_slice()),
         (b"eq a b\nhas a\ncm", b"true\nfalse\n"),
+        (b"eq a b\nhas a", b"true\n"),
+        (b"has a", b""),
         (b"eq a b\nfrob", b"true\n"),
         (b"", b""),
     ] {
@@ -263,7 +266,7 @@ fn pieces_end(alloc: Global, pieces: &[&[u8]], fails: bool, wanted: Ended<'_>) -
     let mut out = Growing::new(alloc);
     let mut err = Growing::new(alloc);
     let mut input = InputPieces::new(pieces, fails);
-    let status = replay_from(alloc, &mut input, &mut out, &mut err);
+    let status = replay_from(alloc, HashState::fixed(), &mut input, &mut out, &mut err);
     let (ended, answers, report) = wanted;
     let is_answered = status == ended && out.as_str().as_bytes() == answers;
     let is_reported = err.as_str().as_bytes() == report;
@@ -289,6 +292,9 @@ fn pieces_that_fail_are_answered_up_to_the_last_whole_line(rt: HostRuntime) {
     assert!(rt; pieces_end(alloc, &cut, true, (1, b"true\nequal\n", READING)));
     let bad: [&[u8]; 2] = [b"eq a b\nfr", b"ob\n"];
     assert!(rt; pieces_end(alloc, &bad, true, (2, b"true\n", SECOND)));
+    let good: [&[u8]; 2] = [b"eq a b\nha", b"s a"];
+    assert!(rt; pieces_end(alloc, &good, true, (1, b"true\n", READING)));
+    assert!(rt; pieces_end(alloc, &[b"has a"], true, (1, b"", READING)));
     assert!(rt; pieces_end(alloc, &[], true, (1, b"", READING)));
 }
 
@@ -349,7 +355,13 @@ fn a_failed_flush_is_a_failed_write(rt: HostRuntime) {
 fn is_flushed(alloc: Global, script: &[u8], answers: &[u8], ended: u8) -> Result<bool> {
     let mut out = BufWriter::new(alloc, roomy(alloc))?;
     let mut err = roomy(alloc);
-    let status = replay(alloc, in_pieces(script, 4096), &mut out, &mut err);
+    let status = replay(
+        alloc,
+        HashState::fixed(),
+        in_pieces(script, 4096),
+        &mut out,
+        &mut err,
+    );
     Ok(status == ended && out.get_ref().held.as_slice() == answers)
 }
 

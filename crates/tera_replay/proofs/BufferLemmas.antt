@@ -1,24 +1,24 @@
 -- A replay that finds no memory before it reads.
 use Rattle.std.proofs.Common.{◌≡◌, ◌≢◌, ℕ, Bool, inl, inr, List, [], Option, None, Some, Result, Ok, Err, IfSome, MatchResult, codes, refl, subst, arith}
 use Rattle.std.specs.FinMap.{empty}
+use Rattle.std.specs.Io.KnownBytes.{Consumes}
 use Rattle.std.proofs.lemmas.List.Elements.{All-nil}
 use Rattle.std.specs.declared.io.Error.{Error}
 use Rattle.tera_report.specs.declared.watch.Watched.{Watched}
 use Rattle.tera_report.specs.Watch.{WatchedTakes, WatchedFails, watched_writer}
 use Rattle.tera_replies.specs.Output.{TakesOrFails, WriterTakesOrFails}
 use Rattle.tera_replies.proofs.ReplayLaws.{told_writer}
-use Rattle.tera_replies.specs.Replay.{Replays}
+use Rattle.tera_replies.specs.Replay.{Replays, ReplaysGiven}
 use Rattle.tera_replies.specs.Script.{HasNoLineFeed, Splits, line_feed}
 
 no_lines : Splits [] [] []
 no_lines = record { whole = refl; each = All-nil HasNoLineFeed; rest = All-nil (λ byte. byte ≢ line_feed) }
 
 -- the first of no lines are answered, and this is told
-pub nothing_read : (first : Option (List ℕ)) (fails : Option Bool) (InGave : List ℕ → List ℕ → Type 0)
+none_answered : (bytes : List ℕ) (fails : Option Bool) (InGave : List ℕ → List ℕ → Type 0)
     (InEnded InFailed OutGets OutBroke ErrGets : List ℕ → Type 0) → InGave [] [] → OutGets [] → ErrGets (codes "error: Out of memory\n")
-    → IfSome first (λ bytes. Replays bytes fails InGave InEnded InFailed OutGets OutBroke ErrGets 1)
-nothing_read None fails InGave InEnded InFailed OutGets OutBroke ErrGets gave none told = tt
-nothing_read (Some bytes) fails InGave InEnded InFailed OutGets OutBroke ErrGets gave none told = inl (
+    → Replays bytes fails InGave InEnded InFailed OutGets OutBroke ErrGets 1
+none_answered bytes fails InGave InEnded InFailed OutGets OutBroke ErrGets gave none told = inl (
   [],
   codes "error: Out of memory\n",
   inr (inr (record {
@@ -42,6 +42,28 @@ nothing_read (Some bytes) fails InGave InEnded InFailed OutGets OutBroke ErrGets
   })),
   none,
   told,
+)
+
+pub nothing_read : (first : Option (List ℕ)) (fails : Option Bool) (InGave : List ℕ → List ℕ → Type 0)
+    (InEnded InFailed OutGets OutBroke ErrGets : List ℕ → Type 0) → InGave [] [] → OutGets [] → ErrGets (codes "error: Out of memory\n")
+    → IfSome first (λ bytes. Replays bytes fails InGave InEnded InFailed OutGets OutBroke ErrGets 1)
+nothing_read None fails InGave InEnded InFailed OutGets OutBroke ErrGets gave none told = tt
+nothing_read (Some bytes) fails InGave InEnded InFailed OutGets OutBroke ErrGets gave none told =
+    none_answered bytes fails InGave InEnded InFailed OutGets OutBroke ErrGets gave none told
+
+-- what is left stays
+left_stays : (left : Option (List ℕ)) → Consumes left left []
+left_stays None = tt
+left_stays (Some bytes) = refl
+
+pub nothing_given : (left : Option (List ℕ)) (fails : Option Bool) (InGave : List ℕ → List ℕ → Type 0)
+    (InEnded InFailed OutGets OutBroke ErrGets : List ℕ → Type 0) → InGave [] [] → OutGets [] → ErrGets (codes "error: Out of memory\n")
+    → ReplaysGiven left left fails InGave InEnded InFailed OutGets OutBroke ErrGets 1
+nothing_given left fails InGave InEnded InFailed OutGets OutBroke ErrGets gave none told = (
+  [],
+  left_stays left,
+  inl ([], [], refl, gave),
+  none_answered [] fails InGave InEnded InFailed OutGets OutBroke ErrGets gave none told,
 )
 
 -- a watched writer took the text, or failed on it

@@ -5,18 +5,22 @@ ghost use Rattle.std.specs.Prelude.{◌≡◌, ◌≤◌, IfSome, IfNone, codes}
 ghost use Rattle.tera_replay.specs.Buffered.{BufferBroke, BufferGets};
 ghost use Rattle.tera_replies.specs.Output.{Ended, Failed, Gave, WriterBroke, WriterGets};
 ghost use Rattle.tera_replies.specs.Output.{WriterTakesOrFails};
-ghost use Rattle.tera_replies.specs.Replay.{Replays};
+ghost use Rattle.tera_replies.specs.Replay.{Replays, ReplaysGiven};
+ghost use Rattle.tera_replies.specs.Source.{ReadEnds, ReadFails, ReadsTo};
 
 use std::alloc::Global;
 use std::io::{BufWriter, Write};
 use std::process::ExitCode;
 use tera_replies::{Source, replay};
 use tera_report::watch::{Watched, Writer};
+use tera_values::HashState;
 
 fn main(rt: HostRuntime) -> ExitCode {
+    // Nobody who writes a script knows the state, so none can make names or keys that collide.
+    let state = HashState::random(&rt);
     let mut err = rt.stderr();
     let out = BufWriter::new(rt.alloc(), rt.stdout()).ok();
-    let (status, _buffer) = replay_buffered(rt.alloc(), rt.stdin(), out, &mut err);
+    let (status, _buffer) = replay_buffered(rt.alloc(), state, rt.stdin(), out, &mut err);
     ExitCode::from(status)
 }
 
@@ -25,6 +29,7 @@ fn main(rt: HostRuntime) -> ExitCode {
 /// `error: Out of memory`, and the status is 1.
 fn replay_buffered<S: Source + Drop, B: Writer + Drop, E: Writer>(
     alloc: Global,
+    state: HashState,
     input: S,
     out: Option<B>,
     err: &mut E,
@@ -34,6 +39,13 @@ fn replay_buffered<S: Source + Drop, B: Writer + Drop, E: Writer>(
         (BufferGets B.contents B.wrote B.flushed out result.1)
         (BufferBroke B.wrote B.flushed out result.1)
         (λ text. WriterTakesOrFails E.contents E.wrote err.old text err.new) result.0) }
+    ensures given { (last : S) × ReplaysGiven (S.left input) (S.left last) (S.fails input)
+        (λ before piece. ReadsTo S.gave input before piece last)
+        (λ given. ReadEnds S.gave input given last)
+        (λ given. ReadFails S.gave input given last)
+        (BufferGets B.contents B.wrote B.flushed out result.1)
+        (BufferBroke B.wrote B.flushed out result.1)
+        (λ text. WriterTakesOrFails E.contents E.wrote err.old text err.new) result.0 }
     ensures none { IfNone out ((result.0 ≡ 1) × WriterTakesOrFails E.contents E.wrote
         err.old (codes "error: Out of memory\n") err.new) }
     ensures status { result.0 ≤ 2 }
@@ -41,7 +53,7 @@ fn replay_buffered<S: Source + Drop, B: Writer + Drop, E: Writer>(
 {
     match out {
         Some(buffer) => {
-            let (status, buffered) = replay_to(alloc, input, buffer, err);
+            let (status, buffered) = replay_to(alloc, state, input, buffer, err);
             (status, Some(buffered))
         }
         None => {
@@ -55,6 +67,7 @@ fn replay_buffered<S: Source + Drop, B: Writer + Drop, E: Writer>(
 #[inline(always)]
 fn replay_to<S: Source + Drop, B: Writer, E: Writer>(
     alloc: Global,
+    state: HashState,
     input: S,
     buffer: B,
     err: &mut E,
@@ -64,11 +77,18 @@ fn replay_to<S: Source + Drop, B: Writer, E: Writer>(
         (λ text. WriterGets B.contents B.wrote B.flushed buffer text result.1)
         (λ text. WriterBroke B.wrote B.flushed buffer text result.1)
         (λ text. WriterTakesOrFails E.contents E.wrote err.old text err.new) result.0) }
+    ensures given { (last : S) × ReplaysGiven (S.left input) (S.left last) (S.fails input)
+        (λ before piece. ReadsTo S.gave input before piece last)
+        (λ given. ReadEnds S.gave input given last)
+        (λ given. ReadFails S.gave input given last)
+        (λ text. WriterGets B.contents B.wrote B.flushed buffer text result.1)
+        (λ text. WriterBroke B.wrote B.flushed buffer text result.1)
+        (λ text. WriterTakesOrFails E.contents E.wrote err.old text err.new) result.0 }
     ensures status { result.0 ≤ 2 }
     ensures silent { result.0 ≡ 0 → err.new ≡ err.old }
 {
     let mut buffered = buffer;
-    let status = replay(alloc, input, &mut buffered, err);
+    let status = replay(alloc, state, input, &mut buffered, err);
     (status, buffered)
 }
 

@@ -1,12 +1,12 @@
 -- What a stretch from the start on says of the whole input, which is read piece by piece.
 use Rattle.std.proofs.Common.{◌≡◌, ℕ, ◌+◌, ◌-◌, ◌^◌, ◌<◌, ◌≤◌, Bool, true, false, ◌||◌, ◌⊎◌, inl, inr, List, [], ◌∷◌, ◌++◌, length}
 use Rattle.std.proofs.Common.{map, codes, Option, None, Some, cond, Result, Ok, Err, IfOk, IfErr, sym, ◌∙◌, ap, subst, refl, append_assoc, append-nil}
-use Rattle.std.proofs.Common.{arith, IfSome, length-append, take}
-use Rattle.std.proofs.{lemmas.List.length-map, lemmas.List.map-append, lemmas.List.Concat.flat_map-append}
-use Rattle.std.specs.{Io.KnownBytes.Consumes, List.flat_map}
+use Rattle.std.proofs.Common.{arith, length-append}
+use Rattle.std.proofs.{lemmas.List.length-map, lemmas.List.map-append}
+use Rattle.std.specs.List.{flat_map}
 use Rattle.tera_meaning.specs.{Outcome.Outcome, State.State}
 use Rattle.tera_script.specs.Line.{IsBad}
-use Rattle.tera_report.specs.{Report.Report, Report.report_text, inner.WriterLaws.folds_joined, Sink.Sends}
+use Rattle.tera_report.specs.{Report.Report, Report.report_text, Sink.Sends}
 use Rattle.tera_report.proofs.SentLaws.{sends_joined}
 use Rattle.tera_replies.specs.declared.fault.Fault.TheVariants.{BadLine, ReadFailed, WriteFailed, OutOfMemory}
 use Rattle.tera_replies.specs.Stretch.{bad_at, Runs, LineStops}
@@ -14,17 +14,17 @@ use Rattle.tera_replies.specs.inner.Stretches.{Place, Goes, StopsAtBad, Begins, 
 use Rattle.tera_replies.specs.inner.Endings.{Ends}
 use Rattle.tera_replies.specs.Replay.{lines_given, AllAnswered, HoldFewer, IsBehind, IsWholeIn, ReadEnough, ReadingFailed, MemoryFailed}
 use Rattle.tera_replies.specs.Replay.{WritingFailed, AreAnswered, report}
-use Rattle.tera_replies.specs.{Script.Splits, Script.without_return, Script.last_line, Script.ended, Script.line_feed, Reply.AreReplies, Source.EndIsTold}
-use Rattle.tera_replies.specs.{Source.MayErr, Source.Giving, Source.given_by, Source.Reads, Source.ReadsTo, declared.fault.Fault.Fault}
-use Rattle.tera_replies.specs.{declared.source.ReadError.ReadError, Output.BrokeOn}
-use Rattle.tera_replies.proofs.StretchLemmas.{Runs-append, Script-append, Begins-later, stops_later, Halts, Went, sent_still, Splits-more}
+use Rattle.tera_replies.specs.{Script.BadLine as Bad, Script.Script, Script.Splits, Script.without_return, Script.last_line, Script.ended}
+use Rattle.tera_replies.specs.{Script.line_feed, Reply.AreReplies, Source.EndIsTold}
+use Rattle.tera_replies.specs.{Source.MayErr, declared.fault.Fault.Fault, Output.BrokeOn}
+use Rattle.tera_replies.proofs.StretchLemmas.{Runs-append, Script-append, Script-front, Begins-later, stops_later, Halts, Went, sent_still, Splits-more}
 use Rattle.tera_replies.proofs.StretchLemmas.{Splits-same, splits, split_line}
 use Rattle.tera_replies.proofs.ReplyLemmas.{broke_on_later}
 
 -- ---- what an output that broke was to get
 
 -- the first of the lines are among those given
-first_given : (fails : Option Bool) (xs ys : List (List ℕ)) (part : List ℕ) → (more : List (List ℕ))
+pub first_given : (fails : Option Bool) (xs ys : List (List ℕ)) (part : List ℕ) → (more : List (List ℕ))
     × (lines_given fails (xs ++ ys) part ≡ map without_return xs ++ (map without_return ys ++ more))
 first_given (Some true) xs ys part = ([], simp (map-append, append-nil))
 first_given (Some false) xs ys part = (last_line part, simp (map-append, append_assoc))
@@ -61,64 +61,93 @@ module _ {InGave : List ℕ → List ℕ → Type 0} {InEnded InFailed : List �
       → HoldFewer before (1 + length first) → Splits given lines part → map without_return lines ≡ first ++ later
       → AreAnswered first None outcomes → AreReplies outcomes out
       → WritingFailed bytes fails InGave InEnded InFailed out
-  among_given bytes given rest out fails lines first later part outcomes before last front are_read read prompt split are answers replied =
-      let (others, end, s) = splits (part ++ rest) in
-      let (more, among) = first_given fails lines others end in
+  among_given bytes given rest out fails lines first later part outcomes before last front are_read read prompt split are answers replied = record {
+    before = before;
+    last = last;
+    rest = rest;
+    lines = lines;
+    part = part;
+    first = first;
+    later = later;
+    bad = None;
+    outcomes = outcomes;
+    front = front ∙ ap (λ (zs : List ℕ). zs ++ rest) are_read;
+    read = read;
+    split = subst (λ (zs : List ℕ). Splits zs lines part) are_read split;
+    lines_are = inl are;
+    prompt = prompt;
+    fresh = tt;
+    answers = answers;
+    replied = replied;
+  }
+
+  -- replies to all lines up to a bad one that was given whole
+  broke_in_given : (bytes out : List ℕ) (fails : Option Bool) (lines : List (List ℕ)) (part : List ℕ) (bad : Option Bad) (outcomes : List Outcome)
+      (before last rest : List ℕ) → bytes ≡ (before ++ last) ++ rest → InGave before last → IsBehind before bad → IsWholeIn (before ++ last) bad
+      → Splits bytes lines part → AreAnswered (lines_given fails lines part) bad outcomes → AreReplies outcomes out
+      → WritingFailed bytes fails InGave InEnded InFailed out
+  broke_in_given bytes out fails lines part None outcomes before last rest front gave behind whole all answers replied = absurd whole
+  broke_in_given bytes out fails lines part (Some bad) outcomes before last rest front gave behind (whole, end, split, within) all answers replied =
+      let (others, beyond, s) = splits (end ++ rest) in
+      let joined = Splits-more whole others split.each s
+      (front ∙ ap (λ (zs : List ℕ). zs ++ rest) split.whole ∙ append_assoc (flat_map ended whole) end rest) in
+      let (same, also) = Splits-same bytes part beyond lines (whole ++ others) all joined in
+      let (more, among) = first_given fails whole others beyond in
+      let first = map without_return whole in
+      let later = map without_return others ++ more in
+      let given : lines_given fails lines part ≡ first ++ later = rw (same, also) among in
+      let script = subst (λ (zs : List (List ℕ)). Script 1 zs answers.commands (Some bad)) given answers.script in
+      let many = length-map whole without_return in
       record {
         before = before;
         last = last;
         rest = rest;
-        lines = lines ++ others;
+        lines = whole;
         part = end;
         first = first;
-        later = later ++ (map without_return others ++ more);
-        bad = None;
+        later = [];
+        bad = Some bad;
         outcomes = outcomes;
-        front = front ∙ ap (λ (zs : List ℕ). zs ++ rest) are_read;
-        read = read;
-        split = Splits-more lines others split.each s
-            (front ∙ ap (λ (zs : List ℕ). zs ++ rest) split.whole ∙ append_assoc (flat_map ended lines) part rest);
-        lines_are = among ∙ ap (λ (zs : List (List ℕ)). zs ++ (map without_return others ++ more)) are
-            ∙ append_assoc first later (map without_return others ++ more);
-        prompt = prompt;
-        fresh = tt;
-        answers = answers;
+        front = front;
+        read = inl gave;
+        split = split;
+        lines_are = inl (sym (append-nil first));
+        prompt = fewer_yet (omega (arith, many)) (fewer_in_front last split refl);
+        fresh = behind;
+        answers = record {
+          commands = answers.commands;
+          state = answers.state;
+          script = Script-front 1 first later answers.commands bad script (omega (arith, within, many));
+          run = answers.run;
+        };
         replied = replied;
       }
-
-  -- replies to all lines up to the first bad one
-  broke_whole : {bytes out err : List ℕ} {fails : Option Bool} {status : ℕ} (h : AllAnswered bytes fails InGave InEnded out err status)
-      (before last rest : List ℕ) → bytes ≡ (before ++ last) ++ rest → WasRead fails InGave InEnded InFailed before last rest
-      → HoldFewer before (1 + length h.lines) → IsBehind before h.bad → WritingFailed bytes fails InGave InEnded InFailed out
-  broke_whole {bytes} {out} {err} {fails} h before last rest front read prompt fresh = record {
-    before = before;
-    last = last;
-    rest = rest;
-    lines = h.lines;
-    part = h.part;
-    first = lines_given fails h.lines h.part;
-    later = [];
-    bad = h.bad;
-    outcomes = h.outcomes;
-    front = front;
-    read = read;
-    split = h.split;
-    lines_are = sym (append-nil (lines_given fails h.lines h.part));
-    prompt = fewer_yet (omega (arith, whole_given fails h.lines h.part)) prompt;
-    fresh = fresh;
-    answers = h.answers;
-    replied = h.replied;
-  }
 
   -- the replies that were due are, however the input ended, those to the first of the lines
   pub broke_at_end : {bytes out err : List ℕ} {fails : Option Bool} {status : ℕ} → AllAnswered bytes fails InGave InEnded out err status
       → WritingFailed bytes fails InGave InEnded InFailed out
-  broke_at_end {bytes} h = elim h.read [
-    | inl (end, behind) ↦
-        broke_whole h bytes [] [] (sym (append-nil (bytes ++ []) ∙ append-nil bytes)) (inr (refl, inl (refl, end)))
-        (h.lines, h.part, h.split, omega arith) behind
+  broke_at_end {bytes} {out} {err} {fails} h = elim h.read [
+    | inl (end, behind) ↦ record {
+      before = bytes;
+      last = [];
+      rest = [];
+      lines = h.lines;
+      part = h.part;
+      first = lines_given fails h.lines h.part;
+      later = [];
+      bad = h.bad;
+      outcomes = h.outcomes;
+      front = sym (append-nil (bytes ++ []) ∙ append-nil bytes);
+      read = inr (refl, inl (refl, end));
+      split = subst (λ (zs : List ℕ). Splits zs h.lines h.part) (sym (append-nil bytes)) h.split;
+      lines_are = inr (refl, refl, end, sym (append-nil (lines_given fails h.lines h.part)));
+      prompt = fewer_yet {n = 1 + length h.lines} (omega (arith, whole_given fails h.lines h.part)) (h.lines, h.part, h.split, omega arith);
+      fresh = behind;
+      answers = h.answers;
+      replied = h.replied;
+    }
     | inr (before, last, rest, front, gave, behind, whole) ↦
-        broke_whole h before last rest front (inl gave) (fewer_in_front (last ++ rest) h.split (front ∙ append_assoc before last rest)) behind
+        broke_in_given bytes out fails h.lines h.part h.bad h.outcomes before last rest front gave behind whole h.split h.answers h.replied
   ]
 
   pub broke_at_failure : {bytes out err : List ℕ} {fails : Option Bool} {status : ℕ} → ReadingFailed bytes fails InGave InFailed out err status
@@ -345,41 +374,3 @@ module _ {S : Type 0} (takes fails_on : S → List ℕ → S → Type 0) (flushe
       let begins : Begins start (bytes ++ []) front =
       record { read = bytes; unread = []; place = now; bytes_are = refl; goes = goes } in
       (front, at_memory [] [] InGave InEnded all (inr (refl, refl, end)) begins (sym (append-nil bytes)), sent_still passed sent)
-
-pub Consumes-none : (known : Option (List ℕ)) → Consumes known known []
-Consumes-none None = tt
-Consumes-none (Some xs) = refl
-
-pub Consumes-append : (a b c : Option (List ℕ)) (xs ys : List ℕ) → Consumes a b xs → Consumes b c ys → Consumes a c (xs ++ ys)
-Consumes-append None b c xs ys g h = tt
-Consumes-append (Some hs) None c xs ys g h = absurd g
-Consumes-append (Some hs) (Some bs) None xs ys g h = absurd h
-Consumes-append (Some hs) (Some bs) (Some cs) xs ys g h = g ∙ ap (λ (zs : List ℕ). xs ++ zs) h ∙ sym (append_assoc xs ys cs)
-
--- where it is known what the source had, that is what it gave and what is left
-pub where_known : (first left : Option (List ℕ)) (given : List ℕ) (P : List ℕ → Type 0) → Consumes first left given
-    → ((bytes rest : List ℕ) → left ≡ Some rest → bytes ≡ given ++ rest → P bytes) → IfSome first P
-where_known None left given P consumed then = tt
-where_known (Some bytes) None given P consumed then = absurd consumed
-where_known (Some bytes) (Some rest) given P consumed then = then bytes rest refl consumed
-
--- no read
-pub reads_nothing : {R : Type 0} (gave : R → List ℕ → Result ℕ ReadError → R → Type 0) (s : R) → Reads gave s [] s
-reads_nothing gave s = record { attempts = []; calls = refl; whole = refl }
-
--- one read more
-pub reads_more : {R : Type 0} (gave : R → List ℕ → Result ℕ ReadError → R → Type 0) {s t : R} {bytes : List ℕ} (piece : List ℕ) (count : ℕ)
-    (u : R) → 0 < count → Reads gave s bytes t → gave t piece (Ok count) u → Reads gave s (bytes ++ take count piece) u
-reads_more gave {s} {t} piece count u some f one =
-    let a : Giving = record { piece = piece; count = count; some = some } in
-    record {
-      attempts = f.attempts ++ a ∷ [];
-      calls = folds_joined (λ x b y. gave x b.piece (Ok b.count) y) s f.attempts t (a ∷ []) u f.calls (u, one, refl);
-      whole = flat_map-append given_by f.attempts (a ∷ []) ∙ (λ i. f.whole i ++ append-nil (take count piece) i);
-    }
-
--- what all reads gave
-pub reads_all : {R : Type 0} (gave : R → List ℕ → Result ℕ ReadError → R → Type 0) {s t : R} {before last : List ℕ}
-    → ReadsTo gave s before last t → Reads gave s (before ++ last) t
-reads_all gave {s} (inl (none, also, same)) = rw (none, also, same) (reads_nothing gave s)
-reads_all gave {s} {t} (inr (mid, one, reads, told, is)) = rw is (reads_more gave one.piece one.count t one.some reads told)

@@ -1,4 +1,5 @@
 pub mod ReplayLaws
 mod InputLemmas
+mod ReadLemmas
 mod ReplyLemmas
 mod StretchLemmas

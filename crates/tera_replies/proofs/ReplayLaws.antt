@@ -1,6 +1,7 @@
 -- From how answering ended to the theorem, and from watched writers to the writers.
-use Rattle.std.proofs.Common.{◌≢◌, ℕ, Bool, inl, inr, List, [], ◌∷◌, Option, None, Some, Result, Ok, Err, IfSome, sym, ◌∙◌, ap, refl}
-use Rattle.std.specs.{declared.io.Error.Error, List.FoldsTo}
+use Rattle.std.proofs.Common.{◌≡◌, ◌≢◌, ℕ, Bool, inl, inr, List, [], ◌∷◌, ◌++◌, map, Option, None, Some, Result, Ok, Err, IfSome, sym, ◌∙◌, ap, refl}
+use Rattle.std.proofs.Common.{subst, append_assoc, append-nil}
+use Rattle.std.specs.{declared.io.Error.Error, List.FoldsTo, List.flat_map}
 use Rattle.tera_report.specs.Watch.{watched_writer, writer_loan, SameWriter, WatchedTakes, WatchedFails, WatchedFlushes, WatchedFlushFails}
 use Rattle.tera_report.specs.{Sink.Use, Sink.put, Sink.flush, Sink.Uses, Sink.Sends, Sink.Delivers, Sink.PutsThese, declared.watch.Watched.Watched}
 use Rattle.tera_report.proofs.SentLaws.{watched_sends}
@@ -8,8 +9,10 @@ use Rattle.tera_replies.specs.declared.fault.Fault.TheVariants.{BadLine, ReadFai
 use Rattle.tera_replies.specs.{Output.BrokeOn, Output.TakesOrFails, Output.WriterBroke, Output.WriterTakesOrFails}
 use Rattle.tera_replies.specs.{declared.fault.Fault.Fault, inner.Endings.Ends}
 use Rattle.tera_replies.specs.{inner.Endings.EndsFlushed, inner.Endings.told, inner.Endings.status_at, Replay.Replays, Replay.ReadEnough, Replay.Writes}
-use Rattle.tera_replies.specs.{Replay.WritingFailed, Script.BadLine as Bad}
-use Rattle.tera_replies.proofs.{InputLemmas.broke_at_end, InputLemmas.broke_at_failure, InputLemmas.broke_at_memory, ReplyLemmas.broke_on_flush}
+use Rattle.tera_replies.specs.{Replay.ReplaysGiven, Replay.WritingFailed, Script.BadLine as Bad}
+use Rattle.tera_replies.specs.{Replay.lines_given, Script.Splits, Script.ended, Script.without_return}
+use Rattle.tera_replies.proofs.{InputLemmas.broke_at_end, InputLemmas.broke_at_failure, InputLemmas.broke_at_memory, InputLemmas.first_given}
+use Rattle.tera_replies.proofs.{ReplyLemmas.broke_on_flush, StretchLemmas.splits, StretchLemmas.Splits-more}
 
 -- what was told was put, or putting it failed
 pub told_comes : {S E : Type 0} (takes fails : S → List ℕ → S → Type 0) (put : Result (Unit {0}) E) (text : List ℕ) (old new : S)
@@ -131,7 +134,7 @@ module _ {InGave InHad : List ℕ → List ℕ → Type 0} {InEnded InFailed InD
       | inr (none, inr (may, failed)) ↦ inr (none, inr (may, faulty h.before failed))
     ];
     split = h.split;
-    lines_are = h.lines_are;
+    lines_are = elim h.lines_are [ inl are ↦ inl are | inr (none, all, end, are) ↦ inr (none, all, done h.before end, are) ];
     prompt = h.prompt;
     fresh = h.fresh;
     answers = h.answers;
@@ -139,6 +142,19 @@ module _ {InGave InHad : List ℕ → List ℕ → Type 0} {InEnded InFailed InD
   }
 
 -- the theorem of what stands behind others
+pub replay_weaker : {bytes : List ℕ} {fails : Option Bool} {InGave InHad : List ℕ → List ℕ → Type 0}
+    {InEnded InFailed InDone InFaulty OutGets OutHas OutBroke OutFaulty ErrGets ErrHas : List ℕ → Type 0} {status : ℕ}
+    → ((before last : List ℕ) → InGave before last → InHad before last) → ((given : List ℕ) → InEnded given → InDone given)
+    → ((given : List ℕ) → InFailed given → InFaulty given)
+    → ((text : List ℕ) → OutGets text → OutHas text) → ((text : List ℕ) → OutBroke text → OutFaulty text) → ((text : List ℕ) → ErrGets text → ErrHas text)
+    → Replays bytes fails InGave InEnded InFailed OutGets OutBroke ErrGets status
+    → Replays bytes fails InHad InDone InFaulty OutHas OutFaulty ErrHas status
+replay_weaker had done faulty out broke err (inl (answers, report, writes, gets, told)) =
+    inl (answers, report, writes_weaker had done faulty writes, out answers gets, err report told)
+replay_weaker had done faulty out broke err (inr (due, failed, is_broken, is, told)) =
+    inr (due, broke_weaker had done faulty failed, broke due is_broken, is, err _ told)
+
+-- the same where the bytes are known
 pub replays_weaker : (first : Option (List ℕ)) (fails : Option Bool) (InGave InHad : List ℕ → List ℕ → Type 0)
     (InEnded InFailed InDone InFaulty OutGets OutHas OutBroke OutFaulty ErrGets ErrHas : List ℕ → Type 0) (status : ℕ)
     → ((before last : List ℕ) → InGave before last → InHad before last) → ((given : List ℕ) → InEnded given → InDone given)
@@ -149,10 +165,37 @@ pub replays_weaker : (first : Option (List ℕ)) (fails : Option Bool) (InGave I
 replays_weaker None fails InGave InHad InEnded InFailed InDone InFaulty OutGets OutHas OutBroke OutFaulty ErrGets ErrHas status had done faulty out broke err
     h = tt
 replays_weaker (Some bytes) fails InGave InHad InEnded InFailed InDone InFaulty OutGets OutHas OutBroke OutFaulty ErrGets ErrHas status had done faulty out
-    broke err (inl (answers, report, writes, gets, told)) =
-    inl (answers, report, writes_weaker had done faulty writes, out answers gets, err report told)
-replays_weaker (Some bytes) fails InGave InHad InEnded InFailed InDone InFaulty OutGets OutHas OutBroke OutFaulty ErrGets ErrHas status had done faulty out
-    broke err (inr (due, failed, is_broken, is, told)) = inr (due, broke_weaker had done faulty failed, broke due is_broken, is, err _ told)
+    broke err h = replay_weaker had done faulty out broke err h
+
+-- and where reads gave them
+pub given_weaker : (left later : Option (List ℕ)) (fails : Option Bool) (InGave : List ℕ → List ℕ → Type 0) (InEnded InFailed : List ℕ → Type 0)
+    (OutGets OutHas OutBroke OutFaulty ErrGets ErrHas : List ℕ → Type 0) (status : ℕ)
+    → ((text : List ℕ) → OutGets text → OutHas text) → ((text : List ℕ) → OutBroke text → OutFaulty text) → ((text : List ℕ) → ErrGets text → ErrHas text)
+    → ReplaysGiven left later fails InGave InEnded InFailed OutGets OutBroke ErrGets status
+    → ReplaysGiven left later fails InGave InEnded InFailed OutHas OutFaulty ErrHas status
+given_weaker left later fails InGave InEnded InFailed OutGets OutHas OutBroke OutFaulty ErrGets ErrHas status out broke err (given, consumed, were, replay) =
+    (given, consumed, were, replay_weaker (λ _ _ h. h) (λ _ h. h) (λ _ h. h) out broke err replay)
+
+-- the lines of which the first were to be answered are the first of all lines
+pub first_of_all : {bytes out : List ℕ} {fails : Option Bool} {InGave : List ℕ → List ℕ → Type 0} {InEnded InFailed : List ℕ → Type 0}
+    (h : WritingFailed bytes fails InGave InEnded InFailed out) → (lines : List (List ℕ)) × (part : List ℕ) × (later : List (List ℕ))
+    × Splits bytes lines part × (lines_given fails lines part ≡ h.first ++ later)
+first_of_all {bytes} {out} {fails} h = elim h.lines_are [
+  | inl are ↦
+      let (others, end, s) = splits (h.part ++ h.rest) in
+      let (more, among) = first_given fails h.lines others end in
+      let further = map without_return others ++ more in (
+        h.lines ++ others,
+        end,
+        h.later ++ further,
+        Splits-more h.lines others h.split.each s
+            (h.front ∙ ap (λ (zs : List ℕ). zs ++ h.rest) h.split.whole ∙ append_assoc (flat_map ended h.lines) h.part h.rest),
+        among ∙ ap (λ (zs : List (List ℕ)). zs ++ further) are ∙ append_assoc h.first h.later further,
+      )
+  | inr (none, all, end, are) ↦
+      let read : bytes ≡ h.before ++ h.last = h.front ∙ ap (λ (zs : List ℕ). (h.before ++ h.last) ++ zs) all ∙ append-nil (h.before ++ h.last) in
+      (h.lines, h.part, h.later, subst (λ (zs : List ℕ). Splits zs h.lines h.part) (sym read) h.split, are)
+]
 
 -- ---- watched writers
 

@@ -4,9 +4,11 @@ use Rattle.std.specs.Prelude.{Result, Ok, Err, MatchResult, IfOk, IfErr, Option,
 use Rattle.std.specs.Fmt.{debug_list, debug_str}
 use Rattle.tera_meaning.specs.{Printed.printed_with, Printed.is_exact_inside, Outcome.Outcome, Outcome.is_want, Tree.undefined, Tree.none, Kind.kind_name}
 use Rattle.tera_meaning.specs.{Meaning.layout, State.State, Form.Form}
-use Rattle.tera_report.specs.{Refusal.Refusal, Refusal.message, Refusal.stated, Refusal.text_of, Quoted.QuotesList, Quoted.quoted, declared.errors.Error.Error}
+use Rattle.tera_meaning.proofs.QuotedLaws.{inside_exact, inside_prints}
+use Rattle.tera_report.specs.{Refusal.Refusal, Refusal.message, Refusal.stated, Refusal.text_of, Quoted.quoted, declared.errors.Error.Error}
 use Rattle.tera_report.specs.Sink.{Puts, Sends}
-use Rattle.tera_report.proofs.{TellLaws.some_telling, TellLaws.told_known, TellLaws.telling_stated, PutLaws.some_text}
+use Rattle.tera_report.proofs.{TellLaws.some_telling, TellLaws.told_known, TellLaws.telling_stated}
+use Rattle.tera_report.proofs.QuoteLaws.{some_list, list_known}
 use Rattle.tera_report.proofs.SentLaws.{sends_nothing, sends_put, sends_joined}
 use Rattle.tera_replies.specs.declared.fault.Fault.TheVariants.{BadLine, ReadFailed, WriteFailed, OutOfMemory}
 use Rattle.tera_replies.specs.{Reply.IsFormOf, Reply.IsListed, Reply.IsReply, Reply.IsFixedReply, Reply.order_name, declared.fault.Fault.Fault, Output.BrokeOn}
@@ -87,15 +89,12 @@ module _ {S E : Type 0} (takes fails : S → List ℕ → S → Type 0) (flushes
 pub some_form : (v : Form) → (form : List ℕ) × IsFormOf v form
 some_form undefined = (codes "undefined", refl)
 some_form none = (codes "none", refl)
-some_form v = (printed_with quoted (layout v), λ exact. refl)
+some_form v = (printed_with quoted (layout v), inside_prints (layout v))
 
 one_text : (known : Option (List ℕ)) (words other : List ℕ) → IsSome known → IfSome known (λ t. words ≡ t)
     → IfSome known (λ t. other ≡ t) → words ≡ other
 one_text None words other fixed h g = absurd (cc)
 one_text (Some t) words other fixed h g = h ∙ sym g
-
-pub some_list : (texts : List (List ℕ)) → (listed : List ℕ) × QuotesList texts listed
-some_list texts = some_text (debug_list debug_str texts)
 
 pub some_reply : (outcome : Outcome) → (line : List ℕ) × IsReply outcome line
 some_reply (Ok Answer.done) = (codes "ok", refl)
@@ -115,12 +114,13 @@ some_reply (Err refusal) = let told = some_telling refusal in (codes "error: " +
 one_form : (v : Form) (form other : List ℕ) → IsTrue (is_exact_inside (layout v)) → IsFormOf v form → IsFormOf v other → form ≡ other
 one_form undefined form other exact h g = h ∙ sym g
 one_form none form other exact h g = h ∙ sym g
-one_form v form other exact h g = h exact ∙ sym (g exact)
+one_form v form other exact h g = inside_exact (layout v) form exact h ∙ sym (inside_exact (layout v) other exact g)
 
 one_listed : (word : List ℕ) (texts : List (List ℕ)) (line other : List ℕ) → IsSome (debug_list debug_str texts) → IsListed word texts line
     → IsListed word texts other → line ≡ other
-one_listed word texts line other fixed h g = h.2 ∙ ap (λ (listed : List ℕ). word ++ listed) (one_text (debug_list debug_str texts) h.0 g.0 fixed h.1 g.1)
-    ∙ sym g.2
+one_listed word texts line other fixed h g =
+    let same = one_text (debug_list debug_str texts) h.0 g.0 fixed (list_known texts h.0 h.1) (list_known texts g.0 g.1) in
+    h.2 ∙ ap (λ (listed : List ℕ). word ++ listed) same ∙ sym g.2
 
 pub one_reply : (outcome : Outcome) (line other : List ℕ) → IsFixedReply outcome → IsReply outcome line → IsReply outcome other → line ≡ other
 one_reply (Ok (Answer.truth true)) line other fixed h g = h ∙ sym g

@@ -1,6 +1,6 @@
 -- Bytes as lines, what lines say, and one run and one stretch of a script after another.
 use Rattle.std.proofs.Common.{◌≡◌, ◌≢◌, ℕ, ◌+◌, List, [], ◌∷◌, ◌++◌, All, Option, length, sym, ◌∙◌, ap, refl, append_assoc, append-nil, length-append, inl, inr}
-use Rattle.std.proofs.Common.{arith, Bool, false, ◌||◌, None, subst}
+use Rattle.std.proofs.Common.{arith, Bool, false, ◌||◌, ◌<◌, ◌≤◌, None, Some, subst}
 use Rattle.std.proofs.lemmas.List.Elements.{All-append, All-cons, All-nil, All-head, All-tail, All-get_or}
 use Rattle.std.proofs.{lemmas.List.get_or_at, lemmas.List.length-map, lemmas.List.map-append, lemmas.List.Concat.flat_map-append}
 use Rattle.std.proofs.{lemmas.List.Folds.list_any-append, lemmas.Bool.cases_eq}
@@ -128,6 +128,23 @@ Script-append n (x ∷ xs) ys cs ds bad (inl (skip, h)) m e g = inl (skip, Scrip
 Script-append n (x ∷ xs) ys cs ds bad (inr (inl (first, later, says, is, h))) m e g =
     inr (inl (first, later ++ ds, says, rw is, Script-append (n + 1) xs ys later ds bad h m (omega arith) g))
 Script-append n (x ∷ xs) ys cs ds bad (inr (inr (wrong, ends, at))) m e g = absurd (cc at)
+
+-- a bad line bears no number below the first one
+Script-from : (n : ℕ) (lines : List (List ℕ)) (cs : List Command) (bad : Bad) → Script n lines cs (Some bad) → n ≤ bad.number
+Script-from n [] cs bad (none, no_bad) = absurd (cc no_bad)
+Script-from n (line ∷ lines) cs bad (inl (skip, h)) = omega (arith, Script-from (n + 1) lines cs bad h)
+Script-from n (line ∷ lines) cs bad (inr (inl (first, later, says, is, h))) = omega (arith, Script-from (n + 1) lines later bad h)
+Script-from n (line ∷ lines) cs bad (inr (inr (wrong, ends, at))) =
+    let same : bad ≡ record { number = n; line = line } = cc in omega (arith, ap (λ (b : Bad). b.number) same)
+
+-- what lines say up to a bad one that is among the first of them is what these say
+pub Script-front : (n : ℕ) (xs ys : List (List ℕ)) (cs : List Command) (bad : Bad) → Script n (xs ++ ys) cs (Some bad) → bad.number < n + length xs
+    → Script n xs cs (Some bad)
+Script-front n [] ys cs bad h within = absurd (omega (arith, Script-from n ys cs bad h, within))
+Script-front n (x ∷ xs) ys cs bad (inl (skip, h)) within = inl (skip, Script-front (n + 1) xs ys cs bad h (omega (arith, within)))
+Script-front n (x ∷ xs) ys cs bad (inr (inl (first, later, says, is, h))) within =
+    inr (inl (first, later, says, is, Script-front (n + 1) xs ys later bad h (omega (arith, within))))
+Script-front n (x ∷ xs) ys cs bad (inr (inr (wrong, ends, at))) within = inr (inr (wrong, ends, at))
 
 pub or_false : (a : Bool) → a ≡ (a || false)
 or_false a = grind arith

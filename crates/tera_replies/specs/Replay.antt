@@ -5,6 +5,7 @@ use Rattle.std.specs.Prelude.{if◌then◌else◌}
 use Rattle.std.specs.List.{list_any}
 use Rattle.std.specs.FinMap.{empty}
 use Rattle.std.specs.Str.{chars, is_utf8}
+use Rattle.std.specs.Io.KnownBytes.{Consumes}
 use Rattle.tera_report.specs.declared.span.Span.{Span}
 use Rattle.tera_meaning.specs.State.{State}
 use Rattle.tera_meaning.specs.Outcome.{Outcome, is_want}
@@ -153,8 +154,9 @@ pub record MemoryFailed (bytes : List ℕ) (InGave : List ℕ → List ℕ → T
   pub err_is : err ≡ codes "error: Out of memory\n"
   pub status_is : status ≡ 1
 
--- The output was to get these replies, to the first of the lines, and broke. Each line that was
--- whole before the last read is among these, and was not bad.
+-- The output was to get these replies, and broke. They are to the first of the lines that were
+-- given whole or, where the end was told, of all lines. Each line that was whole before the last
+-- read is among these, and was not bad.
 pub record WritingFailed (bytes : List ℕ) (fails : Option Bool)
     (InGave : List ℕ → List ℕ → Type 0) (InEnded InFailed : List ℕ → Type 0) (out : List ℕ)
     : Type 0 where
@@ -171,8 +173,10 @@ pub record WritingFailed (bytes : List ℕ) (fails : Option Bool)
   pub read : InGave before last
       ⊎ ((last ≡ [])
       × (((rest ≡ []) × InEnded before) ⊎ (MayErr fails (Some rest) × InFailed before)))
-  pub split : Splits bytes lines part
-  pub lines_are : lines_given fails lines part ≡ first ++ later
+  pub split : Splits (before ++ last) lines part
+  pub lines_are : (map without_return lines ≡ first ++ later)
+      ⊎ ((last ≡ []) × (rest ≡ []) × InEnded before
+      × (lines_given fails lines part ≡ first ++ later))
   pub prompt : HoldFewer before (1 + length first)
   pub fresh : IsBehind before bad
   pub answers : AreAnswered first bad outcomes
@@ -196,3 +200,19 @@ Replays bytes fails InGave InEnded InFailed OutGets OutBroke ErrGets status =
     × OutGets out × ErrGets err)
     ⊎ ((out : List ℕ) × WritingFailed bytes fails InGave InEnded InFailed out × OutBroke out
     × (status ≡ 1) × ErrGets (codes "error: writing failed\n"))
+
+-- reads gave just these bytes, or these and then an end or an error, and no other read was made
+abbrev pub WereGiven : (List ℕ → List ℕ → Type 0) → (List ℕ → Type 0) → (List ℕ → Type 0)
+    → List ℕ → Type 0
+WereGiven InGave InEnded InFailed given =
+    ((before : List ℕ) × (last : List ℕ) × (given ≡ before ++ last) × InGave before last)
+    ⊎ (InEnded given ⊎ InFailed given)
+
+-- Of any source: reads gave just these bytes, which are the first of what it had, where that is
+-- known, and the program is done with them. Nothing is supposed of the source.
+abbrev pub ReplaysGiven : Option (List ℕ) → Option (List ℕ) → Option Bool
+    → (List ℕ → List ℕ → Type 0) → (List ℕ → Type 0) → (List ℕ → Type 0) → (List ℕ → Type 0)
+    → (List ℕ → Type 0) → (List ℕ → Type 0) → ℕ → Type 0
+ReplaysGiven left later fails InGave InEnded InFailed OutGets OutBroke ErrGets status =
+    (given : List ℕ) × Consumes left later given × WereGiven InGave InEnded InFailed given
+    × Replays given fails InGave InEnded InFailed OutGets OutBroke ErrGets status

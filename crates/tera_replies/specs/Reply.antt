@@ -12,7 +12,8 @@ use Rattle.tera_meaning.specs.Form.{Form}
 use Rattle.tera_meaning.specs.Kind.{kind_name}
 use Rattle.tera_meaning.specs.Meaning.{layout}
 use Rattle.tera_meaning.specs.Outcome.{Outcome}
-use Rattle.tera_meaning.specs.Printed.{is_exact_inside, PrintsInside}
+use Rattle.tera_meaning.specs.Printed.{is_exact_inside}
+use Rattle.tera_meaning.specs.Quoted.{PrintsInside}
 use Rattle.tera_meaning.specs.Tree.{undefined, none, truth, number, text, bytes, array, object}
 use Rattle.tera_context.specs.Lent.{LentForm, StandsFor}
 use Rattle.tera_replies.specs.Script.{ended}

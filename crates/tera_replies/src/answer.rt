@@ -9,7 +9,7 @@ ghost use Rattle.tera_report.specs.Sink.{Puts, PutsThese, Sends};
 ghost use Rattle.tera_meaning.specs.Answer.{found};
 ghost use Rattle.tera_meaning.specs.Meaning.{layout};
 ghost use Rattle.tera_meaning.specs.Outcome.{is_want};
-ghost use Rattle.tera_meaning.specs.Printed.{Prints};
+ghost use Rattle.tera_meaning.specs.Quoted.{Prints};
 ghost use Rattle.tera_context.specs.Call.{answer_of};
 ghost use Rattle.tera_context.specs.Lent.{lent_form, printed};
 ghost use Rattle.tera_replies.specs.Output.{BrokeOn};

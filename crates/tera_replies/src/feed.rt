@@ -33,6 +33,7 @@ use tera_report::sink::Sink;
 use tera_report::words::characters;
 use tera_report::{ReportError, Span};
 use tera_script::{Reading, look_up_of, read_line};
+use tera_values::HashState;
 
 /// What a replay keeps between two pieces of its script.
 #[derive(Drop)]
@@ -49,14 +50,15 @@ pub(crate) struct Feed {
 impl Feed {
     ghost use Rattle.tera_replies.specs.inner.Place.{place_of};
 
-    /// Before the first byte. Takes no memory.
-    pub fn new(alloc: Global) -> Feed
+    /// Before the first byte; names and the keys of maps are hashed under the state. Takes no
+    /// memory.
+    pub fn new(alloc: Global, state: HashState) -> Feed
         ensures { place_of result ≡ start }
     {
         Feed {
             number: 1,
             part: Vec::new(alloc),
-            context: Context::new(alloc),
+            context: Context::with_hasher(alloc, state),
             wanted_memory: false,
         }
     }
@@ -216,7 +218,7 @@ fn answer_read_line<W: Sink>(
     ensures skipped { IsSkipped line.now → IsOk result }
     ensures unchanged { IfErr result (λ fault. fault ≢ WriteFailed → context.new ≡ context.old) }
 {
-    match read_line(alloc, line)? {
+    match read_line(alloc, context.hasher(), line)? {
         Reading::Skipped => Ok(false),
         Reading::Bad => Err(bad_line_fault(alloc, number, line)),
         Reading::Says(call) => answer_call(call, context, out),

@@ -4,6 +4,7 @@
 mod answer;
 mod fault;
 mod feed;
+pub mod given;
 pub mod laws;
 mod replays;
 mod source;

@@ -6,12 +6,12 @@ ghost use Rattle.tera_replies.specs.Output.{BrokeOn, Ended, Failed, Gave, TakesO
 ghost use Rattle.tera_replies.specs.Output.{WriterBroke, WriterGets, WriterTakesOrFails};
 ghost use Rattle.tera_report.specs.Errors.{report_of};
 ghost use Rattle.tera_report.specs.Report.{report_text};
-ghost use Rattle.tera_replies.specs.Replay.{Replays};
+ghost use Rattle.tera_replies.specs.Replay.{Replays, ReplaysGiven};
 ghost use Rattle.tera_replies.specs.Script.{ended};
 ghost use Rattle.tera_replies.specs.Source.{ReadEnds, ReadFails, ReadsTo};
 ghost use Rattle.tera_replies.specs.inner.Place.{place_of};
 ghost use Rattle.tera_replies.specs.inner.Stretches.{start};
-ghost use Rattle.tera_replies.specs.inner.Endings.{Ends, EndsFlushed, status_at, told};
+ghost use Rattle.tera_replies.specs.inner.Endings.{Ends, EndsFlushed, EndsGiven, status_at, told};
 
 use crate::fault::{Fault, WriteError, put, written};
 use crate::feed::Feed;
@@ -21,6 +21,7 @@ use std::alloc::Global;
 use tera_report::ReportError;
 use tera_report::sink::Sink;
 use tera_report::watch::{Watched, Writer};
+use tera_values::HashState;
 
 /// How much is read at once.
 const PIECE: usize = 8192;
@@ -38,10 +39,13 @@ const PIECE: usize = 8192;
 ///   interrupted is tried again.
 /// - `error: Out of memory` where the replay itself finds none.
 ///
+/// Names and the keys of maps are hashed under the state. No answer hangs on it.
+///
 /// Takes memory for the line at hand, for what the names hold, for one answer or the text of its
 /// refusal, and for the report of a bad line.
 pub fn replay<S: Source + Drop, W: Writer, E: Writer>(
     alloc: Global,
+    state: HashState,
     mut input: S,
     out: &mut W,
     err: &mut E,
@@ -51,18 +55,26 @@ pub fn replay<S: Source + Drop, W: Writer, E: Writer>(
         (λ text. WriterGets W.contents W.wrote W.flushed out.old text out.new)
         (λ text. WriterBroke W.wrote W.flushed out.old text out.new)
         (λ text. WriterTakesOrFails E.contents E.wrote err.old text err.new) result) }
+    ensures given { (last : S) × ReplaysGiven (S.left input) (S.left last) (S.fails input)
+        (λ before piece. ReadsTo S.gave input before piece last)
+        (λ given. ReadEnds S.gave input given last)
+        (λ given. ReadFails S.gave input given last)
+        (λ text. WriterGets W.contents W.wrote W.flushed out.old text out.new)
+        (λ text. WriterBroke W.wrote W.flushed out.old text out.new)
+        (λ text. WriterTakesOrFails E.contents E.wrote err.old text err.new) result }
     ensures status { result ≤ 2 }
     ensures silent { result ≡ 0 → err.new ≡ err.old }
 {
     let mut watched_out = Watched::new(out);
     let mut watched_err = Watched::new(err);
-    replay_from(alloc, &mut input, &mut watched_out, &mut watched_err)
+    replay_from(alloc, state, &mut input, &mut watched_out, &mut watched_err)
 }
 
 /// Answers the script that a source gives, as `replay` does that of a reader; answers and reports
 /// go to any sinks.
 pub fn replay_from<S: Source, W: Sink, E: Sink>(
     alloc: Global,
+    state: HashState,
     input: &mut S,
     out: &mut W,
     err: &mut E,
@@ -74,10 +86,17 @@ pub fn replay_from<S: Source, W: Sink, E: Sink>(
         (λ text. Delivers W.takes W.flushes out.old text out.new)
         (λ text. BrokeOn W.takes W.fails W.flushes W.flush_fails out.old text out.new)
         (λ text. TakesOrFails E.takes E.fails err.old text err.new) result) }
+    ensures given { ReplaysGiven (S.left input.old) (S.left input.new) (S.fails input.old)
+        (λ before last. ReadsTo S.gave input.old before last input.new)
+        (λ given. ReadEnds S.gave input.old given input.new)
+        (λ given. ReadFails S.gave input.old given input.new)
+        (λ text. Delivers W.takes W.flushes out.old text out.new)
+        (λ text. BrokeOn W.takes W.fails W.flushes W.flush_fails out.old text out.new)
+        (λ text. TakesOrFails E.takes E.fails err.old text err.new) result }
     ensures status { result ≤ 2 }
     ensures silent { result ≡ 0 → err.new ≡ err.old }
 {
-    let ending = answer_to_end(alloc, input, out);
+    let ending = answer_to_end(alloc, state, input, out);
     end_by(&ending, err)
 }
 
@@ -85,18 +104,26 @@ pub fn replay_from<S: Source, W: Sink, E: Sink>(
 #[inline(always)]
 fn answer_to_end<S: Source, W: Sink>(
     alloc: Global,
+    state: HashState,
     input: &mut S,
     out: &mut W,
 ) -> Result<bool, Fault>
-    ensures { IfSome (S.left input.old) (λ bytes. Replays bytes (S.fails input.old)
+    ensures known { IfSome (S.left input.old) (λ bytes. Replays bytes (S.fails input.old)
         (λ before last. ReadsTo S.gave input.old before last input.new)
         (λ given. ReadEnds S.gave input.old given input.new)
         (λ given. ReadFails S.gave input.old given input.new)
         (λ text. Delivers W.takes W.flushes out.old text out.new)
         (λ text. BrokeOn W.takes W.fails W.flushes W.flush_fails out.old text out.new)
         (λ text. text ≡ told result) (status_at result)) }
+    ensures given { ReplaysGiven (S.left input.old) (S.left input.new) (S.fails input.old)
+        (λ before last. ReadsTo S.gave input.old before last input.new)
+        (λ given. ReadEnds S.gave input.old given input.new)
+        (λ given. ReadFails S.gave input.old given input.new)
+        (λ text. Delivers W.takes W.flushes out.old text out.new)
+        (λ text. BrokeOn W.takes W.fails W.flushes W.flush_fails out.old text out.new)
+        (λ text. text ≡ told result) (status_at result) }
 {
-    let answered = answer_all(alloc, input, out);
+    let answered = answer_all(alloc, state, input, out);
     flush_last(answered, out)
 }
 
@@ -113,15 +140,26 @@ fn end_by<E: Sink>(ending: &Result<bool, Fault>, err: &mut E) -> u8
 }
 
 // Answers line after line, and says whether an answer was want of memory.
-fn answer_all<S: Source, W: Sink>(alloc: Global, input: &mut S, out: &mut W) -> Result<bool, Fault>
-    ensures { IfSome (S.left input.old) (λ bytes. Ends bytes (S.fails input.old)
+fn answer_all<S: Source, W: Sink>(
+    alloc: Global,
+    state: HashState,
+    input: &mut S,
+    out: &mut W,
+) -> Result<bool, Fault>
+    ensures known { IfSome (S.left input.old) (λ bytes. Ends bytes (S.fails input.old)
         (λ before last. ReadsTo S.gave input.old before last input.new)
         (λ given. ReadEnds S.gave input.old given input.new)
         (λ given. ReadFails S.gave input.old given input.new)
         (λ text. Sends W.takes W.flushes out.old text out.new)
         (λ text. BrokeOn W.takes W.fails W.flushes W.flush_fails out.old text out.new) result) }
+    ensures given { EndsGiven (S.left input.old) (S.left input.new) (S.fails input.old)
+        (λ before last. ReadsTo S.gave input.old before last input.new)
+        (λ given. ReadEnds S.gave input.old given input.new)
+        (λ given. ReadFails S.gave input.old given input.new)
+        (λ text. Sends W.takes W.flushes out.old text out.new)
+        (λ text. BrokeOn W.takes W.fails W.flushes W.flush_fails out.old text out.new) result }
 {
-    let mut feed = Feed::new(alloc);
+    let mut feed = Feed::new(alloc, state);
     answer_pieces(alloc, &mut feed, input, out)
 }
 
@@ -134,12 +172,18 @@ fn answer_pieces<S: Source, W: Sink>(
     out: &mut W,
 ) -> Result<bool, Fault>
     requires { place_of feed.old ≡ start }
-    ensures { IfSome (S.left input.old) (λ bytes. Ends bytes (S.fails input.old)
+    ensures known { IfSome (S.left input.old) (λ bytes. Ends bytes (S.fails input.old)
         (λ before last. ReadsTo S.gave input.old before last input.new)
         (λ given. ReadEnds S.gave input.old given input.new)
         (λ given. ReadFails S.gave input.old given input.new)
         (λ text. Sends W.takes W.flushes out.old text out.new)
         (λ text. BrokeOn W.takes W.fails W.flushes W.flush_fails out.old text out.new) result) }
+    ensures given { EndsGiven (S.left input.old) (S.left input.new) (S.fails input.old)
+        (λ before last. ReadsTo S.gave input.old before last input.new)
+        (λ given. ReadEnds S.gave input.old given input.new)
+        (λ given. ReadFails S.gave input.old given input.new)
+        (λ text. Sends W.takes W.flushes out.old text out.new)
+        (λ text. BrokeOn W.takes W.fails W.flushes W.flush_fails out.old text out.new) result }
 {
     let mut piece = [0; PIECE];
     'pieces: for _turn in 0..u64::MAX {

@@ -1,6 +1,7 @@
 -- How answering ended, and what is told of it.
 use Rattle.std.specs.Prelude.{◌≡◌, ◌≢◌, ℕ, ◌⊎◌, Bool, List, [], codes, Option, Result, Ok, Err}
 use Rattle.std.specs.Prelude.{if◌then◌else◌, ⊤}
+use Rattle.std.specs.Io.KnownBytes.{Consumes}
 use Rattle.tera_meaning.specs.Outcome.{Outcome, is_want}
 use Rattle.tera_meaning.specs.Request.{Command}
 use Rattle.tera_meaning.specs.State.{State}
@@ -11,7 +12,7 @@ use Rattle.tera_replies.specs.declared.fault.Fault.{Fault}
 use Rattle.tera_replies.specs.declared.fault.Fault.TheVariants.{BadLine, ReadFailed, WriteFailed}
 use Rattle.tera_replies.specs.declared.fault.Fault.TheVariants.{OutOfMemory}
 use Rattle.tera_replies.specs.Replay.{AllAnswered, ReadingFailed, MemoryFailed, WritingFailed}
-use Rattle.tera_replies.specs.Replay.{line_report}
+use Rattle.tera_replies.specs.Replay.{WereGiven, line_report}
 use Rattle.tera_replies.specs.Reply.{IsReplyLine}
 use Rattle.tera_replies.specs.Script.{ended}
 use Rattle.tera_replies.specs.Stretch.{bad_at}
@@ -55,6 +56,14 @@ Ends bytes fails InGave InEnded InFailed OutGets OutBroke (Err WriteFailed) =
 Ends bytes fails InGave InEnded InFailed OutGets OutBroke (Err OutOfMemory) =
     (out : List ℕ) × MemoryFailed bytes InGave InEnded out (codes "error: Out of memory\n") 1
     × OutGets out
+
+-- the same of any source, whose reads gave the bytes
+abbrev pub EndsGiven : Option (List ℕ) → Option (List ℕ) → Option Bool
+    → (List ℕ → List ℕ → Type 0) → (List ℕ → Type 0) → (List ℕ → Type 0) → (List ℕ → Type 0)
+    → (List ℕ → Type 0) → Result Bool Fault → Type 0
+EndsGiven left later fails InGave InEnded InFailed OutGets OutBroke result =
+    (given : List ℕ) × Consumes left later given × WereGiven InGave InEnded InFailed given
+    × Ends given fails InGave InEnded InFailed OutGets OutBroke result
 
 -- a last flush went well and left the ending as it was, or it failed; there is none where writing
 -- has failed

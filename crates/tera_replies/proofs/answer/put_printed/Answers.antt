@@ -3,7 +3,8 @@ use Rattle.std.proofs.Common.{ℕ, List, rules, refl, sym, append_assoc, ◌++�
 use Rattle.std.proofs.lemmas.Result.{MatchResult-weaker}
 use Rattle.tera_context.specs.Lent.{printed}
 use Rattle.tera_meaning.specs.Answer
-use Rattle.tera_meaning.specs.{Form.Form, Meaning.layout, Printed.Prints}
+use Rattle.tera_meaning.specs.{Form.Form, Meaning.layout, Quoted.Prints}
+use Rattle.tera_meaning.proofs.QuotedLaws.{alone_prints}
 use Rattle.tera_meaning.specs.Printed as prints
 use Rattle.tera_report.specs.Sink.{OfSome}
 use Rattle.tera_replies.specs.{Reply.IsLentLine, Script.ended}
@@ -20,7 +21,7 @@ returns-in_err-put g c =
     let failed = g.met.W.Sink.failed_early _ (codes "text ") _ (ended text) c.in_err-put.ensures in
     let bad : OfSome g.W.Sink.fails (IsLentLine (printed v)) c.args.out.now c.put.new.out = (
       codes "text " ++ ended text,
-      (Ok (Answer.text text), (text, (λ exact. refl), refl), (codes "text " ++ text, refl, sym (append_assoc (codes "text ") text (codes "\n")))),
+      (Ok (Answer.text text), (text, alone_prints (layout v), refl), (codes "text " ++ text, refl, sym (append_assoc (codes "text ") text (codes "\n")))),
       failed,
     ) in
     search rules

@@ -4,7 +4,7 @@ use Rattle.std.proofs.lemmas.Result.{MatchResult-weaker}
 use Rattle.std.specs.String.{string_bytes}
 use Rattle.tera_report.specs.Sink.{OfSome}
 use Rattle.tera_replies.specs.{Reply.IsListedLine, Script.ended}
-use Rattle.tera_replies.proofs.ReplyLemmas.{some_list}
+use Rattle.tera_report.proofs.QuoteLaws.{some_list}
 use Rattle.tera_replies.proofs.answer.put_texts.Goals as goal
 
 pub returns-in_err-put : goal.returns-in_err-put

@@ -16,7 +16,7 @@ answers_stated old new command answer steps reply (text, is_reply, ended_is) =
 
 pub returns : goal.returns
 returns g c =
-    let so = answers_stated c.args.context.now c.step-answer.new.context (command_of c.args.call) c.step-answer.result c.step-answer.ensures in
+    let so = answers_stated c.args.context.now c.step-answer.new.context (command_of c.args.call) c.step-answer.result c.step-answer.ensures.outcome in
     let a = answers_so c.write_answer-answered.result _ _ _ (AnswersCall (command_of c.args.call) c.args.context.now c.step-answer.new.context) _ so
     c.write_answer-answered.ensures.ok c.write_answer-answered.ensures.err in
     record { ok = a.ok; err = a.err }

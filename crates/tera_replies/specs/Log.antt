@@ -1,0 +1,8 @@
+-- A source whose state is the log of what its reads gave.
+use Rattle.std.specs.Prelude.{◌≡◌, ℕ, List, ◌++◌, take, Result, MatchResult}
+use Rattle.tera_replies.specs.declared.source.ReadError.{ReadError}
+
+-- a read puts what it gave behind the log, and one that failed nothing
+abbrev pub logs : List ℕ → List ℕ → Result ℕ ReadError → List ℕ → Type 0
+logs old piece answer new =
+    MatchResult answer (λ count. new ≡ old ++ take count piece) (λ fault. new ≡ old)
