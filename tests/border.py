@@ -2,10 +2,12 @@
 """The library for C, C++, Python and Rust (docs/BORDER.md), as ./bindings/build makes it.
 
 - tests/rooms.c and the examples compile without a warning as C and as C++, and run under valgrind with no error and no leak
+- tests/stack.c calls on 64 levels of arrays and maps, on threads with as little stack as the header names
+- keys and names made to collide, in a session under a seed (tests/flood.py), and a script under several seeds
 - a session, a script and an escaped text with each request for memory refused, and with all of them from one on: nothing is
   held at the end, and the session goes on as the second implementation says
-- lines of tests/fuzz.py, good and bad ones, in one session of the Python module, answered as by the second implementation;
-  sessions on four threads; the module's examples
+- lines of tests/fuzz.py, good and bad ones, with each end of line and with line feeds inside, in one session of the Python
+  module, answered as by the second implementation; sessions on four threads; the module's examples
 - the tests of the Rust crate, where there is a `cargo`
 - the examples of README.md, by the commands that stand there
 
@@ -27,6 +29,7 @@ import threading
 sys.dont_write_bytecode = True  # no folder beside this file
 TOP = os.path.dirname(os.path.dirname(os.path.abspath(__file__)))
 sys.path[:0] = [os.path.join(TOP, "bindings/python"), os.path.join(TOP, "tests")]
+import flood
 import fuzz
 import refused
 import second
@@ -36,6 +39,8 @@ ARCHIVE = f"{TOP}/crates/tera_c/out/libtera_c.a"
 STRICT = ["-Wall", "-Wextra", "-Werror", "-pedantic", f"-I{TOP}/out"]
 LANGUAGES = {"C": ["cc", "-std=c11", "-x", "c"], "C++": ["c++", "-std=c++17", "-x", "c++"]}
 EVERY = 2**32 - 1
+# what stands behind a line that a session is given: a carriage return alone is a part of it
+ENDS = b"", b"", b"", b"\n", b"\n", b"\r\n", b"\r\n", b"\r"
 EXTEND = 'extend {"t": "another text, longer than twenty bytes", "n2": [2, s"x"], "n1": [1, s"x"]}'
 # where Debian's package of a command has another name
 PACKAGES = {"c++": "g++", "cc": "gcc"}
@@ -92,6 +97,32 @@ def in_c(folder):
         say(is_clean(program) == b'ok\nvalue "A & B"\n', f"the example of a session, in {language}, with no error and no leak")
 
 
+# ---- small stacks
+
+
+def on_small_stacks(folder):
+    program = f"{folder}/stack"
+    for language in LANGUAGES:
+        say(compiled(language, "tests/stack.c", program), f"calls on small stacks compile as {language} without a warning")
+        say(ran(program).returncode == 0, f"every call on 64 levels, in {language}, on a thread with the stack that tera.h names")
+
+
+# ---- seeds
+
+
+def under_seeds(folder):
+    program = f"{folder}/flood"
+    say(compiled("C", "tests/flood.c", program), "a session under a seed compiles as C without a warning")
+    for holds, row in flood.rows(program, "a session"):
+        say(holds, row)
+    script = "".join(f"set n{number % 40} {{{pairs(number)}}}\nwalk n{number % 40}\n" for number in range(60)).encode()
+    say(len({tera.replay(script) for _ in range(8)}) == 1, "a script answers the same under eight seeds")
+
+
+def pairs(number):
+    return ", ".join(f'"key {place * number % 101}": {place}' for place in range(number))
+
+
 # ---- memory that is refused
 
 
@@ -116,14 +147,29 @@ def call(library, name, *words):
     return status, room.raw[: told.value]
 
 
-def answer(names, line):
-    """What the second implementation says of a line over these names, which it changes: the status, and the reply."""
+def broken(first):
+    """What is reported of a line feed inside a line, where this stands before it."""
+    try:
+        text = first.decode()
+    except UnicodeDecodeError:
+        text = ""
+    under = "".join("\t" if it == "\t" else " " for it in text)
+    return (f"error: bad line: a line feed stands inside it\n --> line 1:1:{len(text) + 1}\n  |\n1 | {text}\n  | {under}^\n").encode()
+
+
+def answer(names, given):
+    """What the second implementation says of what is given as a line over these names, which it changes: the status, and the
+    reply."""
+    line = given[:-1].removesuffix(b"\r") if given.endswith(b"\n") else given
+    first, feed, _ = line.partition(b"\n")
+    if feed:
+        return tera.BAD, broken(first)
     if second.is_skipped(line):
         return tera.DONE, b""
     try:
         return tera.DONE, second.step(names, line.decode()).encode() + b"\n"
     except (second.BadLine, UnicodeDecodeError):
-        return tera.BAD, second.report(1, line).removesuffix(b"\n")
+        return tera.BAD, second.report(1, line)
 
 
 def after(states, line, status, reply):
@@ -175,7 +221,7 @@ def in_turn(library, run, last):
 def in_a_session(library, last):
     """Each line of every call again and again, with its first, second, .. request refused."""
     calls = [EXTEND if it.startswith("extend") else it for it in refused.every_call()]
-    lines = [*(it.encode() for it in refused.with_questions(calls)), b"frob", b"# says nothing", b"\xff", b"get l"]
+    lines = [*(it.encode() for it in refused.with_questions(calls)), b"frob", b"# says nothing", b"\xff", b"get l\r\n", b"# hides\nset l 1"]
     session = Session(library)
     runs = [session.opens, *(lambda it=it: session.takes(it) for it in lines)]
     counts = [in_turn(library, run, last) for run in runs]
@@ -197,7 +243,7 @@ def replays(library):
         told.append(ctypes.c_size_t())
     status = library.tera_replay(script, len(script), rooms[0], 4096, told[0], rooms[1], 4096, told[1])
     answers, report = (room.raw[: it.value] for room, it in zip(rooms, told))
-    whole, want = second.run(script)[0], refused.WANT.encode() + b"\n"
+    whole, want = second.replay(script)[0], refused.WANT.encode() + b"\n"
     holds = status == tera.DONE and (answers, report) == (whole, b"")
     if status == tera.WANTED and report == b"":
         holds = answers in (want + b"nothing\n", b"ok\n" + want, want + want)
@@ -222,12 +268,19 @@ def in_want(folder):
 
 
 def good_and_bad(count):
-    """Lines that tests/fuzz.py makes, of which every tenth may be bad."""
-    maker, lines = fuzz.Maker(random.Random(7), True), []
+    """Lines that tests/fuzz.py makes, of which every tenth may be bad: as they are, with either end of line, with a carriage
+    return, and some with a line feed inside."""
+    maker, lines = fuzz.Maker(random.Random(7)), []
     maker.names = {}
     while len(lines) < count:
         lines += [maker.doubtful(it) if maker.often(10) else it for it in maker.lines()]
-    return [it for it in lines if b"\n" not in it]
+    return [with_feed(maker, it) if maker.often(5) else it + maker.pick(*ENDS) for it in lines]
+
+
+def with_feed(maker, line):
+    """The line with a line feed somewhere, and maybe another behind it."""
+    at = maker.chance.randrange(len(line) + 1)
+    return line[:at] + b"\n" + line[at:] + maker.pick(b"", b"\n", b"\r\n")
 
 
 def in_one_session(lines):
@@ -255,11 +308,35 @@ def on_threads(lines):
     return len(told) == 4 and None not in told
 
 
+def on_a_later_thread():
+    """Whether a session refuses a line on a thread that has the number of the one that opened it, and has ended."""
+    held, told = [], []
+
+    def tries():
+        if threading.get_ident() == first.ident:
+            try:
+                told.append(held[0].line("get a"))
+            except RuntimeError:
+                told.append(None)
+
+    first = threading.Thread(target=lambda: held.append(tera.Session()))
+    first.start()
+    first.join()
+    for _ in range(1000):
+        later = threading.Thread(target=tries)
+        later.start()
+        later.join()
+        if told:
+            break
+    return told == [None]
+
+
 def in_python():
     lines = good_and_bad(5000)
     bad = in_one_session(lines)
     say(bad, f"{len(lines)} lines in one session, {bad} of them bad, are answered as by the second implementation")
     say(on_threads(lines[:1000]), "sessions on four threads share nothing")
+    say(on_a_later_thread(), "a session goes by its thread, not by a number that a later thread has")
     done = doctest.testmod(tera)
     say(done.attempted and not done.failed, f"{done.attempted} examples of the Python module")
 
@@ -308,6 +385,8 @@ def main():
     tera = importlib.import_module("tera")
     with tempfile.TemporaryDirectory() as folder:
         in_c(folder)
+        on_small_stacks(folder)
+        under_seeds(folder)
         in_want(folder)
         in_python()
         in_rust(folder)

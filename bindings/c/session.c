@@ -8,7 +8,7 @@
 /* Runs a line, and writes its reply to standard output, or its report to standard error. */
 static int say(tera_session **session, const char *line) {
     size_t needed = 0;
-    uint8_t status = tera_line(session, (const uint8_t *)line, strlen(line), &needed);
+    uint8_t status = tera_line(session, tera_bytes(line), strlen(line), &needed);
     uint8_t *room = (uint8_t *)malloc(needed + 1);
     if (!room) return TERA_NO_MEMORY;
     if (tera_reply(session, room, needed, &needed) == TERA_DONE)

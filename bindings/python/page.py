@@ -4,4 +4,4 @@ import tera
 with tera.Session() as session:
     session.line('set page {"title": "<b>A & B</b>"}')
     session.line('path page "title" -> title')
-    print(session.line("escape title").removeprefix("text "))
+    print(session.line("escape title").removeprefix("text "), end="")

@@ -1,10 +1,10 @@
-"""The values of the template engine Tera, by scripts of calls (docs/SCRIPT.md), over the library that ./bindings/build makes.
+r"""The values of the template engine Tera, by scripts of calls (docs/SCRIPT.md), over the library that ./bindings/build makes.
 
     >>> with Session() as session:
     ...     session.line('set page {"title": "A & B"}')
     ...     session.line('path page "title"')
-    'ok'
-    'value "A & B"'
+    'ok\n'
+    'value "A & B"\n'
     >>> escape("<b>")
     '&lt;b&gt;'
 
@@ -15,7 +15,8 @@ import os
 import threading
 from typing import NamedTuple, Optional
 
-DONE, WANTED, BAD, SMALL, NO_MEMORY, NO_REPLY = range(6)
+DONE, WANTED, BAD, SMALL, NO_MEMORY, NO_REPLY, CLOSED, OPEN = range(8)
+SEED = 16  # bytes, by which no one who writes a line can make names or keys that collide
 
 
 class TeraError(Exception):
@@ -23,7 +24,8 @@ class TeraError(Exception):
 
 
 class BadLine(TeraError):
-    """A line says no call, and nothing has changed. Its text is the report of the line, which calls it line 1."""
+    """A line says no call, and nothing has changed. Its text is the report of the line, which calls it line 1 and ends in a
+    line feed."""
 
     def __init__(self, report: str) -> None:
         super().__init__(report)
@@ -47,9 +49,12 @@ def load(path: str) -> ctypes.CDLL:
     library = ctypes.CDLL(path)
     given, room, count = (ctypes.c_char_p, ctypes.c_size_t), (ctypes.c_void_p, ctypes.c_size_t), ctypes.POINTER(ctypes.c_size_t)
     handle = ctypes.POINTER(ctypes.c_void_p)
-    for name, takes in {"tera_open": (handle,), "tera_line": (handle, *given, count), "tera_reply": (handle, *room, count),
+    seed = ctypes.c_char_p
+    for name, takes in {"tera_open": (handle,), "tera_open_seeded": (handle, seed),
+                        "tera_line": (handle, *given, count), "tera_reply": (handle, *room, count),
                         "tera_close": (handle,), "tera_escape": (*given, *room, count),
-                        "tera_replay": (*given, *room, count, *room, count)}.items():
+                        "tera_replay": (*given, *room, count, *room, count),
+                        "tera_replay_seeded": (*given, seed, *room, count, *room, count)}.items():
         getattr(library, name).argtypes = takes
         getattr(library, name).restype = None if name == "tera_close" else ctypes.c_uint8
     return library
@@ -80,7 +85,7 @@ def escape(text: str) -> str:
 
 
 def replay(script: bytes) -> Replayed:
-    r"""Runs a whole script, from no names on.
+    r"""Runs a whole script, from no names on. Its names and keys are hashed under random bytes.
 
     >>> replay(b"set a 1u64\neq a a\n")
     Replayed(answers=b'ok\ntrue\n', report=b'', status=0)
@@ -89,7 +94,8 @@ def replay(script: bytes) -> Replayed:
     while True:
         sizes = [it.value for it in lengths]
         rooms = [ctypes.create_string_buffer(size + 1) for size in sizes]
-        status = _library.tera_replay(script, len(script), rooms[0], sizes[0], lengths[0], rooms[1], sizes[1], lengths[1])
+        held = (rooms[0], sizes[0], lengths[0], rooms[1], sizes[1], lengths[1])
+        status = _library.tera_replay_seeded(script, len(script), os.urandom(SEED), *held)
         if status == NO_MEMORY:
             raise MemoryError
         if status != SMALL:
@@ -97,13 +103,14 @@ def replay(script: bytes) -> Replayed:
 
 
 class Session:
-    """Names and what they mean, one line after another, on the thread that opened it. `close` frees what it holds.
+    r"""Names and what they mean, one line after another, on the thread that opened it. `close` frees what it holds. Names and keys are
+    hashed under random bytes.
 
     >>> with Session() as session:
     ...     session.line("set a [1, 2]")
     ...     session.line("get a")
-    'ok'
-    'value [1, 2]'
+    'ok\n'
+    'value [1, 2]\n'
     >>> session.line("get a")
     Traceback (most recent call last):
         ...
@@ -112,33 +119,44 @@ class Session:
 
     def __init__(self) -> None:
         self._held = ctypes.c_void_p()
-        self._thread = threading.get_ident()
-        if _library.tera_open(self._held) != DONE:
+        self._thread = threading.current_thread()
+        if _library.tera_open_seeded(self._held, os.urandom(SEED)) != DONE:
             raise MemoryError
 
-    def line(self, line: str) -> Optional[str]:
-        """Runs a line, which comes without its line feed, and gives its reply, or None where the line says nothing. A refusal
-        is a reply as any other.
+    def line(self, line: str) -> str:
+        r"""Runs a line, and gives its reply, which ends in a line feed; an empty one where the line says nothing. A refusal is a
+        reply as any other. An end of line behind the line is taken away, so that `for line in file` gives lines; a line feed
+        anywhere else makes it bad.
 
         >>> session = Session()
-        >>> session.line("# a comment")
-        >>> session.line("len 1")
-        Traceback (most recent call last):
-            ...
-        tera.BadLine: error: bad line
+        >>> session.line("# a comment\n")
+        ''
+        >>> session.line("negate a\r\n")
+        'error: Only numbers can be negated. This is a `undefined`\n'
+        >>> try:
+        ...     session.line("len 1")
+        ... except BadLine as bad:
+        ...     print(bad, end="")
+        error: bad line
          --> line 1:1:1
           |
         1 | len 1
           | ^^^^^
-        >>> session.line("negate a")
-        'error: Only numbers can be negated. This is a `undefined`'
+        >>> try:
+        ...     session.line("# hides\nset a 1")
+        ... except BadLine as bad:
+        ...     print(bad, end="")
+        error: bad line: a line feed stands inside it
+         --> line 1:1:8
+          |
+        1 | # hides
+          |        ^
         >>> session.close()
         """
-        replied = self.line_bytes(line.encode())
-        return replied[:-1].decode() if replied else None
+        return self.line_bytes(line.encode()).decode()
 
     def line_bytes(self, line: bytes) -> bytes:
-        """The same of bytes; the reply has its line feed."""
+        """The same of bytes."""
         self._look()
         length = ctypes.c_size_t()
         status = _library.tera_line(self._held, line, len(line), length)
@@ -162,7 +180,7 @@ class Session:
     def _look(self) -> None:
         if not self._held:
             raise ValueError("the session is closed")
-        if self._thread != threading.get_ident():
+        if self._thread is not threading.current_thread():
             raise RuntimeError("the session is another thread's")
 
     def __enter__(self) -> "Session":
@@ -173,5 +191,5 @@ class Session:
 
     def __del__(self) -> None:
         # what another thread lets go of stays held
-        if getattr(self, "_held", None) and self._thread == threading.get_ident():
+        if getattr(self, "_held", None) and self._thread is threading.current_thread():
             self.close()

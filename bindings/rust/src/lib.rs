@@ -7,6 +7,8 @@
 //! assert_eq!(tera_values::escape("<b>")?, "&lt;b&gt;");
 //! # Ok::<(), tera_values::Error>(())
 //! ```
+use std::collections::hash_map::RandomState;
+use std::hash::{BuildHasher, Hasher};
 use std::{fmt, ptr};
 
 #[repr(C)]
@@ -15,7 +17,7 @@ struct Held {
 }
 
 extern "C" {
-    fn tera_open(session: *mut *mut Held) -> u8;
+    fn tera_open_seeded(session: *mut *mut Held, seed: *const u8) -> u8;
     fn tera_line(
         session: *mut *mut Held,
         line: *const u8,
@@ -29,9 +31,10 @@ extern "C" {
         reply_len: *mut usize,
     ) -> u8;
     fn tera_close(session: *mut *mut Held);
-    fn tera_replay(
+    fn tera_replay_seeded(
         script: *const u8,
         script_len: usize,
+        seed: *const u8,
         answers: *mut u8,
         answers_room: usize,
         answers_len: *mut usize,
@@ -57,7 +60,7 @@ const NO_REPLY: u8 = 5;
 /// Why a call does not do what it is for.
 #[derive(Debug, Clone, PartialEq, Eq)]
 pub enum Error {
-    /// A line says no call, and this is its report. Nothing has changed.
+    /// A line says no call, and this is its report, which ends in a line feed. Nothing has changed.
     BadLine(String),
     /// No memory was found, and no name has changed.
     NoMemory,
@@ -77,6 +80,18 @@ impl fmt::Display for Error {
 
 impl std::error::Error for Error {}
 
+/// Bytes that nobody knows who writes a line, by which names and keys are hashed: so none can make some that collide.
+fn seed() -> [u8; 16] {
+    let drawn = RandomState::new();
+    let mut bytes = [0; 16];
+    for (at, half) in bytes.chunks_mut(8).enumerate() {
+        let mut hasher = drawn.build_hasher();
+        hasher.write_usize(at);
+        half.copy_from_slice(&hasher.finish().to_ne_bytes());
+    }
+    bytes
+}
+
 /// What a script answers: its answers, the report of what ended it early, and the status of the program.
 #[derive(Debug, Clone, PartialEq, Eq)]
 pub struct Replayed {
@@ -95,18 +110,24 @@ impl Session {
     /// No names.
     pub fn new() -> Result<Session, Error> {
         let mut held = ptr::null_mut();
-        match unsafe { tera_open(&mut held) } {
+        match unsafe { tera_open_seeded(&mut held, seed().as_ptr()) } {
             DONE => Ok(Session { held }),
             _ => Err(Error::NoMemory),
         }
     }
 
-    /// Runs a line, which comes without its line feed, and gives its reply with one; an empty reply where the line says nothing.
+    /// Runs a line, and gives its reply, which ends in a line feed; an empty one where the line says nothing. A refusal is a
+    /// reply as any other. An end of line behind the line is taken away; a line feed anywhere else makes it bad.
     ///
     /// ```
+    /// use tera_values::Error::BadLine;
     /// let mut session = tera_values::Session::new()?;
-    /// assert_eq!(session.line("# a comment")?, "");
-    /// assert!(matches!(session.line("frob"), Err(tera_values::Error::BadLine(_))));
+    /// assert_eq!(session.line("# a comment\n")?, "");
+    /// assert_eq!(session.line("cmp a b\r\n")?, "equal\n");
+    /// let report = "error: bad line\n --> line 1:1:1\n  |\n1 | frob\n  | ^^^^\n";
+    /// assert_eq!(session.line("frob"), Err(BadLine(report.to_string())));
+    /// let report = "error: bad line: a line feed stands inside it\n --> line 1:1:8\n  |\n1 | # hides\n  |        ^\n";
+    /// assert_eq!(session.line("# hides\nset a 1"), Err(BadLine(report.to_string())));
     /// # Ok::<(), tera_values::Error>(())
     /// ```
     pub fn line(&mut self, line: &str) -> Result<String, Error> {
@@ -171,9 +192,10 @@ pub fn replay(script: &[u8]) -> Result<Replayed, Error> {
     loop {
         let (mut answers_len, mut report_len) = (0, 0);
         let status = unsafe {
-            tera_replay(
+            tera_replay_seeded(
                 script.as_ptr(),
                 script.len(),
+                seed().as_ptr(),
                 answers.as_mut_ptr(),
                 answers.len(),
                 &mut answers_len,

@@ -1,3 +1,4 @@
+mod LineLemmas
 mod SessionSteps
 mod TalkLemmas
 mod TextLemmas

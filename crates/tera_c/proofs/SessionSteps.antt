@@ -1,32 +1,34 @@
 -- A session by value: its one word, and what it owns.
-use Rattle.std.proofs.Common.{◌≡◌, List, [], ◌∷◌, ◌++◌, refl, sym, subst, Option, None, Some, IsSome}
-use lib.Dec.{T}
+use Rattle.std.proofs.Common.{◌≡◌, ℕ, List, [], ◌∷◌, ◌++◌, refl, sym, subst, Option, None, Some}
 use seplogic.Ra.Ura.{Ura}
 use mir.Syntax.{impl, tnil, dnil}
+use mir.Raw.{raw as bare}
 use mir.Val.{Val, vstruct, vcons, vnil, of_list}
-use types.Kit.{Item, Goal, Seq, Step, step, ‵, ◌$◌, drop, fsplit, fjoin, fpick, fpack, feq_i, feq_l}
-use types.Logic.{Logic}
+use base.Fml.{Fml}
+use base.Fraction.{full_share}
+use base.Logic.{ent, guard, never, fst∗, snd∗, guard_i, via}
+use contract.Monad.{fact_use}
+use types.Kit.{Item, Goal, Seq, Step, step, ‵, given, ◌$◌, drop, fsplit, fjoin, fpick, fpack, feq_i, feq_l, learn, use1}
+use types.Logic.{Logic, sem}
 use denote.RattleType.{Valss}
-use denote.RawPtr.{Ptr, RawPtr, ptr_val}
+use denote.Memory.{lone}
+use denote.RawPtr.{Ptr, RawPtr, Testable, block_ptr, in_a_block, lies_at, null_ptr, ptr_val}
 use denote.Signature.{Slot, plain}
 use denote.Steps.{nothing}
 use denote.Struct.Owning.{shape}
 use denote.Struct.Struct.{within}
+use Rattle.std_alloc.specs.Box.Ownership.{box_owns}
 use Rattle.std_alloc.proofs.BoxSteps.Form.{Bx}
 use Rattle.std_heap.specs.contracts.Global as Heap
 use Rattle.std_heap.specs.contracts.GlobalAllocator.TheImpl.{ghosts, dict}
 use Rattle.std_heap.proofs.Global.TheLaws as heap
-use Rattle.tera_c.specs.Held.{held_owns}
+use Rattle.std_heap.proofs.GlobalToken.{dealloc_token-Testable}
+use Rattle.tera_c.specs.Held.{held_owns, heap as one_heap}
 use Rattle.tera_c.specs.declared.talk.Talk.{Talk}
 use Rattle.tera_c.specs.contracts.talk.Talk as held
 use Rattle.tera_c.proofs.talk.Talk.TheLaws as laws
 use Rattle.tera_c.specs.contracts.session.Session as session
 use Rattle.tera_c.specs.contracts.parts.Parts as parts
-
--- a value that is there
-pub some_value : {X : Type 0} (o : Option X) → IsSome o → (x : X) × (o ≡ Some x)
-some_value (Some x) t = (x, refl)
-some_value None t = absurd (subst T (sym t) tt)
 
 -- the box of what a session holds
 abbrev pub E : Bx
@@ -45,6 +47,10 @@ FromSession = plain (λ _. session.the_row)
 abbrev pub FromGlobal : Slot 0
 FromGlobal = plain (λ _. Heap.the_row)
 
+-- the block of a box at this pointer
+abbrev pub boxed : Ptr → Talk → Fml
+boxed p x = box_owns (ghosts.dealloc_token one_heap) held.the_row p x
+
 abbrev pub word : Val → Val
 word v = vstruct (vcons v vnil)
 
@@ -61,3 +67,16 @@ module _ {M : Type 1} {𝓤 : Ura M} {𝓛 : Logic 𝓤} {K : Type 0} {Γ : List
   session_out t d vs k =
       fsplit t $ fpick t (λ vss. fsplit t $ feq_l t (λ ev. fsplit t $ feq_l t (λ ep. drop t $
       k (subst (λ (ps : List Val). vs ≡ vstruct (of_list (ps ++ [])) ∷ []) ep ev))))
+
+  -- a closed session is null; an open one is a block of the heap, and so may be compared with null
+  pub either_held : K → (p : Ptr) (talk : Option Talk) → (talk ≡ None → p ≡ null_ptr → Seq K 𝓛 Γ G)
+      → ((b o : ℕ) (x : Talk) → talk ≡ Some x → p ≡ block_ptr b o → Testable (block_ptr b o) → Seq K 𝓛 (‵ (boxed (block_ptr b o) x) ∷ Γ) G)
+      → Seq K 𝓛 (‵ (held_owns p talk) ∷ Γ) G
+  either_held t p None shut open_ = feq_l t (λ e. shut refl e)
+  either_held t p (Some x) shut open_ =
+      let τ = bare (lone held.the_row.mir) in
+      in_a_block t p (λ q. boxed q x) (fst∗ 𝓤 (never 𝓤) (sem 𝓛 (ghosts.dealloc_token one_heap τ null_ptr))) (λ b o e.
+      let q = block_ptr b o in let B = sem 𝓛 (boxed q x) in
+      use1 𝓛 (given (Testable q) (‵ (boxed q x))) (fact_use 𝓤 (Testable q)
+      (via 𝓤 _ (snd∗ 𝓤 (sem 𝓛 (lies_at held.the_row full_share q x)) (sem 𝓛 (ghosts.dealloc_token one_heap τ q))) (dealloc_token-Testable 𝓛 one_heap τ q))
+      (guard_i 𝓤 (Testable q) B)) $ learn t (λ may. open_ b o x refl e may))

@@ -1,6 +1,7 @@
 pub mod Status
 pub mod Rooms
 pub mod Held
+pub mod Lines
 pub mod Talks
 pub mod Scripts
 pub mod inner

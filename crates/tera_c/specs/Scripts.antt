@@ -1,15 +1,28 @@
 -- What a whole script answers.
-use Rattle.std.specs.Prelude.{◌≡◌, ℕ, ◌<◌, ◌≤◌, ◌⊎◌, false, List, Some, length}
-use Rattle.tera_replies.specs.Replay.{Replays}
+use Rattle.std.specs.Prelude.{◌≡◌, ℕ, ◌<◌, ◌≤◌, ◌⊎◌, false, List, Some, Result, length}
+use Rattle.std.specs.Io.KnownBytes.{ReadConsumes}
+use Rattle.tera_replies.specs.Output.{Gave, Ended}
+use Rattle.tera_replies.specs.Replay.{AllAnswered, MemoryFailed}
+use Rattle.tera_replies.specs.Source.{bytes_left, fails_at_end}
+use Rattle.tera_replies.specs.declared.source.InputPieces.{InputPieces}
+use Rattle.tera_replies.specs.declared.source.ReadError.{ReadError}
 use Rattle.tera_c.specs.Rooms.{Holds}
 use Rattle.tera_c.specs.Status.{small, no_memory}
 
--- A replay of the script, which ends where its bytes do, comes to just these answers, this report
--- and this status. Writing them did not fail.
-abbrev pub Comes : List ℕ → List ℕ → List ℕ → ℕ → Type 0
-Comes script answers report status =
-    Replays script (Some false) (λ before last. Unit {0}) (λ given. Unit {0}) (λ given. Unit {0})
-    (λ text. answers ≡ text) (λ text. ⊥) (λ text. report ≡ text) status
+-- a read of a script in memory gives some of its next bytes, and none only at its end
+abbrev pub GivesNext : InputPieces → List ℕ → Result ℕ ReadError → InputPieces → Type 0
+GivesNext old piece answer new =
+    ReadConsumes (Some (bytes_left old)) (Some (bytes_left new)) answer piece
+
+-- A replay of the script comes to just these answers, this report and this status. It reads a
+-- source of the script's bytes that then ends, so no read fails; and no write does.
+pub record Comes (script answers report : List ℕ) (status : ℕ) : Type 0 where
+  pub source : InputPieces
+  pub bytes : bytes_left source ≡ script
+  pub ends : fails_at_end source ≡ false
+  pub came : AllAnswered script (Some false) (Gave GivesNext source) (Ended GivesNext source)
+      answers report status
+      ⊎ MemoryFailed script (Gave GivesNext source) (Ended GivesNext source) answers report status
 
 -- it came to these, and they stand in the rooms with that status; or one room is too small for its
 -- own, and nothing is written. The lengths are told either way

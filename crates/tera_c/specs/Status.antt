@@ -23,3 +23,11 @@ no_memory = 4
 -- the line was run, and no memory was found for its reply
 abbrev pub no_reply : ℕ
 no_reply = 5
+
+-- the session is closed
+abbrev pub closed : ℕ
+closed = 6
+
+-- the session is open already
+abbrev pub is_open : ℕ
+is_open = 7

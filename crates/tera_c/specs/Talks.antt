@@ -1,11 +1,16 @@
 -- How a session goes on by one line.
-use Rattle.std.specs.Prelude.{◌≡◌, ℕ, ◌⊎◌, Bool, List, [], ◌∷◌, Option, None, Some}
-use Rattle.std.specs.Prelude.{string_bytes, if◌then◌else◌}
+use Rattle.std.specs.Prelude.{◌≡◌, ℕ, ◌⊎◌, Bool, List, [], ◌∷◌, Option, None, IfSome, IsSome}
+use Rattle.std.specs.Prelude.{IsSomeAnd, string_bytes, if◌then◌else◌}
 use Rattle.std.specs.FinMap.{empty}
-use Rattle.tera_report.specs.Report.{report_text}
-use Rattle.tera_script.specs.Line.{IsBad}
+use Rattle.tera_report.specs.Report.{Report, report_text}
+use Rattle.tera_context.specs.Lent.{lent_at, looked_up}
+use Rattle.tera_context.specs.declared.lends.LookUp.{LookUp}
+use Rattle.tera_script.specs.Line.{IsBad, IsSkipped}
+use Rattle.tera_script.specs.LookUp.{IsPlainLookUp}
 use Rattle.tera_replies.specs.Replay.{line_report}
+use Rattle.tera_replies.specs.Script.{ended}
 use Rattle.tera_replies.specs.Stretch.{Runs, bad_at}
+use Rattle.tera_c.specs.Lines.{IsLineOf, BreaksBehind, feed_report}
 use Rattle.tera_c.specs.Status.{done, wanted, bad, no_memory, no_reply}
 use Rattle.tera_c.specs.declared.talk.Talk.{Talk}
 
@@ -17,6 +22,11 @@ reply_of talk = string_bytes talk.reply
 abbrev pub IsFresh : Talk → Type 0
 IsFresh talk = (talk.context ≡ empty) × (reply_of talk ≡ [])
 
+-- a closed session was opened; or no memory was found, and it is closed
+abbrev pub Opens : Option Talk → ℕ → Type 0
+Opens new status =
+    ((status ≡ done) × IsSomeAnd new IsFresh) ⊎ ((status ≡ no_memory) × (new ≡ None))
+
 -- the line was run over the names, and answered by the text
 abbrev pub Answers : Talk → List ℕ → List ℕ → Bool → Talk → Type 0
 Answers old line text want new = Runs 1 old.context (line ∷ []) text want new.context
@@ -27,11 +37,10 @@ IsAnswered old line new status =
     (want : Bool) × Answers old line (reply_of new) want new
     × (status ≡ (if want then wanted else done))
 
--- it is bad: the reply is its report, and nothing else has changed
-abbrev pub IsReported : Talk → List ℕ → Talk → ℕ → Type 0
-IsReported old line new status =
-    IsBad line × (reply_of new ≡ report_text (line_report (bad_at 1 line)))
-    × (new.context ≡ old.context) × (status ≡ bad)
+-- it is bad: the reply is this report, with a line feed, and nothing else has changed
+abbrev pub IsReported : Report → Talk → Talk → ℕ → Type 0
+IsReported report old new status =
+    (reply_of new ≡ ended (report_text report)) × (new.context ≡ old.context) × (status ≡ bad)
 
 -- no memory was found to read it or to report it: nothing has changed, and there is no reply
 abbrev pub IsPutOff : Talk → Talk → ℕ → Type 0
@@ -44,20 +53,33 @@ HasNoReply old line new status =
     ((text : List ℕ) × (want : Bool) × Answers old line text want new)
     × (reply_of new ≡ []) × (status ≡ no_reply)
 
--- one line
-abbrev pub Takes : Talk → List ℕ → Talk → ℕ → Type 0
-Takes old line new status =
+-- what comes of a line
+abbrev pub ComesOf : Talk → List ℕ → Talk → ℕ → Type 0
+ComesOf old line new status =
     IsAnswered old line new status
-    ⊎ (IsReported old line new status
+    ⊎ ((IsBad line × IsReported (line_report (bad_at 1 line)) old new status)
     ⊎ (IsPutOff old new status
     ⊎ HasNoReply old line new status))
 
--- the session is open, with this in it
-abbrev pub Has : Option Talk → (Talk → Type 0) → Type 0
-Has None P = ⊥
-Has (Some talk) P = P talk
+-- a look-up that the line says plainly finds what the names lend
+abbrev pub FindsLent : Talk → List ℕ → Type 0
+FindsLent old line =
+    (asked : LookUp) × IsPlainLookUp line asked × IsSome (lent_at old.context (looked_up asked))
 
--- it was open and is so, and went on in this way
+-- one line: where it is skipped it takes no memory, and where it finds what is lent no more than
+-- its reply does
+pub record Takes (old : Talk) (line : List ℕ) (new : Talk) (status : ℕ) : Type 0 where
+  pub comes : ComesOf old line new status
+  pub skipped : IsSkipped line → status ≡ done
+  pub lent : FindsLent old line → (status ≡ done) ⊎ (status ≡ no_reply)
+
+-- the bytes that were given are one line; or a line feed stands inside them, and they are bad
+abbrev pub Hears : Talk → List ℕ → Talk → ℕ → Type 0
+Hears old given new status =
+    ((line : List ℕ) × IsLineOf given line × Takes old line new status)
+    ⊎ ((first : List ℕ) × BreaksBehind given first
+    × (IsReported (feed_report first) old new status ⊎ IsPutOff old new status))
+
+-- where the session was open, it is so, and went on in this way
 abbrev pub Goes : Option Talk → (Talk → Talk → Type 0) → Option Talk → Type 0
-Goes None P new = ⊥
-Goes (Some old) P new = Has new (P old)
+Goes old P new = IfSome old (λ talk. IsSomeAnd new (P talk))

@@ -2,14 +2,16 @@
 //! caller gives. include/tera.h says what each export is for, and what C has to uphold.
 #![tactic(auto)]
 
-ghost use Rattle.std.specs.Prelude.{◌≡◌, ◌≢◌, ◌⊎◌, List, ℕ, [], length, IsSome, None, IsUtf8};
+ghost use Rattle.std.specs.Prelude.{◌≡◌, ◌≢◌, ◌⊎◌, List, ℕ, [], length, None, IsUtf8};
+ghost use Rattle.std.specs.Prelude.{IfNone, IfSome, OnSome};
 ghost use Rattle.tera_report.specs.Escaping.{Spells};
 ghost use Rattle.tera_c.specs.Rooms.{IsDelivered};
 ghost use Rattle.tera_c.specs.Scripts.{FoundNoMemory, IsReplayed};
-ghost use Rattle.tera_c.specs.Status.{bad, done, no_memory};
-ghost use Rattle.tera_c.specs.Talks.{Goes, Has, IsFresh, Takes, reply_of};
+ghost use Rattle.tera_c.specs.Status.{bad, closed, is_open, no_memory};
+ghost use Rattle.tera_c.specs.Talks.{Goes, Hears, Opens, reply_of};
 
 mod kept;
+mod line;
 mod parts;
 mod rooms;
 mod script;
@@ -20,14 +22,15 @@ mod talk;
 use rooms::deliver;
 use script::replay_into;
 use session::Session;
-use status::{BAD, DONE, NO_MEMORY};
+use status::{BAD, CLOSED, DONE, NO_MEMORY, OPEN};
 use std::alloc::Global;
 use std::mem;
 use std::str::from_utf8;
 use talk::Talk;
 use tera_report::escape_text;
+use tera_values::HashState;
 
-/// Replays a whole script.
+/// Replays a whole script, hashed under the fixed state.
 #[unsafe(no_mangle)]
 pub extern "C" fn tera_replay(
     alloc: Global,
@@ -42,26 +45,88 @@ pub extern "C" fn tera_replay(
         ⊎ FoundNoMemory answers.old answers.new report.old report.new
         answers_len.new report_len.new result }
 {
-    replay_into(alloc, script, answers, answers_len, report, report_len)
+    let state = HashState::fixed();
+    replay_into(
+        alloc,
+        state,
+        script,
+        answers,
+        answers_len,
+        report,
+        report_len,
+    )
 }
 
-/// Opens a session.
+/// Replays a whole script, hashed under a seed.
+#[unsafe(no_mangle)]
+pub extern "C" fn tera_replay_seeded(
+    alloc: Global,
+    script: &[u8],
+    seed: &[u8; 16],
+    answers: &mut [u8],
+    answers_len: &mut usize,
+    report: &mut [u8],
+    report_len: &mut usize,
+) -> u8
+    ensures { IsReplayed script.now answers.old answers.new report.old report.new
+        answers_len.new report_len.new result
+        ⊎ FoundNoMemory answers.old answers.new report.old report.new
+        answers_len.new report_len.new result }
+{
+    let state = HashState::from_bytes(seed);
+    replay_into(
+        alloc,
+        state,
+        script,
+        answers,
+        answers_len,
+        report,
+        report_len,
+    )
+}
+
+/// Opens a session, hashed under the fixed state.
 #[unsafe(no_mangle)]
 pub extern "C" fn tera_open(alloc: Global, session: &mut Session) -> u8
-    requires { session.old.talk ≡ None }
-    ensures opened { result ≡ done → Has session.new.talk IsFresh }
-    ensures refused { result ≢ done → (result ≡ no_memory) × (session.new.talk ≡ None) }
+    ensures fresh { IfNone session.old.talk (Opens session.new.talk result) }
+    ensures opened { OnSome session.old.talk
+        ((result ≡ is_open) × (session.new.talk ≡ session.old.talk)) }
 {
-    match Box::new(alloc, Talk::new(alloc)) {
-        Ok(talk) => {
+    open_session(alloc, HashState::fixed(), session)
+}
+
+/// Opens a session, hashed under a seed.
+#[unsafe(no_mangle)]
+pub extern "C" fn tera_open_seeded(alloc: Global, session: &mut Session, seed: &[u8; 16]) -> u8
+    ensures fresh { IfNone session.old.talk (Opens session.new.talk result) }
+    ensures opened { OnSome session.old.talk
+        ((result ≡ is_open) × (session.new.talk ≡ session.old.talk)) }
+{
+    open_session(alloc, HashState::from_bytes(seed), session)
+}
+
+// Opens a session that is closed.
+fn open_session(alloc: Global, state: HashState, session: &mut Session) -> u8
+    ensures fresh { IfNone session.old.talk (Opens session.new.talk result) }
+    ensures opened { OnSome session.old.talk
+        ((result ≡ is_open) × (session.new.talk ≡ session.old.talk)) }
+{
+    match mem::replace(session, Session::closed()).into_box(alloc) {
+        Some(talk) => {
             *session = Session::of(talk);
-            DONE
+            OPEN
         }
-        Err(_) => NO_MEMORY,
+        None => match Box::new(alloc, Talk::new(alloc, state)) {
+            Ok(talk) => {
+                *session = Session::of(talk);
+                DONE
+            }
+            Err(_) => NO_MEMORY,
+        },
     }
 }
 
-/// Takes a line, and says how long its reply is.
+/// Takes what is given as a line, and says how long its reply is.
 #[unsafe(no_mangle)]
 pub extern "C" fn tera_line(
     alloc: Global,
@@ -69,16 +134,24 @@ pub extern "C" fn tera_line(
     line: &[u8],
     reply_len: &mut usize,
 ) -> u8
-    requires { IsSome session.old.talk }
-    ensures { Goes session.old.talk
-        (λ old new. Takes old line.now new result × (reply_len.new ≡ length (reply_of new)))
+    ensures opened { Goes session.old.talk
+        (λ old new. Hears old line.now new result × (reply_len.new ≡ length (reply_of new)))
         session.new.talk }
+    ensures closed { IfNone session.old.talk
+        ((session.new.talk ≡ None) × (result ≡ closed) × (reply_len.new ≡ 0)) }
 {
-    let mut talk = mem::replace(session, Session::closed()).into_box(alloc);
-    let status = talk.take_line(alloc, line);
-    *reply_len = talk.reply.len();
-    *session = Session::of(talk);
-    status
+    match mem::replace(session, Session::closed()).into_box(alloc) {
+        Some(mut talk) => {
+            let status = talk.take(alloc, line);
+            *reply_len = talk.reply.len();
+            *session = Session::of(talk);
+            status
+        }
+        None => {
+            *reply_len = 0;
+            CLOSED
+        }
+    }
 }
 
 /// Copies the reply to the last line into a room.
@@ -89,21 +162,28 @@ pub extern "C" fn tera_reply(
     reply: &mut [u8],
     reply_len: &mut usize,
 ) -> u8
-    requires { IsSome session.old.talk }
     ensures same { session.new.talk ≡ session.old.talk }
-    ensures reply { Has session.old.talk
+    ensures opened { IfSome session.old.talk
         (λ talk. IsDelivered (reply_of talk) reply.old reply.new reply_len.new result) }
+    ensures closed { IfNone session.old.talk
+        ((result ≡ closed) × (reply_len.new ≡ 0) × (reply.new ≡ reply.old)) }
 {
-    let talk = mem::replace(session, Session::closed()).into_box(alloc);
-    let status = deliver(talk.reply.as_str(), reply, reply_len);
-    *session = Session::of(talk);
-    status
+    match mem::replace(session, Session::closed()).into_box(alloc) {
+        Some(talk) => {
+            let status = deliver(talk.reply.as_str(), reply, reply_len);
+            *session = Session::of(talk);
+            status
+        }
+        None => {
+            *reply_len = 0;
+            CLOSED
+        }
+    }
 }
 
-/// Closes a session.
+/// Closes a session, if it is open.
 #[unsafe(no_mangle)]
 pub extern "C" fn tera_close(alloc: Global, session: &mut Session)
-    requires { IsSome session.old.talk }
     ensures { session.new.talk ≡ None }
 {
     drop(mem::replace(session, Session::closed()).into_box(alloc));

@@ -6,6 +6,7 @@ use crate::kept::Kept;
 use crate::status::{NO_MEMORY, SMALL};
 use std::alloc::{AllocError, Global};
 use tera_replies::{InputPieces, replay_from};
+use tera_values::HashState;
 
 /// What a script comes to.
 #[derive(Drop)]
@@ -18,6 +19,7 @@ pub(crate) struct Replayed {
 /// Replays a script into two rooms, and says how long what belongs there is.
 pub(crate) fn replay_into(
     alloc: Global,
+    state: HashState,
     script: &[u8],
     out: &mut [u8],
     out_len: &mut usize,
@@ -30,7 +32,7 @@ pub(crate) fn replay_into(
 {
     *out_len = 0;
     *err_len = 0;
-    match replay_text(alloc, script) {
+    match replay_text(alloc, state, script) {
         Ok(replayed) => put_into(&replayed, out, out_len, err, err_len),
         Err(_) => NO_MEMORY,
     }
@@ -63,7 +65,7 @@ fn put_into(
 }
 
 // Replays a script into two texts; or memory for one of these was refused.
-fn replay_text(alloc: Global, script: &[u8]) -> Result<Replayed, AllocError>
+fn replay_text(alloc: Global, state: HashState, script: &[u8]) -> Result<Replayed, AllocError>
     ensures { IfOk result (λ replayed. Comes script.now (string_bytes replayed.answers)
         (string_bytes replayed.report) replayed.status) }
 {
@@ -71,7 +73,7 @@ fn replay_text(alloc: Global, script: &[u8]) -> Result<Replayed, AllocError>
     let mut input = InputPieces::new(&pieces, false);
     let mut answers = Kept::new(alloc);
     let mut report = Kept::new(alloc);
-    let status = replay_from(alloc, &mut input, &mut answers, &mut report);
+    let status = replay_from(alloc, state, &mut input, &mut answers, &mut report);
     let answers = answers.whole()?;
     let report = report.whole()?;
     Ok(Replayed {

@@ -1,5 +1,5 @@
 //! The handle of a session, as C holds it.
-ghost use Rattle.std.specs.Prelude.{◌≡◌, IsSome, Option, None, Some};
+ghost use Rattle.std.specs.Prelude.{◌≡◌, MatchOption, Option, None, Some};
 ghost use Rattle.tera_c.specs.Held.{talk_coded};
 ghost use Rattle.tera_c.specs.declared.talk.Talk.{Talk};
 
@@ -39,12 +39,14 @@ impl Session {
         Session::of_parts(Parts::of(talk))
     }
 
-    /// The box that an open one owns.
-    pub(crate) fn into_box(self, alloc: Global) -> Box<Talk>
-        requires { IsSome self.talk }
-        ensures { self.talk ≡ Some result.value }
+    /// The box that an open one owns; a closed one has none.
+    pub(crate) fn into_box(self, alloc: Global) -> Option<Box<Talk>>
+        ensures { MatchOption result (self.talk ≡ None) (λ talk. self.talk ≡ Some talk.value) }
     {
-        self.into_parts(alloc).into_box()
+        match self.into_parts(alloc) {
+            Some(parts) => Some(parts.into_box()),
+            None => None,
+        }
     }
 
     // An open session of the parts of its box.
@@ -58,14 +60,17 @@ impl Session {
     }
 
     // The parts of the box of an open session.
-    fn into_parts(self, alloc: Global) -> Parts<Talk, Global>
-        requires { IsSome self.talk }
-        ensures { self.talk ≡ Some result.value }
+    fn into_parts(self, alloc: Global) -> Option<Parts<Talk, Global>>
+        ensures { MatchOption result (self.talk ≡ None) (λ parts. self.talk ≡ Some parts.value) }
     {
         let Session { held } = self;
-        Parts {
-            ptr: held as *mut Talk,
-            alloc,
+        if held.is_null() {
+            None
+        } else {
+            Some(Parts {
+                ptr: held as *mut Talk,
+                alloc,
+            })
         }
     }
 }

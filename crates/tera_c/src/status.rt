@@ -12,3 +12,7 @@ pub(crate) const SMALL: u8 = 3;
 pub(crate) const NO_MEMORY: u8 = 4;
 /// The line was run, and no memory was found for its reply.
 pub(crate) const NO_REPLY: u8 = 5;
+/// The session is closed.
+pub(crate) const CLOSED: u8 = 6;
+/// The session is open already.
+pub(crate) const OPEN: u8 = 7;
