@@ -51,3 +51,8 @@ fn tell_refused(rt: &impl Print, name: &str, refused: Error) {
     let _ = print!(rt; "{name}: error: {refused}, held ");
     drop(refused);
 }
+
+/// Writes what a call answers that is never refused.
+pub fn tell_debug<D: Debug>(rt: &impl Print, name: &str, it: &D) {
+    let _ = println!(rt; "{name}: {it:?}");
+}

@@ -5,7 +5,7 @@ use std::alloc::{AllocError, Global};
 use tera_context::{Context, context};
 use tera_report::TeraResult;
 use tera_script::{read_line, take_text};
-use tera_values::Value;
+use tera_values::{HashState, Value};
 
 // The items under so many names.
 fn of_items(alloc: Global, count: usize) -> TeraResult<Context> {
@@ -29,11 +29,14 @@ fn put_at(context: &mut Context, name: String, item: Value) -> TeraResult<()> {
 pub fn tell_contexts(rt: &(impl Print + AllocGlobal), made: &Made) -> TeraResult<()> {
     let (alloc, text) = (rt.alloc(), made.text.as_str());
     tell(rt, "Context::new", Ok(Context::new(alloc)));
+    let hashed = Context::with_hasher(alloc, HashState::fixed());
+    tell(rt, "Context::with_hasher", Ok(hashed));
     tell(rt, "context!", of_macro(alloc, text));
     tell_changes(rt, made)
 }
 
-fn tell_changes(rt: &(impl Print + AllocGlobal), made: &Made) -> TeraResult<()> {
+/// Contexts that are copied and changed.
+pub fn tell_changes(rt: &(impl Print + AllocGlobal), made: &Made) -> TeraResult<()> {
     let (alloc, text) = (rt.alloc(), made.text.as_str());
     tell_copy(rt, of_items(alloc, made.count)?);
     tell_insert(rt, of_items(alloc, made.count)?, text);
@@ -78,7 +81,7 @@ pub fn tell_lines(rt: &(impl Print + AllocGlobal), made: &Made) -> TeraResult<()
 
 fn tell_line(rt: &(impl Print + AllocGlobal), line: Result<String, AllocError>) -> TeraResult<()> {
     let line = line?;
-    let reading = read_line(rt.alloc(), line.as_bytes());
+    let reading = read_line(rt.alloc(), HashState::fixed(), line.as_bytes());
     drop(line);
     tell(rt, "read_line", widened(reading));
     Ok(())

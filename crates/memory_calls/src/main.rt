@@ -3,6 +3,12 @@
 //!
 //! - A number, and 2 where nothing is said: each call that takes memory, on operands of so many
 //!   parts. A line for each has its name, its answer, and what is still held of what it may change.
+//! - `free`, and a number in the next line: the calls that take no memory, on operands of so many
+//!   parts, a line for each.
+//! - `growth`, and a number in the next line: so many pairs are put into a map, and so many names
+//!   into a context, with a line before and behind each.
+//! - `kept`, and a number in the next line: the calls that change a report, a map or a context of
+//!   so many parts, as in the first form.
 //! - `run`: lists of steps, with lines `--` between them, each of which is run over one context.
 //! - `read`: what each line of a script says, by its Debug.
 //! - `write`: each value that a line sets is written, in each way that a text goes to a writer, to
@@ -13,7 +19,9 @@ mod answers;
 mod arguments;
 mod contexts;
 mod errors;
+mod free;
 mod given;
+mod grown;
 mod made;
 mod named;
 mod numbers;
@@ -55,6 +63,15 @@ fn tell_asked(rt: &HostRuntime, given: &str) -> TeraResult<()> {
     if what == "run" {
         return runs::tell_runs(rt, rest);
     }
+    if what == "free" {
+        return free::tell_free(rt, number_in(rest));
+    }
+    if what == "growth" {
+        return grown::tell_growth(rt, number_in(rest));
+    }
+    if what == "kept" {
+        return grown::tell_kept(rt, number_in(rest));
+    }
     if what == "read" {
         runs::tell_readings(rt, rest);
         return Ok(());
@@ -63,6 +80,11 @@ fn tell_asked(rt: &HostRuntime, given: &str) -> TeraResult<()> {
         return writes::tell_writes(rt, rest);
     }
     tell_calls(rt, what.parse::<usize>().unwrap_or(2))
+}
+
+// The number that the line is.
+fn number_in(rest: &str) -> usize {
+    rest.trim_end().parse::<usize>().unwrap_or(2)
 }
 
 fn tell_calls(rt: &HostRuntime, count: usize) -> TeraResult<()> {

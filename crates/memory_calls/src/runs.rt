@@ -8,7 +8,7 @@ use std::mem;
 use tera_context::{Answer, Context, Step, run};
 use tera_report::{Error, TeraResult};
 use tera_script::{Reading, read_line};
-use tera_values::Value;
+use tera_values::{HashState, Value};
 
 /// Tells what each line of a script says.
 pub fn tell_readings(rt: &(impl Print + AllocGlobal), script: &str) {
@@ -18,7 +18,7 @@ pub fn tell_readings(rt: &(impl Print + AllocGlobal), script: &str) {
 }
 
 fn tell_reading(rt: &(impl Print + AllocGlobal), line: &str) {
-    let reading = read_line(rt.alloc(), line.as_bytes());
+    let reading = read_line(rt.alloc(), HashState::fixed(), line.as_bytes());
     tell(rt, "read_line", widened(reading));
 }
 
@@ -84,7 +84,7 @@ fn found_into(step: Step, name: String) -> Step {
 }
 
 fn read(alloc: Global, line: &str) -> TeraResult<Step> {
-    match read_line(alloc, line.as_bytes())? {
+    match read_line(alloc, HashState::fixed(), line.as_bytes())? {
         Reading::Says(step) => Ok(step),
         other => lost(other, Error::message(alloc, line)),
     }

@@ -4,7 +4,8 @@ use std::io;
 use std::io::{ErrorKind, Write};
 
 /// Takes at most `step` bytes a write, while there is room, and then answers an error by the
-/// number of bytes that it took. Where `interrupts`, every other write is interrupted.
+/// number of bytes that it took. Where `interrupts`, every other write is interrupted. What takes
+/// all at once has room again behind its first error.
 #[derive(Drop)]
 pub struct Shelf {
     pub taken: Vec<u8>,
@@ -33,6 +34,11 @@ impl Write for Shelf {
             return Err(io::Error::from(ErrorKind::Interrupted));
         }
         if self.room == 0 {
+            self.room = if self.step == usize::MAX {
+                self.step
+            } else {
+                0
+            };
             return Err(full(self.taken.len()));
         }
         let count = buf.len().min(self.room).min(self.step);

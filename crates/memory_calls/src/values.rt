@@ -3,7 +3,7 @@ use crate::answers::{tell, tell_change, widened};
 use crate::made::{Made, as_value, lost, map};
 use std::rc::RcStr;
 use tera_report::{Error, TeraResult};
-use tera_values::{Key, Map, Value};
+use tera_values::{HashState, Key, Map, Value};
 
 /// What makes values.
 pub fn tell_makers(rt: &(impl Print + AllocGlobal), made: &Made) -> TeraResult<()> {
@@ -52,6 +52,8 @@ pub fn tell_copies(rt: &(impl Print + AllocGlobal), made: &Made) {
 pub fn tell_maps(rt: &(impl Print + AllocGlobal), made: &Made) -> TeraResult<()> {
     let alloc = rt.alloc();
     tell(rt, "Map::new", Ok(Value::of_map(Map::new(alloc))));
+    let hashed = Map::with_hasher(alloc, HashState::fixed());
+    tell(rt, "Map::with_hasher", Ok(Value::of_map(hashed)));
     let held = map(alloc, made.count)?;
     tell(rt, "Map::clone", as_value(held.clone()));
     match RcStr::from_str(alloc, "new") {

@@ -79,6 +79,12 @@ fn tell_put<P: Put>(rt: &(impl Print + AllocGlobal), name: &str, it: &P) {
     tell_once(rt, it, Shelf::new(rt.alloc(), 5, 0, false));
 }
 
+// The next room: that for one byte more, and behind 200 for as many as makes the rooms of a long
+// text few.
+fn next_room(room: usize) -> usize {
+    room.saturating_add(if room < 200 { 1 } else { 61 })
+}
+
 // Writers with room for no byte, for one, .., until what is written has room.
 fn tell_rooms<P: Put>(
     rt: &(impl Print + AllocGlobal),
@@ -87,11 +93,13 @@ fn tell_rooms<P: Put>(
     step: usize,
     interrupts: bool,
 ) {
-    for room in 0..usize::MAX {
+    let mut room = 0;
+    for _ in 0..usize::MAX {
         let _ = print!(rt; "{name} by {step} in {room}: ");
         if tell_once(rt, it, Shelf::new(rt.alloc(), room, step, interrupts)) {
             return;
         }
+        room = next_room(room);
     }
 }
 

@@ -9,6 +9,7 @@ use Rattle.tera_meaning.specs.State.{State}
 use Rattle.tera_meaning.specs.Step.{IsStep}
 use Rattle.tera_replies.specs.Output.{TakesOrFails}
 use Rattle.tera_replies.specs.Replay.{AllAnswered, Replays, WritingFailed}
+use Rattle.tera_replies.proofs.ReplayLaws.{first_of_all}
 use Rattle.tera_replies.specs.Reply.{IsReply}
 use Rattle.tera_replies.specs.Script.{BadLine, Script, Splits, ended, last_line, line_feed, without_return}
 use Rattle.tera_report.specs.Room.{room_bytes, HasRoomFor, RoomTakes, RoomFails}
@@ -60,14 +61,15 @@ pub due_is_short : OneSplit → (bytes : List ℕ) (lines : List (List ℕ)) →
     → {InGave : List ℕ → List ℕ → Type 0} {InEnded InFailed : List ℕ → Type 0} (out : List ℕ)
     → WritingFailed bytes (Some false) InGave InEnded InFailed out → length out ≤ 21 * length lines
 due_is_short split bytes lines is same short out h =
-    let one = split bytes h.part [] h.lines lines h.split is in
-    let given : map without_return h.lines ++ last_line h.part ≡ lines =
+    let (all, part, later, splits, are) = first_of_all h in
+    let one = split bytes part [] all lines splits is in
+    let given : map without_return all ++ last_line part ≡ lines =
     (λ i. map without_return (one.0 i) ++ last_line (one.1 i)) ∙ append-nil (map without_return lines) ∙ same in
-    let whole : lines ≡ h.first ++ h.later = sym given ∙ h.lines_are in
+    let whole : lines ≡ h.first ++ later = sym given ∙ are in
     let (replies, zip, is_text) = h.replied in
-    let bound = are_short h.first (short_first h.first h.later lines whole short) 1 h.answers.commands h.bad h.answers.script _ _ h.outcomes h.answers.run
+    let bound = are_short h.first (short_first h.first later lines whole short) 1 h.answers.commands h.bad h.answers.script _ _ h.outcomes h.answers.run
     replies zip in
-    omega (arith, bound, ap length is_text, ap length whole, length-append h.first h.later)
+    omega (arith, bound, ap length is_text, ap length whole, length-append h.first later)
 
 -- of a short script that is read to its end, over an output that does not break: all is answered, or no memory was found
 pub ample : (bytes : List ℕ) (InGave : List ℕ → List ℕ → Type 0) (InEnded InFailed OutGets OutBroke ErrGets : List ℕ → Type 0) (status : ℕ)

@@ -8,6 +8,7 @@ use Rattle.std.proofs.lemmas.List.{append-nil, append_assoc, drop_all, drop_more
 use Rattle.tera_meaning.specs.Form.{Form}
 use Rattle.tera_meaning.specs.Meaning.{layout}
 use Rattle.tera_meaning.specs.Printed.{IsExact}
+use Rattle.tera_meaning.proofs.QuotedLaws.{alone_exact}
 use Rattle.tera_meaning.specs.Read.{safe_in}
 use Rattle.tera_meaning.specs.State.{State}
 use Rattle.tera_report.specs.Escaping.{Spells, escaped}
@@ -47,7 +48,7 @@ module _ (word : (bytes text : List ℕ) → Spells bytes text → bytes ≡ esc
   value_known : (o : Option Form) (shown : List ℕ) → IfSome o (λ value. IsExact (layout value))
       → ShowsFound o shown → shown ≡ shown_if_found o
   value_known None shown exact shows = shows
-  value_known (Some value) shown exact (text, prints, stands) = standing (safe_in value) shown text _ stands (prints exact)
+  value_known (Some value) shown exact (text, prints, stands) = standing (safe_in value) shown text _ stands (alone_exact (layout value) text exact prints)
 
   piece_known : (piece : Piece) (shown : List ℕ) → IsExactPiece state piece → ShowsPiece state piece shown
       → shown ≡ shown_by state piece

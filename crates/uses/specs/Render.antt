@@ -7,7 +7,8 @@ use Rattle.std.specs.String.{string_bytes}
 use Rattle.tera_meaning.specs.Form.{Form}
 use Rattle.tera_meaning.specs.Meaning.{layout}
 use Rattle.tera_meaning.specs.Path.{path}
-use Rattle.tera_meaning.specs.Printed.{Prints, IsExact, shown_in_page}
+use Rattle.tera_meaning.specs.Printed.{IsExact, shown_in_page}
+use Rattle.tera_meaning.specs.Quoted.{Prints}
 use Rattle.tera_meaning.specs.Read.{safe_in}
 use Rattle.tera_meaning.specs.State.{State}
 use Rattle.tera_report.specs.Escaping.{Spells}

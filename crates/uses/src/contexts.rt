@@ -2,7 +2,7 @@
 ghost use Rattle.std.specs.Prelude.{◌≡◌, ◌↔◌, ℕ, List, pos, IsTrue, IfOk, IfErr};
 ghost use Rattle.std.specs.String.{string_bytes};
 ghost use Rattle.tera_meaning.specs.Order.{same};
-ghost use Rattle.tera_meaning.specs.Printed.{Prints};
+ghost use Rattle.tera_meaning.specs.Quoted.{Prints};
 ghost use Rattle.tera_meaning.specs.State.{layout_at, meaning_at};
 ghost use Rattle.tera_meaning.specs.Tree.{number};
 ghost use Rattle.tera_report.specs.Errors.{IsOutOfMemory};

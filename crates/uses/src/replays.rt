@@ -10,6 +10,7 @@ use tera_replies::laws::{
 use tera_replies::{InputPieces, replay_from};
 use tera_report::sink::Room;
 use tera_script::{one_command, worked_calls, worked_faults};
+use tera_values::HashState;
 
 /// Replays two calls, which come in two pieces, and answers the status: at 0 both are answered, and
 /// nothing is reported. Where there is room for all that it may write, the status is 0, or 1 and it
@@ -32,7 +33,7 @@ pub fn replay_calls(alloc: Global, out: &mut Room, err: &mut Room) -> u8
     one_command();
     let pieces: [&[u8]; 2] = [b"cmp a b\neq ", b"a b\n"];
     let mut input = InputPieces::new(&pieces, false);
-    replay_from(alloc, &mut input, out, err)
+    replay_from(alloc, HashState::fixed(), &mut input, out, err)
 }
 
 /// Replays a script whose second line is bad, and answers the status. Where there is room for all
@@ -55,5 +56,5 @@ pub fn replay_bad_line(alloc: Global, out: &mut Room, err: &mut Room) -> u8
     one_command();
     let pieces: [&[u8]; 2] = [b"eq a b\nfr", b"ob\neq a b\n"];
     let mut input = InputPieces::new(&pieces, false);
-    replay_from(alloc, &mut input, out, err)
+    replay_from(alloc, HashState::fixed(), &mut input, out, err)
 }

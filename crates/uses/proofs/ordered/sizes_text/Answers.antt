@@ -3,7 +3,8 @@ use Rattle.std.proofs.lemmas.Result.{IfOk-weaker}
 use Rattle.std.specs.Fmt.{debug_escape, digits}
 use Rattle.std.specs.String.{string_bytes}
 use Rattle.tera_meaning.specs.Meaning.{layout}
-use Rattle.tera_meaning.specs.Printed.{Prints}
+use Rattle.tera_meaning.specs.Quoted.{Prints}
+use Rattle.tera_meaning.proofs.QuotedLaws.{alone_exact}
 use Rattle.uses.specs.Ordered.{sizes}
 use Rattle.uses.proofs.ordered.sizes_text.Goals as goal
 
@@ -15,4 +16,4 @@ returns-clause-ok c =
     subst (λ value. IfOk c.to_text.result (λ text. Prints (layout value) (string_bytes text)))
     c.in_ok-sizes.ensures.ok c.to_text.ensures.ok in
     IfOk-weaker c.to_text.result (λ text. Prints (layout sizes) (string_bytes text))
-    (λ text. string_bytes text ≡ codes "{\"width\": 80, \"height\": 24}") (λ text known. known refl) prints
+    (λ text. string_bytes text ≡ codes "{\"width\": 80, \"height\": 24}") (λ text known. alone_exact (layout sizes) (string_bytes text) refl known) prints

@@ -14,7 +14,7 @@ on_err (Err e) P holds = holds
 pub returns-clause-run : goal.returns-clause-run
 returns-clause-run c =
     let one = shown_outcome c.step-answer.result
-    (λ outcome. IsStep c.args.context.now (command_of c.args.first) outcome c.step-answer.new.context) c.step-answer.ensures in
+    (λ outcome. IsStep c.args.context.now (command_of c.args.first) outcome c.step-answer.new.context) c.step-answer.ensures.outcome in
     let others = c.in_ok-answers.ensures.run in
     (one.0, others.0, one.1, others.1, (c.step-answer.new.context, one.2, others.2))
 
@@ -22,6 +22,6 @@ returns-clause-run c =
 pub returns-in_err-answers-clause-done : goal.returns-in_err-answers-clause-done
 returns-in_err-answers-clause-done c =
     let one = shown_outcome c.step-answer.result
-    (λ outcome. IsStep c.args.context.now (command_of c.args.first) outcome c.step-answer.new.context) c.step-answer.ensures in
+    (λ outcome. IsStep c.args.context.now (command_of c.args.first) outcome c.step-answer.new.context) c.step-answer.ensures.outcome in
     on_err c.from_residual.result _
     (one.0, subst (λ state. IsStep c.args.context.now (command_of c.args.first) one.0 state) (sym c.in_err-answers.ensures.unchanged) one.2)
