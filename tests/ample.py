@@ -79,7 +79,7 @@ def main():
     lines = [*script()]
     given = "".join(f"{line}\n" for line in lines).encode()
     ran = subprocess.run([sys.argv[1]], input=given, capture_output=True)
-    wanted = second.run(given)
+    wanted = second.replay(given)
     if (ran.stdout, ran.stderr, ran.returncode) != wanted or wanted[2] != 0 or b"error: Out of memory\n" in ran.stdout:
         sys.exit("the answers differ, or a line is bad, or memory was wanted")
     print(f"ample: end, {len(lines)} lines")

@@ -152,6 +152,7 @@ def values(count, text, names):
     yield Row("Value::clone of a text", ok(debug(Text(text, False))))
     yield Row("Value::clone of bytes", ok(debug(bytes_held)))
     yield Row("Map::new", ok(map_debug([])), takes=False)
+    yield Row("Map::with_hasher", ok(map_debug([])), takes=False)
     yield Row("Map::clone", ok(map_debug(entries)))
     yield Row("Map::insert", f"ok, held {map_debug([*entries, ('new', Number('u64', 7))])}", map_debug(entries))
 
@@ -235,6 +236,7 @@ def named(count, text, names):
 def contexts(count, text, names):
     held = dict(zip(names, items(count)))
     yield Row("Context::new", ok(context({})), takes=False)
+    yield Row("Context::with_hasher", ok(context({})), takes=False)
     yield Row("context!", ok(context({"given": Text(text, False), "bare": Number("i64", 69)})))
     yield Row("Context::clone", ok(context(held)))
     yield Row("Context::insert", f"ok, held {context({**held, 'new': Text(text, False)})}", context(held))
@@ -248,6 +250,17 @@ def contexts(count, text, names):
 def rows(count):
     for part in (errors, reports, values, numbers, given, arguments, named, contexts):
         yield from part(count, text_of(count), names_of(count))
+
+
+# The calls that change what a caller keeps, with those beside them.
+KEPT = {"ReportError::set_source", "ReportError::add_note", "Map::new", "Map::with_hasher", "Map::clone", "Map::insert", "Context::clone", "Context::insert",
+        "Context::insert of a name that is there"}
+
+
+def kept(count):
+    """The rows of these calls, with an empty text."""
+    for part in (reports, values, contexts):
+        yield from (row for row in part(count, "", names_of(count)) if row.name in KEPT)
 
 
 # What refuses each request of a list of steps.

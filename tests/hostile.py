@@ -6,6 +6,7 @@ line 'pass NAME' or 'FAIL NAME' for each test whose name holds one of the words,
 expected comes from tests/calls.py, tests/second.py and the rows below. docs/TESTS.md says which sentence each test shows.
 """
 import os
+import select
 import subprocess
 import sys
 import tempfile
@@ -27,6 +28,10 @@ PATIENCE = 120  # seconds in which a program has ended
 UNMADE = {f"{WANT}\n", "error: Io error while writing rendered value to output: OutOfMemory\n"}
 
 
+# a request for memory, as tests/refuse.c tells it
+MARK = "\1"
+
+
 class Failed(Exception):
     """What is not as it has to be."""
 
@@ -38,12 +43,15 @@ class Hostile:
         self.program, self.calls, self.library = (os.path.abspath(it) for it in (program, calls_program, library))
         self.room = tempfile.TemporaryDirectory()
 
-    def run(self, program, given, refuse=None, onwards=False):
-        """Standard output, standard error, the status, and whether a request for memory was refused."""
+    def run(self, program, given, refuse=None, onwards=False, marked=False):
+        """Standard output, standard error, the status, and whether a request for memory was refused. Where it is `marked`,
+        each request stands in standard output as MARK."""
         told = f"{self.room.name}/refused"
         if os.path.exists(told):
             os.remove(told)
         env = dict(os.environ)
+        if marked:
+            env |= {"LD_PRELOAD": self.library, "MARKED": "1"}
         if refuse:
             env |= {"LD_PRELOAD": self.library, "REFUSE": str(refuse), "REFUSED": told} | ({"ONWARDS": "1"} if onwards else {})
         ran = subprocess.run([program], input=given.encode(), capture_output=True, env=env, timeout=PATIENCE)
@@ -114,33 +122,126 @@ def fault_of_calls(rows, heard, most):
     return differ(rest, wanted), places
 
 
-# A map's first pair takes memory for keys and values, its fifth for values, its tenth for keys; a context's sixteenth name
-# takes memory for names.
-SIZES = (0, 1, 4, 9, 15)
+# how many pairs and names are put, of which some make a map or a context grow
+GROWN = 30
 
 
-def calls_refused(given, onwards=False):
+def sizes_of_growth(given):
+    """Behind how many pairs a map asks for memory for one more; and behind how many names a context does, for more than the
+    name itself."""
+    out, err, status, _ = given.run(given.calls, f"growth\n{GROWN}\n", marked=True)
+    same([err, str(status)], ["", "0"])
+    lines, sizes = lines_of(out), []
+    for word in ("map", "context"):
+        asked = [lines[lines.index(next(it for it in lines if it.strip(MARK) == f"{word} {count}")) + 1].count(MARK) for count in range(GROWN)]
+        grows = [count for count, number in enumerate(asked) if number > min(asked)]
+        if len(grows) < 3 or grows[0] != 0:
+            raise Failed(f"a {word} grows behind {grows}, by {asked}")
+        sizes.append(grows)
+    return sizes
+
+
+def calls_at(given, given_lines, rows, most, onwards=False):
+    """The places of the rows that wanted memory where each request in turn was refused, at most so many at once."""
     seen = set()
-    for count in SIZES if not onwards else (2,):
+    for number, heard, is_refused in given.refusals(given.calls, given_lines, onwards):
+        if not is_refused:
+            same(lines_of(heard[0]), called(rows))
+            continue
+        fault, places = fault_of_calls(rows, heard, most)
+        if fault:
+            raise Failed(f"{given_lines.split()}, request {number} refused: {fault}")
+        seen.update(places)
+        free = [rows[at].name for at in places if not rows[at].takes]
+        if free:
+            raise Failed(f"{given_lines.split()}, request {number}: {free[0]} takes no memory, and wanted some")
+    return seen
+
+
+def calls_refused(given):
+    """All calls at the first sizes at which a map or a context grows, and at one at which none does; and those that change what
+    a caller keeps at all the sizes at which one of the two grows."""
+    maps, contexts = sizes_of_growth(given)
+    grows = {*maps, *contexts}
+    seen, few = set(), {*maps[:3], *contexts[:2], next(count for count in range(1, GROWN) if count not in grows)}
+    for count in sorted(few):
         rows = list(calls.rows(count))
-        for number, heard, is_refused in given.refusals(given.calls, f"{count}\n", onwards):
-            if not is_refused:
-                same(lines_of(heard[0]), called(rows))
-                continue
-            fault, places = fault_of_calls(rows, heard, len(rows) if onwards else 1)
-            if fault:
-                raise Failed(f"size {count}, request {number} refused: {fault}")
-            seen.update(places)
-            free = [rows[at].name for at in places if not rows[at].takes]
-            if free:
-                raise Failed(f"size {count}, request {number}: {free[0]} takes no memory, and wanted some")
+        seen |= calls_at(given, f"{count}\n", rows, 1)
     missing = [row.name for at, row in enumerate(rows) if row.takes and at not in seen]
-    if missing and not onwards:
+    if missing:
         raise Failed(f"these wanted no memory: {', '.join(missing)}")
+    for count in sorted(grows - few):
+        rows = list(calls.kept(count))
+        seen = {rows[at].name for at in calls_at(given, f"kept\n{count}\n", rows, 1)}
+        grown = {"Map::insert"} if count in maps else {"Context::insert"}
+        if grown - seen:
+            raise Failed(f"kept {count}: {', '.join(grown - seen)} wanted no memory")
 
 
 def calls_refused_onwards(given):
-    calls_refused(given, onwards=True)
+    rows = list(calls.rows(2))
+    calls_at(given, "2\n", rows, len(rows), onwards=True)
+
+
+# ---- requests that are counted
+
+# the calls of the list that make requests, and how many
+COUNTED = {"ReportError::generate_report": 1, "Key::of_text": 2}
+# how many calls there are at least
+CALLS_COUNTED = 200
+
+
+def requests_counted(given):
+    """The calls that take no memory ask for none, not even for some that they let go; a report asks once."""
+    for count in (2, 13, 30):
+        out, err, status, _ = given.run(given.calls, f"free\n{count}\n", marked=True)
+        same([err, str(status)], ["", "0"])
+        told, is_counted, before, unlike = 0, False, 0, []
+        for line in lines_of(out):
+            name = line.strip(MARK).split(": ")[0]
+            if is_counted:
+                told += 1
+                if line.count(MARK) != COUNTED.get(name, 0):
+                    unlike.append(f"{name} made {line.count(MARK)} requests")
+                if ": error" in line:
+                    unlike.append(f"{name} was refused")
+            else:
+                before += line.count(MARK)
+            is_counted = name == "made" or is_counted and name != "making"
+        if unlike or told < CALLS_COUNTED or not before:
+            raise Failed("\n     ".join([f"size {count}, {told} calls, {before} requests for operands:", *unlike]))
+
+
+def replies(program, library, lines):
+    """The reply to each line, which is sent once the one before it is answered, with the requests that stand before it."""
+    env = {**os.environ, "LD_PRELOAD": library, "MARKED": "1"}
+    with subprocess.Popen([program], stdin=subprocess.PIPE, stdout=subprocess.PIPE, bufsize=0, env=env) as running:
+        for line in lines:
+            running.stdin.write(f"{line}\n".encode())
+            heard = b""
+            while not heard.endswith(b"\n"):
+                is_heard = select.select([running.stdout], [], [], PATIENCE)[0]
+                part = os.read(running.stdout.fileno(), 4096) if is_heard else b""
+                if not part:
+                    running.kill()
+                    raise Failed(f"`{line}` has no answer")
+                heard += part
+            yield heard.decode()[:-1]
+
+
+LOOK_UPS = ["get l", "get absent", 'path m "other.in"', 'path absent "a"', 'attr m "k"', 'attr m "absent"', "item m key", "print t", "print l",
+            "print m", "print n"]
+
+
+def look_ups_counted(given):
+    """A look-up that is said plainly and keeps nothing asks for no memory, from its line to its reply."""
+    sets = [f"set {name} {literal}" for name, literal in refused.VALUES.items()]
+    lines = [*sets, *LOOK_UPS * 2]
+    heard = list(replies(given.program, given.library, lines))
+    same([it.strip(MARK) for it in heard], refused.answers(lines))
+    asked = [f"`{line}` makes {it.count(MARK)} requests" for line, it in zip(lines, heard) if line not in sets and MARK in it]
+    if asked or not all(MARK in it for it in heard[: len(sets)]):
+        raise Failed("\n     ".join(["look-ups, or lines that set none:", *asked]))
 
 
 # ---- lists of steps through `run`
@@ -253,7 +354,7 @@ def row_of_extend(given):
 
 def runs_of_any_size(given):
     lines = [*ample.script()]
-    wanted = second.run("".join(f"{line}\n" for line in lines).encode())[0].decode()
+    wanted = second.replay("".join(f"{line}\n" for line in lines).encode())[0].decode()
     out, err, status, _ = given.run(given.calls, "run\n" + "".join(f"{line}\n" for line in lines))
     same([err, str(status), *lines_of(out)], ["", "0", *lines_of(wanted)])
 
@@ -278,9 +379,22 @@ CALLS = [
 NAMES = ["b", "\u00e9", "", "ab"]
 
 
+# how many pairs stand before one whose key is equal to that of one of them; a list has 12 keys at most, and then a set has them
+PAIRS = (1, 2, 11, 12, 13, 14, 24, 25, 60)
+
+
+def equal_keys():
+    """Maps of so many numbers in 64 bits, and then one of these in 128: the first key stays, where it is, at the later value."""
+    for count in PAIRS:
+        for number in {0, count // 2, count - 1}:
+            pairs = ", ".join(f"{at}u64: none" for at in range(count))
+            held = ", ".join(f"U64({at}): Value {{ inner: {'Bool(true)' if at == number else 'None'} }}" for at in range(count))
+            yield f"set a {{{pairs}, {number}i128: true}}", f'Set {{ name: "a", value: Value {{ inner: Map({{{held}}}) }} }}'
+
+
 def lines_by_debug(given):
     """Each call and each of its operands stands in the debug text of what a line says."""
-    rows = [(line, f"Says(Step {{ call: {call}, into: {f'Some({quoted(into[0])})' if into else None} }})") for line, call, *into in CALLS]
+    rows = [(line, f"Says(Step {{ call: {call}, into: {f'Some({quoted(into[0])})' if into else None} }})") for line, call, *into in [*CALLS, *equal_keys()]]
     source = calls.context(dict.fromkeys(NAMES, second.NONE))
     rows.append((f"extend {{{', '.join(f'{quoted(name)}: none' for name in NAMES)}}}", f"Says(Step {{ call: Extend {{ source: {source} }}, into: None }})"))
     rows += [("# get a", "Skipped"), (" ", "Skipped"), ("has \u00e9", "Bad"), ("frob a", "Bad")]
@@ -298,13 +412,27 @@ NONE_SHOWN, NONE_TAKEN = 'Error { kind: WriteZero, message: "failed to write who
 OWN = ("Value::format", "Value::format_inside", "Key::format", "escape_html")
 
 
+# A value is printed by way of a stage of 256 bytes: these fill several.
+WRITTEN += ['"' + "a text \\u{e9}<" * 70 + '"', "[" + ", ".join(["1234567890"] * 80) + "]",
+            "{" + ", ".join(f"{at}: [{at}, none]" for at in range(60)) + "}"]
+
+
+def rooms(size):
+    """Rooms for no byte, for one, .., and behind 200 for every 61st, up to the first in which so many have place."""
+    room = 0
+    while room < size:
+        yield room
+        room += 1 if room < 200 else 61
+    yield room
+
+
 def written(name, text):
     """What is told of a text that goes to writers with room for no byte, for one, .., and to one that takes none."""
-    size = len(text.encode())
     for step in (2**64 - 1, 1, 3):
-        for room in range(size):
+        *short, enough = rooms(len(text.encode()))
+        for room in short:
             yield f"{name} by {step} in {room}: {list(text.encode()[:room])}, Custom {{ {FAULTS[room % 3]} }}"
-        yield f"{name} by {step} in {size}: ok {quoted(text)}"
+        yield f"{name} by {step} in {enough}: ok {quoted(text)}"
     yield f"{name} by 0: " + (f"[], {NONE_TAKEN if name in OWN else NONE_SHOWN}" if text else 'ok ""')
 
 
@@ -341,7 +469,7 @@ def answered(given, lines, wanted, status=0):
     script = "".join(f"{line}\n" for line in lines)
     out, err, ended, _ = given.run(given.program, script)
     same([str(ended), *lines_of(out)], [str(status), *wanted])
-    model = second.run(script.encode())
+    model = second.replay(script.encode())
     same([out, err, str(ended)], [model[0].decode(), model[1].decode(), str(model[2])])
 
 
@@ -393,16 +521,27 @@ ENDS = [
 HELD = (-170141183460469231731687303715884105728, 340282366920938463463374607431768211455)
 
 
+# the numbers of each kind of a value
+KINDS = [("u64", 0, 2**64 - 1), ("i64", -2**63, 2**63 - 1), ("u128", 0, 2**128 - 1), ("i128", -2**127, 2**127 - 1)]
+
+
+def in_each_kind(number):
+    """The literals of the number: without a kind, and in each that holds it."""
+    kinds = [kind for kind, low, high in KINDS if low <= number <= high]
+    return [f"{number}{kind}" for kind in ["", *kinds]] if kinds else []
+
+
 def ends_of_types(given):
-    """Each type reads its least and its greatest number, in its kind, and refuses the next where a value holds it."""
+    """Each type reads its least and its greatest number from each kind, in its own, and refuses the next where a value holds it."""
     lines, wanted = [], []
     for name, low, high, kind in ENDS:
         for number in (low, high):
-            lines += [f"set a {number}", f"read {name} a -> b", "get b", "kind b", f"read {name} a"]
-            wanted += ["ok", "ok", f"value {number}", f"kind {kind}", f"value {number}"]
+            for literal in in_each_kind(number):
+                lines += [f"set a {literal}", f"read {name} a -> b", "get b", "kind b", f"read {name} a"]
+                wanted += ["ok", "ok", f"value {number}", f"kind {kind}", f"value {number}"]
         for number in (low - 1, high + 1, *HELD):
-            if HELD[0] <= number <= HELD[1] and not low <= number <= high:
-                lines += [f"set a {number}", f"read {name} a", f"read {name} a -> b", "get b"]
+            for literal in in_each_kind(number) if not low <= number <= high else ():
+                lines += [f"set a {literal}", f"read {name} a", f"read {name} a -> b", "get b"]
                 wanted += ["ok", *[f"error: Value `{number}` is out of range for `{name}`"] * 2, f"value {high}"]
         for literal, held in (('"1"', "string"), ("none", "none"), ("[1]", "array"), ("true", "bool")):
             lines += [f"set a {literal}", f"read {name} a"]
@@ -410,6 +549,40 @@ def ends_of_types(given):
     answered(given, lines, wanted)
     told = "error: Value `340282366920938463463374607431768211455` is out of range for `i128`"
     answered(given, ["set a 340282366920938463463374607431768211455", "read i128 a"], ["ok", told])
+
+
+# literals of each kind, with how many parts there are, and the texts that are the keys of a map
+BY_KIND = [*((literal, None, []) for literal in ("undefined", "none", "true", "7u64", "7i64", "7u128", "7i128")),
+           *((literal, 2, []) for literal in ('"ab"', 's"ab"', 'x"6162"', '["a", {"b": 1}]')), ('{"b": 1, "a": 2}', 2, ["b", "a"])]
+
+
+def rows_by_kind(given):
+    """Fields and a walk are of maps alone; texts, bytes and arrays have a size too."""
+    lines, wanted = [], []
+    for literal, size, keys in BY_KIND:
+        lines += [f"set a {literal}", "len a", "fields a", "walk a"]
+        wanted += ["ok", "nothing" if size is None else f"size {size}", f"fields {calls.listed(sorted(keys))}", f"walk {calls.listed(keys)}"]
+    answered(given, lines, wanted)
+
+
+# Values of each rank, the ranks and the values of one rising; of maps alone the partial order says nothing.
+RISING = [["false", "true"], ["-1i128", "0u64", "7u128"], ['""', '"a"', 's"b"'], ["[]", "[1]", "[1, 1]", "[2]"], ["{}", '{"a": 1}', '{"b": 0}'],
+          ['x""', 'x"00"', 'x"01"'], ["none"], ["undefined"]]
+APART = [("[1]", '["a"]', "less", "undecided"), ('["a"]', "[1, 2]", "greater", "undecided"), ("[{}]", "[{}]", "equal", "undecided"),
+         ('[1, "a"]', "[2, 1]", "less", "less"), ("[none, {}]", "[none]", "greater", "greater")]
+
+
+def orders_of_values(given):
+    """The two orders of each value and each other: the partial one is the total one, or says nothing."""
+    all_values = [(rank, literal) for rank, literals in enumerate(RISING) for literal in literals]
+    rows = list(APART)
+    for at, (rank, one) in enumerate(all_values):
+        for place, (other_rank, other) in enumerate(all_values):
+            order = second.order(at, place)
+            is_decided = rank == other_rank and not one.startswith("{")
+            rows.append((one, other, order, order if is_decided else "undecided"))
+    lines = [line for one, other, *_ in rows for line in (f"set a {one}", f"set b {other}", "cmp a b", "try_cmp a b")]
+    answered(given, lines, [it for *_, total, partial in rows for it in ("ok", "ok", total, partial)])
 
 
 def lines_that_are_not_bad(given):
@@ -431,7 +604,7 @@ def cut_anywhere(given):
         raise Failed("a character of the script may be cut")
     for at in range(len(script) + 1):
         out, err, status, _ = given.run(given.program, script[:at])
-        wanted = second.run(script[:at].encode())
+        wanted = second.replay(script[:at].encode())
         if (out.encode(), err.encode(), status) != wanted or status not in (0, 2):
             raise Failed(f"cut at byte {at}: status {status} and {out!r} in the place of {wanted[2]} and {wanted[0]!r}")
 
@@ -440,6 +613,8 @@ TESTS = {
     "calls that take memory on operands of 0, 1, 2 and 1,000 parts": calls_of_any_size,
     "calls that take memory with each request for it refused in turn": calls_refused,
     "calls that take memory with all memory refused from a request on": calls_refused_onwards,
+    "calls that take no memory ask for none, and a report asks once": requests_counted,
+    "look-ups that are said plainly ask for no memory": look_ups_counted,
     "runs over lists with each request for memory refused in turn": runs_refused,
     "an extend of two names with each request for memory refused in turn": row_of_extend,
     "runs over lists on operands of 0, 1 and 1,000 parts": runs_of_any_size,
@@ -448,6 +623,8 @@ TESTS = {
     "values of 64 levels": deep_values,
     "65 levels are a bad line": too_deep,
     "the ends of the twelve integer types": ends_of_types,
+    "sizes, fields and walks of each kind": rows_by_kind,
+    "the two orders of values of each rank": orders_of_values,
     "odd lines that are not bad": lines_that_are_not_bad,
     "the worked script cut at every byte": cut_anywhere,
 }

@@ -92,7 +92,7 @@ def calls_told_to_keep():
 def words_made():
     """The words of the lines that tests/fuzz.py makes, each with whether a line of it had a name for what is found."""
     made = collections.defaultdict(set)
-    lines, _ = fuzz.Maker(random.Random(1), True).script(3000, 0)
+    lines, _ = fuzz.Maker(random.Random(1)).script(3000, 0)
     for line in lines:
         words = line.decode(errors="replace").split()
         if words:

@@ -254,11 +254,24 @@ tell "a text of a megabyte" $?
 python3 tests/ample.py "$program" >"$work/out" 2>"$work/err"
 tell "each line on operands of 0, 1 and 1,000 parts, with ample memory" $?
 
+./conform --seeds 1..3 -- "$program" >"$work/out" 2>"$work/err"
+tell "tables of cases and random scripts are answered as docs/SCRIPT.md says" $?
+
+python3 tests/test_conform.py >"$work/out" 2>"$work/err"
+tell "tests of conform" $?
+
+python3 tests/test_tools.py >"$work/out" 2>"$work/err"
+tell "tests of the tools" $?
+
 python3 tests/fuzz.py "$program" --seed 1 --lines 20000 >"$work/out" 2>"$work/err"
 tell "a second implementation answers 20,000 lines in the same way" $?
 
 python3 tests/fuzz.py "$program" --seconds 60 --seed 2 --keep "$work" >"$work/out" 2>"$work/err"
 tell "sixty seconds of large scripts, cut and in pieces, answered as by a second implementation" $?
+
+# Prints 'pass ..' or 'FAIL ..' for each way in which a script makes keys.
+python3 tests/flood.py "$program" 2>"$work/err"
+tell "floods of keys that collide end" $?
 
 python3 -c 'print("set l [0]\npath l \"" + ".".join(["0"] * 10000) + "\"")' >"$work/script"
 printf 'ok\nnothing\n' >"$work/wanted"
@@ -326,6 +339,12 @@ calls=crates/memory_calls/out/memory_calls
 is_fresh "$calls" || (cd crates/memory_calls && rt run && touch out/memory_calls) </dev/null >"$work/build" 2>&1
 python3 tests/hostile.py "$program" "$calls" "$work/refuse.so" 2>"$work/err"
 tell "tests of hostile surroundings end" $?
+
+clone "$work/ended" && python3 tests/interrupt.py "$work/ended" 2>"$work/err"
+tell "tests of an interrupted check end" $?
+
+sh tests/closed.sh >"$work/out" 2>"$work/err"
+tell "closed sessions of the library for C hold no block" $?
 
 wait "$first"
 tell "the first answer of a fresh clone, with its status and both streams" $?

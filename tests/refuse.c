@@ -1,5 +1,7 @@
 /* Preloaded: refuses the request for memory whose number the variable REFUSE gives, and where
-   ONWARDS is set all after it, and then makes the file that REFUSED names, if it names one. */
+   ONWARDS is set all after it, and then makes the file that REFUSED names, if it names one.
+   Where MARKED is set, each request puts a byte 1 into standard output, so that what is written
+   before and behind it tells whose it is. */
 #define _GNU_SOURCE
 #include <dlfcn.h>
 #include <fcntl.h>
@@ -9,6 +11,7 @@
 static long asked;
 
 static int refused(void) {
+    if (getenv("MARKED") && write(STDOUT_FILENO, "\1", 1) != 1) abort();
     const char *number = getenv("REFUSE");
     if (!number || ++asked < atol(number)) return 0;
     if (asked > atol(number) && !getenv("ONWARDS")) return 0;

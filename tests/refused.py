@@ -39,6 +39,8 @@ CHANGES = ["remove n", "remove absent", "extend {}", f'extend {{{MANY}, "t": "an
            "mark_safe t", "set l [[[1]]]", 'set m {"k": 1, "j": "no less than twenty bytes", "k": 2}']
 # no line of these takes memory, wherever the script stands
 FREE = ("has", "len", "truthy", "kind", "is_safe", "eq", "cmp", "try_cmp", "remove")
+# nor does one of these that is not refused, and keeps what it finds nowhere
+FREE_IF_GIVEN = ("contains", "negate", "read", "mark_safe", *second.OPERATORS)
 # nor does one of the program that begins so and keeps nothing: what it finds or prints is lent to the reply
 LENT = ("get ", "path ", "attr ", "item m key", "print ")
 
@@ -116,12 +118,16 @@ class Runs:
 
     def missing(self):
         """The lines that have to want memory and did not, and those that may not and did."""
-        free = [line.split()[0] in FREE or self.is_lent(line) for line in self.lines]
+        free = [line.split()[0] in FREE or self.is_lent(line) or self.is_kept_nowhere(at) for at, line in enumerate(self.lines)]
         held = [line for at, line in enumerate(self.lines) if self.must_want(at, line) and at not in self.wanting]
         return held + [line for at, line in enumerate(self.lines) if free[at] and at in self.wanting]
 
     def is_lent(self, line):
         return self.lends and line.startswith(LENT) and "-> " not in line
+
+    def is_kept_nowhere(self, at):
+        line = self.lines[at]
+        return line.split()[0] in FREE_IF_GIVEN and "-> " not in line and not self.whole[at].startswith("error: ")
 
     def must_want(self, at, line):
         """What is copied, shown as a text of its own, or refused with a text takes memory for it."""

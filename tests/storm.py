@@ -1,7 +1,7 @@
 """Scripts without end, with huge texts, wide maps and deep nesting: `python3 tests/fuzz.py PROGRAM --seconds N`.
 
 Each script comes from the seed and its own number, so `--seed S --first N` begins again at that script. It goes to the
-program in pieces of odd sizes, or is cut at some byte. The program answers as tests/second.py does, with no more memory
+program in pieces of odd sizes, or is cut at some byte. The program answers as the reference does, with no more memory
 than TIMES what its names, the longest line and the answer ask for, beside what any run takes; the first scripts bring
 large things again and again, so that what is not let go is too much. A script on which the two differ is kept as a
 file, and so is a shorter one.
@@ -30,8 +30,8 @@ PATIENCE = 300  # seconds in which a program has ended
 class StormMaker(fuzz.Maker):
     """Makes the lines of fuzz.py, and large ones among them."""
 
-    def __init__(self, chance, with_extend, size):
-        super().__init__(chance, with_extend)
+    def __init__(self, chance, left_out, size):
+        super().__init__(chance, left_out)
         self.size = size
         self.makers |= {self.text_lines: 1, self.wide_lines: 1, self.long_lines: 1, self.churn_lines: 3, self.deep_lines: 1, self.end_lines: 3}
 
@@ -144,7 +144,7 @@ class Expected:
     """What the model answers to a script, and the most bytes that its names, the line and the answer hold at any time."""
 
     def __init__(self, script):
-        self.answers, self.most = second.run(script), 0
+        self.answers, self.most = second.replay(script), 0
         names, held, longest = {}, {}, 0
         for line in second.lines_of(script):
             longest = max(longest, len(line))
@@ -175,7 +175,7 @@ def pieces_of(script, chance):
 
 def heard(program, pieces, memory):
     """The program's standard output, standard error and status, where it has no more than so many bytes of memory."""
-    limited = ["sh", "-c", 'ulimit -v "$1" && exec "$2"', "sh", str(memory // 1024), program]
+    limited = ["sh", "-c", 'ulimit -v "$1" && shift && exec "$@"', "sh", str(memory // 1024), *program]
     with tempfile.TemporaryFile() as out, tempfile.TemporaryFile() as err:
         running = subprocess.Popen(limited, stdin=subprocess.PIPE, stdout=out, stderr=err, bufsize=0)
         patience = threading.Timer(PATIENCE, running.kill)
@@ -211,15 +211,15 @@ def fault(program, script, chance, least):
     if (out, err, status) == expected.answers:
         return None
     wants = b"error: Out of memory" in out + err and b"error: Out of memory" not in expected.answers[0]
-    return f"{memory - least:,} bytes of memory beside the {least:,} that no line takes are too few" if wants else "the program and tests/second.py differ"
+    return f"{memory - least:,} bytes of memory beside the {least:,} that no line takes are too few" if wants else "the program and the reference differ"
 
 
-def script_of(seed, number, size, with_extend):
+def script_of(seed, number, size, left_out):
     """The script of this number: its lines, and the chance that cuts it into pieces."""
     chance = random.Random(f"{seed} {number}")
-    maker = StormMaker(chance, with_extend, size)
+    maker = StormMaker(chance, left_out, size)
     if number < len(CHURNS):
-        return [line.encode() + b"\n" for line in maker.churn_lines(number) if with_extend or not line.startswith("extend")], chance
+        return [line.encode() + b"\n" for line in maker.churn_lines(number) if line.split()[0] not in left_out], chance
     lines, _ = maker.script(*chance.choice(((2, 2), (10, 3), (40, 1), (200, 0))))
     if chance.random() < 0.2:
         script = b"".join(lines)
@@ -234,18 +234,19 @@ def keep(name, lines):
     print(f"fuzz: kept as {name}, {len(lines)} lines", flush=True)
 
 
-def storm(program, given):
+def storm(program, given, left_out):
     """Scripts for so many seconds; returns the status."""
     began, told, count, number, least = time.monotonic(), 0, 0, given.first, base(program)
     while time.monotonic() - began < given.seconds:
-        lines, chance = script_of(given.seed, number, given.size, not given.no_extend)
+        lines, chance = script_of(given.seed, number, given.size, left_out)
         why = fault(program, b"".join(lines), chance, least)
         if why:
             print(f"fuzz: {why}, on script {number} of seed {given.seed}")
             name = f"{given.keep}/fuzz-{given.seed}-{number}"
             keep(f"{name}.replay", lines)
-            if fuzz.differ(program, lines):
-                keep(f"{name}-short.replay", fuzz.fewest(program, lines))
+            engine = fuzz.Engine(program, patience=PATIENCE)
+            if engine.differs(lines):
+                keep(f"{name}-short.replay", fuzz.fewest(lines, engine.differs))
             return 1
         count, number, seconds = count + len(lines), number + 1, time.monotonic() - began
         if seconds - told >= 5:

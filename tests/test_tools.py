@@ -1,0 +1,305 @@
+#!/usr/bin/env python3
+"""Tests of tools/ on small made-up crates and programs: `python3 tests/test_tools.py [TestClass.test]`. They need no kit."""
+import contextlib
+import io
+import os
+import re
+import shutil
+import signal
+import subprocess
+import sys
+import tempfile
+import unittest
+from xml.etree import ElementTree
+
+sys.dont_write_bytecode = True  # no folder beside the sources
+TOP = os.path.dirname(os.path.dirname(os.path.abspath(__file__)))
+sys.path.insert(0, TOP)
+from tools import clauses, machine, prove, timing
+
+CRATES = "# a note\ntera_low: core\ntera_left: tera_low\ntera_right: tera_low\ntera_top: tera_left tera_right core\nhelper: core\n"
+SOURCE = """pub fn shown(alloc: Global) -> u8
+    requires { fits alloc }
+    ensures told { result = low 1 }
+{ 1 }
+fn hidden() -> u8 { 2 }
+impl Told for Low {
+    fn told(&self) -> u8 ensures { result = self } { 3 }
+}
+impl Low {
+    pub fn own(&self) -> u8
+        ensures* { other }
+    { 4 }
+}
+"""
+SPEC = """abbrev low : Nat -> Nat
+low n = deeper n
+
+deeper : Nat -> Nat
+deeper n = n
+
+uncited : Nat
+uncited = 0
+"""
+# in the place of the kit's command: notes the crate, and makes what `rt` makes
+STUB = """#!/bin/sh
+crate=${PWD##*/}
+echo "$crate $*" >>"$NOTES"
+[ "$crate" != "$FAILS" ] || { echo no; exit 1; }
+[ "$crate" != "$WAITS" ] || sleep 60
+mkdir -p out/rlib
+[ "$1" = lib ] || { echo made >"out/$crate" && chmod +x "out/$crate"; }
+"""
+
+
+def written(folder, files):
+    """Writes files below a folder."""
+    for name, text in files.items():
+        os.makedirs(os.path.dirname(f"{folder}/{name}"), exist_ok=True)
+        with open(f"{folder}/{name}", "w", encoding="utf-8") as file:
+            file.write(text)
+
+
+def read(path):
+    with open(path, encoding="utf-8") as file:
+        return file.read()
+
+
+class WithFolder(unittest.TestCase):
+    def setUp(self):
+        self.folder = tempfile.mkdtemp(prefix="tools-")
+        self.addCleanup(shutil.rmtree, self.folder, ignore_errors=True)
+
+
+class Clauses(WithFolder):
+    def repository(self, name="one", source=SOURCE, spec=SPEC, path="src/lib.rt"):
+        top = f"{self.folder}/{name}"
+        imports = "use Rattle.tera_low.specs.Low.{low}\n"
+        written(top, {"crates.txt": CRATES, f"crates/tera_low/{path}": imports + source, "crates/tera_low/specs/Low.antt": spec,
+                      "crates/helper/src/lib.rt": "pub fn not_of_a_library() {}\n"})
+        return clauses.Repository(top)
+
+    def changes(self, **given):
+        old, new = self.repository(), self.repository("two", **given)
+        return [*clauses.changed_functions(old, new), *clauses.changed_definitions(old, new)]
+
+    def test_public_functions_and_what_they_cite_are_listed(self):
+        lines = list(clauses.listed(self.repository()))
+        self.assertEqual([line for line in lines if "fn " in line], [
+            "impl Low · pub fn own(&self) -> u8", "impl Told for Low · fn told(&self) -> u8", "pub fn shown(alloc: Global) -> u8"])
+        self.assertIn("    ensures told { result = low 1 }", lines)
+        self.assertIn("    ensures* { other }", lines)
+        cited = [line.partition(": ")[2] for line in lines if line.startswith("Rattle.")]
+        self.assertEqual(cited, ["deeper : Nat -> Nat deeper n = n", "abbrev low : Nat -> Nat low n = deeper n"])
+
+    def test_what_only_moves_is_no_change(self):
+        self.assertEqual(self.changes(path="src/inner/other.rt", source=SOURCE.replace("{ 1 }", "{ 5 }").replace("requires { fits", "requires  {\n  fits")), [])
+
+    def test_changes_are_told(self):
+        self.assertEqual(self.changes(source=SOURCE.replace("low 1", "low 2")),
+                         ["pub fn shown(alloc: Global) -> u8\n  - ensures told { result = low 1 }\n  + ensures told { result = low 2 }"])
+        self.assertEqual(self.changes(source=SOURCE.replace("pub fn own", "fn own")), ["went: impl Low · pub fn own(&self) -> u8", "    ensures* { other }"])
+        self.assertEqual(self.changes(spec=SPEC.replace("deeper n = n", "deeper n = 1")),
+                         ["definition deeper\n  - deeper : Nat -> Nat deeper n = n\n  + deeper : Nat -> Nat deeper n = 1"])
+        self.assertEqual(self.changes(spec=SPEC.replace("uncited = 0", "uncited = 1")), [])
+
+
+class Ending(WithFolder):
+    def test_all_that_a_command_began_ends(self):
+        script = f"""
+            sh -c 'trap "" TERM HUP; echo $$ >{self.folder}/deaf; while :; do sleep 1; done' &
+            (setsid sh -c 'echo $$ >{self.folder}/orphan; sleep 60' &)
+            echo $$ >{self.folder}/own; wait"""
+        for number in (signal.SIGTERM, signal.SIGINT, signal.SIGHUP):
+            with self.subTest(number):
+                run = subprocess.Popen([sys.executable, f"{TOP}/tools/ending.py", "sh", "-c", script])
+                names = [f"{self.folder}/{name}" for name in ("deaf", "orphan", "own")]
+                self.assertTrue(machine.comes_true(20, lambda: all(os.path.exists(name) and read(name) for name in names)))
+                began = [int(read(name)) for name in names]
+                self.addCleanup(kill_all, began)
+                run.send_signal(number)
+                self.assertEqual(run.wait(timeout=20), 128 + number)
+                self.assertTrue(machine.comes_true(5, lambda: not any(machine.words_of(pid) for pid in began)))
+                for name in names:
+                    os.remove(name)
+
+    def test_a_status_is_handed_on(self):
+        for command, status in (("exit 0", 0), ("exit 3", 3), ("kill -KILL $$", 128 + 9)):
+            self.assertEqual(subprocess.run([sys.executable, f"{TOP}/tools/ending.py", "sh", "-c", command]).returncode, status)
+
+
+def kill_all(pids):
+    """Ends what a test that failed has left."""
+    for pid in pids:
+        with contextlib.suppress(ProcessLookupError):
+            os.kill(pid, signal.SIGKILL)
+
+
+class Timing(WithFolder):
+    def test_a_part_and_its_provers_are_told(self):
+        file = f"{self.folder}/times"
+        prover = f"exec -a rattle {sys.executable} -c 'import time; time.sleep(2)' --crate-name tera_low --test"
+        self.assertEqual(timing.run("a part", file, ["sh", "-c", 'bash -c "$1"; exit 3', "sh", f"({prover}); true"]), 3)
+        rows = list(timing.read_rows(file))
+        self.assertEqual([(row.part, *row.work) for row in rows], [("a part", "", "whole"), ("a part", "tera_low", "tests")])
+        self.assertGreater(rows[0].last - rows[0].first, 1.5)
+
+    def test_costs_are_added_and_the_dearest_is_first(self):
+        file = f"{self.folder}/times"
+        written(self.folder, {"times": "low\t\twhole\t0\t60\t30\nhigh\t\twhole\t30\t120\t90\nlow\ttera_a\tproof\t1\t2\t10\nlow\ttera_a\tproof\t5\t9\t10\n"})
+        made = io.StringIO()
+        with contextlib.redirect_stdout(made):
+            timing.table(file)
+        lines = [" ".join(line.split()) for line in made.getvalue().splitlines() if line]
+        self.assertEqual(lines, ["processor wall part", "90 s 90 s high", "30 s 60 s low", "processor wall crate, and what was done",
+                                 "20 s 8 s tera_a (proof; low)", "in all 2 processor minutes, 2 minutes of wall time"])
+
+
+class Prove(WithFolder):
+    def setUp(self):
+        super().setUp()
+        self.top = f"{self.folder}/top"
+        shutil.copytree(f"{TOP}/tools", f"{self.top}/tools")
+        crates = {f"crates/{name}/src/lib.rt": "" for name in ("tera_low", "tera_left", "tera_right", "tera_top", "helper")}
+        written(self.top, {"crates.txt": CRATES, "tests/fresh.sh": read(f"{TOP}/tests/fresh.sh"), **crates})
+        written(self.folder, {"bin/rt": STUB})
+        os.chmod(f"{self.folder}/bin/rt", 0o755)
+
+    def words(self):
+        return [sys.executable, f"{self.top}/tools/prove.py", "tera_top", "./make it"]
+
+    def environment(self, **more):
+        return {**os.environ, "PATH": f"{self.folder}/bin:{os.environ['PATH']}", "NOTES": f"{self.folder}/notes", "FAILS": "", "WAITS": "", **more}
+
+    def proved(self, **more):
+        """The status, the words on standard error, and the crates in the order in which they were proved."""
+        written(self.folder, {"notes": ""})
+        ran = subprocess.run(self.words(), env=self.environment(**more), capture_output=True, text=True, timeout=120)
+        self.assertEqual(ran.stdout, "")
+        return ran.returncode, ran.stderr, [line.split()[:2] for line in read(f"{self.folder}/notes").splitlines()]
+
+    def test_crates_are_proved_after_those_below(self):
+        status, err, notes = self.proved()
+        self.assertEqual((status, notes[0], sorted(notes[1:3]), notes[3:]), (
+            0, ["tera_low", "lib"], [["tera_left", "lib"], ["tera_right", "lib"]], [["tera_top", "run"]]))
+        self.assertIn("make: the proved program stands, after", err)
+        self.assertFalse(os.listdir(f"{self.top}/crates/tera_top/out/beside") if os.path.isdir(f"{self.top}/crates/tera_top/out/beside") else [])
+        self.assertTrue(all(os.path.isdir(f"{self.top}/crates/{name}/out/rlib") for name in ("tera_low", "tera_left", "tera_right")))
+        status, err, notes = self.proved()
+        self.assertEqual((status, err, notes), (0, "make: the proved program stands\n", []))
+
+    def test_a_crate_that_is_not_proved_is_told(self):
+        status, err, notes = self.proved(FAILS="tera_low")
+        self.assertEqual((status, notes), (1, [["tera_low", "lib"]]))
+        log = f"{self.top}/crates/tera_top/out/prove/tera_low.log"
+        self.assertRegex(err.splitlines()[-1], f"^make: tera_low: not proved, after .*; see {log}$")
+        self.assertEqual(read(log), "no\n")
+
+    def test_a_signal_stops_it_and_it_goes_on_from_there(self):
+        written(self.folder, {"notes": ""})
+        run = subprocess.Popen(self.words(), env=self.environment(WAITS="tera_top"), stderr=subprocess.PIPE, text=True)
+        self.assertTrue(machine.comes_true(60, lambda: "tera_top" in read(f"{self.folder}/notes")))
+        run.send_signal(signal.SIGTERM)
+        self.assertIn("make: stopped; what is proved stays so", run.communicate(timeout=20)[1])
+        self.assertEqual(run.returncode, 128 + signal.SIGTERM)
+
+    def test_what_stands_below_comes_first(self):
+        crates = prove.Crates(self.top)
+        self.assertEqual(crates.below("tera_top"), ["tera_low", "tera_left", "tera_right"])
+        self.assertEqual(prove.Target(crates, "tera_top", "x").kind, "program")
+
+
+SAMPLE = """
+import unittest
+
+class Good(unittest.TestCase):
+    def test_holds(self):
+        pass
+
+    @unittest.skip("no machine")
+    def test_skipped(self):
+        pass
+
+class Bad(unittest.TestCase):
+    def test_breaks(self):
+        "What a test says"
+        for number in range(3):
+            with self.subTest(number):
+                self.assertNotEqual(number, 1)
+
+    def test_raises(self):
+        raise OSError("a fault")
+
+class Unmade(unittest.TestCase):
+    @classmethod
+    def setUpClass(cls):
+        raise OSError("not made")
+
+    def test_never(self):
+        pass
+"""
+
+
+class Testing(WithFolder):
+    """The runner of parts, on parts that are made up."""
+
+    def setUp(self):
+        super().setUp()
+        shutil.copytree(f"{TOP}/tools", f"{self.folder}/tools")
+        written(self.folder, {"tests/test_sample.py": SAMPLE, "tests/test_broken.py": "import nowhere_at_all\n",
+                              "tests/house.py": "print('pass one')\nprint('FAIL two')\nprint('     why')\n",
+                              "tests/border.py": "print('pass one')\nprint('border: end')\n"})
+
+    def ran(self, *words):
+        """The status, the lines at the margin, and all that is printed."""
+        done = subprocess.run([sys.executable, f"{self.folder}/tools/testing.py", *words], capture_output=True, text=True)
+        return done.returncode, [line for line in done.stdout.splitlines() if line[:1] != " "], done.stdout + done.stderr
+
+    def test_each_result_is_told_and_counted(self):
+        status, lines, text = self.ran("sample")
+        self.assertEqual((status, sorted(lines[:-1]), lines[-1]), (1, [
+            "FAIL sample: Bad.test_raises", "FAIL sample: What a test says", "FAIL sample: setUpClass (test_sample.Unmade)",
+            "pass sample: Good.test_holds", "skip sample: Good.test_skipped (no machine)"], "1 passed, 3 failed, 1 skipped"))
+        for said in ("a fault", "not made", "[1]"):
+            self.assertIn(said, text)
+
+    def test_one_test_is_run_alone(self):
+        self.assertEqual(self.ran("sample.Good.test_holds")[:2], (0, ["pass sample: Good.test_holds", "1 passed, 0 failed"]))
+        self.assertEqual(self.ran("border", "sample.Good")[1], ["pass border: one", "pass sample: Good.test_holds", "skip sample: Good.test_skipped (no machine)", "2 passed, 0 failed, 1 skipped"])
+
+    def test_a_script_that_fails_or_stops_early_is_told(self):
+        self.assertEqual(self.ran("house")[:2], (1, ["pass house: one", "FAIL house: two", "FAIL house: it comes to its end", "1 passed, 2 failed"]))
+
+    def test_what_is_no_part_or_cannot_be_read_fails(self):
+        status, lines, text = self.ran("frob")
+        self.assertEqual((status, lines), (2, []))
+        self.assertIn("and not frob", text)
+        status, lines, text = self.ran("broken")
+        self.assertEqual((status, lines[-1]), (1, "0 passed, 1 failed"))
+        self.assertIn("nowhere_at_all", text)
+        self.assertEqual(self.ran("sample.Nobody")[0], 1)
+
+    def test_ci_reads_the_results(self):
+        self.ran("--junit", f"{self.folder}/results.xml", "sample", "border")
+        root = ElementTree.parse(f"{self.folder}/results.xml").getroot()
+        self.assertEqual((root.get("tests"), root.get("failures")), ("6", "3"))
+        self.assertEqual(sorted(case.get("name") for case in root if case.find("failure") is not None), ["Bad.test_raises", "What a test says", "setUpClass (test_sample.Unmade)"])
+        self.assertEqual([case.get("classname") for case in root if case.find("skipped") is not None], ["sample"])
+
+
+class Typed(unittest.TestCase):
+    """The packages are typed, and what they name is used."""
+
+    def test_types_and_names(self):
+        tools = [f"tools.{name.removesuffix('.py')}" for name in os.listdir(f"{TOP}/tools") if re.fullmatch(r"[a-z]\w*\.py", name)]
+        typed = [word for name in sorted(tools) for word in ("-m", name)]
+        for name, words in (("mypy", ["--strict", "--cache-dir=/dev/null", *typed, "-p", "conformance"]), ("pyflakes3", ["tools", "conformance", "conform"])):
+            with self.subTest(name):
+                if not shutil.which(name):
+                    self.skipTest(f"no {name} is on the path")
+                ran = subprocess.run([name, *words], cwd=TOP, capture_output=True, text=True)
+                self.assertEqual(ran.returncode, 0, ran.stdout)
+
+
+if __name__ == "__main__":
+    unittest.main()

@@ -1,0 +1,75 @@
+#!/usr/bin/env python3
+"""Runs a command, and ends with it all that it began: `python3 tools/ending.py COMMAND ..`.
+
+Where an interrupt, TERM or HUP comes, the command and all below it are told to end, and are killed two seconds later. So
+nothing is left that runs, waits or holds a lock, and the status is 128 and the signal's number.
+"""
+from __future__ import annotations
+
+import contextlib
+import ctypes
+import os
+import signal
+import subprocess
+import sys
+import time
+from typing import List, Set
+
+sys.dont_write_bytecode = True  # no folder beside the sources
+sys.path.insert(0, os.path.dirname(os.path.dirname(os.path.abspath(__file__))))
+from tools.machine import below
+
+ADOPTS_ORPHANS = 36  # PR_SET_CHILD_SUBREAPER: what a process below began, and left, becomes a child of this one
+PATIENCE = 2  # seconds
+SIGNALS = signal.SIGINT, signal.SIGTERM, signal.SIGHUP
+
+
+class Ended(Exception):
+    """A signal came: its number."""
+
+
+def ended(number: int, _: object) -> None:
+    """Stops what this waits for, as a signal came."""
+    raise Ended(number)
+
+
+def end_all() -> None:
+    """Ends all below, politely first."""
+    until = time.monotonic() + PATIENCE
+    told: Set[int] = set()
+    while living := below(os.getpid()):
+        is_late = time.monotonic() > until
+        for pid in living if is_late else set(living) - told:
+            with contextlib.suppress(ProcessLookupError):
+                os.kill(pid, signal.SIGKILL if is_late else signal.SIGTERM)
+        told.update(living)
+        with contextlib.suppress(ChildProcessError):
+            while os.waitpid(-1, os.WNOHANG)[0]:
+                pass
+        time.sleep(0.05)
+
+
+def run(command: List[str]) -> int:
+    """Runs the command; returns its status, or that of the signal that came."""
+    try:
+        for number in SIGNALS:
+            signal.signal(number, ended)
+        # in a group of its own, lest an interrupt at a terminal ends some of it alone
+        status = subprocess.Popen(command, process_group=0).wait()
+    except Ended as came:
+        return 128 + int(came.args[0])
+    return status if status >= 0 else 128 - status
+
+
+def main() -> int:
+    """Runs the command of the command line, and ends all that is left of it."""
+    ctypes.CDLL(None).prctl(ADOPTS_ORPHANS, 1, 0, 0, 0)
+    status = run(sys.argv[1:])
+    for number in SIGNALS:
+        signal.signal(number, signal.SIG_IGN)
+    end_all()
+    return status
+
+
+if __name__ == "__main__":
+    sys.exit(main())
