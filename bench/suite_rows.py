@@ -8,6 +8,7 @@ import itertools
 import random
 from dataclasses import dataclass
 
+FEW = 12  # keys that a map of the proved program finds without a hash
 LEVELS = 4  # the maps that stand around a value of a deep map, below the outermost
 # The parts, with what a line goes over.
 PARTS = {
@@ -81,8 +82,8 @@ class Row:
 
     @property
     def by_chance(self):
-        """Whether the cost hangs on the seed of a hashed map: how soon a walk meets the one difference."""
-        return self.operation == "eqnear"
+        """Whether the cost hangs on the seed of a hashed map: how soon a key is found, or a walk meets the one difference."""
+        return self.operation == "eqnear" or self.part == "c" and self.size > FEW
 
     @property
     def parts(self):
