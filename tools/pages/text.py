@@ -80,7 +80,8 @@ class Prose:
 
     def markdown(self, text: str) -> str:
         """A document of the repository."""
-        return "".join(self.block(it) for it in blocks_of(text))
+        bare = re.sub(r"(?m)^<!--.*?-->\n", "", text)
+        return "".join(self.block(it) for it in blocks_of(bare))
 
     def block(self, lines: list[str]) -> str:
         first = lines[0]

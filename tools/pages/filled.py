@@ -1,0 +1,147 @@
+"""The parts of documents that are written from the sources: the ledger of clauses, and blocks of code.
+
+A part stands between two comments, of which the first says what it is of:
+
+    <!-- filled: claims -->                    the chief claims of docs/claims.toml: a row for each call that carries one
+    <!-- filled: ledger -->                    a row for each public call and law that has clauses, crate by crate
+    <!-- filled: crates/FILE NAME .. -->       these functions of a file of src/, or definitions of a file of specs/ or proofs/
+    <!-- end -->
+"""
+from __future__ import annotations
+
+import os
+import re
+from collections.abc import Iterator
+
+from .book import item_name
+from .claims import Broken, Claim
+from .model import Item
+from .sources import TOP, Repository, read
+
+PART = re.compile(r"(?ms)^(<!-- filled: ([^\n]*?) -->\n)(.*?)^(<!-- end -->)$")
+HEAD = "| call | clauses | what it says | where |\n|---|---|---|---|\n"
+
+
+def documents() -> list[str]:
+    """The documents in which parts are filled."""
+    pages = sorted(f"docs/{it}" for it in os.listdir(f"{TOP}/docs") if it.endswith(".md"))
+    return ["README.md", *pages, "bench/README.md"]
+
+
+def without_filled(text: str) -> str:
+    """What is written by hand of a document."""
+    return PART.sub("", text)
+
+
+# ---- rows
+
+
+def spelled(item: Item) -> str:
+    """The call as a user names it, with the trait by which it is called."""
+    name, _, trait = item_name(item).partition(" (")
+    return f"`{name}`" + (f" by `{trait.removesuffix(')')}`" if trait else "")
+
+
+def said(item: Item) -> str:
+    """The comment of a call, or of the block in which it stands, on one line."""
+    comment = item.comment or (item.block.comment if item.block else "")
+    kept = re.sub(r"\s*\bMirrors `[^`]*`(?:(?: of| and)? `[^`]*`)*(?:, which [^.]*)?\.", "", comment)
+    # a stroke would end the cell
+    return re.sub(r"\s+", " ", kept).strip().replace("|", r"\|")
+
+
+def where(item: Item) -> str:
+    path = item.path.removeprefix("crates/")
+    return f"[{path}:{item.line}](../{item.path}#L{item.line})"
+
+
+def row(item: Item, labels: list[str]) -> str:
+    clauses = ", ".join(f"`{it}`" for it in dict.fromkeys(labels))
+    return f"| {spelled(item)} | {clauses} | {said(item)} | {where(item)} |\n"
+
+
+def claim_rows(claims: list[Claim]) -> str:
+    """A row for each call and law that carries a claim; the claim stands in the first of its rows."""
+    made = "| claim | call | clauses | where |\n|---|---|---|---|\n"
+    for claim in claims:
+        title = claim.title
+        for item, labels in [*claim.calls, *claim.laws]:
+            clauses = ", ".join(f"`{it}`" for it in labels)
+            made += f"| {title} | {spelled(item)} of `{item.crate}` | {clauses} | {where(item)} |\n"
+            title = ""
+    return made
+
+
+def ledger(repository: Repository) -> str:
+    made = []
+    for crate in repository.crates:
+        rows = [row(it, [clause.label for clause in it.all_clauses]) for it in crate.public if it.all_clauses and it.kind != "impl"]
+        if rows:
+            made.append(f"### {crate.name}\n\n{first_of(crate.comment)}\n\n{HEAD}{''.join(rows)}")
+    return "\n".join(made)
+
+
+def first_of(comment: str) -> str:
+    """The first paragraph of the comment of a crate."""
+    return re.sub(r"\s+", " ", comment.split("\n\n")[0]).strip()
+
+
+# ---- blocks of code
+
+
+def code(path: str, names: list[str]) -> str:
+    """These functions or definitions, as they stand in a file, with their comments."""
+    text = read(path)
+    sign = "rust" if path.endswith(".rt") else "antt"
+    blocks = [block_of(text, it, sign) for it in names]
+    missing = [name for name, block in zip(names, blocks) if block is None]
+    if missing:
+        raise Broken(f"{path}: there is no {', '.join(missing)}")
+    return f"```{sign}\n" + "\n\n".join(it for it in blocks if it) + "\n```\n"
+
+
+def block_of(text: str, name: str, sign: str) -> str | None:
+    """A function, from its comment to its closing brace; or a definition, from its comment to the next blank line."""
+    comment = "///[^\n]*\n" if sign == "rust" else "--[^\n]*\n"
+    if sign == "rust":
+        found = re.search(rf"(?ms)^(?:{comment})*(?:pub )?fn {re.escape(name)}\b.*?^\}}$", text)
+    else:
+        head = r"(?:abbrev |pub |unfoldable )*"
+        found = re.search(rf"(?m)^(?:{comment})*{head}{re.escape(name)} :(?:[^\n]|\n(?!\n))*", text)
+    return found[0].rstrip() if found else None
+
+
+# ---- documents
+
+
+def filled(text: str, repository: Repository, claims: list[Claim]) -> str:
+    """A document with each of its parts written anew."""
+
+    def part(what: str) -> str:
+        if what == "claims":
+            return claim_rows(claims)
+        if what == "ledger":
+            return ledger(repository)
+        path, *names = what.split()
+        return code(path, names)
+
+    return PART.sub(lambda it: f"{it[1]}{part(it[2])}{it[4]}", text)
+
+
+def stale(repository: Repository, claims: list[Claim]) -> Iterator[tuple[str, str]]:
+    """Each document whose parts are not as the sources have them, and what it should be."""
+    for path in documents():
+        text = read(path)
+        wanted = filled(text, repository, claims)
+        if wanted != text:
+            yield path, wanted
+
+
+def fill(repository: Repository, claims: list[Claim]) -> list[str]:
+    """Writes the parts of all documents anew, and answers what was written."""
+    told = []
+    for path, wanted in stale(repository, claims):
+        with open(f"{TOP}/{path}", "w", encoding="utf-8") as it:
+            it.write(wanted)
+        told.append(f"{path}: filled anew")
+    return told or ["the documents are as the sources have them"]

@@ -1,0 +1,82 @@
+#!/usr/bin/env python3
+"""Counts the words of the documents that are written by hand, and tells their long sentences.
+
+    tools/words.py                the words of each document, and of all
+    tools/words.py --sentences    each sentence that has more than 30 words
+
+A word has a letter or a digit. What a script writes does not count: the parts that `./docs/build --fill` writes, and the tables
+that `bench/suite.py` prints. The pages in APART are counted by themselves.
+"""
+from __future__ import annotations
+
+import argparse
+import os
+import re
+from collections.abc import Iterator
+
+TOP = os.path.dirname(os.path.dirname(os.path.abspath(__file__)))
+MOST_WORDS, MOST_IN_SENTENCE = 13_000, 30
+APART = ("docs/CONFORM.md",)
+SCRIPTED = re.compile(r"(?ms)^<!-- (?:filled|printed): [^\n]* -->\n.*?^<!-- end -->$")
+BLOCK = re.compile(r"(?ms)^```.*?^```$|^(?:    [^\n]*\n)+")
+CODE = re.compile(r"``.+?``|`[^`]+`")
+
+
+def documents() -> list[str]:
+    """README.md, the pages of docs/ and bench/README.md."""
+    pages = sorted(f"docs/{it}" for it in os.listdir(f"{TOP}/docs") if it.endswith(".md"))
+    return ["README.md", *pages, "bench/README.md"]
+
+
+def by_hand(path: str) -> str:
+    """What is written by hand of a document."""
+    with open(f"{TOP}/{path}", encoding="utf-8") as it:
+        return SCRIPTED.sub("", it.read())
+
+
+def count(text: str) -> int:
+    return sum(1 for it in text.split() if re.search(r"\w", it))
+
+
+def counts() -> dict[str, int]:
+    return {path: count(by_hand(path)) for path in documents()}
+
+
+def total(counted: dict[str, int]) -> int:
+    return sum(words for path, words in counted.items() if path not in APART)
+
+
+def paragraphs(text: str) -> Iterator[str]:
+    """The paragraphs, the points of lists and the cells of tables, each on one line. What stands as code is one word."""
+    prose = CODE.sub("code", BLOCK.sub("\n\n", text))
+    for block in re.split(r"\n\s*\n|\n(?=- |\d+\. |\||#)", prose):
+        for cell in block.split("|") if block.lstrip().startswith("|") else [block]:
+            yield re.sub(r"\s+", " ", cell).strip(" -#")
+
+
+def long_sentences(path: str) -> list[str]:
+    """The sentences of a document that have too many words. A semicolon ends none."""
+    found = []
+    for block in paragraphs(by_hand(path)):
+        for sentence in re.split(r"(?<=[.?!])\)?\*{0,2} (?=[\[(*A-Z`\dc])", block):
+            if count(sentence) > MOST_IN_SENTENCE:
+                found.append(sentence)
+    return found
+
+
+def main() -> None:
+    words = argparse.ArgumentParser(description=__doc__, formatter_class=argparse.RawDescriptionHelpFormatter)
+    words.add_argument("--sentences", action="store_true", help=f"tell each sentence of more than {MOST_IN_SENTENCE} words")
+    if words.parse_args().sentences:
+        for path in documents():
+            for it in long_sentences(path):
+                print(f"{path}: {count(it)} words: {it}")
+        return
+    counted = counts()
+    for path, number in counted.items():
+        print(f"{number:7,} {path}{' (apart)' if path in APART else ''}")
+    print(f"{total(counted):7,} in all, of {MOST_WORDS:,} at most")
+
+
+if __name__ == "__main__":
+    main()
