@@ -334,13 +334,16 @@ def memory():
     for name, shown in memory_calls.ELSEWHERE.items():
         if shown not in rows and shown not in tests:
             yield f"tests/calls.py: `{name}` is shown by `{shown}`, which is no row and no test"
-    page = read("docs/TESTS.md")
-    for line in page.split("\n"):
-        cells = [it.strip() for it in line.split("|")[1:-1]]
-        if len(cells) == 2 and cells[0] not in ("what is shown", "a wrong body", "---"):
-            for name in re.findall(r'"([^"]+)"|`(\w+::\w+)`', cells[1]) or [("nothing", "")]:
-                if (name[0] or name[1]) not in tests:
-                    yield f"docs/TESTS.md: no test `{name[0] or name[1]}`"
+    for cells in rows_of(read("docs/TESTS.md")):
+        for name in re.findall(r'"([^"]+)"|`(\w+::\w+)`', cells[0]) or [("nothing", "")]:
+            if (name[0] or name[1]) not in tests:
+                yield f"docs/TESTS.md: no test `{name[0] or name[1]}`"
+
+
+def rows_of(page):
+    """The cells of each row of a page's tables, but for their heads."""
+    rows = [[it.strip() for it in line.split("|")[1:-1]] for line in page.split("\n") if line.startswith("|")]
+    return [it for it in rows if it[0] != "test" and set(it[0]) != {"-"}]
 
 
 def tests_there():

@@ -19,7 +19,7 @@ MOST_WORDS, MOST_IN_SENTENCE = 13_000, 30
 APART = ("docs/CONFORM.md",)
 SCRIPTED = re.compile(r"(?ms)^<!-- (?:filled|printed): [^\n]* -->\n.*?^<!-- end -->$")
 BLOCK = re.compile(r"(?ms)^```.*?^```$|^(?:    [^\n]*\n)+")
-CODE = re.compile(r"``.+?``|`[^`]+`")
+CODE = re.compile(r'``.+?``|`[^`]+`|"[^"\n]+"')
 
 
 def documents() -> list[str]:
@@ -47,7 +47,7 @@ def total(counted: dict[str, int]) -> int:
 
 
 def paragraphs(text: str) -> Iterator[str]:
-    """The paragraphs, the points of lists and the cells of tables, each on one line. What stands as code is one word."""
+    """The paragraphs, the points of lists and the cells of tables, each on one line. What stands as code or in quotes is one word."""
     prose = CODE.sub("code", BLOCK.sub("\n\n", text))
     for block in re.split(r"\n\s*\n|\n(?=- |\d+\. |\||#)", prose):
         for cell in block.split("|") if block.lstrip().startswith("|") else [block]:
