@@ -9,7 +9,7 @@
 - lines of tests/fuzz.py, good and bad ones, with each end of line and with line feeds inside, in one session of the Python
   module, answered as by the second implementation; sessions on four threads; the module's examples
 - the tests of the Rust crate, where there is a `cargo`
-- the examples of README.md, by the commands that stand there
+- the examples of docs/USE.md, by the commands that stand there
 
 Prints 'pass ..' or 'FAIL ..' for each, and 'border: end'. The gate proves tera_c and leaves no archive: where the libraries
 that it left are those of the sources, the archive is made over them, so that nothing is proved twice.
@@ -341,7 +341,7 @@ def in_python():
     say(done.attempted and not done.failed, f"{done.attempted} examples of the Python module")
 
 
-# ---- Rust, and the examples of README.md
+# ---- Rust, and the examples of docs/USE.md
 
 
 def in_rust(folder):
@@ -354,15 +354,15 @@ def in_rust(folder):
 
 
 def shown():
-    """The examples of README.md: of each its language, its command, and its lines."""
-    with open(f"{TOP}/README.md", encoding="utf-8") as it:
+    """The examples of docs/USE.md: of each its language, its command, and its lines."""
+    with open(f"{TOP}/docs/USE.md", encoding="utf-8") as it:
         section = it.read().partition("\n## From C, Python, Rust\n")[2].partition("\n## ")[0]
     return re.findall(r"(?m)^```(c|python|rust)\n(?://|#) (.*)\n((?:.*\n)*?)```", section)
 
 
 def examples(folder):
     found = shown()
-    say([it for it, _, _ in found] == ["c", "python", "rust"], "README.md has an example in C, in Python and in Rust")
+    say([it for it, _, _ in found] == ["c", "python", "rust"], "docs/USE.md has an example in C, in Python and in Rust")
     for language, command, lines in found:
         if language == "rust" and not shutil.which("cargo"):
             continue
@@ -372,7 +372,7 @@ def examples(folder):
             text = re.sub(r"(?m)^\s+", "", it.read())
         done = ran("sh", "-c", command, env=dict(os.environ, CARGO_TARGET_DIR=f"{folder}/cargo", CARGO_NET_OFFLINE="true"))
         is_there = re.sub(r"(?m)^\s+", "", lines) in text
-        say(is_there and (done.returncode, done.stdout) == (0, b"&lt;b&gt;A &amp; B&lt;/b&gt;\n"), f"README.md's example {file}")
+        say(is_there and (done.returncode, done.stdout) == (0, b"&lt;b&gt;A &amp; B&lt;/b&gt;\n"), f"docs/USE.md's example {file}")
 
 
 def main():

@@ -4,7 +4,8 @@ A part stands between two comments, of which the first says what it is of:
 
     <!-- filled: claims -->                    the chief claims of docs/claims.toml: a row for each call that carries one
     <!-- filled: ledger -->                    a row for each public call and law that has clauses, crate by crate
-    <!-- filled: crates/FILE NAME .. -->       these functions of a file of src/, or definitions of a file of specs/ or proofs/
+    <!-- filled: FILE NAME .. -->              these functions of a file of src/, or definitions of a file of specs/ or proofs/;
+                                               the whole file where none is named
     <!-- end -->
 """
 from __future__ import annotations
@@ -92,7 +93,9 @@ def first_of(comment: str) -> str:
 def code(path: str, names: list[str]) -> str:
     """These functions or definitions, as they stand in a file, with their comments."""
     text = read(path)
-    sign = "rust" if path.endswith(".rt") else "antt"
+    sign = "antt" if path.endswith(".antt") else "rust"
+    if not names:
+        return f"```{sign}\n{text}```\n"
     blocks = [block_of(text, it, sign) for it in names]
     missing = [name for name, block in zip(names, blocks) if block is None]
     if missing:
