@@ -18,10 +18,10 @@ both="--toggle-collect=tera_line --toggle-collect=tera_reply"
 python3 "$top/bench/scalars.py" 40000 >"$work/script"
 python3 "$top/bench/scalars.py" 40000 --answers >"$work/wanted"
 "$work/border" lines <"$work/script" | cmp - "$work/wanted"
-echo "40000 lines: $(($(within "$both" "$work/border" lines <"$work/script") / 40000)) instructions a line"
+cell "40,000 short lines, a line" "from C" $(($(within "$both" "$work/border" lines <"$work/script") / 40000))
 for kind in set eq cmp print; do
     awk -v kind="$kind" 'NR <= 32 && $1 == "set" { print } $1 == kind { for (i = 0; i < 4; i++) print }' "$work/script" >"$work/$kind"
-    echo "$kind: $(($(within "$both" "$work/border" lines <"$work/$kind") / $(wc -l <"$work/$kind"))) instructions a line"
+    cell "\`$kind\` alone, a line" "from C" $(($(within "$both" "$work/border" lines <"$work/$kind") / $(wc -l <"$work/$kind")))
 done
 # What one more call takes, of so many letters.
 escape() {
@@ -30,5 +30,7 @@ escape() {
     echo "$(((more - once) / 20))"
 }
 for letter in a '<'; do
-    echo "escape of 10 $letter: $(escape "$letter" 10) instructions; of 1,000,000: $(($(escape "$letter" 1000000) / 10000)) hundredths a byte"
+    cell "escaping 10 \`$letter\`" "from C" "$(escape "$letter" 10)"
+    cell "escaping 1,000,000 \`$letter\`, a byte" "from C" "$(each "$(escape "$letter" 1000000)" 1000000)"
 done
+show instructions

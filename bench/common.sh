@@ -11,6 +11,35 @@ instructions() {
         sed -n 's/.*Collected : \([0-9]*\).*/\1/p'
 }
 
+# A figure of so many parts: with a decimal below 100 a part, and with two below 1.
+each() {
+    awk -v all="$1" -v parts="$2" 'BEGIN { it = all / parts; printf((it >= 100 ? "%d" : it >= 1 ? "%.1f" : "%.2f"), it) }'
+}
+
+# Keeps a figure for the table. usage: cell ROW COLUMN FIGURE
+cell() {
+    printf '%s\t%s\t%s\n' "$1" "$2" "$3" >>"$work/cells"
+}
+
+# Prints the table of all cells, as bench/README.md has it, rows and columns as they came. usage: show HEAD
+show() {
+    awk -F '\t' -v head="$1" '
+        function told(it) { while (it ~ /^[0-9]+[0-9][0-9][0-9](,|$)/) sub(/[0-9][0-9][0-9](,|$)/, ",&", it); return it }
+        !($1 in rows) { rows[$1]; row[++height] = $1 }
+        !($2 in columns) { columns[$2]; column[++width] = $2 }
+        { figure[$1, $2] = told($3) }
+        END {
+            line = "| " head " |"; rule = "|---|"
+            for (at = 1; at <= width; at++) { line = line " " column[at] " |"; rule = rule "---|" }
+            print line; print rule
+            for (down = 1; down <= height; down++) {
+                line = "| " row[down] " |"
+                for (at = 1; at <= width; at++) line = line " " figure[row[down], column[at]] " |"
+                print line
+            }
+        }' "$work/cells"
+}
+
 # Builds the program itself.
 build_replay() {
     "$top/replay" --prove

@@ -8,5 +8,6 @@ build_over escape tera_report
 for letter in a '<'; do
     once=$(instructions "$program" "$letter" 1)
     more=$(instructions "$program" "$letter" 21)
-    echo "$letter: $(((more - once) / 200000)) hundredths of an instruction a byte"
+    cell "\`$letter\` alone" "instructions a byte" "$(each $((more - once)) 20000000)"
 done
+show text

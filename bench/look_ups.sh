@@ -26,9 +26,10 @@ for size in 10 10000; do
         printf 'set k "k5"\nset i 5i128\n'
     } >"$work/base"
     for line in 'attr m "k5"' 'item m k' 'item n i' 'item a i' 'path m "k5"' 'path a "5"' 'contains m k'; do
-        echo "$size parts, $line: $(costs 100 "$line")"
+        cell "\`$line\`" "$size parts" "$(costs 100 "$line")"
     done
 done
+show instructions
 
 printf 'set p [[[[[[[[[[7]]]]]]]]]]\n' >"$work/base"
 echo "path of 1 element: $(costs 100 'path p "1"'), of 10: $(costs 100 'path p "0.0.0.0.0.0.0.0.0.1"')"

@@ -12,15 +12,17 @@ memory() {
 for lines in 40000 400000; do
     python3 "$top/bench/scalars.py" "$lines" >"$work/$lines"
     all=$(instructions "$program" <"$work/$lines")
-    echo "$lines lines: $((all / lines)) instructions a line, $(memory "$work/$lines") bytes of heap at most"
+    cell "$lines short lines, a line" instructions $((all / lines))
+    cell "$lines short lines, a line" "bytes of heap at most" "$(memory "$work/$lines")"
 done
 for kind in set eq cmp print; do
     python3 "$top/bench/scalars.py" 40000 | awk -v kind="$kind" '
         NR <= 32 && $1 == "set" { print } $1 == kind { for (i = 0; i < 4; i++) print }' >"$work/$kind"
     lines=$(wc -l <"$work/$kind")
-    echo "$kind: $(($(instructions "$program" <"$work/$kind") / lines)) instructions a line"
+    cell "\`$kind\` alone, a line" instructions $(($(instructions "$program" <"$work/$kind") / lines))
 done
 printf 'set t "' >"$work/long"
 head -c 1000000 /dev/zero | tr '\0' 'a' >>"$work/long"
 printf '"\n' >>"$work/long"
-echo "a text of 1,000,000 bytes: $(($(instructions "$program" <"$work/long") / 1000000)) instructions a byte"
+cell "\`set\` of one text of 1,000,000 bytes, a byte" instructions $(($(instructions "$program" <"$work/long") / 1000000))
+show script

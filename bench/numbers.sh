@@ -19,5 +19,6 @@ costs() {
 for line in 'eq  a b' 'add a b' 'sub a b' 'mul a b' 'rem a b' 'pow b two' 'eq        a b' 'floor_div a b' 'negate a' \
     'read u8 b' 'get a' 'add a b -> c' 'get a -> c' 'pow one far' 'pow not far' 'pow nil far' 'pow two far' \
     'floor_div low not' 'add abc a' 'read u8 a'; do
-    echo "$line: $(costs "$line")"
+    cell "\`$line\`" instructions "$(costs "$line")"
 done
+show line

@@ -11,7 +11,7 @@ measure() {
     shift 2
     once=$(instructions "$program" "$letter" 1 "$@")
     more=$(instructions "$program" "$letter" 3 "$@")
-    echo "$letter $*: $(((more - once) / 20000 / bytes)) hundredths of an instruction a byte"
+    cell "\`$*\`" "\`$letter\`" "$(each $((more - once)) $((2000000 * bytes)))"
 }
 
 for letter in 'a 1' 'é 2' '€ 3'; do
@@ -24,3 +24,4 @@ for letter in 'a 1' 'é 2' '€ 3'; do
         measure "$1" "$2" slice $bounds
     done
 done
+show "instructions a byte"

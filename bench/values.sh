@@ -9,8 +9,7 @@ costs() {
     cp "$work/base" "$work/more"
     echo "$2" >>"$work/more"
     more=$(instructions "$program" <"$work/more")
-    awk -v name="$1" -v kind="$kind" -v size="$size" -v all="$((more - before))" \
-        'BEGIN { printf "%s, %s: %d, %.2f each\n", kind, name, all, all / size }'
+    cell "\`$1\`" "$kind" "$(each "$((more - before))" "$size")"
 }
 
 measure() {
@@ -21,15 +20,16 @@ measure() {
     done
     printf 'set b 0\n' >"$work/base"
     before=$(instructions "$program" <"$work/base")
-    costs 'set a' "set a $literal"
+    costs 'set a LITERAL' "set a $literal"
 }
 
 for size in 10000 100000; do
-    kind="$size integers"
+    kind="an item of $size"
     literal="[$(seq -s ', ' 1 "$size")]"
     measure
 done
 size=1000000
-kind="a text of 1,000,000 bytes"
+kind="a byte of the text"
 literal="\"$(head -c 1000000 /dev/zero | tr '\0' 'a')\""
 measure
+show line
