@@ -4,6 +4,7 @@ A part stands between two comments, of which the first says what it is of:
 
     <!-- filled: claims -->                    the chief claims of docs/claims.toml: a row for each call that carries one
     <!-- filled: ledger -->                    a row for each public call and law that has clauses, crate by crate
+    <!-- filled: crates -->                    the crates, with what they hold and what they stand on
     <!-- filled: FILE NAME .. -->              these functions of a file of src/, or definitions of a file of specs/ or proofs/;
                                                the whole file where none is named
     <!-- end -->
@@ -82,6 +83,15 @@ def ledger(repository: Repository) -> str:
     return "\n".join(made)
 
 
+def crate_rows(repository: Repository) -> str:
+    """A row for each crate: what its comment says first, and what it stands on."""
+    made = "| crate | what it holds | stands on |\n|---|---|---|\n"
+    for crate in repository.crates:
+        uses = ", ".join(f"`{it}`" for it in crate.uses if it.startswith("tera_")) if crate.name != "uses" else "all libraries"
+        made += f"| `{crate.name}` | {first_of(crate.comment)} | {uses} |\n"
+    return made
+
+
 def first_of(comment: str) -> str:
     """The first paragraph of the comment of a crate."""
     return re.sub(r"\s+", " ", comment.split("\n\n")[0]).strip()
@@ -125,6 +135,8 @@ def filled(text: str, repository: Repository, claims: list[Claim]) -> str:
             return claim_rows(claims)
         if what == "ledger":
             return ledger(repository)
+        if what == "crates":
+            return crate_rows(repository)
         path, *names = what.split()
         return code(path, names)
 
