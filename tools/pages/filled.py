@@ -5,6 +5,7 @@ A part stands between two comments, of which the first says what it is of:
     <!-- filled: claims -->                    the chief claims of docs/claims.toml: a row for each call that carries one
     <!-- filled: ledger -->                    a row for each public call and law that has clauses, crate by crate
     <!-- filled: crates -->                    the crates, with what they hold and what they stand on
+    <!-- filled: script NAME -->               examples/NAME.replay, each line with its answer
     <!-- filled: FILE NAME .. -->              these functions of a file of src/, or definitions of a file of specs/ or proofs/;
                                                the whole file where none is named
     <!-- end -->
@@ -124,6 +125,13 @@ def block_of(text: str, name: str, sign: str) -> str | None:
     return found[0].rstrip() if found else None
 
 
+def script(name: str) -> str:
+    """A script of examples/, whose every line has one answer, with its answers beside it."""
+    lines, answers = (read(f"examples/{name}.{it}").splitlines() for it in ("replay", "answers"))
+    width = max(map(len, lines)) + 4
+    return "".join(f"    {line.ljust(width)}{answer}\n" for line, answer in zip(lines, answers, strict=True))
+
+
 # ---- documents
 
 
@@ -138,7 +146,7 @@ def filled(text: str, repository: Repository, claims: list[Claim]) -> str:
         if what == "crates":
             return crate_rows(repository)
         path, *names = what.split()
-        return code(path, names)
+        return script(names[0]) if path == "script" else code(path, names)
 
     return PART.sub(lambda it: f"{it[1]}{part(it[2])}{it[4]}", text)
 
