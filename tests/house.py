@@ -13,6 +13,7 @@ behind a 'FAIL ..' each place that breaks it. The last line is 'house: end'.
 - lengths: no file of src/, specs/ or proofs/ is longer than its bound, and no line is wider
 - docs: each path, module and name that README.md and docs/ write as code is there
 - tour: the tour of README.md shows the lines and the answers of examples/tour.replay
+- words: the documents have as many words by hand, and sentences as long, as tools/words.py lets them
 """
 import collections
 import itertools
@@ -29,6 +30,8 @@ import hostile
 import second
 
 TOP = os.path.dirname(os.path.dirname(os.path.abspath(__file__)))
+sys.path.append(f"{TOP}/tools")
+import words as prose
 FILE_LINES = 400
 WIDTHS = {"src": 100, "specs": 100, "proofs": 160}
 LAWS = re.compile(r"\w*Laws$")
@@ -423,6 +426,16 @@ def tour():
             yield f"README.md shows `{row}`, and examples/tour.replay `{line}` with the answer `{answer}`"
 
 
+def words():
+    """The documents that are too long in all, and each sentence of them that is."""
+    counted = prose.counts()
+    if prose.total(counted) > prose.MOST_WORDS:
+        told = ", ".join(f"{path} {number}" for path, number in counted.items() if path not in prose.APART)
+        yield f"{prose.total(counted)} words by hand, of {prose.MOST_WORDS} at most: {told}"
+    for path in counted:
+        yield from (f"{path}: a sentence of more than {prose.MOST_IN_SENTENCE} words: {it}" for it in prose.long_sentences(path))
+
+
 RULES = {
     "each call has its scripts, its row and its lines": calls,
     "a lower crate's proofs are imported by their laws alone": imports,
@@ -431,6 +444,7 @@ RULES = {
     "files and lines keep their lengths": lengths,
     "what the documents name is there": docs,
     "the tour of README.md is an example": tour,
+    "the documents have few words": words,
 }
 
 

@@ -19,11 +19,13 @@ sys.dont_write_bytecode = True
 TOP = os.path.dirname(os.path.dirname(os.path.abspath(__file__)))
 sys.path.insert(0, f"{TOP}/tools")
 from pages.book import Book, item_name  # noqa: E402
+from pages.claims import read_claims  # noqa: E402
+from pages.filled import stale, without_filled  # noqa: E402
 from pages.site import fill_prose  # noqa: E402
 from pages.sources import Repository, read  # noqa: E402
 from pages.text import CODE, cells_of  # noqa: E402
 
-DOCUMENTS = ("README.md", "docs/CALLING.md", "docs/PROVED.md")
+DOCUMENTS = ("README.md", "docs/CALLING.md", "docs/PROVED.md", "docs/BORDER.md")
 WIDTHS = (360, 1280)
 # the traits behind what a document writes of a call
 OPERATORS = {"==": "PartialEq::eq", "{}": "Display::fmt", "{:?}": "Debug::fmt", "?": "From::from"}
@@ -180,7 +182,7 @@ def unknown_calls(book):
     """Calls in the first cell of a table of clauses that have no anchor, and clauses that are none of the row's calls."""
     documents = Documents(book)
     for path in DOCUMENTS:
-        for heading, first, last in tables_of(read(path)):
+        for heading, first, last in tables_of(without_filled(read(path))):
             crates = re.findall(r"`(tera\w*)`", heading)
             calls = []
             for code in codes(first):
@@ -391,6 +393,7 @@ def main():
             book = Book(Repository())
             fill_prose(book)
             tell("each call that documents name has its anchor, and each clause is one of it", list(unknown_calls(book)))
+            tell("documents have what the sources say", [f"{path}: `./docs/build --fill`" for path, _ in stale(book.repository, read_claims(book))])
             tell("each promise of README has a claim", list(promises_without_claim(book)))
             tell("what is not there is refused", list(faults_that_pass(f"{room}/faulty")))
             in_browser(folder, room)

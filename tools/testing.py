@@ -25,6 +25,8 @@ SCRIPTS: Dict[str, Tuple[List[str], Optional[str]]] = {
     "house": ([sys.executable, "tests/house.py"], "house: end"),
     "program": (["sh", "tests/program.sh"], "program tests: end"),
     "border": ([sys.executable, "tests/border.py"], "border: end"),
+    "caller": ([sys.executable, "tests/caller.py"], "caller: end"),
+    "pages": ([sys.executable, "tests/pages.py"], "pages: end"),
     "wrong": ([sys.executable, "tests/wrong.py"], "wrong bodies: end"),
 }
 
