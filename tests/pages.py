@@ -393,7 +393,7 @@ def main():
             book = Book(Repository())
             fill_prose(book)
             tell("each call that documents name has its anchor, and each clause is one of it", list(unknown_calls(book)))
-            tell("documents have what the sources say", [f"{path}: `./docs/build --fill`" for path, _ in stale(book.repository, read_claims(book))])
+            tell("documents have what the sources say", [f"{path}: `./docs/build --fill`" for path, _ in stale(book, read_claims(book))])
             tell("each promise of README has a claim", list(promises_without_claim(book)))
             tell("what is not there is refused", list(faults_that_pass(f"{room}/faulty")))
             in_browser(folder, room)

@@ -17,7 +17,7 @@ def made(given: argparse.Namespace) -> list[str]:
     if not given.fill:
         return build(given.to)
     book = Book(Repository())
-    return fill(book.repository, read_claims(book))
+    return fill(book, read_claims(book))
 
 
 def main() -> int:

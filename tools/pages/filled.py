@@ -14,15 +14,15 @@ from __future__ import annotations
 
 import os
 import re
-from collections.abc import Iterator
+from collections.abc import Iterable, Iterator
 
-from .book import item_name
+from .book import Book, item_name
 from .claims import Broken, Claim
-from .model import Item
+from .model import Definition, Item
 from .sources import TOP, Repository, read
 
 PART = re.compile(r"(?ms)^(<!-- filled: ([^\n]*?) -->\n)(.*?)^(<!-- end -->)$")
-HEAD = "| call | clauses | what it says | where |\n|---|---|---|---|\n"
+HEAD = "| call | clauses | their definitions | what it says | where |\n|---|---|---|---|---|\n"
 
 
 def documents() -> list[str]:
@@ -48,9 +48,10 @@ def spelled(item: Item) -> str:
 def said(item: Item) -> str:
     """The comment of a call, or of the block in which it stands, on one line."""
     comment = item.comment or (item.block.comment if item.block else "")
-    kept = re.sub(r"\s*\bMirrors `[^`]*`(?:(?: of| and)? `[^`]*`)*(?:, which [^.]*)?\.", "", comment)
+    flat = re.sub(r"\s+", " ", comment).strip()
+    kept = re.sub(r" ?\bMirrors `[^`]*`(?:(?:,| of| and)? `[^`]*`)*(?:, which [^.]*)?\.", "", flat)
     # a stroke would end the cell
-    return re.sub(r"\s+", " ", kept).strip().replace("|", r"\|")
+    return kept.strip().replace("|", r"\|")
 
 
 def where(item: Item) -> str:
@@ -58,9 +59,15 @@ def where(item: Item) -> str:
     return f"[{path}:{item.line}](../{item.path}#L{item.line})"
 
 
-def row(item: Item, labels: list[str]) -> str:
-    clauses = ", ".join(f"`{it}`" for it in dict.fromkeys(labels))
-    return f"| {spelled(item)} | {clauses} | {said(item)} | {where(item)} |\n"
+def as_code(names: Iterable[str]) -> str:
+    return ", ".join(f"`{it}`" for it in dict.fromkeys(names))
+
+
+def row(book: Book, item: Item) -> str:
+    """A call with its clauses, and the definitions of this repository that they cite."""
+    cited = [it.name for it in book.cited_by(item) if isinstance(it, Definition) and it.kind != "lemma"]
+    clauses = as_code(it.label for it in item.all_clauses)
+    return f"| {spelled(item)} | {clauses} | {as_code(cited)} | {said(item)} | {where(item)} |\n"
 
 
 def claim_rows(claims: list[Claim]) -> str:
@@ -69,16 +76,15 @@ def claim_rows(claims: list[Claim]) -> str:
     for claim in claims:
         title = claim.title
         for item, labels in [*claim.calls, *claim.laws]:
-            clauses = ", ".join(f"`{it}`" for it in labels)
-            made += f"| {title} | {spelled(item)} of `{item.crate}` | {clauses} | {where(item)} |\n"
+            made += f"| {title} | {spelled(item)} of `{item.crate}` | {as_code(labels)} | {where(item)} |\n"
             title = ""
     return made
 
 
-def ledger(repository: Repository) -> str:
+def ledger(book: Book) -> str:
     made = []
-    for crate in repository.crates:
-        rows = [row(it, [clause.label for clause in it.all_clauses]) for it in crate.public if it.all_clauses and it.kind != "impl"]
+    for crate in book.repository.crates:
+        rows = [row(book, it) for it in crate.public if it.all_clauses and it.kind != "impl"]
         if rows:
             made.append(f"### {crate.name}\n\n{first_of(crate.comment)}\n\n{HEAD}{''.join(rows)}")
     return "\n".join(made)
@@ -135,35 +141,35 @@ def script(name: str) -> str:
 # ---- documents
 
 
-def filled(text: str, repository: Repository, claims: list[Claim]) -> str:
+def filled(text: str, book: Book, claims: list[Claim]) -> str:
     """A document with each of its parts written anew."""
 
     def part(what: str) -> str:
         if what == "claims":
             return claim_rows(claims)
         if what == "ledger":
-            return ledger(repository)
+            return ledger(book)
         if what == "crates":
-            return crate_rows(repository)
+            return crate_rows(book.repository)
         path, *names = what.split()
         return script(names[0]) if path == "script" else code(path, names)
 
     return PART.sub(lambda it: f"{it[1]}{part(it[2])}{it[4]}", text)
 
 
-def stale(repository: Repository, claims: list[Claim]) -> Iterator[tuple[str, str]]:
+def stale(book: Book, claims: list[Claim]) -> Iterator[tuple[str, str]]:
     """Each document whose parts are not as the sources have them, and what it should be."""
     for path in documents():
         text = read(path)
-        wanted = filled(text, repository, claims)
+        wanted = filled(text, book, claims)
         if wanted != text:
             yield path, wanted
 
 
-def fill(repository: Repository, claims: list[Claim]) -> list[str]:
+def fill(book: Book, claims: list[Claim]) -> list[str]:
     """Writes the parts of all documents anew, and answers what was written."""
     told = []
-    for path, wanted in stale(repository, claims):
+    for path, wanted in stale(book, claims):
         with open(f"{TOP}/{path}", "w", encoding="utf-8") as it:
             it.write(wanted)
         told.append(f"{path}: filled anew")
