@@ -93,9 +93,10 @@ class Prose:
             return f'<h{level} id="{slug(words)}">{self.inline(words)}</h{level}>'
         if first.startswith("|"):
             return self.table(lines)
-        if first.startswith("- "):
-            items = [re.sub(r"\n *", " ", it) for it in re.split(r"(?m)^- ", "\n".join(lines))[1:]]
-            return f"<ul>{''.join(f'<li>{self.inline(it)}</li>' for it in items)}</ul>"
+        for sign, tag in (("- ", "ul"), (r"\d+\. ", "ol")):
+            if re.match(sign, first):
+                items = [re.sub(r"\n *", " ", it) for it in re.split(f"(?m)^{sign}", "\n".join(lines))[1:]]
+                return f"<{tag}>{''.join(f'<li>{self.inline(it)}</li>' for it in items)}</{tag}>"
         return f"<p>{self.inline(' '.join(lines))}</p>"
 
     def table(self, lines: list[str]) -> str:
