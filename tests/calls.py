@@ -272,6 +272,7 @@ ELSEWHERE = {
     "replay": "every call with each request for memory refused in turn",
     "replay_from": "every call with each request for memory refused in turn",
     "answer_line": "every call with each request for memory refused in turn",
+    **dict.fromkeys(("Replayer::take", "Replayer::finish"), "every call with each request for memory refused in turn"),
     "insert_entry!": "context!",
     "Value::of_pairs": "Kwargs::from_pairs",
     "Value::no_array": "Vec::from_value",
@@ -282,6 +283,6 @@ ELSEWHERE = {
     **dict.fromkeys("negation_outside_i128 reversed_text sliced_text".split(), RUNS),
 }
 # Calls whose type lets them want memory, and that never do.
-FREE = {"Growing::flush"}
+FREE = {"Growing::flush", "Replayer::new"}
 # Rows of calls whose type does not tell that they take memory.
 BESIDE = {"String::to_key"}

@@ -1,5 +1,5 @@
 -- What a stretch from the start on says of the whole input, which is read piece by piece.
-use Rattle.std.proofs.Common.{◌≡◌, ℕ, ◌+◌, ◌-◌, ◌^◌, ◌<◌, ◌≤◌, Bool, true, false, ◌||◌, ◌⊎◌, inl, inr, List, [], ◌∷◌, ◌++◌, length}
+use Rattle.std.proofs.Common.{◌≡◌, ℕ, ◌+◌, ◌-◌, ◌^◌, ◌≤◌, Bool, true, false, ◌||◌, ◌⊎◌, inl, inr, List, [], ◌∷◌, ◌++◌, length}
 use Rattle.std.proofs.Common.{map, codes, Option, None, Some, cond, Result, Ok, Err, IfOk, IfErr, sym, ◌∙◌, ap, subst, refl, append_assoc, append-nil}
 use Rattle.std.proofs.Common.{arith, length-append}
 use Rattle.std.proofs.{lemmas.List.length-map, lemmas.List.map-append}
@@ -10,7 +10,7 @@ use Rattle.tera_report.specs.{Report.Report, Report.report_text, Sink.Sends}
 use Rattle.tera_report.proofs.SentLaws.{sends_joined}
 use Rattle.tera_replies.specs.declared.fault.Fault.TheVariants.{BadLine, ReadFailed, WriteFailed, OutOfMemory}
 use Rattle.tera_replies.specs.Stretch.{bad_at, Runs, LineStops}
-use Rattle.tera_replies.specs.inner.Stretches.{Place, Goes, StopsAtBad, Begins, start}
+use Rattle.tera_replies.specs.Stretch.{Place, Goes, StopsAtBad, Begins, start}
 use Rattle.tera_replies.specs.inner.Endings.{Ends}
 use Rattle.tera_replies.specs.Replay.{lines_given, AllAnswered, HoldFewer, IsBehind, IsWholeIn, ReadEnough, ReadingFailed, MemoryFailed}
 use Rattle.tera_replies.specs.Replay.{WritingFailed, AreAnswered, report}
@@ -195,7 +195,7 @@ ahead : {before read text : List ℕ} {p : Place} (more : List ℕ) (g : Goes st
 ahead more g e = fewer_yet (omega (arith, length-map g.lines without_return)) (fewer_in_front more (whole_lines g) e)
 
 -- the input ended
-at_end : {bytes text more : List ℕ} {p : Place} {v : Bool} {new : State} (fails : Option Bool) (InGave : List ℕ → List ℕ → Type 0)
+pub at_end : {bytes text more : List ℕ} {p : Place} {v : Bool} {new : State} (fails : Option Bool) (InGave : List ℕ → List ℕ → Type 0)
     (InEnded : List ℕ → Type 0) → InEnded bytes → EndIsTold fails → Goes start bytes text p → Runs p.number p.state (last_line p.part) more v new
     → AllAnswered bytes fails InGave InEnded (text ++ more) [] (cond (p.wanted || v) 1 0)
 at_end {p} {v} {new} fails InGave InEnded end told g h =
@@ -251,7 +251,7 @@ whole_in s =
     )
 
 -- a line that ends with a line feed is bad
-at_bad : {bytes before last text : List ℕ} {r : Report} (rest beyond : List ℕ) (fails : Option Bool) (InGave : List ℕ → List ℕ → Type 0)
+pub at_bad : {bytes before last text : List ℕ} {r : Report} (rest beyond : List ℕ) (fails : Option Bool) (InGave : List ℕ → List ℕ → Type 0)
     (InEnded : List ℕ → Type 0) → InGave before last → bytes ≡ (before ++ last) ++ rest → (s : StopsAtBad start (before ++ last) r text)
     → s.read ≡ before ++ beyond → AllAnswered bytes fails InGave InEnded text (ended (report_text r)) 2
 at_bad {bytes} {before} {last} rest beyond fails InGave InEnded gave e s front =
@@ -265,7 +265,7 @@ at_bad {bytes} {before} {last} rest beyond fails InGave InEnded gave e s front =
     (inr (before, last, rest, e, gave, fewer_yet (omega (arith, counted s.goes)) (ahead beyond s.goes front), whole_in s)))
 
 -- what follows the last line feed is bad
-at_bad_end : {bytes text : List ℕ} {p : Place} (fails : Option Bool) (InGave : List ℕ → List ℕ → Type 0) (InEnded : List ℕ → Type 0)
+pub at_bad_end : {bytes text : List ℕ} {p : Place} (fails : Option Bool) (InGave : List ℕ → List ℕ → Type 0) (InEnded : List ℕ → Type 0)
     → InEnded bytes → EndIsTold fails → Goes start bytes text p → last_line p.part ≡ p.part ∷ [] → IsBad p.part
     → AllAnswered bytes fails InGave InEnded text (report (Some (bad_at p.number p.part))) 2
 at_bad_end {p} fails InGave InEnded end told g whole bad =

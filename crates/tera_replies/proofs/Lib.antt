@@ -1,5 +1,6 @@
 pub mod ReplayLaws
 mod InputLemmas
+mod OneLineLemmas
 mod ReadLemmas
 mod ReplyLemmas
 mod StretchLemmas

@@ -9,8 +9,8 @@ use Rattle.tera_meaning.specs.{Outcome.Outcome, Outcome.is_want, Request.Command
 use Rattle.tera_script.specs.Line.{Says, IsSkipped}
 use Rattle.tera_replies.specs.Script.{BadLine as Bad, Script, Splits, HasNoLineFeed, ended, line_feed, without_return}
 use Rattle.tera_replies.specs.declared.fault.Fault.TheVariants.{BadLine, ReadFailed, WriteFailed, OutOfMemory}
-use Rattle.tera_replies.specs.{Stretch.Runs, inner.Stretches.Place, inner.Stretches.Goes, inner.Stretches.Begins}
-use Rattle.tera_replies.specs.{inner.Stretches.StopsAtBad, inner.Stretches.Stops, Stretch.LineStops}
+use Rattle.tera_replies.specs.{Stretch.Runs, Stretch.Place, Stretch.Goes, Stretch.Begins}
+use Rattle.tera_replies.specs.{Stretch.StopsAtBad, Stretch.Stops, Stretch.LineStops}
 use Rattle.tera_replies.specs.{Reply.IsReply, Reply.AreReplies, declared.fault.Fault.Fault, Output.BrokeOn}
 use Rattle.tera_report.specs.{Report.Report, Sink.Sends}
 use Rattle.tera_report.proofs.SentLaws.{sends_nothing, sends_flush, sends_joined}

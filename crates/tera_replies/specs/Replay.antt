@@ -1,7 +1,7 @@
 -- What a replay writes, and the status with which it ends.
 use Rattle.std.specs.Prelude.{◌≡◌, ℕ, ◌+◌, ◌-◌, ◌^◌, ◌≤◌, ◌<◌, ◌⊎◌, Bool, true, false, List, []}
 use Rattle.std.specs.Prelude.{◌++◌, map, length, codes, decimal, Option, None, Some, IsSome}
-use Rattle.std.specs.Prelude.{if◌then◌else◌}
+use Rattle.std.specs.Prelude.{if◌then◌else◌, ⊤}
 use Rattle.std.specs.List.{list_any}
 use Rattle.std.specs.FinMap.{empty}
 use Rattle.std.specs.Str.{chars, is_utf8}
@@ -200,6 +200,11 @@ Replays bytes fails InGave InEnded InFailed OutGets OutBroke ErrGets status =
     × OutGets out × ErrGets err)
     ⊎ ((out : List ℕ) × WritingFailed bytes fails InGave InEnded InFailed out × OutBroke out
     × (status ≡ 1) × ErrGets (codes "error: writing failed\n"))
+
+-- A script of these bytes is answered by out and err, with this status. Of reads nothing is said.
+abbrev pub IsAnswered : List ℕ → List ℕ → List ℕ → ℕ → Type 0
+IsAnswered bytes out err status =
+    AllAnswered bytes None (λ before last. ⊤) (λ given. ⊤) out err status
 
 -- reads gave just these bytes, or these and then an end or an error, and no other read was made
 abbrev pub WereGiven : (List ℕ → List ℕ → Type 0) → (List ℕ → Type 0) → (List ℕ → Type 0)

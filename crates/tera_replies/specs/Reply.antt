@@ -1,22 +1,25 @@
 -- The line that answers a call.
-use Rattle.std.specs.Prelude.{◌≡◌, ℕ, true, false, List, ◌++◌, codes, decimal, Option, None, Some}
-use Rattle.std.specs.Prelude.{IsSome, Ok, Err, IsTrue, ⊤}
+use Rattle.std.specs.Prelude.{◌≡◌, ℕ, ℤ, true, false, List, ◌++◌, codes, decimal, Option, None}
+use Rattle.std.specs.Prelude.{IsSome, Ok, Err, IsTrue, Some, ⊤}
 use Rattle.std.specs.Fmt.{debug_list, debug_str}
 use Rattle.std.specs.List.{AllZip, flat_map}
+use Rattle.std.specs.Str.Lossy.{utf8_lossy}
 use Rattle.std.specs.declared.cmp.Ordering.{Ordering}
 use Rattle.std.specs.declared.cmp.Ordering.TheVariants.{Less, Equal, Greater}
 use Rattle.tera_report.specs.Quoted.{QuotesList}
 use Rattle.tera_report.specs.Refusal.{Tells, text_of}
 use Rattle.tera_meaning.specs.Answer
 use Rattle.tera_meaning.specs.Form.{Form}
+use Rattle.tera_meaning.specs.KeyMeaning.{KeyMeaning}
 use Rattle.tera_meaning.specs.Kind.{kind_name}
-use Rattle.tera_meaning.specs.Meaning.{layout}
+use Rattle.tera_meaning.specs.Meaning.{Layout, layout}
 use Rattle.tera_meaning.specs.Outcome.{Outcome}
 use Rattle.tera_meaning.specs.Printed.{is_exact_inside}
 use Rattle.tera_meaning.specs.Quoted.{PrintsInside}
 use Rattle.tera_meaning.specs.Tree.{undefined, none, truth, number, text, bytes, array, object}
+use Rattle.tera_meaning.specs.Tree.{Items, Members, no_items, item, no_members, member}
 use Rattle.tera_context.specs.Lent.{LentForm, StandsFor}
-use Rattle.tera_replies.specs.Script.{ended}
+use Rattle.tera_replies.specs.Script.{HasNoLineFeed, ended}
 
 abbrev pub order_name : Option Ordering → List ℕ
 order_name None = codes "undecided"
@@ -86,6 +89,41 @@ IsFixedReply (Ok (Answer.text printed)) = ⊤
 IsFixedReply (Ok (Answer.texts texts)) = IsSome (debug_list debug_str texts)
 IsFixedReply (Ok (Answer.walked texts)) = IsSome (debug_list debug_str texts)
 IsFixedReply (Err refusal) = IsSome (text_of refusal)
+
+-- what is printed of the bytes that a value holds has no line feed
+abbrev mutual
+  pub BytesAreOneLine : Layout → Type 0
+  BytesAreOneLine undefined = ⊤
+  BytesAreOneLine none = ⊤
+  BytesAreOneLine (truth b) = ⊤
+  BytesAreOneLine (number z) = ⊤
+  BytesAreOneLine (text t) = ⊤
+  BytesAreOneLine (bytes bs) = HasNoLineFeed (utf8_lossy bs)
+  BytesAreOneLine (array xs) = ItemsAreOneLine xs
+  BytesAreOneLine (object ps) = MembersAreOneLine ps
+
+  pub ItemsAreOneLine : Items ℤ (List ℕ) KeyMeaning → Type 0
+  ItemsAreOneLine no_items = ⊤
+  ItemsAreOneLine (item x xs) = BytesAreOneLine x × ItemsAreOneLine xs
+
+  pub MembersAreOneLine : Members ℤ (List ℕ) KeyMeaning → Type 0
+  MembersAreOneLine no_members = ⊤
+  MembersAreOneLine (member k x ps) = BytesAreOneLine x × MembersAreOneLine ps
+
+-- what stands in the reply as it is has no line feed: the bytes of a value that is found, a text
+-- that is printed or escaped, and the words of a refusal. All else is quoted, or has none
+abbrev pub IsUnbroken : Outcome → Type 0
+IsUnbroken (Ok Answer.done) = ⊤
+IsUnbroken (Ok (Answer.truth b)) = ⊤
+IsUnbroken (Ok (Answer.order order)) = ⊤
+IsUnbroken (Ok (Answer.found None)) = ⊤
+IsUnbroken (Ok (Answer.found (Some value))) = BytesAreOneLine (layout value)
+IsUnbroken (Ok (Answer.size n)) = ⊤
+IsUnbroken (Ok (Answer.kind kind)) = ⊤
+IsUnbroken (Ok (Answer.text printed)) = HasNoLineFeed printed
+IsUnbroken (Ok (Answer.texts texts)) = ⊤
+IsUnbroken (Ok (Answer.walked texts)) = ⊤
+IsUnbroken (Err refusal) = (words : List ℕ) → Tells refusal words → HasNoLineFeed words
 
 -- one reply with its line feed for each, in order, and nothing else
 abbrev pub AreReplies : List Outcome → List ℕ → Type 0

@@ -1,4 +1,3 @@
-pub mod Stretches
 pub mod Endings
 pub mod Place
 pub mod Stated

@@ -1,8 +1,8 @@
 //! From pieces of a script to its lines, each answered once it is whole.
-ghost use Rattle.std.specs.Prelude.{◌≡◌, ◌≢◌, ◌+◌, ◌^◌, ◌<◌, ◌≤◌, ℕ, Bool, ◌||◌, List, [], ◌∷◌};
+ghost use Rattle.std.specs.Prelude.{◌≡◌, ◌≢◌, ◌+◌, ◌^◌, ◌<◌, ℕ, Bool, ◌||◌, List, [], ◌∷◌};
 ghost use Rattle.std.specs.Prelude.{◌++◌};
 ghost use Rattle.std.specs.Prelude.{IfOk, OnOk, IfErr, IfSome, IfNone, IsOk, IsSome, length};
-ghost use Rattle.std.specs.Prelude.{MatchResult, codes, decimal, false, string_bytes};
+ghost use Rattle.std.specs.Prelude.{IsTrue, MatchResult, codes, decimal, false, string_bytes};
 ghost use Rattle.tera_report.specs.Sink.{Sends};
 ghost use Rattle.tera_report.specs.Errors.{report_of};
 ghost use Rattle.tera_meaning.specs.Outcome.{Outcome};
@@ -20,7 +20,7 @@ ghost use Rattle.tera_replies.specs.Replay.{line_report, source_of, whole_line};
 ghost use Rattle.tera_replies.specs.Script.{HasNoLineFeed, without_return, last_line, ended};
 ghost use Rattle.tera_replies.specs.Stretch.{bad_at, Runs, LineStops};
 ghost use Rattle.tera_replies.specs.inner.Endings.{AnswersCall, IsBadLineFault, ReplyStops};
-ghost use Rattle.tera_replies.specs.inner.Stretches.{Goes, Stops, start};
+ghost use Rattle.tera_replies.specs.Stretch.{Goes, Stops, start};
 
 use crate::answer::{write_answer, write_lent};
 use crate::fault::Fault;
@@ -63,6 +63,26 @@ impl Feed {
         }
     }
 
+    /// What was read of the line at hand.
+    pub fn part(&self) -> &[u8]
+        ensures { result.now ≡ self.now.part.items }
+    {
+        self.part.as_slice()
+    }
+
+    pub fn context(&self) -> &Context
+        ensures { result.now ≡ self.now.context }
+    {
+        &self.context
+    }
+
+    /// Whether there is a number for each line that the piece may hold.
+    pub fn has_numbers_for(&self, piece: &[u8]) -> bool
+        ensures { IsTrue result → self.now.number + length piece.now < 2 ^ 128 }
+    {
+        self.number.checked_add(piece.len() as u128).is_some()
+    }
+
     /// Takes a piece of the script, and answers each line that is whole now.
     pub fn take_piece<W: Sink>(
         &mut self,
@@ -75,7 +95,7 @@ impl Feed {
         ensures ok { OnOk result ((text : List ℕ)
             × Goes (place_of self.old) piece.now text (place_of self.new)
             × Sends W.takes W.flushes out.old text out.new) }
-        ensures number { OnOk result (self.new.number ≤ self.old.number + length piece.now) }
+        ensures part { HasNoLineFeed self.new.part.items }
         ensures err { IfErr result
             (Stops (place_of self.old) piece.now
             (λ text. Sends W.takes W.flushes out.old text out.new)
@@ -99,6 +119,7 @@ impl Feed {
             × Goes (place_of self.old) (ended rest.now) text (place_of self.new)
             × Sends W.takes W.flushes out.old text out.new) }
         ensures number { OnOk result (self.new.number ≡ self.old.number + 1) }
+        ensures part { HasNoLineFeed self.new.part.items }
         ensures err { IfErr result
             (LineStops self.old.number self.old.context
             (without_return (self.old.part.items ++ rest.now)) self.new.context
@@ -119,6 +140,8 @@ impl Feed {
         rest: &[u8],
         out: &mut W,
     ) -> Result<bool, Fault>
+        requires part { HasNoLineFeed self.old.part.items }
+        requires rest { HasNoLineFeed rest.now }
         ensures ok { IfOk result (λ wanted. (text : List ℕ)
             × Runs self.old.number self.old.context
             (without_return (self.old.part.items ++ rest.now) ∷ []) text wanted self.new.context
@@ -130,6 +153,7 @@ impl Feed {
             (λ text. BrokeOn W.takes W.fails W.flushes W.flush_fails out.old text out.new)) }
         ensures number { self.new.number ≡ self.old.number }
         ensures wanted { self.new.wanted_memory ≡ self.old.wanted_memory }
+        ensures part { HasNoLineFeed self.new.part.items }
     {
         if self.part.is_empty() {
             answer_line(alloc, self.number, trimmed(rest), &mut self.context, out)
@@ -155,6 +179,7 @@ impl Feed {
             (λ text. BrokeOn W.takes W.fails W.flushes W.flush_fails out.old text out.new) fault) }
         ensures number { self.new.number ≡ self.old.number }
         ensures wanted { self.new.wanted_memory ≡ self.old.wanted_memory }
+        ensures part { self.new.part.items ≡ self.old.part.items }
     {
         if self.part.is_empty() {
             return Ok(self.wanted_memory);

@@ -1,18 +1,23 @@
 //! Laws of the definitions.
-ghost use Rattle.std.specs.Prelude.{◌≡◌, ◌↔◌, ℕ, List, [], ◌∷◌, ◌++◌, Option, None, Err, codes};
-ghost use Rattle.std.specs.Prelude.{length};
+ghost use Rattle.std.specs.Prelude.{◌≡◌, ◌↔◌, ◌||◌, ℕ, Bool, List, [], ◌∷◌, ◌++◌, Option, None};
+ghost use Rattle.std.specs.Prelude.{Err, Some, codes, if◌then◌else◌, length};
 ghost use Rattle.std.specs.declared.io.ErrorKind.{ErrorKind};
 ghost use Rattle.tera_report.specs.Refusal.{divided_by_zero, not_utf8, writing_failed};
+ghost use Rattle.tera_report.specs.Report.{Report, report_text};
 ghost use Rattle.tera_report.specs.Room.{HasRoomFor, RoomFails, RoomTakes};
 ghost use Rattle.tera_report.specs.Sink.{Delivers};
 ghost use Rattle.tera_report.specs.declared.room.Room.{Room};
 ghost use Rattle.tera_meaning.specs.Outcome.{Outcome, out_of_memory};
 ghost use Rattle.tera_meaning.specs.Request.{Command};
 ghost use Rattle.tera_meaning.specs.Run.{NoneWantsMemory};
+ghost use Rattle.tera_meaning.specs.State.{State};
+ghost use Rattle.tera_script.specs.Line.{IsBad};
 ghost use Rattle.tera_replies.specs.Output.{BrokeOn};
-ghost use Rattle.tera_replies.specs.Replay.{status_of};
-ghost use Rattle.tera_replies.specs.Reply.{IsFixedReply, IsReply};
-ghost use Rattle.tera_replies.specs.Script.{BadLine, Script, Splits, without_return, last_line};
+ghost use Rattle.tera_replies.specs.Replay.{IsAnswered, report, status_of};
+ghost use Rattle.tera_replies.specs.Reply.{IsFixedReply, IsReply, IsUnbroken};
+ghost use Rattle.tera_replies.specs.Script.{BadLine, HasNoLineFeed, Script, Splits};
+ghost use Rattle.tera_replies.specs.Script.{without_return, ended, last_line};
+ghost use Rattle.tera_replies.specs.Stretch.{Goes, Place, Runs, StopsAtBad, bad_at, start};
 
 use tera_script::{one_command, skipped_says_nothing};
 
@@ -68,12 +73,42 @@ pub fn refusals_are_replied_by_their_text()
         × (line ≡ codes "error: Io error while writing rendered value to output: " ++ name) }
 {}
 
+/// A reply is one line whatever texts it quotes. A line feed comes only from what stands there as
+/// it is: a text that is printed or escaped, bytes in a value, or the words of a refusal.
+pub fn replies_that_quote_are_one_line()
+    ensures { (outcome : Outcome) (line : List ℕ) → IsUnbroken outcome → IsReply outcome line
+        → HasNoLineFeed line }
+{}
+
 /// Of all outcomes want of memory alone makes the status 1.
 pub fn want_of_memory_alone_makes_status_one()
     ensures refused { status_of None (Err divided_by_zero ∷ Err not_utf8 ∷ []) ≡ 0 }
     ensures wanted { status_of None (out_of_memory ∷ Err not_utf8 ∷ []) ≡ 1 }
     ensures every { (outcomes : List Outcome)
         → (status_of None outcomes ≡ 0) ↔ NoneWantsMemory outcomes }
+{}
+
+/// Two stretches that a `Replayer` took one after the other are one, and no bytes are one.
+pub fn stretches_are_joined()
+    ensures none { Goes start [] [] start }
+    ensures joined { (first middle last : Place) (bytes later text more : List ℕ)
+        → Goes first bytes text middle → Goes middle later more last
+        → Goes first (bytes ++ later) (text ++ more) last }
+{}
+
+/// A script that a `Replayer` took from its first byte on is answered by what it put: together with
+/// its last line, or up to a bad line, which ends in the last piece or stands at the end.
+pub fn what_a_replayer_took_is_answered()
+    ensures whole { (bytes text more : List ℕ) (place : Place) (wanted : Bool) (state : State)
+        → Goes start bytes text place
+        → Runs place.number place.state (last_line place.part) more wanted state
+        → IsAnswered bytes (text ++ more) [] (if place.wanted || wanted then 1 else 0) }
+    ensures bad { (bytes piece text more : List ℕ) (place : Place) (told : Report)
+        → Goes start bytes text place → StopsAtBad place piece told more
+        → IsAnswered (bytes ++ piece) (text ++ more) (ended (report_text told)) 2 }
+    ensures last { (bytes text : List ℕ) (place : Place) → Goes start bytes text place
+        → last_line place.part ≡ place.part ∷ [] → IsBad place.part
+        → IsAnswered bytes text (report (Some (bad_at place.number place.part))) 2 }
 {}
 
 /// A room to which bytes were delivered took them, and one that broke had no place for what it was

@@ -6,11 +6,13 @@ mod fault;
 mod feed;
 pub mod given;
 pub mod laws;
+mod replayer;
 mod replays;
 mod source;
 mod terse;
 
 pub use fault::Fault;
 pub use feed::answer_line;
+pub use replayer::Replayer;
 pub use replays::{replay, replay_from};
 pub use source::{InputPieces, ReadError, Source};

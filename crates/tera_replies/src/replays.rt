@@ -9,12 +9,11 @@ ghost use Rattle.tera_report.specs.Report.{report_text};
 ghost use Rattle.tera_replies.specs.Replay.{Replays, ReplaysGiven};
 ghost use Rattle.tera_replies.specs.Script.{ended};
 ghost use Rattle.tera_replies.specs.Source.{ReadEnds, ReadFails, ReadsTo};
-ghost use Rattle.tera_replies.specs.inner.Place.{place_of};
-ghost use Rattle.tera_replies.specs.inner.Stretches.{start};
+ghost use Rattle.tera_replies.specs.Stretch.{start};
 ghost use Rattle.tera_replies.specs.inner.Endings.{Ends, EndsFlushed, EndsGiven, status_at, told};
 
 use crate::fault::{Fault, WriteError, put, written};
-use crate::feed::Feed;
+use crate::replayer::Replayer;
 use crate::source::Source;
 use crate::terse::Terse;
 use std::alloc::Global;
@@ -159,19 +158,19 @@ fn answer_all<S: Source, W: Sink>(
         (λ text. Sends W.takes W.flushes out.old text out.new)
         (λ text. BrokeOn W.takes W.fails W.flushes W.flush_fails out.old text out.new) result }
 {
-    let mut feed = Feed::new(alloc, state);
-    answer_pieces(alloc, &mut feed, input, out)
+    let mut replayer = Replayer::new(alloc, state);
+    answer_pieces(alloc, &mut replayer, input, out)
 }
 
-// The same, where the feed stands before the first byte.
+// The same, where the replayer stands before the first byte.
 #[inline(always)]
 fn answer_pieces<S: Source, W: Sink>(
     alloc: Global,
-    feed: &mut Feed,
+    replayer: &mut Replayer,
     input: &mut S,
     out: &mut W,
 ) -> Result<bool, Fault>
-    requires { place_of feed.old ≡ start }
+    requires { replayer.old ≡ start }
     ensures known { IfSome (S.left input.old) (λ bytes. Ends bytes (S.fails input.old)
         (λ before last. ReadsTo S.gave input.old before last input.new)
         (λ given. ReadEnds S.gave input.old given input.new)
@@ -190,9 +189,9 @@ fn answer_pieces<S: Source, W: Sink>(
         flush(out)?;
         let count = input.read_piece(&mut piece)?;
         if count == 0 {
-            return feed.finish(alloc, out);
+            return replayer.finish(alloc, out);
         }
-        feed.take_piece(alloc, &piece[..count], out)?;
+        replayer.take(alloc, &piece[..count], out)?;
     }
     Err(Fault::ReadFailed)
 }

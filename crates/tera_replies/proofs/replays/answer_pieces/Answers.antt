@@ -1,7 +1,7 @@
 -- What the source gave so far is answered, also where a fault ends the loop.
-use Rattle.std.proofs.Common.{◌≡◌, ◌<◌, ◌≤◌, ◌++◌, [], inl, inr, length, length-append, take, ◌∙◌, subst, refl, rules, sym, arith, append-nil}
+use Rattle.std.proofs.Common.{◌≡◌, ◌<◌, ◌++◌, [], inl, inr, length, length-append, take, ◌∙◌, subst, refl, rules, sym, arith, append-nil}
 use Rattle.std.proofs.{lemmas.Result.err_from_is_err_and, lemmas.List.length-take-le}
-use Rattle.tera_replies.specs.{Source.EndIsTold, Source.Giving, Source.given_by, Source.ReadEnds, Source.ReadFails, Source.ReadsTo, inner.Stretches.start}
+use Rattle.tera_replies.specs.{Source.EndIsTold, Source.Giving, Source.given_by, Source.ReadEnds, Source.ReadFails, Source.ReadsTo, Stretch.start}
 use Rattle.tera_replies.proofs.InputLemmas.{Ends-all, Ends-stops, at_failure, at_write}
 use Rattle.tera_replies.proofs.ReadLemmas.{Consumes-none, Consumes-append, fails_behind, kept_is_none, reads_all, where_known}
 use Rattle.tera_replies.proofs.StretchLemmas.{Begins-all, went_flushed, went_nowhere, went_on}
@@ -19,7 +19,6 @@ pieces-init g c =
       went = rw c.requires (went_nowhere start c.args.out.now (λ k d h. absurd (omega arith)));
       turns = omega arith;
       fails = refl;
-      room = search rules;
     }
 
 pub returns-in_err-flush : goal.returns-in_err-flush
@@ -78,7 +77,7 @@ returns-then-count-eq0 g c =
     (c.pieces.input, piece, room, reads_all g.S.Source.gave before.reads, rw none at c.in_ok-count.ensures.told) in
     let consumed = rw (append-nil given) at (Consumes-append _ _ (g.S.Source.left c.read_piece.new.self) given [] before.consumed
     (rw none at c.in_ok-count.ensures.bytes.0)) in
-    let all = Ends-all sink.takes sink.fails sink.flushes sink.flush_fails _ _ _ _ c.finish.new.self.context c.finish.new.out c.finish.result went ends told
+    let all = Ends-all sink.takes sink.fails sink.flushes sink.flush_fails _ _ _ _ c.finish.new.self.state c.finish.new.out c.finish.result went ends told
     c.finish.ensures.ok c.finish.ensures.err in
     record {
       known = where_known _ _ _ _ consumed (λ bytes rest left e.
@@ -88,9 +87,9 @@ returns-then-count-eq0 g c =
       given = (given, consumed, inr (inl ends), all);
     }
 
-pub returns-in_err-take_piece : goal.returns-in_err-take_piece
-returns-in_err-take_piece g c =
-    let p = err_from_is_err_and c.from_residual-in_err-take_piece.result c.from_residual-in_err-take_piece.ensures.1 in
+pub returns-in_err-take : goal.returns-in_err-take
+returns-in_err-take g c =
+    let p = err_from_is_err_and c.from_residual-in_err-take.result c.from_residual-in_err-take.ensures.1 in
     let sink = g.W.Sink in
     let before = c.pieces.invariant in
     let went = went_flushed before.went c.in_ok-flush.ensures.ok in
@@ -103,13 +102,13 @@ returns-in_err-take_piece g c =
     inr (c.pieces.input, one, reads_all g.S.Source.gave before.reads, c.in_ok-count.ensures.told, refl) in
     rw (p.1, p.2) (record {
       known = where_known _ _ _ _ consumed (λ bytes rest left e. Ends-stops sink.takes sink.fails sink.flushes sink.flush_fails _ rest _ _ _ _ _
-          c.in_err-take_piece.field-0.0 e reads went c.in_err-take_piece.ensures.err);
+          c.in_err-take.field-0.0 e reads went c.in_err-take.ensures.err);
       given = (
         whole,
         consumed,
         inl (given, given_by one, refl, reads),
-        Ends-stops sink.takes sink.fails sink.flushes sink.flush_fails _ [] _ _ _ _ _ c.in_err-take_piece.field-0.0 (sym (append-nil whole)) reads went
-            c.in_err-take_piece.ensures.err,
+        Ends-stops sink.takes sink.fails sink.flushes sink.flush_fails _ [] _ _ _ _ _ c.in_err-take.field-0.0 (sym (append-nil whole)) reads went
+            c.in_err-take.ensures.err,
       );
     })
 
@@ -119,7 +118,6 @@ pieces-preserved g c =
     let count = c.in_ok-count.count in
     let piece = take count room in
     let taken : length piece ≡ count = length-take-le count room c.in_ok-count.ensures.bound in
-    let bounded : count ≤ 8192 = search rules in
     let some : 0 < count = omega (arith, c.if-count-eq0.false) in
     let before = c.pieces.invariant in
     let given = before.before ++ before.last in
@@ -129,10 +127,9 @@ pieces-preserved g c =
       last = piece;
       consumed = Consumes-append _ _ (g.S.Source.left c.read_piece.new.self) given piece before.consumed c.in_ok-count.ensures.bytes.0;
       reads = inr (c.pieces.input, one, reads_all g.S.Source.gave before.reads, c.in_ok-count.ensures.told, refl);
-      went = went_on (went_flushed before.went c.in_ok-flush.ensures.ok) c.in_ok-take_piece.ensures.ok;
+      went = went_on (went_flushed before.went c.in_ok-flush.ensures.ok) c.in_ok-take.ensures.ok;
       turns = omega (arith, before.turns, length-append given piece);
       fails = c.read_piece.ensures.stays ∙ before.fails;
-      room = omega (arith, c.in_ok-take_piece.ensures.number);
     }
 
 pub returns : goal.returns

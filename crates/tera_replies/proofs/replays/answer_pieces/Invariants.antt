@@ -1,7 +1,7 @@
 -- What the source gave so far is answered.
-use Rattle.std.proofs.Common.{◌≡◌, ℕ, ◌+◌, ◌*◌, ◌≤◌, List, ◌++◌, length}
+use Rattle.std.proofs.Common.{◌≡◌, ℕ, ◌≤◌, List, ◌++◌, length}
 use Rattle.std.specs.Io.KnownBytes.{Consumes}
-use Rattle.tera_replies.specs.{inner.Place.place_of, Source.ReadsTo, inner.Stretches.start}
+use Rattle.tera_replies.specs.{Source.ReadsTo, Stretch.start}
 use Rattle.tera_replies.proofs.StretchLemmas.{Went}
 use Rattle.tera_replies.proofs.replays.answer_pieces.Given as goal
 
@@ -13,8 +13,7 @@ invariant-pieces g l =
       last : List ℕ;
       consumed : Consumes (source.left l.fn.input) (source.left l.input) (before ++ last);
       reads : ReadsTo source.gave l.fn.input before last l.input;
-      went : Went g.W.Sink.takes g.W.Sink.flushes start (before ++ last) (place_of l.feed) l.fn.out l.out;
+      went : Went g.W.Sink.takes g.W.Sink.flushes start (before ++ last) l.replayer l.fn.out l.out;
       turns : l._turn ≤ length (before ++ last);
       fails : source.fails l.input ≡ source.fails l.fn.input;
-      room : l.feed.number ≤ 1 + 8192 * l._turn;
     }
