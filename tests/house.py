@@ -7,6 +7,8 @@ behind a 'FAIL ..' each place that breaks it. The last line is 'house: end'.
   tera_context's `Step` and `Call`, let just those heed `->` that the specs do; and what `step` calls for it, or its arm
   there, has a wrong body
 - imports: a crate imports a lower crate's proofs by its files of laws alone (docs/ARCHITECTURE.md says which these are)
+- surface: the crate `tera` gives out each public item of the libraries that it stands on, each of their files of
+  definitions and of laws, and what each of their types is to a clause
 - lemmas: each is cited, and no two have one statement up to the names of variables
 - memory: each public call that takes memory has a row in tests/calls.py, by which its requests are refused, or a test
   that tests/calls.py names for it; and each test that docs/TESTS.md names is there
@@ -178,17 +180,66 @@ def bodies(words):
 # ---- imports
 
 
+def given_out(text):
+    """The names of the files that a Lib.antt makes public, its own and those that it passes on."""
+    return {name or path.rpartition(".")[2] for path, name in re.findall(r"(?m)^pub (?:mod|use) ([\w.]+)(?: as (\w+))?$", text)}
+
+
 def imports():
     shared = {}
     for path in below("proofs", end="/Lib.antt"):
         crate = path.split("/")[1]
-        shared[crate] = set(re.findall(r"(?m)^pub mod (\w+)", read(path)))
+        shared[crate] = given_out(read(path))
         yield from (f"{path}: `{it}` is public, and is no file of laws" for it in shared[crate] if not LAWS.match(it))
     for path in below("src", "specs", "proofs"):
         own = path.split("/")[1]
         for crate, file in re.findall(r"(?m)^(?:ghost )?use Rattle\.(\w+)\.proofs\.(\w+)", read(path)):
             if crate in shared and crate != own and not (LAWS.match(file) and file in shared[crate]):
                 yield f"{path}: it imports `{crate}`'s proofs/{file}"
+
+
+# ---- surface
+
+PUBLIC = re.compile(r"(?m)^pub (struct|enum|trait|type|fn|mod) (\w+)")
+
+
+def items_used(text):
+    """What a text gives out by `pub use`: each path, without the name that it gets."""
+    for path, names in re.findall(r"pub use ([\w:]+)(?:::\{([^}]*)\})?(?: as \w+)?;", text):
+        yield from (f"{path}::{it}" for it in re.findall(r"\w+", names)) if names else [path]
+
+
+def items_public(crate):
+    """The paths of what a library's root makes public of its own, a module by its items."""
+    root = read(f"crates/{crate}/src/lib.rt")
+    yield from (f"{crate}::{it.rpartition('::')[2]}" for it in items_used(root) if not it.startswith("tera_"))
+    for module in re.findall(r"(?m)^pub mod (\w+);", root):
+        yield from (f"{crate}::{module}::{it[2]}" for it in PUBLIC.finditer(read(f"crates/{crate}/src/{module}.rt")))
+    for path in below("src", end=".rt"):
+        macros = re.findall(r"#\[macro_export\]\s*macro_rules! (\w+)", read(path)) if path.split("/")[1] == crate else []
+        yield from (f"{crate}::{it}" for it in macros)
+
+
+def files_public(crate):
+    """The paths by which clauses and proofs name a library's definitions, laws and types."""
+    for folder in ("specs", "proofs"):
+        found = re.findall(r"(?m)^pub mod (\w+)", read(f"crates/{crate}/{folder}/Lib.antt"))
+        yield from (f"Rattle.{crate}.{folder}.{it}" for it in found if it != "inner")
+    for path in below("src", end=".rt"):
+        _, own, _, *inner = path.removesuffix(".rt").split("/")
+        kinds = [it[2] for it in PUBLIC.finditer(read(path)) if own == crate and it[1] in ("struct", "enum")]
+        yield from (f"Rattle.{crate}.specs.declared.{'.'.join(inner)}.{it}" for it in kinds)
+
+
+def surface():
+    used = {it for path in below("src") if path.startswith("crates/tera/") for it in items_used(read(path))}
+    named = "".join(read(it) for it in below("specs", "proofs") if it.startswith("crates/tera/"))
+    passed = set(re.findall(r"(?m)^pub use ([\w.]+)", named))
+    for crate in re.search(r"(?m)^tera: (.*)$", read("crates.txt"))[1].split():
+        for item in items_public(crate):
+            if not any(item == it or item.startswith(f"{it}::") for it in used):
+                yield f"crates/tera does not give out `{item}`"
+        yield from (f"crates/tera does not pass on `{it}`" for it in files_public(crate) if it not in passed)
 
 
 # ---- lemmas
@@ -256,7 +307,7 @@ def homes_of(path, text):
     """Where the names of this repository that a file uses come from: {name: file and name there}."""
     homes = {it[2]: f"{path}.{it[2]}" for it in HEAD.finditer(text)}
     homes.update((it, f"{path}.{it}") for it in re.findall(r"(?m)^ *(?:pub |abbrev |unfoldable )*([A-Z]\w*) :", text))
-    for module, names in re.findall(r"(?m)^use (Rattle\.(?:tera_\w+|uses)\.[\w.]+)\.\{([^}]*)\}", text):
+    for module, names in re.findall(r"(?m)^use (Rattle\.(?:tera\w*|uses)\.[\w.]+)\.\{([^}]*)\}", text):
         for said in names.split(","):
             name, _, other = said.strip().partition(" as ")
             homes[other or name] = f"{module}.{name}"
@@ -439,6 +490,7 @@ def words():
 RULES = {
     "each call has its scripts, its row and its lines": calls,
     "a lower crate's proofs are imported by their laws alone": imports,
+    "the crate tera gives out all that the libraries below it do": surface,
     "each lemma is cited, and stated once": lemmas,
     "each call that takes memory has a row that refuses it": memory,
     "files and lines keep their lengths": lengths,

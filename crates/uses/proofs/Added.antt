@@ -3,12 +3,12 @@ use Rattle.std.specs.Prelude.{◌≡◌, ◌↔◌, ◌≤◌, ℕ, ℤ, drop, l
 use Rattle.std.proofs.Common.{ap, ◌∙◌, sym, subst, arith}
 use Rattle.std.proofs.lemmas.Int.{ints}
 use Rattle.std.proofs.lemmas.List.{drop_all}
-use Rattle.tera_meaning.specs.Arithmetic.{as_i128, calculated, computed}
-use Rattle.tera_meaning.specs.Form.{Form}
-use Rattle.tera_meaning.specs.Integer.{is_small}
-use Rattle.tera_meaning.specs.Read.{number_in}
-use Rattle.tera_meaning.proofs.RefusalLaws.{given_by_both}
-use Rattle.tera_report.specs.Refusal.{Operator, plus}
+use Rattle.tera.proofs.RefusalLaws.{given_by_both}
+use Rattle.tera.specs.Arithmetic.{as_i128, calculated, computed}
+use Rattle.tera.specs.Form.{Form}
+use Rattle.tera.specs.Integer.{is_small}
+use Rattle.tera.specs.Read.{number_in}
+use Rattle.tera.specs.Refusal.{Operator, plus}
 use Rattle.uses.specs.Sums.{AreNumbersOf, added_up, nothing_yet, sum_of}
 
 -- by the laws of what is calculated and computed, what is added up from a number on is that and the sum of the others

@@ -2,18 +2,18 @@
 use Rattle.std.proofs.Common.{◌≡◌, ℕ, ◌+◌, ◌*◌, ◌≤◌, ◌⊎◌, inl, inr, false, List, [], ◌∷◌, ◌++◌, length, map}
 use Rattle.std.proofs.Common.{codes, Option, Some, sym, ◌∙◌, ap, subst, append-nil, arith, length-append}
 use Rattle.std.specs.List.{AllZip, flat_map}
-use Rattle.tera_meaning.specs.Outcome.{Outcome}
-use Rattle.tera_meaning.specs.Request.{Command}
-use Rattle.tera_meaning.specs.Run.{IsRun}
-use Rattle.tera_meaning.specs.State.{State}
-use Rattle.tera_meaning.specs.Step.{IsStep}
+use Rattle.tera.specs.Outcome.{Outcome}
+use Rattle.tera.specs.Request.{Command}
+use Rattle.tera.specs.Room.{room_bytes, HasRoomFor, RoomTakes, RoomFails}
+use Rattle.tera.specs.Run.{IsRun}
+use Rattle.tera.specs.State.{State}
+use Rattle.tera.specs.Step.{IsStep}
+use Rattle.tera.specs.types.Room.{Room}
+use Rattle.tera_replies.proofs.ReplayLaws.{first_of_all}
 use Rattle.tera_replies.specs.Output.{TakesOrFails}
 use Rattle.tera_replies.specs.Replay.{AllAnswered, Replays, WritingFailed}
-use Rattle.tera_replies.proofs.ReplayLaws.{first_of_all}
 use Rattle.tera_replies.specs.Reply.{IsReply}
 use Rattle.tera_replies.specs.Script.{BadLine, Script, Splits, ended, last_line, line_feed, without_return}
-use Rattle.tera_report.specs.Room.{room_bytes, HasRoomFor, RoomTakes, RoomFails}
-use Rattle.tera_report.specs.declared.room.Room.{Room}
 use Rattle.tera_script.specs.Line.{Says}
 
 -- whatever the line says, its reply is short

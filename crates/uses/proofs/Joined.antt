@@ -5,11 +5,11 @@ use Rattle.std.specs.Cow.{cow_str_bytes}
 use Rattle.std.specs.declared.borrow.CowStr.{CowStr}
 use Rattle.std.proofs.Common.{ap, sym, subst, ◌∙◌, get_or, arith, inl, inr}
 use Rattle.std.proofs.lemmas.List.{append_assoc, map-append, length-take-le}
-use Rattle.tera_arguments.proofs.ItemLaws.{up_to}
-use Rattle.tera_arguments.specs.Rendered.{Renders, RendersNot, is_shown_plain}
-use Rattle.tera_meaning.specs.Form.{MarkedText}
-use Rattle.tera_report.specs.Errors.{IsOutOfMemory}
-use Rattle.tera_report.specs.declared.errors.Error.{Error}
+use Rattle.tera.proofs.ItemLaws.{up_to}
+use Rattle.tera.specs.Errors.{IsOutOfMemory}
+use Rattle.tera.specs.Form.{MarkedText}
+use Rattle.tera.specs.Rendered.{Renders, RendersNot, is_shown_plain}
+use Rattle.tera.specs.types.Error.{Error}
 use Rattle.uses.specs.Filters.{EscapeRefuses, joined, shown}
 
 -- what is rendered is what is shown

@@ -5,13 +5,13 @@ use Rattle.std.specs.Option.{option_map}
 use Rattle.std.specs.String.{string_bytes}
 use Rattle.std.proofs.Common.{ap, sym, subst, ◌∙◌, get_or}
 use Rattle.std.proofs.lemmas.List.{append-nil, append_assoc, drop_all, drop_more}
-use Rattle.tera_meaning.specs.Form.{Form}
-use Rattle.tera_meaning.specs.Meaning.{layout}
-use Rattle.tera_meaning.specs.Printed.{IsExact}
-use Rattle.tera_meaning.proofs.QuotedLaws.{alone_exact}
-use Rattle.tera_meaning.specs.Read.{safe_in}
-use Rattle.tera_meaning.specs.State.{State}
-use Rattle.tera_report.specs.Escaping.{Spells, escaped}
+use Rattle.tera.proofs.QuotedLaws.{alone_exact}
+use Rattle.tera.specs.Escaping.{Spells, escaped}
+use Rattle.tera.specs.Form.{Form}
+use Rattle.tera.specs.Meaning.{layout}
+use Rattle.tera.specs.Printed.{IsExact}
+use Rattle.tera.specs.Read.{safe_in}
+use Rattle.tera.specs.State.{State}
 use Rattle.uses.specs.Render.{IsExactPiece, IsRendered, ShowsFound, ShowsPiece, StandsFor, found, shown_by, shown_if_found}
 use Rattle.uses.specs.declared.render.Piece.{Piece}
 use Rattle.uses.specs.declared.render.Piece.TheVariants.{Text, Path}

@@ -7,15 +7,15 @@ use Rattle.std.specs.List.{flat_map}
 use Rattle.std.specs.Str.{chars, is_utf8}
 use Rattle.std.specs.declared.cmp.Ordering.{Ordering}
 use Rattle.std.specs.declared.cmp.Ordering.TheVariants.{Less, Equal, Greater}
-use Rattle.tera_meaning.specs.Answer
-use Rattle.tera_meaning.specs.Outcome.{Outcome}
-use Rattle.tera_meaning.specs.Request.{Command, weigh, asking}
-use Rattle.tera_meaning.specs.Run.{IsRun}
-use Rattle.tera_meaning.specs.Meaning.{Meaning, meaning}
-use Rattle.tera_meaning.specs.Order
-use Rattle.tera_meaning.specs.State.{State, form_at, read}
-use Rattle.tera_meaning.specs.Step.{IsStep}
-use Rattle.tera_meaning.specs.Weighing
+use Rattle.tera.specs.Answer
+use Rattle.tera.specs.Meaning.{Meaning, meaning}
+use Rattle.tera.specs.Order
+use Rattle.tera.specs.Outcome.{Outcome}
+use Rattle.tera.specs.Request.{Command, weigh, asking}
+use Rattle.tera.specs.Run.{IsRun}
+use Rattle.tera.specs.State.{State, form_at, read}
+use Rattle.tera.specs.Step.{IsStep}
+use Rattle.tera.specs.Weighing
 use Rattle.tera_replies.specs.Replay.{AllAnswered, Replays, report, status_of}
 use Rattle.tera_replies.specs.Reply.{IsReply, AreReplies, order_name}
 use Rattle.tera_replies.specs.Script.{BadLine, Script, Splits, ended, last_line, without_return}

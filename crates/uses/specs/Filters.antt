@@ -4,18 +4,18 @@ use Rattle.std.specs.Prelude.{if◌then◌else◌}
 use Rattle.std.specs.Prelude.{Option, None, Some, Ok, MatchOption}
 use Rattle.std.specs.List.{Contains}
 use Rattle.std.specs.Option.{IsSomeAnd}
-use Rattle.tera_arguments.specs.Rendered.{RendersNot, is_shown_plain}
-use Rattle.tera_arguments.specs.Taken.{Denies, DeniesItems, IsNoArray, TakesItems, as_marked_text}
-use Rattle.tera_meaning.specs.Conversion.{IntegerType, converted}
-use Rattle.tera_meaning.specs.Form.{Form, MarkedText}
-use Rattle.tera_meaning.specs.Kind.{kind_in, undefined_kind}
-use Rattle.tera_meaning.specs.Read.{items_in}
-use Rattle.tera_meaning.specs.SliceRule.{IsSliced}
-use Rattle.tera_meaning.specs.Tree.{text}
-use Rattle.tera_report.specs.Errors.{IsOutOfMemory, Raises}
-use Rattle.tera_report.specs.Refusal.{missing_argument}
-use Rattle.tera_report.specs.declared.errors.Error.{Error}
-use Rattle.tera_values.specs.View.{marked}
+use Rattle.tera.specs.Conversion.{IntegerType, converted}
+use Rattle.tera.specs.Errors.{IsOutOfMemory, Raises}
+use Rattle.tera.specs.Form.{Form, MarkedText}
+use Rattle.tera.specs.Kind.{kind_in, undefined_kind}
+use Rattle.tera.specs.Read.{items_in}
+use Rattle.tera.specs.Refusal.{missing_argument}
+use Rattle.tera.specs.Rendered.{RendersNot, is_shown_plain}
+use Rattle.tera.specs.SliceRule.{IsSliced}
+use Rattle.tera.specs.Taken.{Denies, DeniesItems, IsNoArray, TakesItems, as_marked_text}
+use Rattle.tera.specs.Tree.{text}
+use Rattle.tera.specs.View.{marked}
+use Rattle.tera.specs.types.Error.{Error}
 
 -- a text up to the length that is given, with its flag
 abbrev pub IsTruncated : MarkedText → Option Form → Form → Type 0

@@ -1,8 +1,8 @@
 -- The end of a value.
 use Rattle.std.specs.Prelude.{ℕ, zero, suc, negsuc, pos, None, Some, Result}
-use Rattle.tera_meaning.specs.Form.{Form}
-use Rattle.tera_meaning.specs.SliceRule.{IsSliced}
-use Rattle.tera_report.specs.Refusal.{Refusal}
+use Rattle.tera.specs.Form.{Form}
+use Rattle.tera.specs.Refusal.{Refusal}
+use Rattle.tera.specs.SliceRule.{IsSliced}
 
 -- the slice of the last so many; of none that up to a bound of 0
 abbrev pub IsEnd : Form → ℕ → Result Form Refusal → Type 0

@@ -1,12 +1,12 @@
 -- What the maps of these programs hold.
 use Rattle.std.specs.Prelude.{ℕ, pos, Bool, true, false, List, map, Option, None, Some}
-use Rattle.tera_meaning.specs.Form.{Form}
-use Rattle.tera_meaning.specs.Integer.{u64}
-use Rattle.tera_meaning.specs.KeyMeaning.{KeyForm}
-use Rattle.tera_meaning.specs.Meaning.{meaning}
-use Rattle.tera_meaning.specs.Read.{truthy_in}
-use Rattle.tera_meaning.specs.Tree.{truth}
-use Rattle.tera_values.specs.Key.{integer_key}
+use Rattle.tera.specs.Form.{Form}
+use Rattle.tera.specs.Integer.{u64}
+use Rattle.tera.specs.Key.{integer_key}
+use Rattle.tera.specs.KeyMeaning.{KeyForm}
+use Rattle.tera.specs.Meaning.{meaning}
+use Rattle.tera.specs.Read.{truthy_in}
+use Rattle.tera.specs.Tree.{truth}
 
 -- each of the numbers as a key, with `true`
 abbrev pub flagged : List ℕ → List (KeyForm × Form)

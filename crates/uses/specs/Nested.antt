@@ -1,10 +1,10 @@
 -- A map of an array of a map, as it is held.
 use Rattle.std.specs.Prelude.{[], ◌∷◌, pos, false, codes}
-use Rattle.tera_meaning.specs.Form.{Form}
-use Rattle.tera_meaning.specs.Integer.{u64}
-use Rattle.tera_meaning.specs.KeyMeaning.{text_key, borrowed}
-use Rattle.tera_meaning.specs.Tree.{array, object, items, members}
-use Rattle.tera_values.specs.View.{integer, marked}
+use Rattle.tera.specs.Form.{Form}
+use Rattle.tera.specs.Integer.{u64}
+use Rattle.tera.specs.KeyMeaning.{text_key, borrowed}
+use Rattle.tera.specs.Tree.{array, object, items, members}
+use Rattle.tera.specs.View.{integer, marked}
 
 -- {"b": "x"}
 abbrev pub inner : Form

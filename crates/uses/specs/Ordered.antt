@@ -1,10 +1,10 @@
 -- A map of two pairs, as it is held.
 use Rattle.std.specs.Prelude.{[], ◌∷◌, pos, codes}
-use Rattle.tera_meaning.specs.Form.{Form}
-use Rattle.tera_meaning.specs.Integer.{u64}
-use Rattle.tera_meaning.specs.KeyMeaning.{text_key, borrowed}
-use Rattle.tera_meaning.specs.Tree.{object, members}
-use Rattle.tera_values.specs.View.{integer}
+use Rattle.tera.specs.Form.{Form}
+use Rattle.tera.specs.Integer.{u64}
+use Rattle.tera.specs.KeyMeaning.{text_key, borrowed}
+use Rattle.tera.specs.Tree.{object, members}
+use Rattle.tera.specs.View.{integer}
 
 -- {"width": 80, "height": 24}
 abbrev pub sizes : Form

@@ -4,14 +4,14 @@ use Rattle.std.specs.Prelude.{IfSome, ⊤}
 use Rattle.std.specs.FinMap.{get}
 use Rattle.std.specs.Option.{option_and_then, option_map}
 use Rattle.std.specs.String.{string_bytes}
-use Rattle.tera_meaning.specs.Form.{Form}
-use Rattle.tera_meaning.specs.Meaning.{layout}
-use Rattle.tera_meaning.specs.Path.{path}
-use Rattle.tera_meaning.specs.Printed.{IsExact, shown_in_page}
-use Rattle.tera_meaning.specs.Quoted.{Prints}
-use Rattle.tera_meaning.specs.Read.{safe_in}
-use Rattle.tera_meaning.specs.State.{State}
-use Rattle.tera_report.specs.Escaping.{Spells}
+use Rattle.tera.specs.Escaping.{Spells}
+use Rattle.tera.specs.Form.{Form}
+use Rattle.tera.specs.Meaning.{layout}
+use Rattle.tera.specs.Path.{path}
+use Rattle.tera.specs.Printed.{IsExact, shown_in_page}
+use Rattle.tera.specs.Quoted.{Prints}
+use Rattle.tera.specs.Read.{safe_in}
+use Rattle.tera.specs.State.{State}
 use Rattle.uses.specs.declared.render.Piece.{Piece}
 use Rattle.uses.specs.declared.render.Piece.TheVariants.{Text, Path}
 

@@ -1,10 +1,10 @@
 -- Sums of arrays of numbers.
 use Rattle.std.specs.Prelude.{◌≡◌, ℤ, pos, ◌+ℤ◌, List, [], ◌∷◌, Some, Result, Ok}
 use Rattle.std.specs.List.{AllZip}
-use Rattle.tera_meaning.specs.Arithmetic.{and_then, as_i128, calculated}
-use Rattle.tera_meaning.specs.Form.{Form}
-use Rattle.tera_meaning.specs.Read.{number_in}
-use Rattle.tera_report.specs.Refusal.{Refusal, plus}
+use Rattle.tera.specs.Arithmetic.{and_then, as_i128, calculated}
+use Rattle.tera.specs.Form.{Form}
+use Rattle.tera.specs.Read.{number_in}
+use Rattle.tera.specs.Refusal.{Refusal, plus}
 
 -- what is added up from a total on: the sum, or the first refusal
 abbrev pub added_up : Form → List Form → Result Form Refusal

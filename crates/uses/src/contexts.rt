@@ -1,17 +1,15 @@
 //! Values under names: one that is compared, and one that is shown.
 ghost use Rattle.std.specs.Prelude.{◌≡◌, ◌↔◌, ℕ, List, pos, IsTrue, IfOk, IfErr};
 ghost use Rattle.std.specs.String.{string_bytes};
-ghost use Rattle.tera_meaning.specs.Order.{same};
-ghost use Rattle.tera_meaning.specs.Quoted.{Prints};
-ghost use Rattle.tera_meaning.specs.State.{layout_at, meaning_at};
-ghost use Rattle.tera_meaning.specs.Tree.{number};
-ghost use Rattle.tera_report.specs.Errors.{IsOutOfMemory};
-ghost use Rattle.tera_report.specs.Escaping.{Spells};
+ghost use Rattle.tera.specs.Errors.{IsOutOfMemory};
+ghost use Rattle.tera.specs.Escaping.{Spells};
+ghost use Rattle.tera.specs.Order.{same};
+ghost use Rattle.tera.specs.Quoted.{Prints};
+ghost use Rattle.tera.specs.State.{layout_at, meaning_at};
+ghost use Rattle.tera.specs.Tree.{number};
 
 use std::alloc::Global;
-use tera_context::Context;
-use tera_report::{TeraResult, escape_text};
-use tera_values::Value;
+use tera::{Context, TeraResult, Value, escape_text};
 
 /// Whether a name means the number one, in whatever kind of integer it is held.
 pub fn is_one(context: &Context, name: &str) -> bool

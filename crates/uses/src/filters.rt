@@ -1,17 +1,15 @@
 //! A filter and a function of templates, as a user would write them.
 ghost use Rattle.std.specs.Prelude.{◌≡◌, ◌⊎◌, ◌++◌, ◌∷◌, codes, map, IfOk, IfErr, OnOk};
 ghost use Rattle.std.specs.String.{string_bytes};
-ghost use Rattle.tera_arguments.specs.Rendered.{RendersNot};
-ghost use Rattle.tera_meaning.specs.Lookup.{attr};
-ghost use Rattle.tera_report.specs.Errors.{IsOutOfMemory};
+ghost use Rattle.tera.specs.Errors.{IsOutOfMemory};
+ghost use Rattle.tera.specs.Lookup.{attr};
+ghost use Rattle.tera.specs.Rendered.{RendersNot};
 ghost use Rattle.uses.specs.Filters.{IsTruncated, IsJoined, RefusesLength, joined, shown};
 ghost use Rattle.uses.specs.Filters.{EscapeRefuses, RefusesJoined};
 ghost use Rattle.uses.specs.Filters.{IsOrDefault, LacksDefault};
 
 use std::alloc::Global;
-use tera_arguments::{ArgFromValue, Autoescape, Kwargs, StringInput};
-use tera_report::TeraResult;
-use tera_values::Value;
+use tera::{ArgFromValue, Autoescape, Kwargs, StringInput, TeraResult, Value};
 
 /// A filter: the first characters of a text, as many as the argument `length` says. The text keeps
 /// its flag.

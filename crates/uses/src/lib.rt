@@ -22,7 +22,7 @@ pub use maps::{flags, is_on, settings, values_in_order};
 pub use nested::{nested_text, nested_value};
 pub use ordered::{sizes, sizes_text};
 pub use render::{Piece, render_pieces};
-pub use replays::{replay_bad_line, replay_calls};
+pub use replays::{replay_bad_line, replay_calls, replay_pieces};
 pub use reports::show_error;
 pub use runs::{run_with, step_and_run};
 pub use sums::{average, sum_of_array, sum_of_names};

@@ -1,17 +1,16 @@
 //! The end of an array, by a slice.
 ghost use Rattle.std.specs.Prelude.{◌≡◌, ◌-◌, pos, neg_ℤ, List, length, drop, Some, IfOk, IfErr};
 ghost use Rattle.std.specs.Prelude.{Result, Ok};
-ghost use Rattle.tera_meaning.specs.Form.{Form};
-ghost use Rattle.tera_meaning.specs.Read.{items_in};
-ghost use Rattle.tera_meaning.specs.Tree.{array, items};
-ghost use Rattle.tera_report.specs.Errors.{IsOutOfMemory, Refuses};
-ghost use Rattle.tera_report.specs.Refusal.{Refusal};
+ghost use Rattle.tera.specs.Errors.{IsOutOfMemory, Refuses};
+ghost use Rattle.tera.specs.Form.{Form};
+ghost use Rattle.tera.specs.Read.{items_in};
+ghost use Rattle.tera.specs.Refusal.{Refusal};
+ghost use Rattle.tera.specs.Tree.{array, items};
 ghost use Rattle.uses.specs.Lists.{IsEnd};
 
 use std::alloc::Global;
-use tera_meaning::slices::slices_by_one_are_stretches;
-use tera_report::TeraResult;
-use tera_values::Value;
+use tera::meaning::slices::slices_by_one_are_stretches;
+use tera::{TeraResult, Value};
 
 /// The last items of an array, so many of them, or all where it has no more. Of a text they are
 /// characters.

@@ -3,15 +3,13 @@ ghost use Rattle.std.specs.FinMap.{get};
 ghost use Rattle.std.specs.Option.{option_and_then};
 ghost use Rattle.std.specs.Prelude.{◌≡◌, map, unwrap_or, IfOk, IfErr};
 ghost use Rattle.std.specs.String.{string_bytes};
-ghost use Rattle.tera_meaning.specs.Fields.{AreRisingOf, shown_in};
-ghost use Rattle.tera_meaning.specs.Path.{path};
-ghost use Rattle.tera_report.specs.Errors.{IsOutOfMemory};
+ghost use Rattle.tera.specs.Errors.{IsOutOfMemory};
+ghost use Rattle.tera.specs.Fields.{AreRisingOf, shown_in};
+ghost use Rattle.tera.specs.Path.{path};
 
 use std::alloc::Global;
-use tera_context::Context;
-use tera_meaning::lookups::fields_have_one_list_of_names;
-use tera_report::TeraResult;
-use tera_values::Value;
+use tera::meaning::lookups::fields_have_one_list_of_names;
+use tera::{Context, TeraResult, Value};
 
 /// What a path leads to from the value of a name, or another value where it leads nowhere.
 pub fn found_or<'a>(

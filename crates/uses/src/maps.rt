@@ -1,17 +1,16 @@
 //! Maps: made of known pairs, filled in a loop, asked by a name, and read pair by pair.
 ghost use Rattle.std.specs.Prelude.{◌≡◌, [], ◌∷◌, pos, true, codes, IfOk, IfErr};
 ghost use Rattle.std.specs.Map.{values_of};
-ghost use Rattle.tera_meaning.specs.Integer.{u64 as kind_u64};
-ghost use Rattle.tera_meaning.specs.KeyMeaning.{text_key, borrowed, truth_key};
-ghost use Rattle.tera_meaning.specs.Pairs.{key_form_order, put_all, value_at};
-ghost use Rattle.tera_meaning.specs.Tree.{none, array, object, items, members};
-ghost use Rattle.tera_report.specs.Errors.{IsOutOfMemory};
-ghost use Rattle.tera_values.specs.View.{integer};
+ghost use Rattle.tera.specs.Errors.{IsOutOfMemory};
+ghost use Rattle.tera.specs.Integer.{u64 as kind_u64};
+ghost use Rattle.tera.specs.KeyMeaning.{text_key, borrowed, truth_key};
+ghost use Rattle.tera.specs.Pairs.{key_form_order, put_all, value_at};
+ghost use Rattle.tera.specs.Tree.{none, array, object, items, members};
+ghost use Rattle.tera.specs.View.{integer};
 ghost use Rattle.uses.specs.Maps.{flagged, is_truthy};
 
 use std::alloc::Global;
-use tera_report::TeraResult;
-use tera_values::{Key, Map, Value};
+use tera::{Key, Map, TeraResult, Value};
 
 /// A map of two settings. `Out of memory` is the only refusal.
 pub fn settings(alloc: Global, depth: u64) -> TeraResult<Value>

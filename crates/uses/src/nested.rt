@@ -1,12 +1,11 @@
 //! A value that is made of parts, and the very bytes that it prints.
 ghost use Rattle.std.specs.Prelude.{◌≡◌, codes, IfOk, IfErr};
 ghost use Rattle.std.specs.String.{string_bytes};
-ghost use Rattle.tera_report.specs.Errors.{IsOutOfMemory};
+ghost use Rattle.tera.specs.Errors.{IsOutOfMemory};
 ghost use Rattle.uses.specs.Nested.{nested};
 
 use std::alloc::Global;
-use tera_report::TeraResult;
-use tera_values::{Key, Map, Value};
+use tera::{Key, Map, TeraResult, Value};
 
 /// A map of an array of a map. `Out of memory` is the only refusal.
 pub fn nested_value(alloc: Global) -> TeraResult<Value>

@@ -1,12 +1,11 @@
 //! A map whose pairs stand in the order in which their keys were first put.
 ghost use Rattle.std.specs.Prelude.{◌≡◌, codes, IfOk, IfErr};
 ghost use Rattle.std.specs.String.{string_bytes};
-ghost use Rattle.tera_report.specs.Errors.{IsOutOfMemory};
+ghost use Rattle.tera.specs.Errors.{IsOutOfMemory};
 ghost use Rattle.uses.specs.Ordered.{sizes};
 
 use std::alloc::Global;
-use tera_report::TeraResult;
-use tera_values::{Key, Map, Value};
+use tera::{Key, Map, TeraResult, Value};
 
 /// A width and a height. The width is put twice: it keeps its place, and takes the later value.
 /// `Out of memory` is the only refusal.

@@ -3,14 +3,13 @@ ghost use Rattle.std.specs.Prelude.{◌≡◌, ◌++◌, ℕ, List, IfOk, IfErr,
 ghost use Rattle.std.specs.List.{AllByRecursion, flat_map};
 ghost use Rattle.std.specs.Option.{option_copied, option_map};
 ghost use Rattle.std.specs.String.{string_bytes};
-ghost use Rattle.tera_report.specs.Errors.{IsOutOfMemory};
+ghost use Rattle.tera.specs.Errors.{IsOutOfMemory};
 ghost use Rattle.uses.specs.Render.{IsRendered, ShowsPiece, ShowsValue, found};
 ghost use Rattle.uses.specs.Render.{IsExactPiece, shown_by};
 
 use std::alloc::Global;
-use tera_context::Context;
-use tera_report::{TeraResult, escape_text, one_spelling};
-use tera_values::Value;
+use tera::utils::one_spelling;
+use tera::{Context, TeraResult, Value, escape_text};
 
 /// A piece of a page.
 #[derive(Debug, Drop)]

@@ -1,16 +1,20 @@
-//! Replays of short scripts, and the exact bytes that answer them.
-ghost use Rattle.std.specs.Prelude.{◌≡◌, ◌≤◌, ◌⊎◌, ◌++◌, codes};
-ghost use Rattle.tera_report.specs.Room.{HasRoomFor, room_bytes};
+//! Replays of short scripts, and the exact bytes that answer them; and of one that comes in pieces.
+ghost use Rattle.std.specs.List.{flat_map};
+ghost use Rattle.std.specs.Prelude.{◌≡◌, ◌≤◌, ◌⊎◌, ◌++◌, ℕ, List, [], IfOk, codes, if◌then◌else◌};
+ghost use Rattle.tera_replies.specs.Replay.{IsAnswered};
+ghost use Rattle.tera.specs.Room.{HasRoomFor, room_bytes};
+ghost use Rattle.tera.specs.Sink.{Sends};
 
 use std::alloc::Global;
-use tera_meaning::order::{equality_is_identity, meanings_tie_themselves};
+use tera::meaning::order::{equality_is_identity, meanings_tie_themselves};
+use tera::sink::{Room, Sink};
+use tera::value::HashState;
 use tera_replies::laws::{
     lines_are_split_one_way, rooms_break_where_they_are_full, scripts_say_one_thing,
+    stretches_are_joined, what_a_replayer_took_is_answered,
 };
-use tera_replies::{InputPieces, replay_from};
-use tera_report::sink::Room;
+use tera_replies::{Fault, InputPieces, Replayer, replay_from};
 use tera_script::{one_command, worked_calls, worked_faults};
-use tera_values::HashState;
 
 /// Replays two calls, which come in two pieces, and answers the status: at 0 both are answered, and
 /// nothing is reported. Where there is room for all that it may write, the status is 0, or 1 and it
@@ -57,4 +61,20 @@ pub fn replay_bad_line(alloc: Global, out: &mut Room, err: &mut Room) -> u8
     let pieces: [&[u8]; 2] = [b"eq a b\nfr", b"ob\neq a b\n"];
     let mut input = InputPieces::new(&pieces, false);
     replay_from(alloc, HashState::fixed(), &mut input, out, err)
+}
+
+/// Answers a script that comes in pieces, as those from a socket do, and says whether an answer was
+/// want of memory. How the script was cut changes nothing: its lines are answered, each in turn.
+pub fn replay_pieces<W: Sink>(alloc: Global, pieces: &[Vec<u8>], out: &mut W) -> Result<bool, Fault>
+    ensures { IfOk result (λ wanted. (text : List ℕ)
+        × IsAnswered (flat_map (λ piece. piece.items) pieces.now) text [] (if wanted then 1 else 0)
+        × Sends W.takes W.flushes out.old text out.new) }
+{
+    stretches_are_joined();
+    what_a_replayer_took_is_answered();
+    let mut replayer = Replayer::new(alloc, HashState::fixed());
+    for piece in pieces {
+        replayer.take(alloc, piece.as_slice(), out)?;
+    }
+    replayer.finish(alloc, out)
 }

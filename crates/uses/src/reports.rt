@@ -1,11 +1,11 @@
 //! An error that is shown in its source.
 ghost use Rattle.std.specs.Prelude.{◌≡◌, [], IfOk, IfErr};
 ghost use Rattle.std.specs.String.{string_bytes};
-ghost use Rattle.tera_report.specs.Errors.{IsOutOfMemory};
-ghost use Rattle.tera_report.specs.Report.{report_text};
+ghost use Rattle.tera.specs.Errors.{IsOutOfMemory};
+ghost use Rattle.tera.specs.Report.{report_text};
 
 use std::alloc::Global;
-use tera_report::{ReportError, Span, TeraResult};
+use tera::{ReportError, Span, TeraResult};
 
 /// What is shown of an error at a place of a source. `Out of memory` is the only refusal.
 pub fn show_error(

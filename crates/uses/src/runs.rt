@@ -2,17 +2,16 @@
 ghost use Rattle.std.specs.Prelude.{◌≡◌, ◌⊎◌, List, ◌∷◌, map, IfOk, IfErr, OnErr};
 ghost use Rattle.std.specs.FinMap.{insert};
 ghost use Rattle.std.specs.List.{AllZip};
-ghost use Rattle.tera_context.specs.Call.{command_of};
-ghost use Rattle.tera_context.specs.Steps.{ShowsOutcome};
-ghost use Rattle.tera_meaning.specs.Outcome.{Outcome};
-ghost use Rattle.tera_meaning.specs.Run.{IsRun, NoneWantsMemory, state_after_all};
-ghost use Rattle.tera_meaning.specs.Step.{IsStep};
-ghost use Rattle.tera_report.specs.Errors.{IsOutOfMemory};
+ghost use Rattle.tera.specs.Call.{command_of};
+ghost use Rattle.tera.specs.Errors.{IsOutOfMemory};
+ghost use Rattle.tera.specs.Outcome.{Outcome};
+ghost use Rattle.tera.specs.Run.{IsRun, NoneWantsMemory, state_after_all};
+ghost use Rattle.tera.specs.ShownSteps.{ShowsOutcome};
+ghost use Rattle.tera.specs.Step.{IsStep};
 
-use tera_context::{Answer, Context, Step, run, step};
-use tera_meaning::runs::runs_give_their_outcomes;
-use tera_report::TeraResult;
-use tera_values::Value;
+use tera::meaning::runs::runs_give_their_outcomes;
+use tera::run::{Answer, Step, run, step};
+use tera::{Context, TeraResult, Value};
 
 /// A step, and then the later ones: one run of them all. The answer to the first stands by itself.
 ///

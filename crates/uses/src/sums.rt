@@ -1,23 +1,22 @@
 //! What is computed of the numbers of names.
 ghost use Rattle.std.specs.Int.{int_div_euclid};
 ghost use Rattle.std.specs.Prelude.{◌≡◌, ℤ, pos, List, length, Ok, IfOk, IfErr, IsOk};
-ghost use Rattle.tera_meaning.specs.Arithmetic.{and_then, as_i128, calculated};
-ghost use Rattle.tera_meaning.specs.Integer.{u64 as kind_u64};
-ghost use Rattle.tera_meaning.specs.State.{form_at};
-ghost use Rattle.tera_meaning.specs.Tree.{undefined};
-ghost use Rattle.tera_report.specs.Errors.{Refuses};
-ghost use Rattle.tera_report.specs.Refusal.{plus, floor_division};
-ghost use Rattle.tera_values.specs.View.{integer};
+ghost use Rattle.tera.specs.Arithmetic.{and_then, as_i128, calculated};
+ghost use Rattle.tera.specs.Errors.{Refuses};
+ghost use Rattle.tera.specs.Integer.{u64 as kind_u64};
+ghost use Rattle.tera.specs.Refusal.{plus, floor_division};
+ghost use Rattle.tera.specs.State.{form_at};
+ghost use Rattle.tera.specs.Tree.{undefined};
+ghost use Rattle.tera.specs.View.{integer};
 ghost use Rattle.uses.specs.Sums.{AreNumbersOf, added_up, nothing_yet, sum_of};
 
 use std::alloc::Global;
-use tera_context::Context;
-use tera_meaning::arithmetic::{
+use tera::meaning::arithmetic::{
     calculations_are_of_numbers, operators_compute_what_they_stand_for,
 };
-use tera_meaning::refusals::refusals_are_passed_on;
-use tera_report::TeraResult;
-use tera_values::{Value, number};
+use tera::meaning::refusals::refusals_are_passed_on;
+use tera::value::number;
+use tera::{Context, TeraResult, Value};
 
 /// The sum of the numbers that two names hold.
 ///

@@ -1,5 +1,5 @@
 use Rattle.std.proofs.Common.{subst, inr, ◌∷◌}
-use Rattle.tera_conversions.proofs.GivenLaws.{passed_on}
+use Rattle.tera.proofs.GivenLaws.{passed_on}
 use Rattle.uses.specs.Filters.{EscapeRefuses}
 use Rattle.uses.proofs.filters.join.Goals as goal
 

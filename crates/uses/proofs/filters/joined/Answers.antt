@@ -1,10 +1,10 @@
 use Rattle.std.proofs.Common.{ap, ◌∙◌, ◌++◌, ◌∷◌, arith}
 use Rattle.std.specs.String.{string_bytes}
-use Rattle.uses.specs.Filters.{shown}
-use Rattle.tera_conversions.proofs.GivenLaws.{passed_on}
+use Rattle.tera.proofs.GivenLaws.{passed_on}
 use Rattle.uses.proofs.Joined.{first_joined, next_joined, is_among, is_first, refused_of}
-use Rattle.uses.proofs.filters.joined.Goals as goal
 use Rattle.uses.proofs.filters.joined.Goals.{then-place-gt0+in_ok-put_shown, else-place-gt0}
+use Rattle.uses.specs.Filters.{shown}
+use Rattle.uses.proofs.filters.joined.Goals as goal
 
 pub loop-place-preserved : goal.loop-place-preserved
 loop-place-preserved g c =

@@ -1,12 +1,12 @@
 use Rattle.std.proofs.Common.{ap, sym, subst, ◌∙◌, arith, refl, ◌≡◌, ◌-◌, ◌<◌, ℕ, zero, suc, pos, neg_ℤ, List, [], drop, length, None, Some, Result, Ok}
 use Rattle.std.proofs.lemmas.List.{drop_all}
 use Rattle.std.proofs.lemmas.Result.{IfOk-weaker, IfErr-weaker}
-use Rattle.tera_meaning.specs.Form.{Form}
-use Rattle.tera_meaning.specs.SliceRule.{IsSliced}
-use Rattle.tera_meaning.specs.Stretch.{stretch}
-use Rattle.tera_meaning.specs.Tree.{array, items}
-use Rattle.tera_report.specs.Errors.{Refuses}
-use Rattle.tera_report.specs.Refusal.{Refusal}
+use Rattle.tera.specs.Errors.{Refuses}
+use Rattle.tera.specs.Form.{Form}
+use Rattle.tera.specs.Refusal.{Refusal}
+use Rattle.tera.specs.SliceRule.{IsSliced}
+use Rattle.tera.specs.Stretch.{stretch}
+use Rattle.tera.specs.Tree.{array, items}
 use Rattle.uses.specs.Lists.{IsEnd}
 use Rattle.uses.proofs.lists.last_items.Goals as goal
 

@@ -1,7 +1,7 @@
 use Rattle.std.proofs.Common.{◌≡◌, map, subst, sym}
 use Rattle.std.proofs.lemmas.Result.{IfOk-weaker}
 use Rattle.std.specs.String.{string_bytes}
-use Rattle.tera_meaning.specs.Fields.{AreRisingOf, fields, shown_in}
+use Rattle.tera.specs.Fields.{AreRisingOf, fields, shown_in}
 use Rattle.uses.proofs.look_ups.field_names.Goals as goal
 
 pub returns-clause-ok : goal.returns-clause-ok

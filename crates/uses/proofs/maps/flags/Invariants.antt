@@ -1,5 +1,5 @@
 use Rattle.std.proofs.Common.{◌≡◌, [], drop}
-use Rattle.tera_meaning.specs.Pairs.{key_form_order, put_all}
+use Rattle.tera.specs.Pairs.{key_form_order, put_all}
 use Rattle.uses.specs.Maps.{flagged}
 use Rattle.uses.proofs.maps.flags.Given as goal
 

@@ -2,9 +2,9 @@ use Rattle.std.proofs.Common.{◌≡◌, IfOk, codes, refl, subst}
 use Rattle.std.proofs.lemmas.Result.{IfOk-weaker}
 use Rattle.std.specs.Fmt.{debug_escape, digits}
 use Rattle.std.specs.String.{string_bytes}
-use Rattle.tera_meaning.specs.Meaning.{layout}
-use Rattle.tera_meaning.specs.Quoted.{Prints}
-use Rattle.tera_meaning.proofs.QuotedLaws.{alone_exact}
+use Rattle.tera.proofs.QuotedLaws.{alone_exact}
+use Rattle.tera.specs.Meaning.{layout}
+use Rattle.tera.specs.Quoted.{Prints}
 use Rattle.uses.specs.Nested.{nested}
 use Rattle.uses.proofs.nested.nested_text.Goals as goal
 

@@ -1,8 +1,8 @@
 use Rattle.std.specs.Prelude.{Result, Ok, Err, OnErr}
 use Rattle.std.proofs.Common.{subst, sym}
-use Rattle.tera_context.specs.Call.{command_of}
-use Rattle.tera_meaning.specs.Step.{IsStep}
-use Rattle.tera_context.proofs.ShownLaws.{shown_outcome}
+use Rattle.tera.proofs.ShownLaws.{shown_outcome}
+use Rattle.tera.specs.Call.{command_of}
+use Rattle.tera.specs.Step.{IsStep}
 use Rattle.uses.proofs.runs.step_and_run.Goals as goal
 
 -- what holds at all holds of a refusal
