@@ -4,6 +4,7 @@
 
 A headless Chromium loads pages, searches and follows a clause, at two widths; where there is none, that is skipped with a word.
 """
+import html
 import html.parser
 import json
 import os
@@ -22,7 +23,7 @@ from pages.book import Book, item_name  # noqa: E402
 from pages.claims import read_claims  # noqa: E402
 from pages.filled import stale, without_filled  # noqa: E402
 from pages.site import fill_prose  # noqa: E402
-from pages.sources import Repository, read  # noqa: E402
+from pages.sources import Repository, crates_listed, read  # noqa: E402
 from pages.text import CODE, cells_of  # noqa: E402
 
 DOCUMENTS = ("README.md", "docs/CALLING.md", "docs/PROVED.md", "docs/BORDER.md")
@@ -113,6 +114,18 @@ def lost_entries(folder, pages):
 
 
 # ---- what documents name
+
+
+def imported_from_below(folder):
+    """Imports that a page shows from a library below `tera`, which gives all out but a clause's own rows."""
+    below = {it for crate in crates_listed() if crate.name == "tera" for it in crate.uses}
+    for name in sorted(os.listdir(folder)):
+        with open(f"{folder}/{name}", encoding="utf-8") as it:
+            shown = re.findall(r'<pre class="shown">(crates\.txt .*?)</pre>', it.read(), re.S) if name.startswith("crate.") else []
+        for line in "\n".join(map(html.unescape, shown)).split("\n"):
+            used = re.search(r"\buse (?:Rattle\.)?(\w+)", line)
+            if used and used[1] in below and ".contracts." not in line:
+                yield f"{name}: {line.strip()}"
 
 
 def tables_of(text):
@@ -392,6 +405,7 @@ def main():
             tell("each link leads somewhere", [*lost_links(folder, pages), *lost_entries(folder, pages)])
             book = Book(Repository())
             fill_prose(book)
+            tell("what `tera` gives out is imported from there", list(imported_from_below(folder)))
             tell("each call that documents name has its anchor, and each clause is one of it", list(unknown_calls(book)))
             tell("documents have what the sources say", [f"{path}: `./docs/build --fill`" for path, _ in stale(book, read_claims(book))])
             tell("each promise of README has a claim", list(promises_without_claim(book)))

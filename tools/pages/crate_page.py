@@ -5,9 +5,9 @@ import html
 import re
 
 from .book import Book, first_line, item_name, key_of, link_to
-from .model import Block, Definition, Edit, Item
+from .model import Block, Edit, Item
 from .shell import Page, contents, fold, part
-from .sources import Crate
+from .sources import Crate, read
 from .text import slug
 
 Section = tuple[str, str, str]
@@ -62,6 +62,42 @@ def link_word(made: str, name: str, href: str) -> str:
     return "".join(f'<a href="{href}">{name}</a>' if it == name else it for it in parts)
 
 
+ONE = "tera"  # the crate that gives out what the libraries below it hold
+
+
+def module_path(crate: str, name: str) -> str:
+    """The path within its crate of what a public module of it declares or gives out; the bare name where none does."""
+    for module in re.findall(r"(?m)^pub mod (\w+);", read(f"crates/{crate}/src/lib.rt")):
+        if re.search(rf"(?m)^pub (?:use [^;]*|\w+ )\b{name}\b", read(f"crates/{crate}/src/{module}.rt")):
+            return f"{module}::{name}"
+    return name
+
+
+def given_out_as(book: Book, crate: str, name: str) -> str:
+    """The path by which a caller of the one crate names what a crate holds, or that of the crate itself, which is not below it."""
+    for path in (name, module_path(crate, name)):
+        # what stands below the name of a whole crate last
+        for it in sorted(book.repository.crate(ONE).passed, key=lambda it: not it.path):
+            module = "::".join(filter(None, (ONE, it.module)))
+            if it.crate == crate and it.path.startswith(f"{path}::"):
+                return module
+            if it.crate == crate and f"{path}::".startswith(it.path and f"{it.path}::"):
+                rest = path[len(it.path) :].removeprefix("::")
+                return "::".join(filter(None, (module, it.called, rest)))
+    return f"{crate}::{name}"
+
+
+def specs_given_out(book: Book, path: str) -> str:
+    """The path by which a caller of the one crate names a file of definitions, or what a type is to a clause."""
+    for home in ("Lib", "types"):
+        module = book.repository.modules[f"Rattle.{ONE}.specs.{home}"]
+        folder = module.name.removesuffix(".Lib")
+        for name, (known, _) in module.imports.items():
+            if path == known or path.startswith(f"{known}."):
+                return f"{folder}.{name}{path.removeprefix(known)}"
+    return path
+
+
 def import_lines(book: Book, item: Item) -> list[str]:
     """The lines by which a caller has the words of a call's clauses at hand."""
     cited = {key_of(it) for it in book.cited_by(item)}
@@ -69,24 +105,24 @@ def import_lines(book: Book, item: Item) -> list[str]:
     for name, (path, other) in item.imports.items():
         target = book.names.imported(path, other) if other else None
         if target and key_of(target) in cited and ".inner." not in path:
-            groups.setdefault(path, []).append(name)
+            groups.setdefault(specs_given_out(book, path), []).append(name)
     return [f"ghost use {path}.{{{', '.join(names)}}};" for path, names in sorted(groups.items())]
 
 
 def taken_in(book: Book, item: Item) -> str:
     """What stands in a crate of one's own that makes the call."""
-    crates = {item.crate, *(it.crate for it in book.cited_by(item) if isinstance(it, Definition))}
-    ordered = [it.name for it in book.repository.crates if it.name in crates]
     module, _, last = item.anchor.replace(".", "::").rpartition("::")
     named = base(item.block) if item.block else module.partition("::")[0] or last
-    lines = [f"crates.txt    mine: {' '.join(ordered)}", "src/lib.rt    #![tactic(auto)]"]
-    lines += [f"              {it}" for it in [*import_lines(book, item), f"use {item.crate}::{named};"]]
+    said = [*import_lines(book, item), f"use {given_out_as(book, item.crate, named)};"]
+    crates = {*re.findall(r"\buse (?:Rattle\.)?(\w+)", " ".join(said))}
+    ordered = [it.name for it in book.repository.crates if it.name in crates]
+    lines = [f"crates.txt    mine: {' '.join(ordered)}", "src/lib.rt    #![tactic(auto)]", *(f"              {it}" for it in said)]
     return f'<pre class="shown">{html.escape(chr(10).join(lines))}</pre>'
 
 
 def callers(book: Book, item: Item) -> str:
     """How the call is made in a crate of one's own: what is named there, and functions of `uses` that make it."""
-    if item.crate in ("uses", "tera_c", "tera_replay") or item.block and item.block.trait:
+    if item.crate in ("uses", "tera_c", "tera_replay", "tera_cli") or item.block and item.block.trait:
         return ""
     said = f".{item.name}(" if item.block and "self" in item.signature else f"{item.name}("
     said = f"::{said}" if item.block and "self" not in item.signature else said
@@ -203,15 +239,34 @@ def hidden_types(book: Book, crate: Crate) -> list[Section]:
     return [("Types that definitions look into", "inside", body)] if own else []
 
 
+def passed_section(book: Book, crate: Crate) -> list[Section]:
+    """What the crate gives out of other crates, by where it gives that out and who holds it."""
+    groups: dict[tuple[str, str], list[str]] = {}
+    for it in crate.passed:
+        said = f"<code>{it.called}</code>"
+        href = book.prose.place(it.path.rpartition("::")[2], it.crate) if it.path else f"crate.{it.crate}.html"
+        groups.setdefault((it.module, it.crate), []).append(f'<a href="{html.escape(href)}">{said}</a>' if href else said)
+    rows = "".join(f"<dt><code>{'::'.join(filter(None, (crate.name, module)))}</code>, of {link_crate(book, of)}</dt>"
+                   f"<dd>{', '.join(said)}</dd>" for (module, of), said in groups.items())
+    return [("Given out from other crates", "passed", f'<dl class="passed">{rows}</dl>')] if rows else []
+
+
+def named_in(book: Book, crate: Crate) -> str:
+    """What a caller names for a crate: where `tera` gives it out, that alone will do."""
+    own = f"<code>{html.escape(crate.name)}</code>"
+    return f"<code>{ONE}</code>, or {own} alone," if crate.name in book.repository.crate(ONE).uses else own
+
+
 def facts(book: Book, crate: Crate) -> str:
     """What kind of crate it is, what it stands on, and how much there is."""
     below = ", ".join(link_crate(book, it) for it in crate.uses) or "std alone"
     calls = [it for it in crate.public if it.kind == "fn"]
     wrong = sum(len(it.wrong) for it in crate.items)
     clauses = sum(len(it.clauses) for it in calls)
+    holds = f"{len(calls)} public functions with {clauses} clauses; {wrong} wrong bodies are refused"
     rows = [("kind", html.escape(crate.kind)), ("stands on", below),
-            ("holds", f"{len(calls)} public functions with {clauses} clauses; {wrong} wrong bodies are refused"),
-            ("in <code>crates.txt</code>", f"<code>{html.escape(crate.name)}</code> on the line of your crate")]
+            ("holds", holds if crate.items else "nothing of its own: all is given out from other crates"),
+            ("in <code>crates.txt</code>", f"{named_in(book, crate)} on the line of your crate")]
     return f'<dl class="facts">{"".join(f"<dt>{name}</dt><dd>{value}</dd>" for name, value in rows)}</dl>'
 
 
@@ -224,7 +279,7 @@ def crate_page(book: Book, crate: Crate) -> Page:
     types = [it for it in crate.public if it.kind in ("struct", "enum")]
     traits = [it for it in crate.public if it.kind == "trait"]
     sections = [type_section(book, crate, it) for it in types] + [trait_section(book, crate, it) for it in traits]
-    sections += other_sections(book, crate) + hidden_types(book, crate)
+    sections += other_sections(book, crate) + hidden_types(book, crate) + passed_section(book, crate)
     body = [f"<h1><small>crate</small> {crate.name}</h1>", book.prose.paragraphs(crate.comment, crate.name), facts(book, crate)]
     specs = [it for it in crate.modules if it.definitions and ".specs." in it.name]
     if specs:

@@ -52,6 +52,16 @@ class Block:
         return self.head.startswith("trait")
 
 
+@dataclass(frozen=True)
+class Passed:
+    """What a crate gives out of another: where, which crate holds it, and by what path there; "" is all of that crate."""
+
+    module: str
+    called: str
+    crate: str
+    path: str
+
+
 @dataclass(eq=False, repr=False)
 class Item:
     """A function, a type, a trait, a constant or a macro of a crate."""

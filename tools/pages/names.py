@@ -60,8 +60,19 @@ class Names:
             for ghost in item.block.ghosts if item.block and item.block.is_trait else []:
                 self.ghosts.setdefault(ghost.name, {})[item.crate] = f"{item.href}.ghost.{ghost.name}"
 
+    def passed_on(self, path: str) -> str:
+        """The path of the module that a crate passes on under a path, or that path, where it passes none on."""
+        folder, _, last = path.rpartition(".")
+        for home in (folder, f"{folder}.Lib"):
+            module = self.repository.modules.get(home)
+            again, name = module.imports.get(last, ("", None)) if module else ("", None)
+            if again and not name:
+                return again
+        return path
+
     def imported(self, path: str, name: str, depth: int = 0) -> Target | None:
         """What a module of that path gives under a name."""
+        path = self.passed_on(path)
         crate = [*path.split("."), ""][1]
         found = self.repository.definitions.get((path, name)) or self.repository.parts.get((path, name))
         if found:
@@ -125,6 +136,12 @@ class Scope:
         # what Rust's own prelude and `use` bring in
         return self.sign(word) or (self.names.words.get(word) if word[:1].isupper() else None) or self.field(word)
 
+    def is_below(self, crate: str) -> bool:
+        """Whether what is in scope stands on a crate; a document stands on all."""
+        listed = {it.name: it.uses for it in self.names.repository.crates}
+        own = {self.crate, *listed.get(self.crate, ())}
+        return self.crate not in listed or crate not in listed or crate in own.union(*(listed.get(it, ()) for it in own))
+
     def sign(self, word: str) -> str | None:
         return f"signs.html#{sign_anchor(word)}" if word in self.names.signs else None
 
@@ -136,12 +153,12 @@ class Scope:
             return self.sign(rest)
         if re.fullmatch(r"[A-Z]|Self", word) and rest in self.names.ghosts:
             found = self.names.ghosts[rest]
-            return found.get(self.crate) or next(iter(found.values()))
+            return found.get(self.crate) or next((href for crate, href in found.items() if self.is_below(crate)), None)
         return self.field(rest) or self.sign(f".{rest}")
 
     def field(self, name: str) -> Definition | None:
         """The record with a field of that name: one that is at hand, or the only one."""
-        fields = self.names.fields.get(name, [])
+        fields = [it for it in self.names.fields.get(name, []) if self.is_below(it.crate)]
         near = [it for it in fields if it.module == self.module or it.name in self.imports]
         return next(iter(near or (fields if len(fields) == 1 else [])), None)
 

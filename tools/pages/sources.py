@@ -6,7 +6,7 @@ import re
 from dataclasses import dataclass, field
 
 from . import code, specs
-from .model import Definition, Edit, Item, Module
+from .model import Definition, Edit, Item, Module, Passed
 
 TOP = os.path.dirname(os.path.dirname(os.path.dirname(os.path.abspath(__file__))))
 
@@ -30,6 +30,7 @@ class Crate:
     comment: str = ""
     items: list[Item] = field(default_factory=list)
     modules: list[Module] = field(default_factory=list)
+    passed: list[Passed] = field(default_factory=list)
 
     @property
     def public(self) -> list[Item]:
@@ -60,6 +61,17 @@ def read_edit(path: str) -> Edit:
     return Edit(path, "".join(re.findall(r"(?m)^file: (\S+)", text)[:1]), changes, goals)
 
 
+def passed_on(module: str, text: str) -> list[Passed]:
+    """What a file gives out of other crates by `pub use`."""
+    found = []
+    for crate, path, names, other in re.findall(r"(?m)^pub use (tera_\w+)(?:::([\w:]+))?(?:::\{([^}]*)\})?(?: as (\w+))?;", text):
+        if names:
+            found += [Passed(module, it, crate, f"{path}::{it}" if path else it) for it in re.findall(r"\w+", names)]
+        else:
+            found.append(Passed(module, other or path.rpartition("::")[2], crate, path))
+    return found
+
+
 def read_crate(crate: Crate) -> None:
     """Fills in the items and the definitions of a crate."""
     root = f"crates/{crate.name}"
@@ -72,6 +84,7 @@ def read_crate(crate: Crate) -> None:
     is_program = texts[""][0].endswith("main.rt")
     crate.kind = crate.kind or ("program" if is_program else "library")
     crate.items = code.read_crate(crate.name, texts, is_program or crate.name == "uses")
+    crate.passed = [it for module in sorted(texts) for it in passed_on(module, texts[module][1])]
     for path in below(f"{root}/specs", ".antt"):
         crate.modules.append(specs.read_specs(crate.name, module_of(crate.name, path, "specs"), path, read(path)))
     for path in below(f"{root}/proofs", ".antt"):
