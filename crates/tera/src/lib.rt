@@ -1,5 +1,5 @@
 //! The value layer of Tera as one crate to import: all that the libraries below it make public,
-//! under Tera's own paths. It has no code of its own, and proves nothing anew.
+//! under Tera's own paths. Of its own it has `headline` alone, which states equality by them.
 //!
 //! `args`, `context`, `errors`, `utils` and `value` are modules of Tera, and `run` holds calls by
 //! name. `quote`, `report`, `sink`, `watch` and `words` are modules of `tera_report`. `meaning` is
@@ -16,6 +16,7 @@
 pub mod args;
 pub mod context;
 pub mod errors;
+pub mod headline;
 pub mod run;
 pub mod utils;
 pub mod value;
