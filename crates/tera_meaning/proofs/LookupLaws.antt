@@ -1,9 +1,16 @@
--- Indices from either end of a list, and the parts of a text.
-use Rattle.std.specs.Prelude.{◌≡◌, ℕ, ◌⊎◌, ◌||◌, Bool, true, false, ◌++◌, [], ◌∷◌, ◌↔◌, List, refl}
+-- The parts of a text, and the items that a value holds.
+use Rattle.std.specs.Prelude.{◌≡◌, ℕ, ℤ, ◌⊎◌, ◌||◌, Bool, true, false, ◌++◌, [], ◌∷◌, ◌↔◌, List, Option, None, Ok, IfOk, IfSome, refl, unwrap_or}
 use Rattle.std.proofs.Common.{inl, inr, ◌∙◌, ap, rules}
 use Rattle.std.proofs.lemmas.Bool.{and_parts, eq-eqb, eqb-true}
+use Rattle.std.specs.Option.{option_and_then, option_map, ok_or}
 use Rattle.std.specs.Str.Iter.{HasSubslice}
-use Rattle.tera_meaning.specs.Lookup.{begins_with, occurs}
+use Rattle.tera_meaning.specs.Form.{Form}
+use Rattle.tera_meaning.specs.KeyMeaning.{KeyForm}
+use Rattle.tera_meaning.specs.Lookup.{begins_with, occurs, held_item, indexed, item, key_in, name_of, paired, part_at}
+use Rattle.tera_meaning.specs.Pairs.{key_form_order, value_at}
+use Rattle.tera_meaning.specs.Read.{number_in, text_in}
+use Rattle.tera_meaning.specs.Tree.{undefined, text, array, object, items_list, members_list}
+use Rattle.tera_report.specs.Refusal.{Container, in_array, not_a_map_key}
 
 -- ---- a text that stands in another
 
@@ -51,3 +58,36 @@ occurs_where_joined part bs = (occurs_split part bs, λ (before, rest, is). ap (
 -- what is true just where the text holds the other tells whether it does
 pub tells_occurs : (told : Bool) (part bs : List ℕ) → (told ≡ true) ↔ HasSubslice bs part → told ≡ occurs part bs
 tells_occurs told part bs h = search (rules, occurs_where_joined)
+
+-- ---- the items that a value holds
+
+held_at_index : (container : Container) (index : Form) (part : ℤ → Option Form)
+    → IfSome (option_and_then part (number_in index)) (λ x. indexed container index part ≡ Ok x)
+held_at_index container index part = search rules
+
+held_at_key : (ps : List (KeyForm × Form)) (i : Form) (k : Option KeyForm)
+    → IfSome (paired ps k) (λ x. ok_or (option_map (λ k. unwrap_or (value_at key_form_order ps k) undefined) k) (not_a_map_key (name_of i)) ≡ Ok x)
+held_at_key ps i x2 = search rules
+
+-- what is held is the item
+pub held_is_item : (v i : Form) → IfSome (held_item v i) (λ part. item v i ≡ Ok part)
+held_is_item (array xs) i = held_at_index in_array i (part_at (items_list xs))
+held_is_item (object ps) i = held_at_key (members_list ps) i (key_in i)
+held_is_item v i = tt
+
+absent_at_index : (container : Container) (index : Form) (part : ℤ → Option Form) → option_and_then part (number_in index) ≡ None
+    → IfOk (indexed container index part) (λ x. x ≡ undefined)
+absent_at_index container index part h = search rules
+
+absent_at_key : (ps : List (KeyForm × Form)) (i : Form) (k : Option KeyForm) → paired ps k ≡ None
+    → IfOk (ok_or (option_map (λ k. unwrap_or (value_at key_form_order ps k) undefined) k) (not_a_map_key (name_of i))) (λ x. x ≡ undefined)
+absent_at_key ps i x2 h = search rules
+
+-- what holds nothing there, and is no text, has undefined there or refuses the item
+pub absent_is_undefined : (v i : Form) → text_in v ≡ None → held_item v i ≡ None → IfOk (item v i) (λ part. part ≡ undefined)
+absent_is_undefined (text t) i other h = absurd (cc)
+absent_is_undefined (array xs) i other h = absent_at_index in_array i (part_at (items_list xs)) h
+absent_is_undefined (object ps) i other h = absent_at_key (members_list ps) i (key_in i) h
+absent_is_undefined v i other h = refl
+
+pub ruleset held = (held_is_item, absent_is_undefined)

@@ -89,6 +89,18 @@ item (object ps) i =
     (key_in i))
     (not_a_map_key (name_of i))
 
+-- the item of a value that it holds, and that is not made: what a map has at the key that the item
+-- is, and an array at an index
+abbrev pub held_item : Form → Form → Option Form
+held_item undefined i = None
+held_item none i = None
+held_item (truth b) i = None
+held_item (number n) i = None
+held_item (text t) i = None
+held_item (bytes bs) i = None
+held_item (array xs) i = option_and_then (part_at (items_list xs)) (number_in i)
+held_item (object ps) i = paired (members_list ps) (key_in i)
+
 -- whether a text begins with another, and whether the other stands somewhere in it
 abbrev pub begins_with : List ℕ → List ℕ → Bool
 begins_with bs [] = true

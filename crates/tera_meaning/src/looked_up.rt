@@ -5,7 +5,7 @@ ghost use Rattle.tera_meaning.specs.Fields.{fields};
 ghost use Rattle.tera_meaning.specs.Form.{Form};
 ghost use Rattle.tera_meaning.specs.Integer.{Integer, u64, i64, u128, i128};
 ghost use Rattle.tera_meaning.specs.KeyMeaning.{truth_key, number_key, text_key, owned};
-ghost use Rattle.tera_meaning.specs.Lookup.{attr, as_key, item, holds};
+ghost use Rattle.tera_meaning.specs.Lookup.{attr, as_key, item, held_item, holds};
 ghost use Rattle.tera_meaning.specs.Path.{path};
 ghost use Rattle.tera_meaning.specs.Rows.{at_name, key_of, listed, mapped, marked, named, normal};
 ghost use Rattle.tera_meaning.specs.Rows.{integer};
@@ -75,6 +75,24 @@ pub fn items_are_found_by_meaning()
         ≡ Ok (normal (codes "a")) }
     ensures number { (n : Integer) (i : Form) → item (number n) i ≡ Ok undefined }
     ensures bytes { (bs : List ℕ) (i : Form) → item (bytes bs) i ≡ Ok undefined }
+{}
+
+/// A map holds what it has at a key, and an array at an index; no text holds its characters.
+pub fn items_are_held_by_maps_and_arrays()
+    ensures text { (v : Form) → held_item (at_name (codes "a") v) (marked (codes "a")) ≡ Some v }
+    ensures width { (v : Form) → held_item (mapped ((key_of u64 1, v) ∷ [])) (integer i128 (pos 1))
+        ≡ Some v }
+    ensures truth { (v : Form) → held_item (mapped ((truth_key true, v) ∷ [])) (truth true)
+        ≡ Some v }
+    ensures absent { held_item (mapped ((key_of u64 1, none) ∷ [])) (normal (codes "1")) ≡ None }
+    ensures no_key { held_item (at_name (codes "a") none) none ≡ None }
+    ensures last { (v w : Form)
+        → held_item (listed (v ∷ w ∷ [])) (integer i64 (negsuc 0)) ≡ Some w }
+    ensures beyond { (v w : Form)
+        → held_item (listed (v ∷ w ∷ [])) (integer u64 (pos 2)) ≡ None }
+    ensures no_index { (v : Form) → held_item (listed (v ∷ [])) (normal (codes "0")) ≡ None }
+    ensures character { held_item (normal (codes "a")) (integer u64 (pos 0)) ≡ None }
+    ensures none { (i : Form) → held_item none i ≡ None }
 {}
 
 /// An item of a map that is no key is refused, and one of an array or a text that is no integer.

@@ -1,12 +1,14 @@
 //! The laws of look-ups, and the definitions at work on small values. Each function here does
 //! nothing: its clauses are the law, or the rows.
-ghost use Rattle.std.specs.Prelude.{◌≡◌, ◌↔◌, ℕ, Bool, List, [], Some, IsTrue, pos, negsuc};
-ghost use Rattle.std.specs.Prelude.{reverse, slice_get, IfSome, IfOk};
+ghost use Rattle.std.specs.Prelude.{◌≡◌, ◌↔◌, ℕ, Bool, List, [], Some, None, Ok, IsTrue};
+ghost use Rattle.std.specs.Prelude.{pos, negsuc, reverse, slice_get, IfSome, IfOk};
 ghost use Rattle.std.specs.Str.Iter.{HasSubslice};
 ghost use Rattle.tera_meaning.specs.Form.{Form, MarkedText};
 ghost use Rattle.tera_meaning.specs.Integer.{Integer};
 ghost use Rattle.tera_meaning.specs.KeyMeaning.{KeyForm, text_key, owned, key_meaning};
 ghost use Rattle.tera_meaning.specs.Lookup.{attr, as_key, item, holds, seen_by, occurs, part_at};
+ghost use Rattle.tera_meaning.specs.Lookup.{held_item};
+ghost use Rattle.tera_meaning.specs.Read.{text_in};
 ghost use Rattle.tera_meaning.specs.Fields.{fields, AreRisingOf, shown_in};
 ghost use Rattle.tera_meaning.specs.Meaning.{meaning};
 ghost use Rattle.tera_meaning.specs.Path.{path, AreElements, elements_of, place, IsPlace};
@@ -68,6 +70,15 @@ pub fn indices_count_from_either_end()
     ensures back { (xs : List Form) (n : ℕ) → part_at xs (negsuc n) ≡ slice_get (reverse xs) n }
     ensures characters { (cs : List ℕ) (n : ℕ)
         → part_at cs (negsuc n) ≡ slice_get (reverse cs) n }
+{}
+
+/// What a value holds at an item is that item. A value that holds nothing there, and is no text,
+/// has undefined there, or refuses the item.
+#[tactic(auto, using(crate::proofs::LookupLaws::held))]
+pub fn held_items_are_items()
+    ensures held { (v i : Form) → IfSome (held_item v i) (λ part. item v i ≡ Ok part) }
+    ensures absent { (v i : Form) → text_in v ≡ None → held_item v i ≡ None
+        → IfOk (item v i) (λ part. part ≡ undefined) }
 {}
 
 /// The names of fields are the only texts, each less than every later one, that are just what the

@@ -43,3 +43,6 @@ filled (b ∷ bs) h = refl
 -- a character has a byte
 pub some_encoded : (c : ℕ) → is_nonempty (encode_utf8 c) ≡ true
 some_encoded c = filled (encode_utf8 c) (omega (arith, length-encode c, (len_utf8_bounds c).0))
+
+-- items and pairs are the lists that they were made of
+pub ruleset listed = (list_of_items, list_of_members)

@@ -1,7 +1,9 @@
 //! What a value has at an attribute or an item, and the key that it is.
-ghost use Rattle.std.specs.Prelude.{◌≡◌, false, Ok, IfSome, IfOk, IfErr, IsOk, is_some, unwrap_or};
+ghost use Rattle.std.specs.Prelude.{◌≡◌, false, None, Some, Ok, IfSome, IfOk, IfErr, IsOk};
+ghost use Rattle.std.specs.Prelude.{MatchOption, is_some, unwrap_or};
 ghost use Rattle.std.specs.Option.{option_copied};
 ghost use Rattle.tera_meaning.specs.Lookup.{attr, as_key, key_in, paired, item, indexed, part_at};
+ghost use Rattle.tera_meaning.specs.Lookup.{held_item};
 ghost use Rattle.tera_report.specs.Refusal.{in_array};
 ghost use Rattle.tera_scalars.specs.Whole.{whole_value};
 ghost use Rattle.tera_meaning.specs.Meaning.{meaning};
@@ -11,6 +13,7 @@ ghost use Rattle.tera_meaning.specs.Tree.{undefined, object, members};
 ghost use Rattle.tera_report.specs.Errors.{Refuses, IsOutOfMemory};
 ghost use Rattle.tera_values.specs.Key.{key_form, FitsInline};
 ghost use Rattle.tera_values.specs.View.{marked};
+ghost use Rattle.tera_values.specs.inner.Key.{owning};
 
 use crate::refused::{not_a_key, not_a_map_key, not_a_text_index, not_an_array_index};
 use crate::value::ValueInner;
@@ -44,14 +47,24 @@ impl Value {
         ensures succeeds { IsOk (as_key self.now) → IfSome (text_in self.now) FitsInline
             → IsOk result }
     {
+        match self.key() {
+            Some(key) => Ok(key.owned(alloc)?),
+            None => Err(not_a_key(alloc)),
+        }
+    }
+
+    /// The item that it holds, lent: what a map has at the key that the item is, whatever its kind;
+    /// what an array has at an index, one below 0 being counted from the end. `None` where nothing
+    /// is there, where the item is no key of a map or no index of an array, and on every other
+    /// value: a character of a text is made, by `get_item`. The project's own. Takes no memory.
+    #[tactic(auto, using(crate::proofs::LookupLemmas::listed))]
+    pub fn get_at<'a>(&'a self, at: &Value) -> Option<&'a Value>
+        ensures { option_copied result ≡ held_item self.now at.now }
+    {
         match &self.inner {
-            ValueInner::Bool(b) => Ok(Key::Bool(*b)),
-            ValueInner::U64(n) => Ok(Key::U64(*n)),
-            ValueInner::I64(z) => Ok(Key::I64(*z)),
-            ValueInner::U128(n) => Ok(Key::U128(*n)),
-            ValueInner::I128(z) => Ok(Key::I128(*z)),
-            ValueInner::String(_, text) => Ok(Key::of_text(alloc, text.as_str())?),
-            _ => Err(not_a_key(alloc)),
+            ValueInner::Map(all) => find_value(all, at),
+            ValueInner::Array(all) => part(all.as_slice(), at.whole()?),
+            _ => None,
         }
     }
 
@@ -85,32 +98,33 @@ impl Value {
     fn is_key(&self) -> bool
         ensures { result ≡ is_some (key_in self.now) }
     {
+        self.key().is_some()
+    }
+
+    // The key that it is, with its text lent. No other table says which kinds are keys.
+    #[inline(always)]
+    fn key(&self) -> Option<Key<'_>>
+        ensures { MatchOption result (key_in self.now ≡ None)
+            (λ key. key_in self.now ≡ Some (owning (key_form key))) }
+    {
         match &self.inner {
-            ValueInner::Bool(_) => true,
-            ValueInner::U64(_) => true,
-            ValueInner::I64(_) => true,
-            ValueInner::U128(_) => true,
-            ValueInner::I128(_) => true,
-            ValueInner::String(_, _) => true,
-            _ => false,
+            ValueInner::Bool(b) => Some(Key::Bool(*b)),
+            ValueInner::U64(n) => Some(Key::U64(*n)),
+            ValueInner::I64(z) => Some(Key::I64(*z)),
+            ValueInner::U128(n) => Some(Key::U128(*n)),
+            ValueInner::I128(z) => Some(Key::I128(*z)),
+            ValueInner::String(_, text) => Some(Key::Str(text.as_str())),
+            _ => None,
         }
     }
 }
 
 /// What a map has at the key that a value is, lent; nothing where the value is no key. Takes no
 /// memory.
-pub(crate) fn find_value<'a>(all: &'a Map, key: &'a Value) -> Option<&'a Value>
+pub(crate) fn find_value<'a>(all: &'a Map, key: &Value) -> Option<&'a Value>
     ensures { option_copied result ≡ paired all.now (key_in key.now) }
 {
-    match &key.inner {
-        ValueInner::Bool(b) => value_at(all, Key::Bool(*b)),
-        ValueInner::U64(n) => value_at(all, Key::U64(*n)),
-        ValueInner::I64(z) => value_at(all, Key::I64(*z)),
-        ValueInner::U128(n) => value_at(all, Key::U128(*n)),
-        ValueInner::I128(z) => value_at(all, Key::I128(*z)),
-        ValueInner::String(_, text) => value_at(all, Key::Str(text.as_str())),
-        _ => None,
-    }
+    value_at(all, key.key()?)
 }
 
 // What a map has at a key, lent.

@@ -1,9 +1,10 @@
 //! What makes keys.
-ghost use Rattle.std.specs.Prelude.{◌≡◌, pos, IfOk, IsOk};
+ghost use Rattle.std.specs.Prelude.{◌≡◌, pos, IfOk, IfSome, IsOk};
 ghost use Rattle.std.specs.String.{string_bytes};
 ghost use Rattle.tera_meaning.specs.Integer.{u128, i128};
 ghost use Rattle.tera_meaning.specs.KeyMeaning.{text_key, owned, borrowed};
-ghost use Rattle.tera_values.specs.Key.{key_form, integer_key, FitsInline};
+ghost use Rattle.tera_values.specs.Key.{key_form, integer_key, text_in_key, FitsInline};
+ghost use Rattle.tera_values.specs.inner.Key.{owning};
 
 use crate::Key;
 use arrayvec::ArrayString;
@@ -38,6 +39,25 @@ impl Key<'static> {
         match ArrayString::from(text.as_str()) {
             Ok(held) => Ok(Key::Inline(held)),
             Err(_) => Ok(Key::String(RcStr::from_string(text)?)),
+        }
+    }
+}
+
+impl Key<'_> {
+    /// The key that owns its text. Takes memory for a text of more than 16 bytes alone.
+    pub(crate) fn owned(&self, alloc: Global) -> Result<Key<'static>, AllocError>
+        ensures ok { IfOk result (λ k. key_form k ≡ owning (key_form self.now)) }
+        ensures succeeds { IfSome (text_in_key (key_form self.now)) FitsInline → IsOk result }
+    {
+        match self {
+            Key::Bool(b) => Ok(Key::Bool(*b)),
+            Key::U64(n) => Ok(Key::U64(*n)),
+            Key::I64(z) => Ok(Key::I64(*z)),
+            Key::U128(n) => Ok(Key::U128(*n)),
+            Key::I128(z) => Ok(Key::I128(*z)),
+            Key::String(text) => Key::of_text(alloc, text.as_str()),
+            Key::Str(text) => Key::of_text(alloc, *text),
+            Key::Inline(text) => Key::of_text(alloc, text.as_str()),
         }
     }
 }

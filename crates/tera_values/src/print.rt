@@ -1,5 +1,5 @@
 //! What values print.
-ghost use Rattle.std.specs.Prelude.{◌≡◌, false, IsTrue, IsOk, OnOk, OnErr, IfOk, IfErr};
+ghost use Rattle.std.specs.Prelude.{◌≡◌, IsTrue, IsOk, OnOk, OnErr, IfOk, IfErr};
 ghost use Rattle.std.specs.String.{string_bytes};
 ghost use Rattle.tera_meaning.specs.Meaning.{layout};
 ghost use Rattle.tera_meaning.specs.Printed.{PrintsNothing, is_exact, printed, printed_truth};
@@ -12,7 +12,6 @@ ghost use Rattle.tera_report.specs.Writer.{Passes, Breaks};
 ghost use Rattle.tera_values.specs.Key.{key_form, meaning_of_key, shown_key};
 ghost use Rattle.tera_values.specs.Print.{PrintsItems, WritesInside, WritesPrinted};
 ghost use Rattle.tera_values.specs.Print.{printed_if_exact, PrintsPairs, PrintsPair};
-ghost use Rattle.tera_values.specs.inner.Held.{holds_values};
 
 use crate::stage::Stage;
 use crate::value::ValueInner;
@@ -155,19 +154,6 @@ pub(crate) fn put_value<S: Sink>(value: &Value, out: &mut S) -> Result<(), S::Fa
     ensures { Puts S.takes S.fails result (Prints (layout value.now)) out.old out.new }
 {
     match &value.inner {
-        ValueInner::Array(items) => put_array(items.as_slice(), out),
-        ValueInner::Map(all) => put_map(all, out),
-        _ => put_plain(value, out),
-    }
-}
-
-// Puts the printed text of what holds no other values.
-#[inline(always)]
-fn put_plain<S: Sink>(value: &Value, out: &mut S) -> Result<(), S::Fault>
-    requires { holds_values value.now ≡ false }
-    ensures { Puts S.takes S.fails result (Prints (layout value.now)) out.old out.new }
-{
-    match &value.inner {
         ValueInner::Undefined => Ok(()),
         ValueInner::None => Ok(()),
         ValueInner::Bool(b) => put_bare(truth_text(*b), out),
@@ -176,8 +162,9 @@ fn put_plain<S: Sink>(value: &Value, out: &mut S) -> Result<(), S::Fault>
         ValueInner::U128(n) => put_integer(*n, out),
         ValueInner::I128(z) => put_integer(*z, out),
         ValueInner::String(_, text) => put_bare(text.as_str(), out),
+        ValueInner::Array(items) => put_array(items.as_slice(), out),
         ValueInner::Bytes(bytes) => put_lossy(bytes.as_slice(), out),
-        _ => unreachable!(),
+        ValueInner::Map(all) => put_map(all, out),
     }
 }
 

@@ -1,8 +1,11 @@
 //! What is read of values.
 use crate::held::hold;
-use made_values::{bytes, many_items, many_pairs, no_items, no_pairs, or_undefined, text};
+use made_values::{
+    at_texts, bytes, many_items, many_pairs, no_items, no_pairs, numbers, one_pair, or_undefined,
+    text,
+};
 use std::alloc::Global;
-use tera_values::{Value, ValueKind};
+use tera_values::{Key, Value, ValueKind};
 
 // Which tests of kinds hold of it, in the order of the kinds.
 fn tests(value: &Value) -> [bool; 11] {
@@ -123,6 +126,39 @@ fn parts_are_lent_and_handed_over(rt: HostRuntime) {
             lent(many_pairs(alloc, 3)) == Some(3),
             items_taken(many_items(alloc, 2)) == Some(2),
             pairs_taken(many_pairs(alloc, 3)) == Some(3),
+        ],
+    );
+}
+
+// What it holds at an item is that number, or nothing.
+fn holds_at(value: Value, at: Value, wanted: Option<i64>) -> bool {
+    let found = match value.get_at(&at) {
+        Some(part) => part.as_i64(),
+        None => None,
+    };
+    drop(value);
+    drop(at);
+    found == wanted
+}
+
+#[test]
+fn items_are_lent(rt: HostRuntime) {
+    let alloc = rt.alloc();
+    let pairs = at_texts(alloc, &[("a", 5), ("b", 6)]);
+    hold(
+        &rt,
+        &[
+            holds_at(pairs, text(alloc, "b"), Some(6)),
+            holds_at(many_pairs(alloc, 20), text(alloc, "key é 19"), Some(19)),
+            holds_at(
+                one_pair(alloc, Key::U64(1), Value::from(8i64)),
+                Value::from(1i128),
+                Some(8),
+            ),
+            holds_at(numbers(alloc, &[5, 6, 7]), Value::from(-1i8), Some(7)),
+            holds_at(numbers(alloc, &[5, 6, 7]), Value::from(3u8), None),
+            holds_at(numbers(alloc, &[5]), text(alloc, "0"), None),
+            holds_at(text(alloc, "5"), Value::from(0u8), None),
         ],
     );
 }
