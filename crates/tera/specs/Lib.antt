@@ -67,4 +67,5 @@ pub use Rattle.tera_arguments.specs.Taken
 pub use Rattle.tera_context.specs.Call
 pub use Rattle.tera_context.specs.Context
 pub use Rattle.tera_context.specs.Lent
+pub use Rattle.tera_context.specs.Request as LentRequest
 pub use Rattle.tera_context.specs.Steps as ShownSteps

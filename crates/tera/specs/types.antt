@@ -31,5 +31,9 @@ pub use Rattle.tera_context.specs.declared.call.Answer
 pub use Rattle.tera_context.specs.declared.call.Call
 pub use Rattle.tera_context.specs.declared.call.Step
 pub use Rattle.tera_context.specs.declared.context.Context
-pub use Rattle.tera_context.specs.declared.lends.Lent
-pub use Rattle.tera_context.specs.declared.lends.LookUp
+pub use Rattle.tera_context.specs.declared.lent.Lent
+pub use Rattle.tera_context.specs.declared.request.Command
+pub use Rattle.tera_context.specs.declared.request.Question
+pub use Rattle.tera_context.specs.declared.request.Request
+pub use Rattle.tera_context.specs.declared.request.Search
+pub use Rattle.tera_context.specs.declared.request.Weighing

@@ -1,23 +1,20 @@
 -- What a context lends in the place of an answer.
 use Rattle.std.specs.Prelude.{◌≡◌, ℕ, List, Option, Some, None, Ok}
 use Rattle.std.specs.FinMap.{get as held_at}
-use Rattle.std.specs.Option.{option_and_then, option_copied, option_map}
+use Rattle.std.specs.Option.{option_copied, option_map}
 use Rattle.tera_meaning.specs.Answer
 use Rattle.tera_meaning.specs.Form.{Form}
-use Rattle.tera_meaning.specs.Lookup.{attr as attr_of}
+use Rattle.tera_meaning.specs.Lookup.{attr as attr_of, held_item}
 use Rattle.tera_meaning.specs.Meaning.{layout}
 use Rattle.tera_meaning.specs.Outcome.{Outcome}
 use Rattle.tera_meaning.specs.Path.{path as path_from}
 use Rattle.tera_meaning.specs.Question.{Question, print}
 use Rattle.tera_meaning.specs.Quoted.{Prints}
-use Rattle.tera_meaning.specs.Read.{text_in}
-use Rattle.tera_meaning.specs.Request.{Request, Command, ask, asking, find}
+use Rattle.tera_meaning.specs.Request.{Request, Command, ask, find}
 use Rattle.tera_meaning.specs.Search.{Search, get, path, attr, item}
 use Rattle.tera_meaning.specs.State.{State, form_at}
-use Rattle.tera_context.specs.declared.lends.Lent.{Lent}
-use Rattle.tera_context.specs.declared.lends.Lent.TheVariants.{Found, Print}
-use Rattle.tera_context.specs.declared.lends.LookUp.{LookUp}
-use Rattle.tera_context.specs.declared.lends.LookUp.TheVariants as asked
+use Rattle.tera_context.specs.declared.lent.Lent.{Lent}
+use Rattle.tera_context.specs.declared.lent.Lent.TheVariants.{Found, Print}
 
 -- what is found, or nothing; or the value whose printed text is the answer
 pub data LentForm : Type 0 where
@@ -28,22 +25,14 @@ abbrev pub lent_form : Lent → LentForm
 lent_form (Found part) = found (option_copied part)
 lent_form (Print value) = printed value.now
 
--- the command that a look-up is
-abbrev pub looked_up : LookUp → Command
-looked_up (asked.Get name) = asking (find (get name.now))
-looked_up (asked.Path name p) = asking (find (path name.now p.now))
-looked_up (asked.Attr name t) = asking (find (attr name.now t.now))
-looked_up (asked.Item name i) = asking (find (item name.now i.now))
-looked_up (asked.Print name) = asking (ask print name.now)
-
 -- what is found by lending it, or nothing: what a name has, what a path leads to, what a map has at
--- a text. All else that is found is a copy
+-- a text, and an item that the value holds. All else that is found is a copy
 abbrev pub part_lent : State → Search → Option (Option Form)
 part_lent state (get name) = Some (held_at state name)
 part_lent state (path name p) = Some (path_from (form_at state name) p)
 part_lent state (attr name t) = Some (attr_of (form_at state name) t)
 part_lent state (item name i) =
-    option_map Some (option_and_then (attr_of (form_at state name)) (text_in (form_at state i)))
+    option_map Some (held_item (form_at state name) (form_at state i))
 part_lent state _ = None
 
 -- what a question is answered by

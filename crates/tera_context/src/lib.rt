@@ -1,19 +1,23 @@
 //! Contexts, and the calls that run over them.
 #![tactic(auto)]
 
-mod asks;
+mod ask;
 mod call;
-mod computes;
+mod compute;
 mod context;
 mod entries;
-mod finds;
-mod lends;
+mod find;
+mod lent;
+mod owned;
+mod request;
 mod steps;
+mod weigh;
 
 pub use call::{Answer, Call, Step};
 pub use context::Context;
-pub use lends::{Lent, LookUp, lend, look_up};
-pub use steps::{run, step};
+pub use lent::{Lent, lend};
+pub use request::{Command, Question, Request, Search, Weighing};
+pub use steps::{answer, run, step};
 pub use tera_conversions::{FunctionResult, ToKey, ToValue};
 pub use tera_scalars::BinaryOp;
 pub use tera_values::IntType;

@@ -9,20 +9,21 @@ ghost use Rattle.tera_meaning.specs.Run.{IsKeepingRun, IsRun};
 ghost use Rattle.tera_meaning.specs.Step.{IsStep};
 ghost use Rattle.tera_report.specs.Errors.{IsOutOfMemory};
 ghost use Rattle.tera_context.specs.Call.{command_of};
+ghost use Rattle.tera_context.specs.Request.{command_form, name_of};
 ghost use Rattle.tera_context.specs.Steps.{ShowsOutcome, ShowsOneOf};
 
-use crate::asks::{
-    absent_value, compare, contains, equal, escape, fields, print, try_compare, value_at, walk,
-};
+use crate::ask::{absent_value, ask, value_at};
 use crate::call::{Answer, Call, Step};
-use crate::computes::{calculate, negate, read};
 use crate::context::Context;
-use crate::finds::{attr, get, item, path, reverse, slice};
+use crate::find::find;
+use crate::request::{Command, Question, Request, Search, Weighing};
+use crate::weigh::weigh;
+use std::borrow::CowStr;
 use tera_report::TeraResult;
 use tera_values::Value;
 
-/// One step: its answer, with what it changes of the context; or its refusal, and then nothing has
-/// changed.
+/// Answers a command: by its answer, with what it changes of the context; or by its refusal, and
+/// then nothing has changed.
 ///
 /// Memory is taken, and `Out of memory` may be answered: by `Set` for a name that is new, and by
 /// `Extend` for a source that has such a name; by `Print`, `Escape`, `Fields` and `Walk` for the
@@ -32,55 +33,115 @@ use tera_values::Value;
 /// refusal. `Binary`, `Negate`, `Read` and `Contains` make none of these, and the other calls take
 /// none.
 #[tactic(auto, using(crate::proofs::Kept::laws))]
+pub fn answer(context: &mut Context, command: Command<'_>) -> TeraResult<Answer>
+    ensures outcome { ShowsOneOf result (λ outcome.
+        IsStep context.old (command_form command.entry) outcome context.new) }
+    ensures unchanged { OnErr result (context.new ≡ context.old) }
+{
+    let Command { request, into } = command;
+    match request {
+        Request::Set { name, value } => set(context, name, value),
+        Request::Extend { source } => extend(context, source),
+        Request::Remove { name } => Ok(Answer::Found(context.remove(name))),
+        Request::MarkSafe { name } => mark_safe(context, name, into),
+        Request::Ask { question, name } => ask(context, question, name),
+        Request::Weigh {
+            weighing,
+            left,
+            right,
+        } => weigh(context, weighing, left, right),
+        Request::Find(search) => find(context, search, into),
+    }
+}
+
+/// One step, as `answer` answers the command that it is.
+#[tactic(auto, using(crate::proofs::Kept::laws))]
 pub fn step(context: &mut Context, step: Step) -> TeraResult<Answer>
     ensures outcome { ShowsOneOf result (λ outcome.
         IsStep context.old (command_of step) outcome context.new) }
     ensures unchanged { OnErr result (context.new ≡ context.old) }
 {
     let Step { call, into } = step;
-    let absent = absent_value();
+    let into = lent_name(&into);
     match call {
-        Call::Set { name, value } => set(context, name, value),
+        Call::Set { name, value } => set(context, &name, value),
         Call::Extend { source } => extend(context, source),
         Call::Remove { name } => Ok(Answer::Found(context.remove(&name))),
         Call::MarkSafe { of } => mark_safe(context, &of, into),
-        Call::Has { name } => Ok(Answer::Truth(context.contains_key(&name))),
-        Call::Truthy { of } => Ok(Answer::Truth(value_at(context, &of, &absent).is_truthy())),
-        Call::IsSafe { of } => Ok(Answer::Truth(value_at(context, &of, &absent).is_safe())),
-        Call::Len { of } => Ok(Answer::Size(value_at(context, &of, &absent).len())),
-        Call::Kind { of } => Ok(Answer::Kind(value_at(context, &of, &absent).kind())),
-        Call::Print { of } => print(context, &of),
-        Call::Escape { of } => escape(context, &of),
-        Call::Fields { of } => fields(context, &of),
-        Call::Walk { of } => walk(context, &of),
-        Call::Equal { left, right } => Ok(Answer::Truth(equal(context, &left, &right))),
-        Call::Compare { left, right } => Ok(Answer::Order(Some(compare(context, &left, &right)))),
-        Call::TryCompare { left, right } => Ok(Answer::Order(try_compare(context, &left, &right))),
-        Call::Contains { of, needle } => contains(context, &of, &needle),
-        Call::Get { name } => get(context, &name, into),
-        Call::Path { of, path: to } => path(context, &of, &to, into),
-        Call::Attr { of, attr: name } => attr(context, &of, &name, into),
-        Call::Item { of, item: at } => item(context, &of, &at, into),
+        Call::Has { name } => ask(context, Question::Has, &name),
+        Call::Truthy { of } => ask(context, Question::Truthy, &of),
+        Call::IsSafe { of } => ask(context, Question::IsSafe, &of),
+        Call::Len { of } => ask(context, Question::Len, &of),
+        Call::Kind { of } => ask(context, Question::Kind, &of),
+        Call::Print { of } => ask(context, Question::Print, &of),
+        Call::Escape { of } => ask(context, Question::Escape, &of),
+        Call::Fields { of } => ask(context, Question::Fields, &of),
+        Call::Walk { of } => ask(context, Question::Walk, &of),
+        Call::Equal { left, right } => weigh(context, Weighing::Equal, &left, &right),
+        Call::Compare { left, right } => weigh(context, Weighing::Compare, &left, &right),
+        Call::TryCompare { left, right } => weigh(context, Weighing::TryCompare, &left, &right),
+        Call::Contains { of, needle } => weigh(context, Weighing::Contains, &of, &needle),
+        Call::Get { name } => find(context, Search::Get { name: &name }, into),
+        Call::Path { of, path } => {
+            let path = CowStr::Borrowed(&path);
+            find(context, Search::Path { of: &of, path }, into)
+        }
+        Call::Attr { of, attr } => {
+            let attr = CowStr::Borrowed(&attr);
+            find(context, Search::Attr { of: &of, attr }, into)
+        }
+        Call::Item { of, item } => find(
+            context,
+            Search::Item {
+                of: &of,
+                item: &item,
+            },
+            into,
+        ),
         Call::Slice {
             of,
             start,
             end,
             step,
-        } => slice(context, &of, start, end, step, into),
-        Call::Reverse { of } => reverse(context, &of, into),
-        Call::Binary { op, left, right } => calculate(context, op, &left, &right, into),
-        Call::Negate { of } => negate(context, &of, into),
-        Call::Read { of, to } => read(context, &of, to, into),
+        } => find(
+            context,
+            Search::Slice {
+                of: &of,
+                start,
+                end,
+                step,
+            },
+            into,
+        ),
+        Call::Reverse { of } => find(context, Search::Reverse { of: &of }, into),
+        Call::Binary { op, left, right } => find(
+            context,
+            Search::Binary {
+                op,
+                left: &left,
+                right: &right,
+            },
+            into,
+        ),
+        Call::Negate { of } => find(context, Search::Negate { of: &of }, into),
+        Call::Read { of, to } => find(context, Search::Read { of: &of, to }, into),
     }
 }
 
+// The name that is lent, if there is one.
+fn lent_name(name: &Option<String>) -> Option<&str>
+    ensures { name_of result ≡ option_map string_bytes name.now }
+{
+    Some(name.as_ref()?.as_str())
+}
+
 // Keeps the value under the name.
-fn set(context: &mut Context, name: String, value: Value) -> TeraResult<Answer>
+fn set(context: &mut Context, name: &str, value: Value) -> TeraResult<Answer>
     ensures outcome { ShowsOneOf result (λ outcome.
-        IsStep context.old (asking (set (string_bytes name) value)) outcome context.new) }
+        IsStep context.old (asking (set name.now value)) outcome context.new) }
     ensures unchanged { OnErr result (context.new ≡ context.old) }
 {
-    context.keep(name, value)?;
+    context.insert_value(name, value)?;
     Ok(Answer::Done)
 }
 
@@ -96,9 +157,9 @@ fn extend(context: &mut Context, source: Context) -> TeraResult<Answer>
 
 // Marks the value of a name safe in its place; or keeps a marked clone under `into`, if that is
 // given.
-fn mark_safe(context: &mut Context, name: &str, into: Option<String>) -> TeraResult<Answer>
+fn mark_safe(context: &mut Context, name: &str, into: Option<&str>) -> TeraResult<Answer>
     ensures outcome { ShowsOneOf result (λ outcome. IsStep context.old
-        (record { request = mark_safe name.now; into = option_map string_bytes into })
+        (record { request = mark_safe name.now; into = name_of into.entry })
         outcome context.new) }
     ensures unchanged { OnErr result (context.new ≡ context.old) }
 {
@@ -106,7 +167,7 @@ fn mark_safe(context: &mut Context, name: &str, into: Option<String>) -> TeraRes
         Some(into) => {
             let absent = absent_value();
             let value = value_at(context, name, &absent).copy(context.allocator())?;
-            context.keep(into, value.mark_safe())?;
+            context.insert_value(into, value.mark_safe())?;
             Ok(Answer::Done)
         }
         None => {
