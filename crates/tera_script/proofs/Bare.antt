@@ -1,42 +1,36 @@
--- Bytes in which no quote, bracket or brace stands: no memory is wanting there unless a command is said.
+-- Bytes of which each is of a kind, as those where no quote, bracket or brace stands.
 use Rattle.std.proofs.Common.{◌≡◌, ◌⊎◌, ℕ, true, false, List, [], ◌∷◌, ◌++◌, Some, None, refl, ap, sym, ◌∙◌, inl, inr, subst}
-use Rattle.std.specs.Prelude.{Result, Ok, Err, IfErr, IsSome}
+use Rattle.std.specs.List.{AllByRecursion}
+use Rattle.std.specs.Prelude.{IsSome}
 use Rattle.tera_meaning.specs.Form.{Form}
 use Rattle.tera_meaning.specs.Read.{members_in}
 use Rattle.tera_meaning.specs.Tree.{object}
 use Rattle.tera_script.specs.Line.{IsBare}
 use Rattle.tera_script.specs.Literal.{SpellsTree, tree_value}
-use Rattle.tera_script.specs.Readers.{front, past, gap_at, name_at, operand_at, plain_at, value_in, is_word_byte, IsLiteralAt}
-use Rattle.tera_script.specs.Verb.{row_of, word_of}
+use Rattle.tera_script.specs.Readers.{front, past, gap_at, operand_at, plain_at, value_in, is_word_byte, IsLiteralAt}
 use Rattle.tera_script.specs.Word.{is_blank}
-use Rattle.tera_script.specs.declared.verb.Verb.{Verb}
-use Rattle.tera_script.specs.inner.Command.{IsValueAt, AreOperandsIfBare, IsCommandIfBare}
-use Rattle.tera_script.proofs.Commands.{command_answer}
-use Rattle.tera_script.proofs.Fronts.{front-past}
+use Rattle.tera_script.specs.inner.Command.{IsValueAt}
+use Rattle.tera_script.proofs.Fronts.{all_front, all_behind, front-past}
 use Rattle.tera_script.proofs.Literals.{plain_found}
-use Rattle.tera_script.proofs.Names.{gap_found, name_found, operand_found}
+use Rattle.tera_script.proofs.Names.{gap_found, operand_found}
 use Rattle.tera_script.proofs.Openings.{text_front, bytes_front}
 use Rattle.tera_script.proofs.Words.{no_value_nowhere}
 
-bare_front : (xs ys : List ℕ) → IsBare (xs ++ ys) → IsBare xs
-bare_front [] ys h = tt
-bare_front (x ∷ xs) ys h = (h.0, bare_front xs ys h.1)
+-- what holds of each byte holds of those past blanks, a gap and an operand
+module _ (P : ℕ → Type 0) where
+  pub all_past_blanks : (line : List ℕ) {bytes : List ℕ} → bytes ≡ past is_blank line → AllByRecursion P line → AllByRecursion P bytes
+  all_past_blanks line e h =
+      subst (AllByRecursion P) (sym e)
+      (all_behind P (front is_blank line) (past is_blank line) (subst (AllByRecursion P) (sym (front-past is_blank line)) h))
 
-bare_behind : (xs ys : List ℕ) → IsBare (xs ++ ys) → IsBare ys
-bare_behind [] ys h = h
-bare_behind (x ∷ xs) ys h = bare_behind xs ys h.1
+  pub all_past_gap : (bytes : List ℕ) {rest : List ℕ} → Some rest ≡ gap_at bytes → AllByRecursion P bytes → AllByRecursion P rest
+  all_past_gap bytes {rest} e h = let gap = gap_found bytes rest (sym e) in all_behind P gap.gap rest (subst (AllByRecursion P) gap.spelled h)
 
-pub bare_past_blanks : (line : List ℕ) {bytes : List ℕ} → bytes ≡ past is_blank line → IsBare line → IsBare bytes
-bare_past_blanks line e h =
-    subst IsBare (sym e) (bare_behind (front is_blank line) (past is_blank line) (subst IsBare (sym (front-past is_blank line)) h))
-
-pub bare_past_gap : (bytes : List ℕ) {rest : List ℕ} → Some rest ≡ gap_at bytes → IsBare bytes → IsBare rest
-bare_past_gap bytes {rest} e h = let gap = gap_found bytes rest (sym e) in bare_behind gap.gap rest (subst IsBare gap.spelled h)
-
-pub bare_past_operand : (bytes : List ℕ) {name rest : List ℕ} → Some (name, rest) ≡ operand_at bytes → IsBare bytes → IsBare rest
-bare_past_operand bytes {name} {rest} e h =
-    let operand = (operand_found bytes name rest (sym e)).0 in
-    bare_behind operand.part rest (subst IsBare operand.spelled h)
+  pub all_past_operand : (bytes : List ℕ) {name rest : List ℕ} → Some (name, rest) ≡ operand_at bytes → AllByRecursion P bytes
+      → AllByRecursion P rest
+  all_past_operand bytes {name} {rest} e h =
+      let operand = (operand_found bytes name rest (sym e)).0 in
+      all_behind P operand.part rest (subst (AllByRecursion P) operand.spelled h)
 
 -- ---- literals
 
@@ -77,19 +71,5 @@ tree_is_no_map literal tree h bare = refl
 pub value_is_no_map : {bytes rest : List ℕ} {value : Form} → IsValueAt bytes (Some (value, rest)) → IsBare bytes → members_in value ≡ None
 value_is_no_map {bytes} {rest} found bare =
     let s = found.0.spells in
-    let part = bare_front found.0.part rest (subst IsBare found.0.spelled bare) in
-    ap members_in s.6 ∙ tree_is_no_map s.1 s.2 s.4 (bare_behind s.0 s.1 (subst IsBare s.7 part))
-
--- ---- commands
-
-module _ (bytes : List ℕ) {word rest : List ℕ} (n : name_at bytes ≡ Some (word, rest)) where
-  pub command_if_bare : (verb : Verb) → word_of verb ≡ word → AreOperandsIfBare (row_of verb) rest → IsCommandIfBare bytes
-  command_if_bare verb v h bare =
-      let name = name_found bytes word rest n in
-      let said = h (bare_behind word rest (subst IsBare name.spelled bare)) in
-      (said.0, command_answer bytes n verb v (Some said.0) said.1)
-
--- where a command stands, a reader may fail
-pub may_fail : {A E P : Type 0} (r : Result A E) → P → IfErr r (λ error. P)
-may_fail (Ok answer) h = tt
-may_fail (Err error) h = h
+    let part = all_front _ found.0.part rest (subst IsBare found.0.spelled bare) in
+    ap members_in s.6 ∙ tree_is_no_map s.1 s.2 s.4 (all_behind _ s.0 s.1 (subst IsBare s.7 part))

@@ -1,23 +1,22 @@
 -- Commands: what the readers of operands and of commands answer.
-use Rattle.std.proofs.Common.{◌≡◌, ℕ, List, ◌++◌, Option, Some, None, refl, ap, sym, ◌∙◌, append_assoc, subst}
-use Rattle.std.specs.Prelude.{Result, Ok, Err, IfOk}
+use Rattle.std.proofs.Common.{◌≡◌, ℕ, List, ◌++◌, Option, Some, None, refl, ap, sym, ◌∙◌, append_assoc, subst, inl, inr}
 use Rattle.std.specs.Option.{option_map}
 use Rattle.std.specs.Str.{IsUtf8}
 use Rattle.std.proofs.lemmas.Option.{same_Some, some_pair_parts}
-use Rattle.tera_context.specs.Call.{command_of}
-use Rattle.tera_context.specs.declared.call.Step.{Step}
-use Rattle.tera_meaning.specs.Request.{Request, Command}
+use Rattle.tera_context.specs.Request.{command_form}
+use Rattle.tera_context.specs.declared.request.Command.{Command as LentCommand}
+use Rattle.tera_meaning.specs.Request.{Command, Request}
 use Rattle.tera_script.specs.declared.verb.Known.{Known}
-use Rattle.tera_script.specs.declared.verb.Operands.{Operands}
-use Rattle.tera_script.specs.declared.verb.Operands.TheVariants as operands
 use Rattle.tera_script.specs.declared.verb.Shape.{Shape}
 use Rattle.tera_script.specs.declared.verb.Verb.{Verb}
+use Rattle.tera_script.specs.declared.verb.Verb.TheVariants as verb
 use Rattle.tera_script.specs.Verb.{Given, Making, of_name, of_names, of_text, of_bounds, of_type, of_literal, of_map, shape_of, requested, Row, row_of, word_of}
 use Rattle.tera_script.specs.Word.{is_name_byte}
-use Rattle.tera_script.specs.Line.{SpellsGiven, SpellsOperands, SpellsCommand}
+use Rattle.tera_script.specs.Line.{SpellsGiven, SpellsOperands, SpellsCommand, BringsNothing, HasNoEscape, IsBare}
 use Rattle.tera_script.specs.Readers.{Stops, name_at, into_in, is_word_byte}
-use Rattle.tera_script.specs.inner.Call.{IsOfShape, IsVerbOf, given_in, request_in, made}
-use Rattle.tera_script.specs.inner.Command.{Begins, IsGivenAt, EndsIn, AreOperandsOf, IsCommandAt}
+use Rattle.tera_script.specs.inner.Call.{IsOfShape, IsVerbOf, request_in, with_into}
+use Rattle.tera_script.specs.inner.Command.{AreLight, Begins, IsGivenAt, IsLightCommand, EndsIn, AreOperandsOf, IsCommandAt}
+use Rattle.tera_script.proofs.Fronts.{all_behind}
 use Rattle.tera_script.proofs.Names.{name_found, name_only}
 use Rattle.tera_script.proofs.Operands.{HasInto, into_found, into_only, into_ends_word}
 use Rattle.tera_script.proofs.Utf8.{utf8_past_name}
@@ -96,15 +95,14 @@ operands_end_name row command part after h =
 
 -- ---- the reader of a shape
 
-asked : (m : Making) (o : Operands) → request_in m o ≡ option_map (requested m) (given_in (shape_of m) o)
-asked (of_name f) (operands.Name name) = refl
-asked (of_names f) (operands.Names left right) = refl
-asked (of_text f) (operands.Text name t) = refl
-asked (of_bounds f) (operands.Bounds name bounds) = refl
-asked (of_type f) (operands.Type to name) = refl
-asked (of_literal f) (operands.Literal name value) = refl
-asked (of_map f) (operands.Map source) = refl
-asked m o = refl
+asked : (m : Making) (g : Given (shape_of m)) → request_in m (shape_of m) g ≡ Some (requested m g)
+asked (of_name f) g = refl
+asked (of_names f) g = refl
+asked (of_text f) g = refl
+asked (of_bounds f) g = refl
+asked (of_type f) g = refl
+asked (of_literal f) g = refl
+asked (of_map f) g = refl
 
 module _ {known : Known} {s : Shape} (k : IsOfShape known s) where
   its_shape : s ≡ shape_of (row_of known.verb).making
@@ -120,24 +118,14 @@ module _ {known : Known} {s : Shape} (k : IsOfShape known s) {bytes : List ℕ} 
         let t = subst (λ x. (g : Given x) × IsGivenAt x bytes (Some (g, rest))) (its_shape k) (given, found) in
         no_into (row_of known.verb) bytes t.0 rest t.1 (ap (λ keeps. into_in keeps rest) k.is.1 ∙ sym n)
 
-    pub said_there : {into : Option (List ℕ)} → Some into ≡ into_in known.keeps rest
-        → (command : Command) × AreOperandsOf (row_of known.verb) bytes (Some command)
-    said_there {into} n =
+    pub command_made : {into : Option (List ℕ)} → Some into ≡ into_in known.keeps rest → (r : Option LentCommand)
+        → option_map command_form r ≡ with_into (request_in (row_of known.verb).making s given) into
+        → AreOperandsOf (row_of known.verb) bytes (option_map command_form r)
+    command_made {into = into} n r h =
         let row = row_of known.verb in
-        let t = subst (λ x. (g : Given x) × IsGivenAt x bytes (Some (g, rest))) (its_shape k) (given, found) in (
-          record { request = requested row.making t.0; into = into },
-          answered row bytes t.0 rest t.1 into (ap (λ keeps. into_in keeps rest) k.is.1 ∙ sym n),
-        )
-
-    pub step_made : (o : Operands) → given_in s o ≡ Some given → {into : Option (List ℕ)} → Some into ≡ into_in known.keeps rest
-        → {E : Type 0} (r : Result (Option Step) E) → IfOk r (λ answer. option_map command_of answer ≡ made (row_of known.verb) o into)
-        → IfOk r (λ answer. AreOperandsOf (row_of known.verb) bytes (option_map command_of answer))
-    step_made o g {into = into} n (Err error) h = tt
-    step_made o g {into = into} n (Ok answer) h =
-        let row = row_of known.verb in
-        let t = subst (λ x. (g : Given x) × (given_in x o ≡ Some g) × IsGivenAt x bytes (Some (g, rest))) (its_shape k) (given, g, found) in
-        let request : request_in row.making o ≡ Some (requested row.making t.0) = asked row.making o ∙ ap (option_map (requested row.making)) t.1 in
-        let is = h ∙ ap (option_map (λ (request : Request). record { request = request; into = into })) request in
+        let t = subst (λ x. (g : Given x) × (with_into (request_in row.making x g) into ≡ with_into (request_in row.making s given) into)
+        × IsGivenAt x bytes (Some (g, rest))) (its_shape k) (given, refl, found) in
+        let is = h ∙ sym t.1 ∙ ap (λ request. with_into request into) (asked row.making t.0) in
         subst (AreOperandsOf row bytes) (sym is) (answered row bytes t.0 rest t.2 into (ap (λ keeps. into_in keeps rest) k.is.1 ∙ sym n))
 
 -- ---- a call's word and the rest
@@ -190,6 +178,33 @@ module _ (bytes : List ℕ) {word rest : List ℕ} (n : name_at bytes ≡ Some (
       h (utf8_past_name word rest name.named (subst IsUtf8 name.spelled utf8)) command
       (subst (λ w. EndsIn (SpellsOperands (row_of w)) rest command) verbs
       (subst (λ xs. EndsIn (SpellsOperands (row_of parts.verb)) xs command) (sym same.1) parts.behind))
+
+-- a command that brings nothing has light operands
+light_operands : (verb : Verb) (bytes : List ℕ) (request : Request) (given : Given (shape_of (row_of verb).making))
+    → request ≡ requested (row_of verb).making given → BringsNothing request → HasNoEscape bytes → AreLight (row_of verb).making bytes
+light_operands verb.Set bytes request given e h n = absurd (subst BringsNothing e h)
+light_operands verb.Extend bytes request given e h n = absurd (subst BringsNothing e h)
+light_operands verb.Path bytes request given e h n = inr n
+light_operands verb.Attr bytes request given e h n = inr n
+light_operands v bytes request given e h n = tt
+
+bare_operands : (verb : Verb) (bytes : List ℕ) → IsBare bytes → AreLight (row_of verb).making bytes
+bare_operands verb.Set bytes h = h
+bare_operands verb.Extend bytes h = h
+bare_operands verb.Path bytes h = inl h
+bare_operands verb.Attr bytes h = inl h
+bare_operands v bytes h = tt
+
+module _ (bytes : List ℕ) {word rest : List ℕ} (n : name_at bytes ≡ Some (word, rest)) where
+  pub light_command : (verb : Verb) → word_of verb ≡ word → IsLightCommand bytes → AreLight (row_of verb).making rest
+  light_command verb v (inl bare) = bare_operands verb rest (all_behind _ word rest (subst IsBare (name_found bytes word rest n).spelled bare))
+  light_command verb v (inr (free, (command, h, nothing))) =
+      let parts = command_parts bytes command h in
+      let same = some_pair_parts word (word_of parts.verb) rest parts.rest (sym n ∙ parts.named) in
+      let verbs : parts.verb ≡ verb = same_verb parts.verb verb (sym same.0 ∙ sym v) in
+      let behind = subst (λ w. EndsIn (SpellsOperands (row_of w)) parts.rest command) verbs parts.behind in
+      light_operands verb rest command.request behind.spells.given behind.spells.request nothing
+      (all_behind _ word rest (subst HasNoEscape (name_found bytes word rest n).spelled free))
 
 pub one_command_at : (bytes : List ℕ) (a b : Command) → EndsIn SpellsCommand bytes a → EndsIn SpellsCommand bytes b → a ≡ b
 one_command_at bytes a b h g =

@@ -5,7 +5,7 @@ use Rattle.std.proofs.lemmas.List.{take_at, drop_at}
 use Rattle.std.proofs.lemmas.Option.{some_pair_parts}
 use Rattle.std.proofs.lemmas.Str.{encode_ascii}
 use Rattle.std.specs.Borrow.{Bor}
-use Rattle.std.specs.List.{list_all}
+use Rattle.std.specs.List.{AllByRecursion, list_all}
 use Rattle.std.specs.Prelude.{◌==◌, MatchOption}
 use Rattle.std.specs.Cmp.Lexicographic.{pointwise}
 use Rattle.std.proofs.lemmas.Slice.Eq.{strip_prefix_is}
@@ -94,3 +94,12 @@ module _ (s : List ℕ) {p q : List ℕ} {r : Option (Bor (List ℕ))}
 
     pub behind_prefix : {x : Bor (List ℕ)} → r ≡ Some x → s ≡ q ++ x.now
     behind_prefix n = rw (n, e) at (strip_prefix_is Decides-eqb s p r cases)
+
+-- what holds of each byte holds of those at the front, and of those behind them
+pub all_front : (P : ℕ → Type 0) (xs ys : List ℕ) → AllByRecursion P (xs ++ ys) → AllByRecursion P xs
+all_front P [] ys h = tt
+all_front P (x ∷ xs) ys h = (h.0, all_front P xs ys h.1)
+
+pub all_behind : (P : ℕ → Type 0) (xs ys : List ℕ) → AllByRecursion P (xs ++ ys) → AllByRecursion P ys
+all_behind P [] ys h = h
+all_behind P (x ∷ xs) ys h = all_behind P xs ys h.1

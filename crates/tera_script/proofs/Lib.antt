@@ -8,7 +8,6 @@ mod Integers
 mod Keys
 mod Lines
 mod Literals
-mod LookUps
 mod ShortTexts
 mod Maps
 mod Names
@@ -19,6 +18,12 @@ mod Shapes
 mod Sources
 mod Texts
 mod Words
+mod Written
+mod WrittenAgain
+mod WrittenBytes
+mod WrittenLines
+mod WrittenParts
+mod WrittenTexts
 mod Rows
 pub mod SaidLaws
 mod Utf8

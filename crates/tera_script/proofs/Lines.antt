@@ -5,10 +5,10 @@ use Rattle.std.proofs.lemmas.Bool.Decides.{nat_tests}
 use Rattle.tera_meaning.specs.Request.{Command}
 use Rattle.tera_script.specs.Word.{is_blank, AreBlanks, IsName}
 use Rattle.tera_script.specs.Verb.{word_of}
-use Rattle.tera_script.specs.Line.{Says, IsSkipped, IsBad, IsBare, SpellsCommand}
+use Rattle.tera_script.specs.Line.{Says, SaysLightly, IsSkipped, IsBad, IsBare, SpellsCommand}
 use Rattle.tera_script.specs.Readers.{Stops, front, past, is_end_or_comment}
-use Rattle.tera_script.specs.inner.Command.{EndsIn, IsCommandAt, IsCommandIfBare}
-use Rattle.tera_script.proofs.Bare.{bare_past_blanks}
+use Rattle.tera_script.specs.inner.Command.{EndsIn, IsCommandAt, IsLightCommand}
+use Rattle.tera_script.proofs.Bare.{all_past_blanks}
 use Rattle.tera_script.proofs.Fronts.{front_all, past_is, front_cut}
 use Rattle.tera_script.proofs.Names.{name_is_not_blank}
 use Rattle.tera_script.proofs.Verbs.{word_is_name}
@@ -74,11 +74,13 @@ module _ {line bytes : List ℕ} {ends : Bool} (b : bytes ≡ past is_blank line
   not_skipped : ends ≡ false → ¬ IsSkipped line
   not_skipped h s = let yes = skipped_past line s in cc
 
-  -- no memory is wanting at a line that is skipped, is no UTF-8, or is bad and has no quote, bracket or brace
-  pub needs_none : ends ≡ false → IsUtf8 line → IsCommandIfBare bytes → IsSkipped line ⊎ ((¬ IsUtf8 line) ⊎ (IsBad line × IsBare line)) → ⊥
-  needs_none h u said (inl skipped) = not_skipped h skipped
-  needs_none h u said (inr (inl not_utf8)) = not_utf8 u
-  needs_none h u said (inr (inr bad)) = let command = said (bare_past_blanks line b bad.1) in bad.0.1 command.0 (line_says u command.1)
+  -- a line that takes no memory to read has a command that takes none, where it has one
+  pub light_line : ends ≡ false → IsUtf8 line → IsSkipped line ⊎ ((¬ IsUtf8 line) ⊎ (IsBare line ⊎ SaysLightly line)) → IsLightCommand bytes
+  light_line h u (inl skipped) = absurd (not_skipped h skipped)
+  light_line h u (inr (inl not_utf8)) = absurd (not_utf8 u)
+  light_line h u (inr (inr (inl bare))) = inl (all_past_blanks _ line b bare)
+  light_line h u (inr (inr (inr (free, (command, says, nothing))))) =
+      inr (all_past_blanks _ line b free, (command, subst (λ xs. EndsIn SpellsCommand xs command) (sym b) (says_command line command says), nothing))
 
   pub bad_utf8 : ends ≡ false → ¬ IsUtf8 line → IsBad line
   bad_utf8 h u = (not_skipped h, λ command s. u s.utf8)

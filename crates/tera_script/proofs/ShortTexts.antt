@@ -4,18 +4,11 @@ use Rattle.std.proofs.Common.{refl, ap, sym, ◌∙◌, subst, arith, append_ass
 use Rattle.std.specs.List.{AllByRecursion}
 use Rattle.std.specs.Str.{IsUtf8}
 use Rattle.std.proofs.lemmas.List.{drop_at}
-use Rattle.std.proofs.lemmas.Option.{same_Some}
-use Rattle.tera_script.specs.Line.{SpellsQuoted}
-use Rattle.tera_script.specs.LookUp.{IsShort, SpellsShort}
-use Rattle.tera_script.specs.Readers.{gap_at}
-use Rattle.tera_script.specs.TextParts.{IsPlain, IsNoRun, BeginsWithRun}
-use Rattle.tera_script.specs.inner.Command.{Begins, IsPartAt, EndsItself}
+use Rattle.tera_script.specs.Text.{BeginsWithNoText}
+use Rattle.tera_script.specs.TextParts.{IsPlain, IsShort, IsNoRun, BeginsWithRun}
 use Rattle.tera_script.proofs.Fronts.{head, tail}
-use Rattle.tera_script.proofs.Names.{gap_found, gap_only}
-use Rattle.tera_script.proofs.Operands.{stops_name, behind_gap}
-use Rattle.tera_script.proofs.Texts.{plain_spelling, run_found}
-use Rattle.tera_script.proofs.Utf8.{byte_at, around_byte, after_byte, utf8_past_blanks}
-use Rattle.tera_script.proofs.Values.{AreParts}
+use Rattle.tera_script.proofs.Texts.{run_closed, run_found, same_text}
+use Rattle.tera_script.proofs.Utf8.{byte_at}
 
 -- bytes that stand for themselves before a quote are the run that the bytes begin with
 one_run : (run t rest more : List ℕ) → AllByRecursion IsPlain run → IsNoRun rest → AllByRecursion IsPlain t → run ++ rest ≡ t ++ 34 ∷ more
@@ -25,10 +18,6 @@ one_run [] (c ∷ t) rest more p n q e = let first : IsNoRun (c ∷ (t ++ 34 ∷
     elim first [ inl x ↦ absurd (q.0.0 x) | inr x ↦ absurd (q.0.1 x) ]
 one_run (b ∷ run) [] rest more p n q e = absurd (p.0.0 (ap head e))
 one_run (b ∷ run) (c ∷ t) rest more p n q e = let same = one_run run t rest more p.1 n q.1 (ap tail e) in ((λ i. ap head e i ∷ same.0 i), same.1)
-
-pub all_plain : (n b : ℕ) → IsPlain b → AllByRecursion IsPlain (replicate n b)
-all_plain zero b p = tt
-all_plain (suc n) b p = (p, all_plain n b p)
 
 -- ---- where the code looks for one
 
@@ -55,49 +44,17 @@ pub short_is : {bytes s : List ℕ} → IsShort s → (more : List ℕ) → byte
     → bytes ≡ t ++ 34 ∷ rest → s ≡ t
 short_is {s = s} short more e t rest plain f = (one_run s t (34 ∷ more) rest short.0 (inl refl) plain (sym e ∙ f)).0
 
--- ---- behind a gap
+-- ---- where a text is lent
 
-module _ (bytes t rest : List ℕ) (h : Begins SpellsShort bytes t rest) where
-  short_spelled : bytes ≡ h.spells.0 ++ 34 ∷ (t ++ 34 ∷ rest)
-  short_spelled =
-      h.spelled ∙ ap (λ xs. xs ++ rest) h.spells.3 ∙ append_assoc h.spells.0 (34 ∷ (t ++ 34 ∷ [])) rest
-      ∙ ap (λ xs. h.spells.0 ++ 34 ∷ xs) (append_assoc t (34 ∷ []) rest)
+-- where no quote stands there is no text
+pub no_quote : (bytes : List ℕ) → ((k : ℕ) → k < length bytes → IsPlain (get_or bytes k 0)) → BeginsWithNoText bytes
+no_quote bytes none = λ text used u b.
+    let inner = b.0 in
+    (none (length inner) (omega (arith, ap length b.3, length-append inner (34 ∷ b.1)))).0
+    (ap (λ xs. get_or xs (length inner) 0) b.3 ∙ byte_at inner b.1 34)
 
-  short_at : gap_at bytes ≡ Some (34 ∷ (t ++ 34 ∷ rest))
-  short_at = ap gap_at short_spelled ∙ gap_only h.spells.0 (34 ∷ (t ++ 34 ∷ rest)) h.spells.1 refl
-
-  short_utf8 : IsUtf8 bytes → IsUtf8 t
-  short_utf8 u =
-      let quoted = utf8_past_blanks h.spells.0 (34 ∷ (t ++ 34 ∷ rest)) h.spells.1.1 (subst IsUtf8 short_spelled u) in
-      (around_byte t rest 34 (omega arith) (after_byte (t ++ 34 ∷ rest) 34 (omega arith) quoted)).0
-
-pub short_parts : AreParts SpellsShort EndsItself
-short_parts = record {
-  one = λ bytes t u x y h s g r.
-      let e = same_Some (34 ∷ (t ++ 34 ∷ x)) (34 ∷ (u ++ 34 ∷ y)) (sym (short_at bytes t x h) ∙ short_at bytes u y g) in
-      let same = one_run t u (34 ∷ x) y h.spells.2.0 (inl refl) g.spells.2.0 (ap tail e) in
-      (same.0, ap tail same.1);
-  ends = λ t rest s. tt;
-  opens = λ part rest t h. stops_name (part ++ rest) (behind_gap part h.0 (34 ∷ (t ++ 34 ∷ [])) rest h.1 h.3);
-}
-
-pub short_none : (bytes : List ℕ) → ((t rest : List ℕ) → IsUtf8 t → IsShort t → gap_at bytes ≢ Some (34 ∷ (t ++ 34 ∷ rest)))
-    → IsPartAt SpellsShort EndsItself bytes None
-short_none bytes none = λ utf8 t rest h s. none t rest (short_utf8 bytes t rest h utf8) h.spells.2 (short_at bytes t rest h)
-
-pub short_some : (bytes literal quoted t rest : List ℕ) → gap_at bytes ≡ Some literal → literal ≡ 34 ∷ quoted → IsShort t → quoted ≡ t ++ 34 ∷ rest
-    → IsPartAt SpellsShort EndsItself bytes (Some (t, rest))
-short_some bytes literal quoted t rest g q short e =
-    let gap = gap_found bytes literal g in
-    let inside = q ∙ ap (λ xs. 34 ∷ xs) (e ∙ sym (append_assoc t (34 ∷ []) rest)) in (
-      record {
-        part = gap.gap ++ 34 ∷ (t ++ 34 ∷ []);
-        spells = (gap.gap, gap.blanks, short, refl);
-        spelled = gap.spelled ∙ ap (λ xs. gap.gap ++ xs) inside ∙ sym (append_assoc gap.gap (34 ∷ (t ++ 34 ∷ [])) rest);
-      },
-      tt,
-    )
-
--- what is short is a text in quotes
-pub short_quoted : (bytes t : List ℕ) → SpellsShort bytes t → SpellsQuoted bytes t
-short_quoted bytes t h = (h.0, 34 ∷ (t ++ 34 ∷ []), h.1, (t, plain_spelling t h.2.0, refl), h.3)
+-- a run before a quote is the text there, and where it is no UTF-8 there is none
+pub run_no_text : {bytes run behind : List ℕ} → BeginsWithRun bytes run behind → {after : List ℕ} → behind ≡ 34 ∷ after → ¬ IsUtf8 run
+    → BeginsWithNoText bytes
+run_no_text {bytes} {run} found closed n = λ text used u b.
+    n (subst IsUtf8 (same_text bytes text run used (length run + 1) b (run_closed found closed)).0 u)

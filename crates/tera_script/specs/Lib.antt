@@ -5,8 +5,8 @@ pub mod Number
 pub mod Literal
 pub mod Verb
 pub mod Line
-pub mod LookUp
 pub mod Readers
 pub mod Nested
+pub mod Written
 pub mod Said
 pub mod inner

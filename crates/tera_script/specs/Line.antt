@@ -10,7 +10,7 @@ use Rattle.tera_meaning.specs.Form.{Form}
 use Rattle.tera_meaning.specs.Integer.{i128, IsOfKind}
 use Rattle.tera_meaning.specs.KeyMeaning.{KeyForm, text_key, owned}
 use Rattle.tera_meaning.specs.Pairs.{key_form_order, value_at}
-use Rattle.tera_meaning.specs.Request.{Command}
+use Rattle.tera_meaning.specs.Request.{Command, Request, set, extend}
 use Rattle.tera_meaning.specs.State.{State}
 use Rattle.tera_meaning.specs.Tree.{depth, text, object, members}
 use Rattle.tera_script.specs.declared.bound.Bounds.{Bounds}
@@ -128,6 +128,10 @@ SpellsCommand bytes command =
 abbrev pub IsBare : List ℕ → Type 0
 IsBare line = AllByRecursion (λ b. (b ≢ 34) × (b ≢ 91) × (b ≢ 123)) line
 
+-- no escape stands in it: no backslash (92)
+abbrev pub HasNoEscape : List ℕ → Type 0
+HasNoEscape line = AllByRecursion (λ b. b ≢ 92) line
+
 -- a command with blanks before and after it, or with none, all of it UTF-8
 pub record Says (line : List ℕ) (command : Command) : Type 0 where
   pub utf8 : IsUtf8 line
@@ -147,3 +151,14 @@ IsSkipped line =
 -- any other line that says no command
 abbrev pub IsBad : List ℕ → Type 0
 IsBad line = (¬ IsSkipped line) × ((command : Command) → ¬ Says line command)
+
+-- the request brings no value and no source
+abbrev pub BringsNothing : Request → Type 0
+BringsNothing (set name value) = ⊥
+BringsNothing (extend source) = ⊥
+BringsNothing _ = Unit {0}
+
+-- it says a command that brings no value, by no text with an escape
+abbrev pub SaysLightly : List ℕ → Type 0
+SaysLightly line =
+    HasNoEscape line × ((command : Command) × Says line command × BringsNothing command.request)

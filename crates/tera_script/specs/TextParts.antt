@@ -1,7 +1,7 @@
 -- What the readers of a text give, byte by byte: what the bytes stand for up to the closing quote,
 -- and what stands behind that quote.
 use Rattle.std.specs.Prelude.{◌≡◌, ◌≢◌, ℕ, ◌+◌, ◌*◌, ◌⊎◌, cond, ◌&&◌, ◌==◌, nat_lt, List, []}
-use Rattle.std.specs.Prelude.{◌∷◌, ◌++◌, Option, Some, None, encode_utf8}
+use Rattle.std.specs.Prelude.{◌∷◌, ◌++◌, Option, Some, None, encode_utf8, length, ◌≤◌}
 use lib.Utf8.{scalar}
 use Rattle.std.specs.Borrow.{Bor}
 use Rattle.std.specs.Char.{digit_value}
@@ -16,6 +16,10 @@ use Rattle.tera_script.specs.Text.{decoding}
 -- a byte that stands for itself
 abbrev pub IsPlain : ℕ → Type 0
 IsPlain byte = (byte ≢ 34) × (byte ≢ 92)
+
+-- no quote and no backslash stands in the text, and it has at most 31 bytes
+abbrev pub IsShort : List ℕ → Type 0
+IsShort t = AllByRecursion IsPlain t × (length t ≤ 31)
 
 -- a short text that stands for itself before a quote: a key holds it in its own place
 abbrev pub BeginsWithInline : List ℕ → Type 0

@@ -1,37 +1,42 @@
 //! Whole lines.
 ghost use Rattle.std.specs.Prelude.{◌≡◌, ◌⊎◌, IfOk, IsOk, IsUtf8};
 ghost use Rattle.std.specs.Bool.{MatchBool};
-ghost use Rattle.tera_script.specs.Line.{IsSkipped, IsBad, IsBare};
+ghost use Rattle.tera_script.specs.Line.{IsSkipped, IsBare, SaysLightly};
 ghost use Rattle.tera_script.specs.Readers.{is_end_or_comment};
 ghost use Rattle.tera_script.specs.Said.{IsReadingOf};
 
-use crate::command::read_step;
+use crate::command::read_command;
 use crate::word::past_blanks;
 use std::alloc::{AllocError, Global};
 use std::str;
-use tera_context::Step;
+use tera_context::Command;
 use tera_values::HashState;
 
 /// What a line of a script says.
 #[derive(Debug, Drop)]
-pub enum Reading {
+pub enum Reading<'a> {
     /// Nothing: it is blanks alone, or a comment.
     Skipped,
     /// Nothing: it is not skipped, and no call.
     Bad,
-    /// A step.
-    Says(Step),
+    /// A command, whose names and texts the line lends.
+    Says(Command<'a>),
 }
 
 /// What a line says. The line comes without its end of line. The maps of its literals, and the
 /// context of `extend`, are hashed under the state.
 ///
-/// Takes memory for names, texts, bytes, arrays and maps; the only refusal is want of it. A line
-/// that is skipped or is no UTF-8 takes none, nor does a bad one with no quote, bracket or brace.
-pub fn read_line(alloc: Global, state: HashState, line: &[u8]) -> Result<Reading, AllocError>
+/// Takes memory for what `set` and `extend` bring and for a text with an escape; the only refusal
+/// is want of it. So a line takes none that is skipped or is no UTF-8, that has no quote, bracket
+/// or brace, or that says another call by texts without an escape.
+pub fn read_line<'a>(
+    alloc: Global,
+    state: HashState,
+    line: &'a [u8],
+) -> Result<Reading<'a>, AllocError>
     ensures reading { IfOk result (IsReadingOf line.now) }
-    ensures free { IsSkipped line.now ⊎ ((¬ IsUtf8 line.now) ⊎ (IsBad line.now × IsBare line.now))
-        → IsOk result }
+    ensures free { IsSkipped line.now ⊎ ((¬ IsUtf8 line.now) ⊎ (IsBare line.now
+        ⊎ SaysLightly line.now)) → IsOk result }
 {
     let bytes = past_blanks(line);
     if is_end_or_comment(bytes) {
@@ -40,8 +45,8 @@ pub fn read_line(alloc: Global, state: HashState, line: &[u8]) -> Result<Reading
     if !is_utf8(line) {
         return Ok(Reading::Bad);
     }
-    match read_step(alloc, state, bytes)? {
-        Some(step) => Ok(Reading::Says(step)),
+    match read_command(alloc, state, bytes)? {
+        Some(command) => Ok(Reading::Says(command)),
         None => Ok(Reading::Bad),
     }
 }

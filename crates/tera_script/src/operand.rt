@@ -1,22 +1,23 @@
 //! The operands of calls, and the name for what is found.
-ghost use Rattle.std.specs.Prelude.{◌≡◌, IfOk, IfSome, IsOk};
+ghost use Rattle.std.specs.Prelude.{◌≡◌, ◌⊎◌, IfOk, IfSome, IsOk};
 ghost use Rattle.std.specs.List.{list_all};
 ghost use Rattle.std.specs.Option.{option_map};
-ghost use Rattle.tera_script.specs.Line.{IsBare};
+ghost use Rattle.tera_script.specs.Line.{HasNoEscape, IsBare};
 ghost use Rattle.tera_script.specs.Readers.{one_in, arrow_at, into_in, names_at, names_rest};
 ghost use Rattle.tera_script.specs.Readers.{with_rest};
 ghost use Rattle.tera_script.specs.Word.{is_blank, IsName};
 ghost use Rattle.tera_script.specs.inner.Command.{IsTextAt, IsValueAt, text_rest};
 
 use crate::literal::{LEVELS, take_literal};
-use crate::text::take_text;
+use crate::text::lent_text;
 use crate::word::{are_blanks, past_gap, take_operand};
 use std::alloc::{AllocError, Global};
+use std::borrow::CowStr;
 use tera_values::{HashState, Value};
 
 /// Two names behind one another, and the bytes behind them. Takes no memory.
 #[tactic(auto, unfolding(crate::specs::Readers::names_at))]
-pub(crate) fn take_names(bytes: &[u8]) -> Option<((&[u8], &[u8]), &[u8])>
+pub(crate) fn take_names(bytes: &[u8]) -> Option<((&str, &str), &[u8])>
     ensures names { option_map names_rest result ≡ names_at bytes.now }
     ensures left { IfSome result (λ found. IsName found.0.0.now) }
     ensures right { IfSome result (λ found. IsName found.0.1.now) }
@@ -26,13 +27,13 @@ pub(crate) fn take_names(bytes: &[u8]) -> Option<((&[u8], &[u8]), &[u8])>
     Some(((left, right), rest))
 }
 
-/// The text in quotes behind a gap, and the bytes behind it.
+/// The text in quotes behind a gap, and the bytes behind it. Takes memory for one with an escape.
 pub(crate) fn take_text_operand(
     alloc: Global,
     bytes: &[u8],
-) -> Result<Option<(String, &[u8])>, AllocError>
+) -> Result<Option<(CowStr<'_>, &[u8])>, AllocError>
     ensures text { IfOk result (λ answer. IsTextAt bytes.now (option_map text_rest answer)) }
-    ensures free { IsBare bytes.now → IsOk result }
+    ensures free { IsBare bytes.now ⊎ HasNoEscape bytes.now → IsOk result }
 {
     let Some(literal) = past_gap(bytes) else {
         return Ok(None);
@@ -40,11 +41,11 @@ pub(crate) fn take_text_operand(
     let Some(quoted) = literal.strip_prefix(b"\"".as_slice()) else {
         return Ok(None);
     };
-    let Some(taken) = take_text(alloc, quoted)? else {
+    let Some((text, used)) = lent_text(alloc, quoted)? else {
         return Ok(None);
     };
-    let (_, rest) = quoted.split_at(taken.used);
-    Ok(Some((taken.text, rest)))
+    let (_, rest) = quoted.split_at(used);
+    Ok(Some((text, rest)))
 }
 
 /// The value behind a gap, and the bytes behind it.
@@ -65,7 +66,7 @@ pub(crate) fn take_value(
 /// The name behind a gap and an arrow, where one may be, or none where no more than blanks stand
 /// there. `None` where anything else does. Takes no memory.
 #[tactic(auto, unfolding(crate::specs::Readers::into_in))]
-pub(crate) fn into_in(keeps: bool, bytes: &[u8]) -> Option<Option<&[u8]>>
+pub(crate) fn into_in(keeps: bool, bytes: &[u8]) -> Option<Option<&str>>
     ensures into { option_map (option_map (λ name. name.now)) result ≡ into_in keeps bytes.now }
     ensures named { IfSome result (λ into. IfSome into (λ name. IsName name.now)) }
 {
@@ -94,7 +95,7 @@ fn past_arrow(bytes: &[u8]) -> Option<&[u8]>
 
 // One name, and no more than blanks behind it.
 #[tactic(auto, unfolding(crate::specs::Readers::one_in))]
-fn one_in(bytes: &[u8]) -> Option<&[u8]>
+fn one_in(bytes: &[u8]) -> Option<&str>
     ensures one { option_map (λ name. name.now) result ≡ one_in bytes.now }
     ensures named { IfSome result (λ name. IsName name.now) }
 {

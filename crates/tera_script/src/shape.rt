@@ -1,79 +1,56 @@
-//! Operands of each shape, and the step that a verb makes of them. A reader takes all operands,
-//! names as slices, and makes the call last: a call is large, and each layer that it goes through
-//! moves it.
-ghost use Rattle.std.specs.Prelude.{◌≡◌, IfOk, IfErr, IfSome};
+//! Operands of each shape, and the command that a verb makes of them.
+ghost use Rattle.std.specs.Prelude.{◌≡◌, ◌⊎◌, IfOk, IsOk};
 ghost use Rattle.std.specs.Option.{option_map};
-ghost use Rattle.tera_context.specs.Call.{command_of};
-ghost use Rattle.tera_script.specs.inner.Call.{IsOfShape, made};
-ghost use Rattle.tera_script.specs.inner.Command.{AreOperandsOf, AreOperandsIfBare};
+ghost use Rattle.tera_context.specs.Request.{command_form, name_of, request_form};
+ghost use Rattle.tera_script.specs.Line.{HasNoEscape, IsBare};
+ghost use Rattle.tera_script.specs.inner.Call.{IsOfShape, with_into};
+ghost use Rattle.tera_script.specs.inner.Command.{AreOperandsOf};
 ghost use Rattle.tera_script.specs.Verb.{row_of};
-ghost use Rattle.tera_script.specs.Word.{IsName};
 ghost use Rattle.tera_script.specs.declared.verb.Shape.TheVariants as shape;
 
 use crate::bound::take_bounds;
-use crate::name::{into_text, name_text};
 use crate::operand::{into_in, take_names, take_text_operand, take_value};
 use crate::source::source_of;
 use crate::types::type_in;
-use crate::verb::{Known, Operands, Verb, call_of};
+use crate::verb::{
+    Known, request_of_bounds, request_of_literal, request_of_map, request_of_name,
+    request_of_names, request_of_text, request_of_type,
+};
 use crate::word::take_operand;
 use std::alloc::{AllocError, Global};
-use tera_context::Step;
+use tera_context::{Command, Request};
 use tera_values::HashState;
 
-/// A name.
-pub(crate) fn read_name(
-    alloc: Global,
-    known: Known,
-    bytes: &[u8],
-) -> Result<Option<Step>, AllocError>
+/// A name. Takes no memory.
+pub(crate) fn read_name<'a>(known: Known, bytes: &'a [u8]) -> Option<Command<'a>>
     requires { IsOfShape known shape.Name }
-    ensures operands { IfOk result (λ answer.
-        AreOperandsOf (row_of known.verb) bytes.now (option_map command_of answer)) }
-    ensures free { IfErr result (λ error. AreOperandsIfBare (row_of known.verb) bytes.now) }
+    ensures { AreOperandsOf (row_of known.verb) bytes.now (option_map command_form result) }
 {
-    let Some((name, rest)) = take_operand(bytes) else {
-        return Ok(None);
-    };
-    let Some(into) = into_in(known.keeps, rest) else {
-        return Ok(None);
-    };
-    let name = name_text(alloc, name)?;
-    step_of(alloc, known.verb, Operands::Name(name), into)
+    let (name, rest) = take_operand(bytes)?;
+    let into = into_in(known.keeps, rest)?;
+    command_with(request_of_name(known.verb, name), into)
 }
 
-/// Two names.
-pub(crate) fn read_names(
-    alloc: Global,
-    known: Known,
-    bytes: &[u8],
-) -> Result<Option<Step>, AllocError>
+/// Two names. Takes no memory.
+pub(crate) fn read_names<'a>(known: Known, bytes: &'a [u8]) -> Option<Command<'a>>
     requires { IsOfShape known shape.Names }
-    ensures operands { IfOk result (λ answer.
-        AreOperandsOf (row_of known.verb) bytes.now (option_map command_of answer)) }
-    ensures free { IfErr result (λ error. AreOperandsIfBare (row_of known.verb) bytes.now) }
+    ensures { AreOperandsOf (row_of known.verb) bytes.now (option_map command_form result) }
 {
-    let Some(((left, right), rest)) = take_names(bytes) else {
-        return Ok(None);
-    };
-    let Some(into) = into_in(known.keeps, rest) else {
-        return Ok(None);
-    };
-    let left = name_text(alloc, left)?;
-    let right = name_text(alloc, right)?;
-    step_of(alloc, known.verb, Operands::Names(left, right), into)
+    let ((left, right), rest) = take_names(bytes)?;
+    let into = into_in(known.keeps, rest)?;
+    command_with(request_of_names(known.verb, left, right), into)
 }
 
 /// A name and a text.
-pub(crate) fn read_text(
+pub(crate) fn read_text<'a>(
     alloc: Global,
     known: Known,
-    bytes: &[u8],
-) -> Result<Option<Step>, AllocError>
+    bytes: &'a [u8],
+) -> Result<Option<Command<'a>>, AllocError>
     requires { IsOfShape known shape.Text }
     ensures operands { IfOk result (λ answer.
-        AreOperandsOf (row_of known.verb) bytes.now (option_map command_of answer)) }
-    ensures free { IfErr result (λ error. AreOperandsIfBare (row_of known.verb) bytes.now) }
+        AreOperandsOf (row_of known.verb) bytes.now (option_map command_form answer)) }
+    ensures free { IsBare bytes.now ⊎ HasNoEscape bytes.now → IsOk result }
 {
     let Some((name, behind)) = take_operand(bytes) else {
         return Ok(None);
@@ -84,69 +61,42 @@ pub(crate) fn read_text(
     let Some(into) = into_in(known.keeps, rest) else {
         return Ok(None);
     };
-    let name = name_text(alloc, name)?;
-    step_of(alloc, known.verb, Operands::Text(name, text), into)
+    Ok(command_with(request_of_text(known.verb, name, text), into))
 }
 
-/// A name and three bounds.
-pub(crate) fn read_bounds(
-    alloc: Global,
-    known: Known,
-    bytes: &[u8],
-) -> Result<Option<Step>, AllocError>
+/// A name and three bounds. Takes no memory.
+pub(crate) fn read_bounds<'a>(known: Known, bytes: &'a [u8]) -> Option<Command<'a>>
     requires { IsOfShape known shape.Bounds }
-    ensures operands { IfOk result (λ answer.
-        AreOperandsOf (row_of known.verb) bytes.now (option_map command_of answer)) }
-    ensures free { IfErr result (λ error. AreOperandsIfBare (row_of known.verb) bytes.now) }
+    ensures { AreOperandsOf (row_of known.verb) bytes.now (option_map command_form result) }
 {
-    let Some((name, behind)) = take_operand(bytes) else {
-        return Ok(None);
-    };
-    let Some((bounds, rest)) = take_bounds(behind) else {
-        return Ok(None);
-    };
-    let Some(into) = into_in(known.keeps, rest) else {
-        return Ok(None);
-    };
-    let name = name_text(alloc, name)?;
-    step_of(alloc, known.verb, Operands::Bounds(name, bounds), into)
+    let (name, behind) = take_operand(bytes)?;
+    let (bounds, rest) = take_bounds(behind)?;
+    let into = into_in(known.keeps, rest)?;
+    command_with(request_of_bounds(known.verb, name, bounds), into)
 }
 
-/// An integer type and a name.
-pub(crate) fn read_type(
-    alloc: Global,
-    known: Known,
-    bytes: &[u8],
-) -> Result<Option<Step>, AllocError>
+/// An integer type and a name. Takes no memory.
+pub(crate) fn read_type<'a>(known: Known, bytes: &'a [u8]) -> Option<Command<'a>>
     requires { IsOfShape known shape.Type }
-    ensures operands { IfOk result (λ answer.
-        AreOperandsOf (row_of known.verb) bytes.now (option_map command_of answer)) }
-    ensures free { IfErr result (λ error. AreOperandsIfBare (row_of known.verb) bytes.now) }
+    ensures { AreOperandsOf (row_of known.verb) bytes.now (option_map command_form result) }
 {
-    let Some(((word, name), rest)) = take_names(bytes) else {
-        return Ok(None);
-    };
-    let Some(to) = type_in(word) else {
-        return Ok(None);
-    };
-    let Some(into) = into_in(known.keeps, rest) else {
-        return Ok(None);
-    };
-    let name = name_text(alloc, name)?;
-    step_of(alloc, known.verb, Operands::Type(to, name), into)
+    let ((word, name), rest) = take_names(bytes)?;
+    let to = type_in(word.as_bytes())?;
+    let into = into_in(known.keeps, rest)?;
+    command_with(request_of_type(known.verb, to, name), into)
 }
 
 /// A name and a literal.
-pub(crate) fn read_literal(
+pub(crate) fn read_literal<'a>(
     alloc: Global,
     state: HashState,
     known: Known,
-    bytes: &[u8],
-) -> Result<Option<Step>, AllocError>
+    bytes: &'a [u8],
+) -> Result<Option<Command<'a>>, AllocError>
     requires { IsOfShape known shape.Literal }
     ensures operands { IfOk result (λ answer.
-        AreOperandsOf (row_of known.verb) bytes.now (option_map command_of answer)) }
-    ensures free { IfErr result (λ error. AreOperandsIfBare (row_of known.verb) bytes.now) }
+        AreOperandsOf (row_of known.verb) bytes.now (option_map command_form answer)) }
+    ensures free { IsBare bytes.now → IsOk result }
 {
     let Some((name, behind)) = take_operand(bytes) else {
         return Ok(None);
@@ -157,21 +107,20 @@ pub(crate) fn read_literal(
     let Some(into) = into_in(known.keeps, rest) else {
         return Ok(None);
     };
-    let name = name_text(alloc, name)?;
-    step_of(alloc, known.verb, Operands::Literal(name, value), into)
+    Ok(command_with(request_of_literal(known.verb, name, value), into))
 }
 
 /// A map whose keys are all texts.
-pub(crate) fn read_map(
+pub(crate) fn read_map<'a>(
     alloc: Global,
     state: HashState,
     known: Known,
-    bytes: &[u8],
-) -> Result<Option<Step>, AllocError>
+    bytes: &'a [u8],
+) -> Result<Option<Command<'a>>, AllocError>
     requires { IsOfShape known shape.Map }
     ensures operands { IfOk result (λ answer.
-        AreOperandsOf (row_of known.verb) bytes.now (option_map command_of answer)) }
-    ensures free { IfErr result (λ error. AreOperandsIfBare (row_of known.verb) bytes.now) }
+        AreOperandsOf (row_of known.verb) bytes.now (option_map command_form answer)) }
+    ensures free { IsBare bytes.now → IsOk result }
 {
     let Some((value, rest)) = take_value(alloc, state, bytes)? else {
         return Ok(None);
@@ -182,24 +131,17 @@ pub(crate) fn read_map(
     let Some(into) = into_in(known.keeps, rest) else {
         return Ok(None);
     };
-    step_of(alloc, known.verb, Operands::Map(source), into)
+    Ok(command_with(request_of_map(known.verb, source), into))
 }
 
-// The step that a verb makes of operands of its shape, with the name for what is found.
+// A request, with the name for what is found.
 #[inline(always)]
-fn step_of(
-    alloc: Global,
-    verb: Verb,
-    operands: Operands,
-    into: Option<&[u8]>,
-) -> Result<Option<Step>, AllocError>
-    requires { IfSome into (λ name. IsName name.now) }
-    ensures { IfOk result (λ answer. option_map command_of answer
-        ≡ made (row_of verb) operands (option_map (λ name. name.now) into.entry)) }
+fn command_with<'a>(request: Option<Request<'a>>, into: Option<&'a str>) -> Option<Command<'a>>
+    ensures { option_map command_form result
+        ≡ with_into (option_map request_form request.entry) (name_of into.entry) }
 {
-    let into = into_text(alloc, into)?;
-    match call_of(verb, operands) {
-        Some(call) => Ok(Some(Step { call, into })),
-        None => Ok(None),
-    }
+    Some(Command {
+        request: request?,
+        into,
+    })
 }

@@ -1,14 +1,17 @@
 //! The texts of a script.
 
-ghost use Rattle.std.specs.Prelude.{◌≡◌, ◌≢◌, ℕ, List, ◌∷◌, ◌++◌, IfOk, IfSome, MatchOption, ◌<◌};
+ghost use Rattle.std.specs.Prelude.{◌≡◌, ◌≢◌, ℕ, List, ◌∷◌, ◌++◌, IfOk, IfSome, IfNone, IsOk};
+ghost use Rattle.std.specs.Prelude.{MatchOption, ◌<◌};
 ghost use Rattle.std.specs.Prelude.{◌≤◌, ◌⊎◌, IsUtf8, string_bytes, length, drop, slice_index};
-ghost use Rattle.tera_script.specs.LookUp.{IsShort};
+ghost use Rattle.std.specs.Cow.{cow_str_bytes};
+ghost use Rattle.tera_script.specs.Line.{HasNoEscape};
 ghost use Rattle.tera_script.specs.Text.{BeginsWithText, BeginsWithNoText};
-ghost use Rattle.tera_script.specs.TextParts.{IsPlain, BeginsWithRun};
+ghost use Rattle.tera_script.specs.TextParts.{IsPlain, IsShort, BeginsWithRun};
 
 use crate::escape::take_escape;
 use bstr::ByteSlice;
 use std::alloc::{AllocError, Global};
+use std::borrow::CowStr;
 use std::str;
 
 /// A text that some bytes begin with.
@@ -33,6 +36,63 @@ pub fn take_text(alloc: Global, bytes: &[u8]) -> Result<Option<TakenText>, Alloc
         return Ok(Some(TakenText { text, used }));
     }
     long_text(alloc, bytes)
+}
+
+/// What `take_text` answers, lent where the text has no escape. Takes memory for one that has.
+pub(crate) fn lent_text(
+    alloc: Global,
+    bytes: &[u8],
+) -> Result<Option<(CowStr<'_>, usize)>, AllocError>
+    ensures text { IfOk result (λ answer. MatchOption answer
+        (BeginsWithNoText bytes.now)
+        (λ taken. BeginsWithText bytes.now (cow_str_bytes taken.0) taken.1)) }
+    ensures free { HasNoEscape bytes.now → IsOk result }
+{
+    let Some(length) = plain_length(bytes) else {
+        return Ok(None);
+    };
+    let (run, rest) = bytes.split_at(length);
+    let Some((mark, _)) = rest.split_first() else {
+        return Ok(None);
+    };
+    if *mark != b'"' {
+        return owned_text(alloc, bytes);
+    }
+    match str::from_utf8(run) {
+        Ok(text) => Ok(Some((CowStr::Borrowed(text), length + 1))),
+        Err(_) => Ok(None),
+    }
+}
+
+// What `long_text` answers, as a text that may be lent.
+#[inline(never)]
+fn owned_text(alloc: Global, bytes: &[u8]) -> Result<Option<(CowStr<'_>, usize)>, AllocError>
+    ensures { IfOk result (λ answer. MatchOption answer
+        (BeginsWithNoText bytes.now)
+        (λ taken. BeginsWithText bytes.now (cow_str_bytes taken.0) taken.1)) }
+{
+    match long_text(alloc, bytes)? {
+        Some(taken) => Ok(Some((CowStr::Owned(taken.text), taken.used))),
+        None => Ok(None),
+    }
+}
+
+// How many bytes stand before the first quote or backslash, if one is there. A search in few bytes
+// ends soonest.
+#[tactic(auto, unfolding(bstr::specs::Bytes::is_in))]
+fn plain_length(bytes: &[u8]) -> Option<usize>
+    ensures within { IfSome result (λ found. found < length bytes.now) }
+    ensures plain { IfSome result
+        (λ found. (k : ℕ) → k < found → IsPlain (slice_index bytes.now k)) }
+    ensures ends { IfSome result (λ found. (slice_index bytes.now found ≡ 34)
+        ⊎ (slice_index bytes.now found ≡ 92)) }
+    ensures none { IfNone result
+        ((k : ℕ) → k < length bytes.now → IsPlain (slice_index bytes.now k)) }
+{
+    match short_run(bytes) {
+        Some(length) => Some(length),
+        None => bytes.find_byteset(b"\"\\"),
+    }
 }
 
 /// What `take_text` answers, of a text that is long or has an escape.

@@ -1,15 +1,20 @@
-//! The words of the calls, and the call that each makes of its operands.
+//! The words of the calls, and the request that each makes of its operands.
 ghost use Rattle.std.specs.Prelude.{◌≡◌, true, false, IfSome, IsSome};
 ghost use Rattle.std.specs.Option.{option_map};
-ghost use Rattle.tera_context.specs.Call.{request_of};
-ghost use Rattle.tera_context.specs.declared.call.Call.TheVariants.{Binary as binary};
+ghost use Rattle.std.specs.Cow.{cow_str_bytes};
+ghost use Rattle.tera_meaning.specs.Request.{ask, find, weigh};
+ghost use Rattle.tera_meaning.specs.Search.{calculate};
+ghost use Rattle.tera_scalars.specs.Operation.{operator_of};
+ghost use Rattle.tera_values.specs.Converted.{integer_type};
+ghost use Rattle.tera_context.specs.Request.{question_of, request_form, weighing_of};
 ghost use Rattle.tera_script.specs.inner.Call.{IsKnown, IsLike, IsVerbOf, request_in};
 ghost use Rattle.tera_script.specs.Verb.{row_of, word_of};
-ghost use Rattle.tera_script.specs.declared.verb.Operands.TheVariants as operands;
+ghost use Rattle.tera_script.specs.declared.verb.Shape.TheVariants as shape;
 ghost use Rattle.tera_script.specs.declared.verb.Verb.{Verb as VerbOf};
 
 use crate::bound::Bounds;
-use tera_context::{BinaryOp, Call, Context, IntType};
+use std::borrow::CowStr;
+use tera_context::{BinaryOp, Context, IntType, Question, Request, Search, Weighing};
 use tera_values::Value;
 
 // A call, by its word.
@@ -71,18 +76,6 @@ pub(crate) struct Known {
     pub(crate) verb: Verb,
     pub(crate) shape: Shape,
     pub(crate) keeps: bool,
-}
-
-// Operands, by their shape.
-#[derive(Drop)]
-pub(crate) enum Operands {
-    Name(String),
-    Names(String, String),
-    Text(String, String),
-    Bounds(String, Bounds),
-    Type(IntType, String),
-    Literal(String, Value),
-    Map(Context),
 }
 
 /// What is known of the verb of a word. `None` where it is no verb's. Takes no memory.
@@ -160,119 +153,149 @@ fn keeping(verb: Verb, shape: Shape) -> Known
     }
 }
 
-/// The call that a verb makes of its operands. `None` where they are of another shape. Takes no
-/// memory.
+/// The request that a verb makes of a name. `None` where its operands are of another shape.
 #[inline(always)]
-pub(crate) fn call_of(verb: Verb, operands: Operands) -> Option<Call>
-    ensures { option_map request_of result ≡ request_in (row_of verb).making operands }
-{
-    match operands {
-        Operands::Name(name) => call_of_name(verb, name),
-        Operands::Names(left, right) => call_of_names(verb, left, right),
-        Operands::Text(of, text) => call_of_text(verb, of, text),
-        Operands::Bounds(of, bounds) => call_of_bounds(verb, of, bounds),
-        Operands::Type(to, of) => match verb {
-            Verb::Read => Some(Call::Read { of, to }),
-            _ => None,
-        },
-        Operands::Literal(name, value) => match verb {
-            Verb::Set => Some(Call::Set { name, value }),
-            _ => None,
-        },
-        Operands::Map(source) => match verb {
-            Verb::Extend => Some(Call::Extend { source }),
-            _ => None,
-        },
-    }
-}
-
-// The call that a verb makes of a name.
-#[inline(always)]
-fn call_of_name(verb: Verb, name: String) -> Option<Call>
-    ensures { option_map request_of result
-        ≡ request_in (row_of verb).making (operands.Name name) }
+pub(crate) fn request_of_name(verb: Verb, name: &str) -> Option<Request<'_>>
+    ensures { option_map request_form result ≡ request_in (row_of verb).making shape.Name name.now }
 {
     match verb {
-        Verb::Remove => Some(Call::Remove { name }),
-        Verb::Has => Some(Call::Has { name }),
-        Verb::Get => Some(Call::Get { name }),
-        Verb::Reverse => Some(Call::Reverse { of: name }),
-        Verb::Negate => Some(Call::Negate { of: name }),
-        Verb::Len => Some(Call::Len { of: name }),
-        Verb::Truthy => Some(Call::Truthy { of: name }),
-        Verb::Kind => Some(Call::Kind { of: name }),
-        Verb::IsSafe => Some(Call::IsSafe { of: name }),
-        Verb::MarkSafe => Some(Call::MarkSafe { of: name }),
-        Verb::Print => Some(Call::Print { of: name }),
-        Verb::Escape => Some(Call::Escape { of: name }),
-        Verb::Fields => Some(Call::Fields { of: name }),
-        Verb::Walk => Some(Call::Walk { of: name }),
+        Verb::Remove => Some(Request::Remove { name }),
+        Verb::MarkSafe => Some(Request::MarkSafe { name }),
+        Verb::Get => Some(Request::Find(Search::Get { name })),
+        Verb::Reverse => Some(Request::Find(Search::Reverse { of: name })),
+        Verb::Negate => Some(Request::Find(Search::Negate { of: name })),
+        Verb::Has => Some(asked(Question::Has, name)),
+        Verb::Len => Some(asked(Question::Len, name)),
+        Verb::Truthy => Some(asked(Question::Truthy, name)),
+        Verb::Kind => Some(asked(Question::Kind, name)),
+        Verb::IsSafe => Some(asked(Question::IsSafe, name)),
+        Verb::Print => Some(asked(Question::Print, name)),
+        Verb::Escape => Some(asked(Question::Escape, name)),
+        Verb::Fields => Some(asked(Question::Fields, name)),
+        Verb::Walk => Some(asked(Question::Walk, name)),
         _ => None,
     }
 }
 
-// The call that a verb makes of two names.
+/// The request that a verb makes of two names. `None` where its operands are of another shape.
 #[inline(always)]
-fn call_of_names(verb: Verb, left: String, right: String) -> Option<Call>
-    ensures { option_map request_of result
-        ≡ request_in (row_of verb).making (operands.Names left right) }
+pub(crate) fn request_of_names<'a>(verb: Verb, left: &'a str, right: &'a str) -> Option<Request<'a>>
+    ensures { option_map request_form result
+        ≡ request_in (row_of verb).making shape.Names (left.now, right.now) }
 {
     match verb {
-        Verb::Equal => Some(Call::Equal { left, right }),
-        Verb::Compare => Some(Call::Compare { left, right }),
-        Verb::TryCompare => Some(Call::TryCompare { left, right }),
-        Verb::Contains => Some(Call::Contains {
-            of: left,
-            needle: right,
-        }),
-        Verb::Item => Some(Call::Item {
+        Verb::Equal => Some(weighed(Weighing::Equal, left, right)),
+        Verb::Compare => Some(weighed(Weighing::Compare, left, right)),
+        Verb::TryCompare => Some(weighed(Weighing::TryCompare, left, right)),
+        Verb::Contains => Some(weighed(Weighing::Contains, left, right)),
+        Verb::Item => Some(Request::Find(Search::Item {
             of: left,
             item: right,
-        }),
-        Verb::Add => Some(binary(BinaryOp::Add, left, right)),
-        Verb::Sub => Some(binary(BinaryOp::Sub, left, right)),
-        Verb::Mul => Some(binary(BinaryOp::Mul, left, right)),
-        Verb::Rem => Some(binary(BinaryOp::Rem, left, right)),
-        Verb::FloorDiv => Some(binary(BinaryOp::FloorDiv, left, right)),
-        Verb::Pow => Some(binary(BinaryOp::Pow, left, right)),
+        })),
+        Verb::Add => Some(computed(BinaryOp::Add, left, right)),
+        Verb::Sub => Some(computed(BinaryOp::Sub, left, right)),
+        Verb::Mul => Some(computed(BinaryOp::Mul, left, right)),
+        Verb::Rem => Some(computed(BinaryOp::Rem, left, right)),
+        Verb::FloorDiv => Some(computed(BinaryOp::FloorDiv, left, right)),
+        Verb::Pow => Some(computed(BinaryOp::Pow, left, right)),
         _ => None,
     }
 }
 
-// The call that a verb makes of a name and a text.
+/// The request that a verb makes of a name and a text. `None` where its operands are of another
+/// shape.
 #[inline(always)]
-fn call_of_text(verb: Verb, of: String, text: String) -> Option<Call>
-    ensures { option_map request_of result
-        ≡ request_in (row_of verb).making (operands.Text of text) }
+pub(crate) fn request_of_text<'a>(verb: Verb, of: &'a str, text: CowStr<'a>) -> Option<Request<'a>>
+    ensures { option_map request_form result
+        ≡ request_in (row_of verb).making shape.Text (of.now, cow_str_bytes text.entry) }
 {
     match verb {
-        Verb::Path => Some(Call::Path { of, path: text }),
-        Verb::Attr => Some(Call::Attr { of, attr: text }),
+        Verb::Path => Some(Request::Find(Search::Path { of, path: text })),
+        Verb::Attr => Some(Request::Find(Search::Attr { of, attr: text })),
         _ => None,
     }
 }
 
-// The call that a verb makes of a name and three bounds.
+/// The request that a verb makes of a name and three bounds. `None` where its operands are of
+/// another shape.
 #[inline(always)]
-fn call_of_bounds(verb: Verb, of: String, bounds: Bounds) -> Option<Call>
-    ensures { option_map request_of result
-        ≡ request_in (row_of verb).making (operands.Bounds of bounds) }
+pub(crate) fn request_of_bounds(verb: Verb, of: &str, bounds: Bounds) -> Option<Request<'_>>
+    ensures { option_map request_form result
+        ≡ request_in (row_of verb).making shape.Bounds (of.now, bounds) }
 {
     match verb {
-        Verb::Slice => Some(Call::Slice {
+        Verb::Slice => Some(Request::Find(Search::Slice {
             of,
             start: bounds.start,
             end: bounds.end,
             step: bounds.step,
-        }),
+        })),
         _ => None,
     }
 }
 
-// What an operator computes of two numbers.
+/// The request that a verb makes of an integer type and a name. `None` where its operands are of
+/// another shape.
 #[inline(always)]
-fn binary(op: BinaryOp, left: String, right: String) -> Call
-    ensures { result ≡ binary op left right }
+pub(crate) fn request_of_type(verb: Verb, to: IntType, of: &str) -> Option<Request<'_>>
+    ensures { option_map request_form result
+        ≡ request_in (row_of verb).making shape.Type (integer_type to, of.now) }
 {
-    Call::Binary { op, left, right }
+    match verb {
+        Verb::Read => Some(Request::Find(Search::Read { of, to })),
+        _ => None,
+    }
+}
+
+/// The request that a verb makes of a name and a value. `None` where its operands are of another
+/// shape.
+#[inline(always)]
+pub(crate) fn request_of_literal(verb: Verb, name: &str, value: Value) -> Option<Request<'_>>
+    ensures { option_map request_form result
+        ≡ request_in (row_of verb).making shape.Literal (name.now, value) }
+{
+    match verb {
+        Verb::Set => Some(Request::Set { name, value }),
+        _ => None,
+    }
+}
+
+/// The request that a verb makes of a source. `None` where its operands are of another shape.
+#[inline(always)]
+pub(crate) fn request_of_map<'a>(verb: Verb, source: Context) -> Option<Request<'a>>
+    ensures { option_map request_form result
+        ≡ request_in (row_of verb).making shape.Map source }
+{
+    match verb {
+        Verb::Extend => Some(Request::Extend { source }),
+        _ => None,
+    }
+}
+
+// A question about the value of a name.
+#[inline(always)]
+fn asked(question: Question, name: &str) -> Request<'_>
+    ensures { request_form result ≡ ask (question_of question) name.now }
+{
+    Request::Ask { question, name }
+}
+
+// A weighing of the values of two names.
+#[inline(always)]
+fn weighed<'a>(weighing: Weighing, left: &'a str, right: &'a str) -> Request<'a>
+    ensures { request_form result ≡ weigh (weighing_of weighing) left.now right.now }
+{
+    Request::Weigh {
+        weighing,
+        left,
+        right,
+    }
+}
+
+// What an operator computes of the numbers of two names.
+#[inline(always)]
+fn computed<'a>(op: BinaryOp, left: &'a str, right: &'a str) -> Request<'a>
+    ensures { request_form result ≡ find (calculate (operator_of op) left.now right.now) }
+{
+    Request::Find(Search::Binary { op, left, right })
 }

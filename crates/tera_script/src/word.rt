@@ -7,6 +7,8 @@ ghost use Rattle.tera_script.specs.Word.{is_blank, is_name_start, is_name_byte, 
 ghost use Rattle.tera_script.specs.Readers.{front, past, gap_at, name_at, operand_at, named_rest};
 ghost use Rattle.tera_script.specs.Readers.{is_word_byte, is_of, Stops};
 
+use crate::name::name_in;
+
 fn is_blank(byte: u8) -> bool
     ensures { result ≡ is_blank byte }
 {
@@ -133,11 +135,12 @@ pub(crate) fn take_name(bytes: &[u8]) -> Option<(&[u8], &[u8])>
 
 // The name behind a gap, and the bytes behind that name.
 #[tactic(auto, unfolding(crate::specs::Readers::operand_at))]
-pub(crate) fn take_operand(bytes: &[u8]) -> Option<(&[u8], &[u8])>
+pub(crate) fn take_operand(bytes: &[u8]) -> Option<(&str, &[u8])>
     ensures operand { option_map named_rest result ≡ operand_at bytes.now }
     ensures named { IfSome result (λ found. IsName found.0.now) }
 {
-    take_name(past_gap(bytes)?)
+    let (name, rest) = take_name(past_gap(bytes)?)?;
+    Some((name_in(name), rest))
 }
 
 // Whether each byte is a blank.

@@ -1,8 +1,9 @@
 -- What the readers of operands and of commands answer.
-use Rattle.std.specs.Prelude.{◌≡◌, ◌≢◌, ℕ, List, ◌++◌, Option, Some, None, String}
+use Rattle.std.specs.Prelude.{◌≡◌, ◌≢◌, ◌⊎◌, ℕ, List, ◌++◌, Option, Some, None}
+use Rattle.std.specs.Cow.{cow_str_bytes}
+use Rattle.std.specs.declared.borrow.CowStr.{CowStr}
 use Rattle.std.specs.Borrow.{Bor}
 use Rattle.std.specs.Str.{IsUtf8}
-use Rattle.std.specs.String.{string_bytes}
 use Rattle.tera_meaning.specs.Conversion.{IntegerType, type_name}
 use Rattle.tera_meaning.specs.Form.{Form}
 use Rattle.tera_meaning.specs.KeyMeaning.{KeyForm}
@@ -12,9 +13,10 @@ use Rattle.tera_meaning.specs.Tree.{object, members}
 use Rattle.tera_values.specs.Converted.{integer_type}
 use Rattle.tera_values.specs.declared.integers.IntType.{IntType}
 use Rattle.tera_script.specs.Line.{SpellsQuoted, SpellsValue, AreNamed, SpellsGiven}
-use Rattle.tera_script.specs.Line.{SpellsOperands, SpellsCommand, IsBare}
+use Rattle.tera_script.specs.Line.{SpellsOperands, SpellsCommand, BringsNothing, HasNoEscape}
+use Rattle.tera_script.specs.Line.{IsBare}
 use Rattle.tera_script.specs.Readers.{Stops, is_word_byte, Ends}
-use Rattle.tera_script.specs.Verb.{Given, Row}
+use Rattle.tera_script.specs.Verb.{Given, Making, of_text, of_literal, of_map, Row}
 use Rattle.tera_script.specs.Word.{is_name_byte, AreBlanks}
 use Rattle.tera_script.specs.declared.verb.Shape.{Shape}
 use Rattle.tera_script.specs.declared.verb.Shape.TheVariants as shape
@@ -56,8 +58,8 @@ IsTextAt bytes answer = IsPartAt SpellsQuoted EndsItself bytes answer
 abbrev pub IsValueAt : List ℕ → Option (Form × List ℕ) → Type 0
 IsValueAt bytes answer = IsPartAt SpellsValue Ends bytes answer
 
-abbrev pub text_rest : {A : Type 0} → String A × Bor (List ℕ) → List ℕ × List ℕ
-text_rest pair = (string_bytes pair.0, pair.1.now)
+abbrev pub text_rest : {A : Type 0} → CowStr A × Bor (List ℕ) → List ℕ × List ℕ
+text_rest pair = (cow_str_bytes pair.0, pair.1.now)
 
 -- where operands of a shape end
 abbrev pub EndsGiven : (shape : Shape) → Given shape → List ℕ → Type 0
@@ -111,11 +113,17 @@ AreOperandsOf row bytes answer = IsOneOf (SpellsOperands row) bytes answer
 abbrev pub IsCommandAt : List ℕ → Option Command → Type 0
 IsCommandAt bytes answer = IsOneOf SpellsCommand bytes answer
 
--- where no quote, bracket or brace stands in the bytes, they are the operands of a call before
--- blanks; and a call with its operands
-abbrev pub AreOperandsIfBare : Row → List ℕ → Type 0
-AreOperandsIfBare row bytes =
-    IsBare bytes → (command : Command) × AreOperandsOf row bytes (Some command)
+-- operands that take no memory to read: those with a text where they have no escape, and those that
+-- bring values where no quote, bracket or brace stands in them
+abbrev pub AreLight : Making → List ℕ → Type 0
+AreLight (of_text f) bytes = IsBare bytes ⊎ HasNoEscape bytes
+AreLight (of_literal f) bytes = IsBare bytes
+AreLight (of_map f) bytes = IsBare bytes
+AreLight making bytes = Unit {0}
 
-abbrev pub IsCommandIfBare : List ℕ → Type 0
-IsCommandIfBare bytes = IsBare bytes → (command : Command) × IsCommandAt bytes (Some command)
+-- no quote, bracket or brace stands in the bytes, or they are a command that brings nothing, by no
+-- text with an escape
+abbrev pub IsLightCommand : List ℕ → Type 0
+IsLightCommand bytes = IsBare bytes
+    ⊎ (HasNoEscape bytes × ((command : Command) × EndsIn SpellsCommand bytes command
+    × BringsNothing command.request))

@@ -1,8 +1,9 @@
-use Rattle.std.proofs.Common.{ap, Some, None}
-use Rattle.tera_script.specs.declared.verb.Operands.TheVariants.{Literal as operands}
+use Rattle.std.proofs.Common.{ap, ◌∙◌, Some, None}
+use Rattle.tera_context.specs.Request.{name_of}
+use Rattle.tera_script.specs.inner.Call.{with_into}
 use Rattle.tera_script.proofs.Values.{no_name, both_at, value_parts}
-use Rattle.tera_script.proofs.Bare.{bare_past_operand, may_fail}
-use Rattle.tera_script.proofs.Commands.{no_operands, nothing_behind, said_there, step_made}
+use Rattle.tera_script.proofs.Bare.{all_past_operand}
+use Rattle.tera_script.proofs.Commands.{no_operands, nothing_behind, command_made}
 use Rattle.tera_script.proofs.shape.read_literal.Goals as goal
 
 pub returns-in_default-clause-operands : goal.returns-in_default-clause-operands
@@ -22,21 +23,8 @@ pub returns-clause-operands : goal.returns-clause-operands
 returns-clause-operands c =
     let found = both_at value_parts _ c.in-Some.ensures.operand (Some (c.in-Some-2.value, c.in-Some-2.rest.now))
     (rw (c.in-Some-2.is) at c.in_ok-value.ensures.value) in
-    step_made c.requires found (operands c.in_ok-name.name c.in-Some-2.value)
-    (ap (λ name. Some (name, c.in-Some-2.value)) c.in_ok-name.ensures) c.in-Some-into_in.ensures.into c.step_of.result c.step_of.ensures
-
-pub returns-in_err-name-clause-free : goal.returns-in_err-name-clause-free
-returns-in_err-name-clause-free c =
-    let found = both_at value_parts _ c.in-Some.ensures.operand (Some (c.in-Some-2.value, c.in-Some-2.rest.now))
-    (rw (c.in-Some-2.is) at c.in_ok-value.ensures.value) in
-    may_fail c.from_residual-in_err-name.result (λ bare. said_there c.requires found c.in-Some-into_in.ensures.into)
+    command_made c.requires found c.in-Some-into_in.ensures.into c.command_with.result
+    (c.command_with.ensures ∙ ap (λ request. with_into request (name_of c.in-Some-into_in.into)) c.request_of_literal.ensures)
 
 pub returns-in_err-value-clause-free : goal.returns-in_err-value-clause-free
-returns-in_err-value-clause-free c =
-    may_fail c.from_residual.result (λ bare. absurd (cc (c.in_err-value.ensures.free (bare_past_operand c.args.bytes.now c.in-Some.ensures.operand bare))))
-
-pub returns-clause-free : goal.returns-clause-free
-returns-clause-free c =
-    let found = both_at value_parts _ c.in-Some.ensures.operand (Some (c.in-Some-2.value, c.in-Some-2.rest.now))
-    (rw (c.in-Some-2.is) at c.in_ok-value.ensures.value) in
-    may_fail c.step_of.result (λ bare. said_there c.requires found c.in-Some-into_in.ensures.into)
+returns-in_err-value-clause-free c = λ bare. absurd (cc (c.in_err-value.ensures.free (all_past_operand _ c.args.bytes.now c.in-Some.ensures.operand bare)))

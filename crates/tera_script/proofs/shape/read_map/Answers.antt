@@ -1,8 +1,9 @@
-use Rattle.std.proofs.Common.{refl}
-use Rattle.tera_script.specs.declared.verb.Operands.TheVariants.{Map as operands}
+use Rattle.std.proofs.Common.{ap, ◌∙◌}
+use Rattle.tera_context.specs.Request.{name_of}
+use Rattle.tera_script.specs.inner.Call.{with_into}
 use Rattle.tera_script.proofs.Values.{source_none, source_at, source_found}
-use Rattle.tera_script.proofs.Bare.{value_is_no_map, may_fail}
-use Rattle.tera_script.proofs.Commands.{no_operands, nothing_behind, said_there, step_made}
+use Rattle.tera_script.proofs.Bare.{value_is_no_map}
+use Rattle.tera_script.proofs.Commands.{no_operands, nothing_behind, command_made}
 use Rattle.tera_script.proofs.shape.read_map.Goals as goal
 
 pub returns-in_default-clause-operands : goal.returns-in_default-clause-operands
@@ -20,17 +21,13 @@ returns-in_default-into_in-clause-operands c =
 pub returns-clause-operands : goal.returns-clause-operands
 returns-clause-operands c =
     let found = source_found (rw (c.in-Some.is) at c.in_ok-value.ensures.value) (rw (c.in-Some-2.is) at c.in_ok-source.ensures.source) in
-    step_made c.requires found (operands c.in-Some-2.source) refl c.in-Some-into_in.ensures.into c.step_of.result c.step_of.ensures
+    command_made c.requires found c.in-Some-into_in.ensures.into c.command_with.result
+    (c.command_with.ensures ∙ ap (λ request. with_into request (name_of c.in-Some-into_in.into)) c.request_of_map.ensures)
 
 pub returns-in_err-value-clause-free : goal.returns-in_err-value-clause-free
-returns-in_err-value-clause-free c = may_fail c.from_residual.result (λ bare. absurd (cc (c.in_err-value.ensures.free bare)))
+returns-in_err-value-clause-free c = λ bare. absurd (cc (c.in_err-value.ensures.free bare))
 
 pub returns-in_err-source-clause-free : goal.returns-in_err-source-clause-free
-returns-in_err-source-clause-free c =
+returns-in_err-source-clause-free c = λ bare.
     let found = rw (c.in-Some.is) at c.in_ok-value.ensures.value in
-    may_fail c.from_residual-in_err-source.result (λ bare. absurd (cc (c.in_err-source.ensures.free (value_is_no_map found bare))))
-
-pub returns-clause-free : goal.returns-clause-free
-returns-clause-free c =
-    let found = source_found (rw (c.in-Some.is) at c.in_ok-value.ensures.value) (rw (c.in-Some-2.is) at c.in_ok-source.ensures.source) in
-    may_fail c.step_of.result (λ bare. said_there c.requires found c.in-Some-into_in.ensures.into)
+    absurd (cc (c.in_err-source.ensures.free (value_is_no_map found bare)))

@@ -1,0 +1,94 @@
+//! Texts as literals, put into any sink.
+ghost use Rattle.std.specs.Prelude.{◌≡◌, false, flat_map};
+ghost use Rattle.std.specs.Fmt.{digits};
+ghost use Rattle.tera_report.specs.Sink.{PutsThese};
+ghost use Rattle.tera_script.specs.Text.{spelling, character};
+ghost use Rattle.tera_script.specs.Written.{inside, quoted_literal, text_literal, tokens_of};
+ghost use Rattle.tera_script.specs.Written.{is_numbered};
+
+use tera_report::quote::put_quoted;
+use tera_report::sink::Sink;
+
+/// Puts a text between quotes, behind an s where it is marked safe.
+pub(crate) fn put_marked<S: Sink>(
+    text: &str,
+    safe: bool,
+    ascii: bool,
+    out: &mut S,
+) -> Result<(), S::Fault>
+    ensures { PutsThese S.takes S.fails result
+        (text_literal ascii (record { spelled = text.now; safe = safe })) out.old out.new }
+{
+    if safe {
+        out.put("s")?;
+    }
+    put_text(text, ascii, out)
+}
+
+/// Puts a text between quotes. That of an ASCII text is its debug form, which is put in one pass.
+pub(crate) fn put_text<S: Sink>(text: &str, ascii: bool, out: &mut S) -> Result<(), S::Fault>
+    ensures { PutsThese S.takes S.fails result (quoted_literal ascii text.now) out.old out.new }
+{
+    if text.is_ascii() {
+        return put_quoted(text, out);
+    }
+    put_mixed(text, ascii, out)
+}
+
+// The same, character by character.
+#[inline(never)]
+fn put_mixed<S: Sink>(text: &str, ascii: bool, out: &mut S) -> Result<(), S::Fault>
+    ensures { PutsThese S.takes S.fails result (quoted_literal ascii text.now) out.old out.new }
+{
+    out.put("\"")?;
+    put_characters(text, ascii, out)?;
+    out.put("\"")
+}
+
+// Puts what stands between the quotes, character by character.
+fn put_characters<S: Sink>(text: &str, ascii: bool, out: &mut S) -> Result<(), S::Fault>
+    ensures { PutsThese S.takes S.fails result (inside ascii text.now) out.old out.new }
+{
+    let mut rest = text.chars();
+    'characters: while let Some(c) = rest.next() {
+        put_character(c, ascii, out)?;
+    }
+    Ok(())
+}
+
+// Puts what stands for a character.
+fn put_character<S: Sink>(c: char, ascii: bool, out: &mut S) -> Result<(), S::Fault>
+    ensures { PutsThese S.takes S.fails result (flat_map spelling (tokens_of ascii c))
+        out.old out.new }
+{
+    match c {
+        '"' => out.put("\\\""),
+        '\\' => out.put("\\\\"),
+        '\n' => out.put("\\n"),
+        '\r' => out.put("\\r"),
+        '\t' => out.put("\\t"),
+        '\0' => out.put("\\0"),
+        _ if is_numbered(c, ascii) => put_code(c, out),
+        _ => out.put(c.encode_utf8(&mut [0; 4])),
+    }
+}
+
+// Whether a character is put by its number, where it has no escape of one letter.
+fn is_numbered(c: char, ascii: bool) -> bool
+    ensures { result ≡ is_numbered ascii c }
+{
+    c < ' ' || c == '\u{7f}' || (ascii && c > '\u{7f}')
+}
+
+// Puts a character by the hexadecimal digits of its number.
+fn put_code<S: Sink>(c: char, out: &mut S) -> Result<(), S::Fault>
+    ensures { PutsThese S.takes S.fails result (spelling (character (digits 16 false c)))
+        out.old out.new }
+{
+    let mut buffer = [0; 4];
+    let mut escape = c.escape_unicode();
+    'parts: while let Some(part) = escape.next() {
+        out.put(part.encode_utf8(&mut buffer))?;
+    }
+    Ok(())
+}
