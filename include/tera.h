@@ -28,6 +28,9 @@
 extern "C" {
 #endif
 
+/* The version of this header, 0.1.0: major * 65536 + minor * 256 + patch. */
+#define TERA_VERSION 256
+
 /* How many bytes a thread's stack needs at most, whatever the lines say: literals nest at most 64 levels. */
 #define TERA_STACK 98304
 
@@ -51,6 +54,9 @@ static inline uint8_t *tera_room(void *p) {
     static uint8_t none;
     return p ? (uint8_t *)p : &none;
 }
+
+/* The version of the library, as TERA_VERSION is that of the header. */
+uint32_t tera_version(void);
 
 /* A session: names, what they mean, and the reply to the last line. Whoever opened it owns it, until it is closed. */
 typedef struct tera_session tera_session;

@@ -1,10 +1,10 @@
 //! Contexts, and the lines of scripts.
-use crate::answers::{tell, tell_change, widened};
+use crate::answers::{tell, tell_change, tell_debug, widened};
 use crate::made::{Fill, Made, filled, item, name};
 use std::alloc::{AllocError, Global};
-use tera_context::{Context, context};
+use tera_context::{Command, Context, Request, Search, context, lend};
 use tera_report::TeraResult;
-use tera_script::{read_line, take_text};
+use tera_script::{literal_text, read_line, take_text};
 use tera_values::{HashState, Value};
 
 // The items under so many names.
@@ -76,14 +76,16 @@ fn tell_replace(rt: &impl Print, context: Context, text: &str) {
 pub fn tell_lines(rt: &(impl Print + AllocGlobal), made: &Made) -> TeraResult<()> {
     let (alloc, text) = (rt.alloc(), made.text.as_str());
     tell_line(rt, format!(in alloc; "set a [\"{text}\"]"))?;
-    tell_text(rt, format!(in alloc; "{text}\" rest"))
+    tell_text(rt, format!(in alloc; "{text}\" rest"))?;
+    tell(rt, "literal_text", literal_text(alloc, &made.plain, false));
+    Ok(())
 }
 
 fn tell_line(rt: &(impl Print + AllocGlobal), line: Result<String, AllocError>) -> TeraResult<()> {
     let line = line?;
     let reading = read_line(rt.alloc(), HashState::fixed(), line.as_bytes());
-    drop(line);
     tell(rt, "read_line", widened(reading));
+    drop(line);
     Ok(())
 }
 
@@ -104,4 +106,14 @@ fn unquoted(alloc: Global, bytes: &[u8]) -> TeraResult<Option<(String, usize)>> 
         Some(taken) => Ok(Some((taken.text, taken.used))),
         None => Ok(None),
     }
+}
+
+/// What a context lends for `get`.
+pub fn tell_lent(rt: &impl Print, context: &Context, name: &str) {
+    let get = Command {
+        request: Request::Find(Search::Get { name }),
+        into: None,
+    };
+    tell_debug(rt, "lend", &lend(context, &get));
+    drop(get);
 }

@@ -2,13 +2,14 @@
 //! made, so that each request there is one of the call whose line follows it.
 use crate::answers::{tell, tell_debug, widened};
 use crate::arguments::taken;
+use crate::contexts::tell_lent;
 use crate::made::{Made, filled, span};
 use std::alloc::Global;
 use std::io::Write;
 use std::rc::RcStr;
 use std::{io, mem};
 use tera_arguments::{Kwargs, StringInput};
-use tera_context::{Context, LookUp, look_up};
+use tera_context::Context;
 use tera_report::sink::{Growing, Room};
 use tera_report::{ReportError, TeraResult, escape_html, escape_into_room};
 use tera_values::number::{add, floor_div, mul, negate, pow, rem, sub};
@@ -188,8 +189,7 @@ fn tell_context(rt: &(impl Print + AllocGlobal), context: Context) {
     tell_made(rt);
     tell_debug(rt, "Context::contains_key", &context.contains_key("k1001"));
     tell_debug(rt, "Context::get", &context.get("k1001"));
-    let get = LookUp::Get { name: "k1001" };
-    tell_debug(rt, "look_up", &look_up(&context, get));
+    tell_lent(rt, &context, "k1001");
     tell_debug(rt, "Context::eq", &(context == context));
     tell_debug(rt, "Context::remove", &context.remove("k1001"));
     tell_making(rt);
@@ -264,6 +264,8 @@ fn tell_numbers(rt: &impl Print, value: &Value) {
 fn tell_found(rt: &(impl Print + AllocGlobal), made: &Made) {
     let (alloc, map, text) = (rt.alloc(), &made.map, &made.plain);
     tell_debug(rt, "Value::get_attr", &map.get_attr("k1001"));
+    tell_debug(rt, "Value::get_at", &map.get_at(text));
+    tell_debug(rt, "Value::get_at", &made.list.get_at(&made.zero));
     tell_debug(rt, "Value::get_from_path", &made.list.get_from_path("1"));
     tell(rt, "Value::contains", map.contains(alloc, text));
     tell(rt, "Value::contains", map.contains(alloc, &made.zero));

@@ -1,5 +1,5 @@
-//! Public calls in hostile surroundings: standard input says what is done, and tests/hostile.py
-//! what is to come of it.
+//! Public calls in hostile surroundings: standard input says what is done, and
+//! tests/test_hostile.py what is to come of it.
 //!
 //! - A number, and 2 where nothing is said: each call that takes memory, on operands of so many
 //!   parts. A line for each has its name, its answer, and what is still held of what it may change.

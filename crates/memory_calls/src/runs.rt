@@ -18,8 +18,10 @@ pub fn tell_readings(rt: &(impl Print + AllocGlobal), script: &str) {
 }
 
 fn tell_reading(rt: &(impl Print + AllocGlobal), line: &str) {
-    let reading = read_line(rt.alloc(), HashState::fixed(), line.as_bytes());
-    tell(rt, "read_line", widened(reading));
+    match read_line(rt.alloc(), HashState::fixed(), line.as_bytes()) {
+        Ok(Reading::Says(said)) => tell(rt, "read_line", widened(said.into_step(rt.alloc()))),
+        other => tell(rt, "read_line", widened(other)),
+    }
 }
 
 /// Runs the lists of steps that a script holds, each in one run, over one context. Lines `--` part
@@ -85,7 +87,7 @@ fn found_into(step: Step, name: String) -> Step {
 
 fn read(alloc: Global, line: &str) -> TeraResult<Step> {
     match read_line(alloc, HashState::fixed(), line.as_bytes())? {
-        Reading::Says(step) => Ok(step),
+        Reading::Says(said) => Ok(said.into_step(alloc)?),
         other => lost(other, Error::message(alloc, line)),
     }
 }

@@ -2,7 +2,7 @@
 //! is lent.
 use made_values::{safe, shows};
 use std::alloc::{AllocError, Global};
-use tera_context::{Context, Step, context, lend, run, step};
+use tera_context::{Command, Context, Step, context, lend, run, step};
 use tera_report::TeraResult;
 use tera_script::{Reading, read_line};
 use tera_values::{HashState, Value};
@@ -208,7 +208,7 @@ fn an_empty_run_answers_nothing(rt: HostRuntime) {
 // The step that the line says.
 fn step_of(alloc: Global, state: HashState, line: &str) -> Option<Step> {
     match read_line(alloc, state, line.as_bytes()).ok()? {
-        Reading::Says(said) => Some(said),
+        Reading::Says(said) => said.into_step(alloc).ok(),
         other => no_step(other),
     }
 }
@@ -319,13 +319,13 @@ fn answers_show_what_they_hold(rt: HostRuntime) {
 
 // What the context lends for the step that the line says, in words of Debug.
 fn lends(alloc: Global, context: &Context, line: &str, wanted: &str) -> bool {
-    match step_of(alloc, context.hasher(), line) {
-        Some(said) => is_lent(alloc, context, said, wanted),
-        None => false,
+    match read_line(alloc, context.hasher(), line.as_bytes()) {
+        Ok(Reading::Says(said)) => is_lent(alloc, context, said, wanted),
+        _ => false,
     }
 }
 
-fn is_lent(alloc: Global, context: &Context, said: Step, wanted: &str) -> bool {
+fn is_lent(alloc: Global, context: &Context, said: Command<'_>, wanted: &str) -> bool {
     let is_so = shows(alloc, &lend(context, &said), wanted);
     drop(said);
     is_so

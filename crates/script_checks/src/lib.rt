@@ -8,6 +8,8 @@ mod contexts;
 #[cfg(test)]
 mod lines;
 #[cfg(test)]
+mod literals;
+#[cfg(test)]
 mod replayer;
 #[cfg(test)]
 mod replays;

@@ -1,4 +1,5 @@
 pub mod Status
+pub mod Version
 pub mod Rooms
 pub mod Held
 pub mod Lines

@@ -3,10 +3,9 @@ use Rattle.std.specs.Prelude.{◌≡◌, ℕ, ◌⊎◌, Bool, List, [], ◌∷�
 use Rattle.std.specs.Prelude.{IsSomeAnd, string_bytes, if◌then◌else◌}
 use Rattle.std.specs.FinMap.{empty}
 use Rattle.tera_report.specs.Report.{Report, report_text}
-use Rattle.tera_context.specs.Lent.{lent_at, looked_up}
-use Rattle.tera_context.specs.declared.lends.LookUp.{LookUp}
-use Rattle.tera_script.specs.Line.{IsBad, IsSkipped}
-use Rattle.tera_script.specs.LookUp.{IsPlainLookUp}
+use Rattle.tera_context.specs.Lent.{lent_at}
+use Rattle.tera_meaning.specs.Request.{Command}
+use Rattle.tera_script.specs.Line.{HasNoEscape, IsBad, IsSkipped, Says}
 use Rattle.tera_replies.specs.Replay.{line_report}
 use Rattle.tera_replies.specs.Script.{ended}
 use Rattle.tera_replies.specs.Stretch.{Runs, bad_at}
@@ -61,10 +60,10 @@ ComesOf old line new status =
     ⊎ (IsPutOff old new status
     ⊎ HasNoReply old line new status))
 
--- a look-up that the line says plainly finds what the names lend
+-- the line has no escape, and says a command for which the names lend an answer
 abbrev pub FindsLent : Talk → List ℕ → Type 0
-FindsLent old line =
-    (asked : LookUp) × IsPlainLookUp line asked × IsSome (lent_at old.context (looked_up asked))
+FindsLent old line = HasNoEscape line
+    × ((command : Command) × Says line command × IsSome (lent_at old.context command))
 
 -- one line: where it is skipped it takes no memory, and where it finds what is lent no more than
 -- its reply does

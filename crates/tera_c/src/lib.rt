@@ -9,6 +9,7 @@ ghost use Rattle.tera_c.specs.Rooms.{IsDelivered};
 ghost use Rattle.tera_c.specs.Scripts.{FoundNoMemory, IsReplayed};
 ghost use Rattle.tera_c.specs.Status.{bad, closed, is_open, no_memory};
 ghost use Rattle.tera_c.specs.Talks.{Goes, Hears, Opens, reply_of};
+ghost use Rattle.tera_c.specs.Version.{version_number};
 
 mod kept;
 mod line;
@@ -18,6 +19,7 @@ mod script;
 mod session;
 mod status;
 mod talk;
+mod version;
 
 use rooms::deliver;
 use script::replay_into;
@@ -29,6 +31,15 @@ use std::str::from_utf8;
 use talk::Talk;
 use tera_report::escape_text;
 use tera_values::HashState;
+use version::{MAJOR, MINOR, PATCH};
+
+/// The version of the library as one number: that of 0.1.0.
+#[unsafe(no_mangle)]
+pub extern "C" fn tera_version() -> u32
+    ensures { result ≡ version_number 0 1 0 }
+{
+    MAJOR * 65536 + MINOR * 256 + PATCH
+}
 
 /// Replays a whole script, hashed under the fixed state.
 #[unsafe(no_mangle)]

@@ -39,24 +39,6 @@ module _ {S : Type 0} {takes fails : S → List ℕ → S → Type 0} {flushes f
     ];
   }
 
--- the reply to a line leaves a run of it, and so does a write of it that failed
-pub line_answered : (result : Result Bool Fault) (Replies OutGets OutBroke : List ℕ → Type 0) (OutStays Same : Type 0) (n : ℕ) (old new : State) (line : List ℕ)
-    (w : Bool) → ((reply : List ℕ) → Replies reply → Runs n old (line ∷ []) reply w new)
-    → IfOk result (λ wanted. (reply : List ℕ) × Replies reply × OutGets reply × (wanted ≡ w)) → IfErr result (ReplyStops Replies OutBroke)
-    → record {
-      ok : IfOk result (λ wanted. (text : List ℕ) × Runs n old (line ∷ []) text wanted new × OutGets text);
-      err : IfErr result (LineStops n old line new OutStays OutBroke);
-      only : MatchResult result (λ wanted. wanted ≡ w) (λ fault. fault ≡ WriteFailed);
-      unchanged : IfErr result (λ fault. fault ≢ WriteFailed → Same);
-    }
-line_answered (Ok wanted) Replies OutGets OutBroke OutStays Same n old new line w then (reply, is, gets, same) err =
-    record { ok = (reply, rw same (then reply is), gets); err = tt; only = same; unchanged = tt }
-line_answered (Err (BadLine report)) Replies OutGets OutBroke OutStays Same n old new line w then ok err = absurd err
-line_answered (Err ReadFailed) Replies OutGets OutBroke OutStays Same n old new line w then ok err = absurd err
-line_answered (Err WriteFailed) Replies OutGets OutBroke OutStays Same n old new line w then ok (reply, is, broke) =
-    record { ok = tt; err = (reply, w, then reply is, broke); only = refl; unchanged = λ other. absurd (other refl) }
-line_answered (Err OutOfMemory) Replies OutGets OutBroke OutStays Same n old new line w then ok err = absurd err
-
 -- a reply that answers in one way answers in another
 pub answers_so : (result : Result Bool Fault) (Replies OutGets OutBroke : List ℕ → Type 0) (Answers : List ℕ → Bool → Type 0) (w : Bool)
     → ((reply : List ℕ) → Replies reply → Answers reply w)
@@ -64,11 +46,14 @@ pub answers_so : (result : Result Bool Fault) (Replies OutGets OutBroke : List �
     → record {
       ok : IfOk result (λ wanted. (reply : List ℕ) × Answers reply wanted × OutGets reply);
       err : IfErr result (ReplyStops (λ reply. (wanted : Bool) × Answers reply wanted) OutBroke);
+      only : MatchResult result (λ wanted. wanted ≡ w) (λ fault. fault ≡ WriteFailed);
     }
-answers_so (Ok wanted) Replies OutGets OutBroke Answers w so (reply, is, gets, same) err = record { ok = (reply, rw same (so reply is), gets); err = tt }
+answers_so (Ok wanted) Replies OutGets OutBroke Answers w so (reply, is, gets, same) err =
+    record { ok = (reply, rw same (so reply is), gets); err = tt; only = same }
 answers_so (Err (BadLine report)) Replies OutGets OutBroke Answers w so ok err = absurd err
 answers_so (Err ReadFailed) Replies OutGets OutBroke Answers w so ok err = absurd err
-answers_so (Err WriteFailed) Replies OutGets OutBroke Answers w so ok (reply, is, broke) = record { ok = tt; err = (reply, (w, so reply is), broke) }
+answers_so (Err WriteFailed) Replies OutGets OutBroke Answers w so ok (reply, is, broke) =
+    record { ok = tt; err = (reply, (w, so reply is), broke); only = refl }
 answers_so (Err OutOfMemory) Replies OutGets OutBroke Answers w so ok err = absurd err
 
 -- a reply was put, or a write failed

@@ -5,15 +5,10 @@ ghost use Rattle.std.specs.Prelude.{IfOk, OnOk, IfErr, IfSome, IfNone, IsOk, IsS
 ghost use Rattle.std.specs.Prelude.{IsTrue, MatchResult, codes, decimal, false, string_bytes};
 ghost use Rattle.tera_report.specs.Sink.{Sends};
 ghost use Rattle.tera_report.specs.Errors.{report_of};
-ghost use Rattle.tera_meaning.specs.Outcome.{Outcome};
-ghost use Rattle.tera_meaning.specs.Request.{Command};
-ghost use Rattle.tera_meaning.specs.Step.{IsStep};
-ghost use Rattle.std.specs.Option.{option_map};
-ghost use Rattle.tera_context.specs.Call.{command_of};
-ghost use Rattle.tera_context.specs.Lent.{StandsFor, lent_at, lent_form, looked_up};
-ghost use Rattle.tera_context.specs.declared.lends.LookUp.{LookUp};
-ghost use Rattle.tera_script.specs.Line.{IsSkipped, Says};
-ghost use Rattle.tera_script.specs.LookUp.{IsPlainLookUp};
+ghost use Rattle.tera_meaning.specs.Request.{Command as CommandOf};
+ghost use Rattle.tera_context.specs.Lent.{lent_at};
+ghost use Rattle.tera_context.specs.Request.{command_form};
+ghost use Rattle.tera_script.specs.Line.{HasNoEscape, IsSkipped, Says};
 ghost use Rattle.tera_replies.specs.declared.fault.Fault.TheVariants.{OutOfMemory, WriteFailed};
 ghost use Rattle.tera_replies.specs.Output.{BrokeOn};
 ghost use Rattle.tera_replies.specs.Replay.{line_report, source_of, whole_line};
@@ -28,11 +23,11 @@ use itoa::Buffer;
 use memchr::memchr;
 use std::alloc::{AllocError, Global};
 use std::str::from_utf8;
-use tera_context::{Context, Lent, Step, lend, look_up, step};
+use tera_context::{Command, Context, answer, lend};
 use tera_report::sink::Sink;
 use tera_report::words::characters;
 use tera_report::{ReportError, Span};
-use tera_script::{Reading, look_up_of, read_line};
+use tera_script::{Reading, read_line};
 use tera_values::HashState;
 
 /// What a replay keeps between two pieces of its script.
@@ -197,9 +192,8 @@ impl Feed {
 /// it: then nothing has changed. `WriteFailed` where the sink refused a part of the reply: then
 /// the line was run, and the context is as that run left it. Never `ReadFailed`.
 ///
-/// Takes memory for what the line names and brings, for what its step takes, and for its report. A
-/// line that is skipped takes none, nor does a look-up that the line says plainly, where `look_up`
-/// lends what it finds.
+/// Takes memory for what the line brings, for what its command takes, and for its report. A line
+/// that is skipped takes none, nor does one without an escape for which `lend` lends its answer.
 pub fn answer_line<W: Sink>(
     alloc: Global,
     number: u128,
@@ -214,89 +208,64 @@ pub fn answer_line<W: Sink>(
         (Sends W.takes W.flushes out.old [] out.new)
         (λ text. BrokeOn W.takes W.fails W.flushes W.flush_fails out.old text out.new)) }
     ensures skipped { IsSkipped line.now → IsOk result }
-    ensures lent { (asked : LookUp) → IsPlainLookUp line.now asked
-        → IsSome (lent_at context.old (looked_up asked))
+    ensures lent { (command : CommandOf) → Says line.now command → HasNoEscape line.now
+        → IsSome (lent_at context.old command)
         → MatchResult result (λ wanted. wanted ≡ false) (λ fault. fault ≡ WriteFailed) }
-    ensures unchanged { IfErr result (λ fault. fault ≢ WriteFailed → context.new ≡ context.old) }
-{
-    if let Some(lent) = lent_for(context, line) {
-        return write_lent(lent, out);
-    }
-    answer_read_line(alloc, number, line, context, out)
-}
-
-// Answers one line as it is read.
-#[inline(always)]
-fn answer_read_line<W: Sink>(
-    alloc: Global,
-    number: u128,
-    line: &[u8],
-    context: &mut Context,
-    out: &mut W,
-) -> Result<bool, Fault>
-    ensures ok { IfOk result (λ wanted. (text : List ℕ)
-        × Runs number context.old (line.now ∷ []) text wanted context.new
-        × Sends W.takes W.flushes out.old text out.new) }
-    ensures err { IfErr result (LineStops number context.old line.now context.new
-        (Sends W.takes W.flushes out.old [] out.new)
-        (λ text. BrokeOn W.takes W.fails W.flushes W.flush_fails out.old text out.new)) }
-    ensures skipped { IsSkipped line.now → IsOk result }
     ensures unchanged { IfErr result (λ fault. fault ≢ WriteFailed → context.new ≡ context.old) }
 {
     match read_line(alloc, context.hasher(), line)? {
         Reading::Skipped => Ok(false),
         Reading::Bad => Err(bad_line_fault(alloc, number, line)),
-        Reading::Says(call) => answer_call(call, context, out),
+        Reading::Says(command) => answer_command(command, context, out),
     }
 }
 
-// Answers a call: by what the context lends, or by its step where nothing is lent.
+// Answers a command: by what the context lends, where it lends something.
 #[inline(always)]
-fn answer_call<W: Sink>(call: Step, context: &mut Context, out: &mut W) -> Result<bool, Fault>
+fn answer_command<W: Sink>(
+    command: Command<'_>,
+    context: &mut Context,
+    out: &mut W,
+) -> Result<bool, Fault>
     ensures ok { IfOk result (λ wanted. (reply : List ℕ)
-        × AnswersCall (command_of call) context.old context.new reply wanted
+        × AnswersCall (command_form command.entry) context.old context.new reply wanted
         × Sends W.takes W.flushes out.old reply out.new) }
     ensures err { IfErr result (ReplyStops
         (λ reply. (wanted : Bool)
-        × AnswersCall (command_of call) context.old context.new reply wanted)
+        × AnswersCall (command_form command.entry) context.old context.new reply wanted)
         (λ text. BrokeOn W.takes W.fails W.flushes W.flush_fails out.old text out.new)) }
+    ensures lent { IsSome (lent_at context.old (command_form command.entry))
+        → MatchResult result (λ wanted. wanted ≡ false) (λ fault. fault ≡ WriteFailed) }
 {
-    match lend(context, &call) {
+    match lend(context, &command) {
         Some(lent) => {
             let answered = write_lent(lent, out);
-            drop(call);
+            drop(command);
             answered
         }
-        None => answer_step(call, context, out),
+        None => answer_by_itself(command, context, out),
     }
 }
 
-// Answers a call by its step.
+// Answers a command for which the context lends nothing.
 #[inline(always)]
-fn answer_step<W: Sink>(call: Step, context: &mut Context, out: &mut W) -> Result<bool, Fault>
+fn answer_by_itself<W: Sink>(
+    command: Command<'_>,
+    context: &mut Context,
+    out: &mut W,
+) -> Result<bool, Fault>
     ensures ok { IfOk result (λ wanted. (reply : List ℕ)
-        × AnswersCall (command_of call) context.old context.new reply wanted
+        × AnswersCall (command_form command.entry) context.old context.new reply wanted
         × Sends W.takes W.flushes out.old reply out.new) }
     ensures err { IfErr result (ReplyStops
         (λ reply. (wanted : Bool)
-        × AnswersCall (command_of call) context.old context.new reply wanted)
+        × AnswersCall (command_form command.entry) context.old context.new reply wanted)
         (λ text. BrokeOn W.takes W.fails W.flushes W.flush_fails out.old text out.new)) }
 {
-    let answer = step(context, call);
+    let answer = answer(context, command);
     let answered = write_answer(&answer, out);
     drop(answer);
     answered
-}
-
-// What the context lends for a look-up that the line says, which then takes no memory.
-fn lent_for<'a>(context: &'a Context, line: &'a [u8]) -> Option<Lent<'a>>
-    ensures says { IfSome result (λ lent. (command : Command) × Says line.now command
-        × ((outcome : Outcome) → StandsFor (lent_form lent) outcome
-        → IsStep context.now command outcome context.now)) }
-    ensures plain { (asked : LookUp) → IsPlainLookUp line.now asked
-        → option_map lent_form result ≡ lent_at context.now (looked_up asked) }
-{
-    look_up(context, look_up_of(line)?)
 }
 
 // Why a bad line is not answered: it is bad, or its report wants memory.

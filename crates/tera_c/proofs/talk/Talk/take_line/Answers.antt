@@ -13,7 +13,7 @@ returns-then-wanted c =
     record {
       comes = inl (c.in-Ok.wanted, runs, search rules);
       skipped = λ skip. absurd (false≢true (sym (skipped_wants_none c.skipped_says_nothing.ensures 1 _ _ _ _ _ runs skip) ∙ c.if-wanted.true));
-      lent = λ found. absurd (false≢true (sym (c.in-Ok.ensures.lent found.0 found.1 found.2) ∙ c.if-wanted.true));
+      lent = λ found. absurd (false≢true (sym (c.in-Ok.ensures.lent found.1.0 found.1.1 found.0 found.1.2) ∙ c.if-wanted.true));
     }
 
 pub returns-in-Ok : goal.returns-in-Ok
@@ -33,7 +33,7 @@ returns-in-Err-BadLine c =
         | inr (context, reply, status) ↦ inr (inr (inl (context ∙ same, reply, status)))
       ];
       skipped = λ skip. absurd (told.1.0 skip);
-      lent = λ found. absurd (other (c.in-Err-BadLine.ensures.lent found.0 found.1 found.2));
+      lent = λ found. absurd (other (c.in-Err-BadLine.ensures.lent found.1.0 found.1.1 found.0 found.1.2));
     }
 
 pub returns-in-Err-WriteFailed : goal.returns-in-Err-WriteFailed
