@@ -1,0 +1,10 @@
+mod Numbers
+mod Decimals
+mod Canonical
+mod Stops
+mod Reading
+mod Plain
+mod Writing
+mod ReadBack
+mod Tidying
+mod Apart
