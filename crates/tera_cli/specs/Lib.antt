@@ -1,0 +1,4 @@
+pub mod Choice
+pub mod Faults
+pub mod Scripts
+pub mod Talk
