@@ -8,14 +8,17 @@ r"""The values of the template engine Tera, by scripts of calls (docs/SCRIPT.md)
     >>> escape("<b>")
     '&lt;b&gt;'
 
-The library is out/libtera.so of this repository, or the file that the variable TERA_LIBRARY names.
+The library is libtera.so beside this module, as an installed one has it, or else in out/ of this repository; or the file that the
+variable TERA_LIBRARY names.
 """
 import ctypes
 import os
 import threading
-from typing import NamedTuple, Optional
+from typing import NamedTuple
 
+__version__ = "0.1.0"
 DONE, WANTED, BAD, SMALL, NO_MEMORY, NO_REPLY, CLOSED, OPEN = range(8)
+ANSWERS = {"tera_close": None, "tera_version": ctypes.c_uint32}  # what answers no status
 SEED = 16  # bytes, by which no one who writes a line can make names or keys that collide
 
 
@@ -50,18 +53,34 @@ def load(path: str) -> ctypes.CDLL:
     given, room, count = (ctypes.c_char_p, ctypes.c_size_t), (ctypes.c_void_p, ctypes.c_size_t), ctypes.POINTER(ctypes.c_size_t)
     handle = ctypes.POINTER(ctypes.c_void_p)
     seed = ctypes.c_char_p
-    for name, takes in {"tera_open": (handle,), "tera_open_seeded": (handle, seed),
+    for name, takes in {"tera_version": (), "tera_open": (handle,), "tera_open_seeded": (handle, seed),
                         "tera_line": (handle, *given, count), "tera_reply": (handle, *room, count),
                         "tera_close": (handle,), "tera_escape": (*given, *room, count),
                         "tera_replay": (*given, *room, count, *room, count),
                         "tera_replay_seeded": (*given, seed, *room, count, *room, count)}.items():
         getattr(library, name).argtypes = takes
-        getattr(library, name).restype = None if name == "tera_close" else ctypes.c_uint8
+        getattr(library, name).restype = ANSWERS.get(name, ctypes.c_uint8)
     return library
 
 
-_here = os.path.dirname(os.path.abspath(__file__))
-_library = load(os.environ.get("TERA_LIBRARY") or os.path.join(_here, "..", "..", "out", "libtera.so"))
+def _found() -> str:
+    """The file of the library."""
+    here = os.path.dirname(os.path.abspath(__file__))
+    beside = os.path.join(here, "libtera.so")
+    in_out = os.path.join(here, "..", "..", "out", "libtera.so")
+    return os.environ.get("TERA_LIBRARY") or (beside if os.path.exists(beside) else in_out)
+
+
+def _of_this_version(library: ctypes.CDLL) -> ctypes.CDLL:
+    """The library, which has to be of the module's version."""
+    number = library.tera_version()
+    version = f"{number >> 16}.{number >> 8 & 255}.{number & 255}"
+    if version != __version__:
+        raise ImportError(f"the library {library._name} is of version {version}, and this module of {__version__}")
+    return library
+
+
+_library = _of_this_version(load(_found()))
 
 
 def escape(text: str) -> str:

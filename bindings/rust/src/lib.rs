@@ -7,6 +7,7 @@
 //! assert_eq!(tera_values::escape("<b>")?, "&lt;b&gt;");
 //! # Ok::<(), tera_values::Error>(())
 //! ```
+#![warn(missing_docs)]
 use std::collections::hash_map::RandomState;
 use std::hash::{BuildHasher, Hasher};
 use std::{fmt, ptr};
@@ -95,8 +96,11 @@ fn seed() -> [u8; 16] {
 /// What a script answers: its answers, the report of what ended it early, and the status of the program.
 #[derive(Debug, Clone, PartialEq, Eq)]
 pub struct Replayed {
+    /// The answers, a line each.
     pub answers: Vec<u8>,
+    /// The report of a bad line or of want of memory; else nothing.
     pub report: Vec<u8>,
+    /// The status that the program ends with.
     pub status: u8,
 }
 
@@ -217,5 +221,19 @@ pub fn replay(script: &[u8]) -> Result<Replayed, Error> {
                 })
             }
         }
+    }
+}
+
+#[cfg(test)]
+mod tests {
+    extern "C" {
+        fn tera_version() -> u32;
+    }
+
+    #[test]
+    fn the_archive_is_of_this_version() {
+        let number = unsafe { tera_version() };
+        let version = format!("{}.{}.{}", number >> 16, number >> 8 & 255, number & 255);
+        assert_eq!(version, env!("CARGO_PKG_VERSION"));
     }
 }

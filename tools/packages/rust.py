@@ -1,0 +1,23 @@
+"""The crate, from bindings/rust."""
+from __future__ import annotations
+
+import os
+import shutil
+from typing import List
+
+from tools.packages.given import TOP, Failed, Given, copy
+
+
+def make(given: Given, to: str) -> List[str]:
+    """Makes the crate, which `cargo package` builds from what it packed; returns its name."""
+    if not shutil.which("cargo"):
+        raise Failed("the crate needs `cargo`")
+    folder = f"{given.work}/rust"
+    for name in ("Cargo.toml", "build.rs", "README.md", "src/lib.rs", "examples/page.rs"):
+        copy(f"{TOP}/bindings/rust/{name}", f"{folder}/{name}")
+    copy(f"{TOP}/LICENSE", f"{folder}/LICENSE")
+    copy(f"{given.library}/libtera.a", f"{folder}/native/libtera.a")
+    given.run(["cargo", "package", "-q", "--offline", "--target-dir", f"{given.work}/target"], folder)
+    name = f"tera-values-{given.version}.crate"
+    shutil.move(f"{given.work}/target/package/{name}", os.path.join(to, name))
+    return [name]
