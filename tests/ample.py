@@ -2,7 +2,7 @@
 """Every line of the language with operands of 0, 1 and 1,000 parts and ample memory.
 
 `python3 tests/ample.py PROGRAM`: the program answers as tests/second.py does, and no answer is want of memory. The same
-lines go through `run` in tests/hostile.py.
+lines go through `run` in tests/test_hostile.py.
 """
 import subprocess
 import sys

@@ -1,4 +1,4 @@
-"""What crates/memory_calls answers, from the descriptions of its calls alone: the model of tests/hostile.py.
+"""What crates/memory_calls answers, from the descriptions of its calls alone: the model of tests/test_hostile.py.
 
 `rows(count)` gives for each line of it, on operands of so many parts: the line's name, what stands behind the name, what
 is held there where the call found no memory (or `None` where it holds nothing; a function that gives all that it may be,
@@ -242,9 +242,10 @@ def contexts(count, text, names):
     yield Row("Context::insert", f"ok, held {context({**held, 'new': Text(text, False)})}", context(held))
     one = {"k1000": item(0)}
     yield Row("Context::insert of a name that is there", f"ok, held {context({'k1000': Text(text, False)})}", context(one))
-    said = f'Says(Step {{ call: Set {{ name: "a", value: {debug((Text(text, False),))} }}, into: None }})'
+    said = f'Says(Command {{ request: Set {{ name: "a", value: {debug((Text(text, False),))} }}, into: None }})'
     yield Row("read_line", ok(said))
     yield Row("take_text", ok(f"Some(({quoted(text)}, {len(text.encode()) + 1}))"))
+    yield Row("literal_text", ok(quoted(quoted(text))))
 
 
 def rows(count):
@@ -267,7 +268,8 @@ def kept(count):
 RUNS = "runs over lists with each request for memory refused in turn"
 # Calls whose requests are refused by a test of another file, or by the row of a call that hands them on.
 ELSEWHERE = {
-    "step": "every call with each request for memory refused in turn",
+    **dict.fromkeys(("step", "Command::into_step"), RUNS),
+    "answer": "every call with each request for memory refused in turn",
     "run": RUNS,
     "replay": "every call with each request for memory refused in turn",
     "replay_from": "every call with each request for memory refused in turn",

@@ -1,14 +1,12 @@
-#!/usr/bin/env python3
 """Keys and names that collide where the hashes go by std's fixed seed cost no more than others.
 
-`python3 tests/flood.py PROGRAM`: for each way in which a script makes many keys, the instructions that the program takes on
-keys made to collide are at most twice those on as many random ones. Prints 'pass ..' or 'FAIL ..' for each. tests/border.py
-asks the same of a session (tests/flood.c).
+For each way in which a script makes many keys, the instructions that a program takes on keys made to collide are at most
+twice those on as many random ones. tests/test_fuzz.py asks this of the program, tests/test_border.py of a session
+(tests/flood.c).
 """
 import random
 import re
 import subprocess
-import sys
 import tempfile
 
 COUNT = 20000
@@ -96,8 +94,3 @@ def rows(program, of):
         taken, bound = instructions(program, script), instructions(program, others[way])
         holds = taken is not None and bound is not None and taken <= 2 * bound
         yield holds, f"{way} that collide, in {of}: {taken} instructions, {bound} at random"
-
-
-if __name__ == "__main__":
-    for holds, row in rows(sys.argv[1], "the program"):
-        print("pass" if holds else "FAIL", row)

@@ -1,5 +1,6 @@
 # Whether a program or an archive stands that is newer than all that it is built from, and no file of it has come or gone
-# since. Read by `./replay`, tools/prove.py, tests/program.sh and tests/border.py, in which `top` is the repository's folder.
+# since. Read by `./replay` and tools/prove.py, in which `top` is the repository's folder.
+# shellcheck shell=sh disable=SC2154
 is_fresh() {
     [ -f "$1" ] || return 1
     [ -z "$(find "$top/crates" "$top/crates.txt" -path '*/out' -prune -o \

@@ -1,5 +1,5 @@
-#!/usr/bin/env python3
-"""Scripts with each request for memory refused in turn: `python3 tests/refused.py PROGRAM REFUSE_LIBRARY [SCRIPT..]`.
+"""Scripts with each request for memory refused in turn, by the program (tests/test_refused.py) and by `run`
+(tests/test_hostile.py).
 
 A script is run again and again, with its first, second, .. request refused, until a run meets no refusal. Each run with
 one shows what the model (tests/second.py) says:
@@ -9,8 +9,8 @@ one shows what the model (tests/second.py) says:
   that step. An `extend` too has taken over nothing: more than its clauses say, which let some first names be taken over.
 
 Behind each script come lines that ask for every name, its kind and its mark, so that what a refused step left is seen.
-Without scripts there is one of every call, with and without a name for what is found. Each line of it that may want
-memory has to meet a refusal; those that take none never do.
+Of the script of every call, with and without a name for what is found, each line that may want memory has to meet a
+refusal; those that take none never do.
 """
 import os
 import subprocess
@@ -42,7 +42,7 @@ FREE = ("has", "len", "truthy", "kind", "is_safe", "eq", "cmp", "try_cmp", "remo
 # nor does one of these that is not refused, and keeps what it finds nowhere
 FREE_IF_GIVEN = ("contains", "negate", "read", "mark_safe", *second.OPERATORS)
 # nor does one of the program that begins so and keeps nothing: what it finds or prints is lent to the reply
-LENT = ("get ", "path ", "attr ", "item m key", "print ")
+LENT = ("get ", "path ", "attr ", "item m ", "item l ", "print ")
 
 
 def every_call():
@@ -112,9 +112,8 @@ class Runs:
                 fault = self.fault(number, f"{room}/refused")
                 if fault is False:
                     return number - 1
-                if fault:
-                    sys.exit(f"request {number} refused: {fault}")
-        sys.exit(f"a refusal is met at request {MOST}")
+                assert not fault, f"request {number} refused: {fault}"
+        raise AssertionError(f"a refusal is met at request {MOST}")
 
     def missing(self):
         """The lines that have to want memory and did not, and those that may not and did."""
@@ -136,22 +135,3 @@ class Runs:
         shows = word in ("print", "escape", "fields", "walk") and answer not in ("text ", "fields []", "walk []")
         copies = word in ("get", "path", "attr", "item", "slice", "reverse") and '"' in found
         return (shows or copies) and not self.is_lent(line) or answer.startswith("error: ")
-
-
-def main():
-    program, library, *scripts = sys.argv[1:]
-    for script in scripts or [None]:
-        if script:
-            with open(script, "rb") as it:
-                lines = [line.decode() for line in second.lines_of(it.read()) if not second.is_skipped(line)]
-        runs = Runs(program, library, with_questions(lines if script else every_call()))
-        count = runs.all()
-        missing = [] if script else runs.missing()
-        if missing:
-            sys.exit("\n".join(["these lines wanted no memory, or may not have:", *missing]))
-        print(f"refused: {script or 'every call'}, {count} requests, {len(runs.wanting)} of {len(runs.lines)} steps wanted memory")
-    print("refused: end")
-
-
-if __name__ == "__main__":
-    main()

@@ -122,6 +122,7 @@ static void none(void) {
 int main(void) {
     size_t told = 1;
     uint8_t *room = room_of(4);
+    faults += tera_version() != TERA_VERSION;
     reply("cmp a b", TERA_DONE, "equal\n");
     reply("# says nothing", TERA_DONE, "");
     reply("frob", TERA_BAD, "error: bad line\n --> line 1:1:1\n  |\n1 | frob\n  | ^^^^\n");

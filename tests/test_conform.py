@@ -1,5 +1,4 @@
-#!/usr/bin/env python3
-"""Tests of `./conform` and of the reference: `python3 tests/test_conform.py [TestClass.test]`. They need python3 alone.
+"""Tests of `./conform` and of the reference. They need python3 alone.
 
 Engines that answer wrongly are the reference with one part of it changed, in this process.
 """
@@ -126,6 +125,7 @@ class WrongEngines(unittest.TestCase):
     """Each wrong engine is told, by few lines and by the sentence that it breaks; and the right one is not."""
 
     def test_wrong_engines_are_told(self):
+        """each wrong engine is told, by few lines and by the sentence that it breaks"""
         for name, (change, check, least, sentence) in WRONG.items():
             with self.subTest(name):
                 lines, text = found(Wrong(change), check)

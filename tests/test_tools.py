@@ -1,6 +1,8 @@
 #!/usr/bin/env python3
-"""Tests of tools/ on small made-up crates and programs: `python3 tests/test_tools.py [TestClass.test]`. They need no kit."""
+"""Tests of tools/ on small made-up crates and programs. They need no kit; tests/test_wrong_bodies.py does."""
+import ast
 import contextlib
+import glob
 import io
 import os
 import re
@@ -15,6 +17,7 @@ from xml.etree import ElementTree
 sys.dont_write_bytecode = True  # no folder beside the sources
 TOP = os.path.dirname(os.path.dirname(os.path.abspath(__file__)))
 sys.path.insert(0, TOP)
+import built
 from tools import clauses, machine, prove, timing
 
 CRATES = "# a note\ntera_low: core\ntera_left: tera_low\ntera_right: tera_low\ntera_top: tera_left tera_right core\nhelper: core\n"
@@ -106,6 +109,7 @@ class Clauses(WithFolder):
 
 class Ending(WithFolder):
     def test_all_that_a_command_began_ends(self):
+        """all that a command began ends by a signal"""
         script = f"""
             sh -c 'trap "" TERM HUP; echo $$ >{self.folder}/deaf; while :; do sleep 1; done' &
             (setsid sh -c 'echo $$ >{self.folder}/orphan; sleep 60' &)
@@ -182,6 +186,7 @@ class Prove(WithFolder):
         status, err, notes = self.proved()
         self.assertEqual((status, notes[0], sorted(notes[1:3]), notes[3:]), (
             0, ["tera_low", "lib"], [["tera_left", "lib"], ["tera_right", "lib"]], [["tera_top", "run"]]))
+        self.assertIn("make: 4 crates to prove, each of one to five minutes on an idle core", err)
         self.assertIn("make: the proved program stands, after", err)
         self.assertFalse(os.listdir(f"{self.top}/crates/tera_top/out/beside") if os.path.isdir(f"{self.top}/crates/tera_top/out/beside") else [])
         self.assertTrue(all(os.path.isdir(f"{self.top}/crates/{name}/out/rlib") for name in ("tera_low", "tera_left", "tera_right")))
@@ -240,6 +245,15 @@ class Unmade(unittest.TestCase):
 """
 
 
+GOOD = """
+import unittest
+
+class Good(unittest.TestCase):
+    def test_holds(self):
+        pass
+"""
+
+
 class Testing(WithFolder):
     """The runner of parts, on parts that are made up."""
 
@@ -247,8 +261,8 @@ class Testing(WithFolder):
         super().setUp()
         shutil.copytree(f"{TOP}/tools", f"{self.folder}/tools")
         written(self.folder, {"tests/test_sample.py": SAMPLE, "tests/test_broken.py": "import nowhere_at_all\n",
-                              "tests/house.py": "print('pass one')\nprint('FAIL two')\nprint('     why')\n",
-                              "tests/border.py": "print('pass one')\nprint('border: end')\n"})
+                              "tests/test_good.py": GOOD, "tests/test_ended.py": "import os\nos._exit(7)\n",
+                              "tools/wrong_bodies.py": "print('FAIL one')\nraise SystemExit(1)\n"})
 
     def ran(self, *words):
         """The status, the lines at the margin, and all that is printed."""
@@ -265,10 +279,20 @@ class Testing(WithFolder):
 
     def test_one_test_is_run_alone(self):
         self.assertEqual(self.ran("sample.Good.test_holds")[:2], (0, ["pass sample: Good.test_holds", "1 passed, 0 failed"]))
-        self.assertEqual(self.ran("border", "sample.Good")[1], ["pass border: one", "pass sample: Good.test_holds", "skip sample: Good.test_skipped (no machine)", "2 passed, 0 failed, 1 skipped"])
+        self.assertEqual(self.ran("good", "sample.Good")[1], ["pass good: Good.test_holds", "pass sample: Good.test_holds", "skip sample: Good.test_skipped (no machine)", "2 passed, 0 failed, 1 skipped"])
 
-    def test_a_script_that_fails_or_stops_early_is_told(self):
-        self.assertEqual(self.ran("house")[:2], (1, ["pass house: one", "FAIL house: two", "FAIL house: it comes to its end", "1 passed, 2 failed"]))
+    def test_wrong_bodies_are_a_part(self):
+        status, lines, _ = self.ran("wrong")
+        self.assertEqual((status, lines), (1, ["FAIL one", "FAIL wrong: all that it says passes", "0 passed, 1 failed"]))
+
+    def test_parts_run_side_by_side(self):
+        status, lines, text = self.ran("--all", "--but", "broken", "--jobs", "3", "--times", f"{self.folder}/times")
+        told = [line for line in lines[:-1] if line.startswith("FAIL ")]
+        self.assertEqual((status, lines[-1]), (1, "2 passed, 4 failed, 1 skipped"))
+        self.assertIn("FAIL ended: it comes to its end", told)
+        self.assertEqual(lines[-5:-1], [line for line in told[:4]])
+        self.assertIn("a fault", text)
+        self.assertEqual({row.part for row in timing.read_rows(f"{self.folder}/times")}, {"sample", "good", "ended"})
 
     def test_what_is_no_part_or_cannot_be_read_fails(self):
         status, lines, text = self.ran("frob")
@@ -280,7 +304,7 @@ class Testing(WithFolder):
         self.assertEqual(self.ran("sample.Nobody")[0], 1)
 
     def test_ci_reads_the_results(self):
-        self.ran("--junit", f"{self.folder}/results.xml", "sample", "border")
+        self.ran("--junit", f"{self.folder}/results.xml", "sample", "good")
         root = ElementTree.parse(f"{self.folder}/results.xml").getroot()
         self.assertEqual((root.get("tests"), root.get("failures")), ("6", "3"))
         self.assertEqual(sorted(case.get("name") for case in root if case.find("failure") is not None), ["Bad.test_raises", "What a test says", "setUpClass (test_sample.Unmade)"])
@@ -288,17 +312,48 @@ class Testing(WithFolder):
 
 
 class Typed(unittest.TestCase):
-    """The packages are typed, and what they name is used."""
+    """The packages are typed, what they name is used, and the shell has no traps."""
 
-    def test_types_and_names(self):
+    def says_nothing(self, name, *words):
+        """A linter, which Debian's package of that name brings, finds nothing."""
+        if not built.install(name):
+            self.skipTest(f"no {name} is on the path, and none could be installed")
+        ran = subprocess.run([name, *words], cwd=TOP, capture_output=True, text=True)
+        self.assertEqual(ran.returncode, 0, ran.stdout)
+
+    def test_types(self):
+        """tools and conformance are typed"""
         tools = [f"tools.{name.removesuffix('.py')}" for name in os.listdir(f"{TOP}/tools") if re.fullmatch(r"[a-z]\w*\.py", name)]
         typed = [word for name in sorted(tools) for word in ("-m", name)]
-        for name, words in (("mypy", ["--strict", "--cache-dir=/dev/null", *typed, "-p", "conformance"]), ("pyflakes3", ["tools", "conformance", "conform"])):
-            with self.subTest(name):
-                if not shutil.which(name):
-                    self.skipTest(f"no {name} is on the path")
-                ran = subprocess.run([name, *words], cwd=TOP, capture_output=True, text=True)
-                self.assertEqual(ran.returncode, 0, ran.stdout)
+        packages = [word for name in ("tools.packages", "conformance") for word in ("-p", name)]
+        self.says_nothing("mypy", "--strict", "--cache-dir=/dev/null", *typed, *packages)
+
+    def test_names(self):
+        """each name in Python is there, and used"""
+        self.says_nothing("pyflakes3", "tools", "conformance", "conform", "tests")
+
+    def test_shell(self):
+        """the shell has no traps"""
+        scripts = [path for path in git_files() if read(path).startswith("#!/bin/sh")]
+        self.assertIn(f"{TOP}/check", scripts)
+        # handlers of signals are reached by no path that it sees, and scripts in quotes are other programs' words
+        self.says_nothing("shellcheck", "-x", "-P", f"SCRIPTDIR:{TOP}", "-e", "SC2317,SC2016", *scripts, f"{TOP}/tests/fresh.sh")
+
+    def test_functions(self):
+        """each function of tools has under 30 lines, and says what it does"""
+        for path in [*glob.glob(f"{TOP}/tools/*.py"), *glob.glob(f"{TOP}/tools/packages/*.py")]:
+            for node in ast.walk(ast.parse(read(path))):
+                if isinstance(node, ast.FunctionDef):
+                    with self.subTest(f"{os.path.basename(path)}: {node.name}"):
+                        self.assertLess(node.end_lineno - node.lineno, 30)
+                        self.assertTrue(ast.get_docstring(node) or node.name in [*dir(unittest.TestResult), "__init__"])
+
+
+def git_files():
+    """The files at the top, and those of folders with scripts."""
+    folders = ("", ".ci/", "bench/", "bindings/", "docs/", "tests/", "tools/")
+    found = [path for folder in folders for path in glob.glob(f"{TOP}/{folder}*")]
+    return [path for path in found if os.path.isfile(path) and not path.endswith((".svg", ".png"))]
 
 
 if __name__ == "__main__":

@@ -1,34 +1,32 @@
 #!/usr/bin/env python3
-"""Runs parts of the tests alone, by name: `python3 tools/testing.py [--junit FILE] [--list] PART[.TEST] ..`.
+"""Runs the tests, by name: `python3 tools/testing.py [--all [--but PART]] [--jobs N] [--junit FILE] [--list] PART[.TEST] ..`.
 
-A part is tests/test_PART.py, whose tests are those of `unittest`, or one of SCRIPTS, which prints a line 'pass NAME' or
-'FAIL NAME' for each test. A word behind a dot names a class or a test of the first. Prints such a line for each test,
-what a failed one says, and a summary last; with `--junit` also a file that CI reads. The status is 0 where all pass.
+A part is tests/test_PART.py, whose tests are those of `unittest`; a word behind a dot names a class or a test of it. The
+part `wrong` is tools/wrong_bodies.py. Prints a line 'pass ..', 'FAIL ..' or 'skip ..' for each test, what a failed one
+says, what failed once more at the end, and a summary last. The status is 0 where all pass.
 """
 from __future__ import annotations
 
 import argparse
 import glob
+import json
 import os
 import subprocess
 import sys
+import tempfile
 import time
-import traceback
 import unittest
-from typing import Any, Dict, Iterator, List, NamedTuple, Optional, Tuple
+from concurrent.futures import ThreadPoolExecutor, as_completed
+from typing import Any, Iterator, List, NamedTuple
 from xml.etree import ElementTree
 
 sys.dont_write_bytecode = True  # no folder beside the sources
 TOP = os.path.dirname(os.path.dirname(os.path.abspath(__file__)))
-# Parts that are no unittests yet, with their last line where they have one.
-SCRIPTS: Dict[str, Tuple[List[str], Optional[str]]] = {
-    "house": ([sys.executable, "tests/house.py"], "house: end"),
-    "program": (["sh", "tests/program.sh"], "program tests: end"),
-    "border": ([sys.executable, "tests/border.py"], "border: end"),
-    "caller": ([sys.executable, "tests/caller.py"], "caller: end"),
-    "pages": ([sys.executable, "tests/pages.py"], "pages: end"),
-    "wrong": ([sys.executable, "tests/wrong.py"], "wrong bodies: end"),
-}
+SCRIPTS = {"wrong": [sys.executable, f"{TOP}/tools/wrong_bodies.py"]}
+# Parts that begin first where several run side by side: those that take longest.
+LONG = ["hostile", "border", "packages", "cli", "pages", "program", "refused", "fuzz", "replay"]
+# The part that begins last, as it fills all processors.
+LAST = ["interrupt"]
 
 
 class Result(NamedTuple):
@@ -58,50 +56,53 @@ class Told(unittest.TestResult):
 
     def addFailure(self, test: unittest.TestCase, err: Any) -> None:
         super().addFailure(test, err)
-        self.note(err)
+        self.faults.append(self.failures[-1][1])
 
     def addError(self, test: unittest.TestCase, err: Any) -> None:
         super().addError(test, err)
-        if isinstance(test, unittest.TestCase):
-            self.note(err)
-            return
-        # what stands before a class or a module has failed, and no test of it begins
-        self.startTest(test)
-        self.note(err)
-        self.stopTest(test)
+        is_test = isinstance(test, unittest.TestCase)
+        if not is_test:  # what stands before a class or a module has failed, and no test of it begins
+            self.startTest(test)
+        self.faults.append(self.errors[-1][1])
+        if not is_test:
+            self.stopTest(test)
 
     def addSubTest(self, test: unittest.TestCase, subtest: unittest.TestCase, err: Any) -> None:
         super().addSubTest(test, subtest, err)
         if err is not None:
-            self.note(err, str(subtest))
+            found = self.failures if issubclass(err[0], test.failureException) else self.errors
+            self.faults.append(f"{subtest}\n{found[-1][1]}")
 
     def addSkip(self, test: unittest.TestCase, reason: str) -> None:
         super().addSkip(test, reason)
         self.why = reason
 
-    def note(self, err: Any, which: str = "") -> None:
-        """Keeps what a failed test says."""
-        self.faults.append("\n".join([*([which] if which else []), "".join(traceback.format_exception(*err)).rstrip()]))
-
     def stopTest(self, test: unittest.TestCase) -> None:
         super().stopTest(test)
         seconds = time.monotonic() - self.began
-        name = test.shortDescription() or (test.id().partition(".")[2] if isinstance(test, unittest.TestCase) else test.id())
-        self.results.append(told(Result(self.part, name, seconds, "\n".join(self.faults), self.why)))
+        own = test.id().partition(".")[2] if isinstance(test, unittest.TestCase) else test.id()
+        result = Result(self.part, test.shortDescription() or own, seconds, "\n".join(self.faults), self.why)
+        self.results.append(told(result))
+
+
+def line_of(result: Result) -> str:
+    """The line of a result."""
+    how = "FAIL" if result.failure else "skip" if result.skipped else "pass"
+    return f"{how} {result.part}: {result.name}{f' ({result.skipped})' if result.skipped else ''}"
 
 
 def told(result: Result) -> Result:
     """Prints the line of a result, and what a failed test says."""
-    how = "FAIL" if result.failure else "skip" if result.skipped else "pass"
-    print(f"{how} {result.part}: {result.name}{f' ({result.skipped})' if result.skipped else ''}")
-    for line in result.failure.splitlines():
-        print(f"     {line}")
-    sys.stdout.flush()
+    print("\n     ".join([line_of(result), *result.failure.splitlines()]), flush=True)
     return result
 
 
-def of_unittest(part: str, inner: str) -> List[Result]:
-    """The results of tests/test_PART.py, or of one class or test of it."""
+def results_of(word: str) -> List[Result]:
+    """The results of a part, or of one class or test of it."""
+    part, _, inner = word.partition(".")
+    if part in SCRIPTS:
+        status = subprocess.run(SCRIPTS[part], cwd=TOP).returncode
+        return [told(Result(part, "all that it says passes", 0.0, f"its status is {status}" if status else ""))]
     sys.path[:0] = [path for path in (TOP, f"{TOP}/tests") if path not in sys.path]
     suite = unittest.defaultTestLoader.loadTestsFromName(".".join([f"test_{part}", *([inner] if inner else [])]))
     result = Told(part)
@@ -109,35 +110,30 @@ def of_unittest(part: str, inner: str) -> List[Result]:
     return result.results
 
 
-def of_script(part: str, command: List[str], end: Optional[str]) -> List[Result]:
-    """The results that a script prints, and one that it came to its end."""
-    results: List[Result] = []
-    began, last = time.monotonic(), ""
-    with subprocess.Popen(command, cwd=TOP, stdout=subprocess.PIPE, stderr=subprocess.STDOUT, text=True, errors="replace") as running:
-        assert running.stdout is not None
-        for line in running.stdout:
-            last = line.rstrip("\n")
-            how, _, name = last.partition(" ")
-            if how in ("pass", "FAIL"):
-                results.append(told(Result(part, name, time.monotonic() - began, "it says FAIL" if how == "FAIL" else "")))
-                began = time.monotonic()
-            else:
-                print(f"     {last}", flush=True)
-    is_whole = end is None or last == end
-    return [*results, *([] if is_whole else [told(Result(part, "it comes to its end", 0.0, f"its last line is {last!r}"))])]
+def apart(word: str, room: str, times: str) -> List[Result]:
+    """The results of a part that runs in a process of its own, which notes what it took."""
+    into = f"{room}/{word}"
+    words = [sys.executable, os.path.abspath(__file__), "--into", into, word]
+    noted = [sys.executable, f"{TOP}/tools/timing.py", "--part", word, "--in", times] if times else []
+    done = subprocess.run([*noted, *words], cwd=TOP, stdin=subprocess.DEVNULL, capture_output=True, text=True, errors="replace")
+    if not os.path.isfile(into):
+        return [Result(word, "it comes to its end", 0.0, (done.stdout + done.stderr)[-4000:] or f"status {done.returncode}")]
+    with open(into, encoding="utf-8") as file:
+        return [Result(*row) for row in json.load(file)]
+
+
+def side_by_side(words: List[str], jobs: int, times: str) -> Iterator[Result]:
+    """The results of several parts, so many at once, each part's once it has ended."""
+    with tempfile.TemporaryDirectory(prefix="testing-") as room, ThreadPoolExecutor(jobs) as pool:
+        for done in as_completed([pool.submit(apart, word, room, times) for word in words]):
+            yield from map(told, done.result())
 
 
 def names() -> List[str]:
-    """All parts."""
-    found = [os.path.basename(path)[len("test_"):-len(".py")] for path in glob.glob(f"{TOP}/tests/test_*.py")]
-    return sorted([*found, *SCRIPTS])
-
-
-def results_of(words: List[str]) -> Iterator[Result]:
-    """The results of all that the words name."""
-    for word in words:
-        part, _, inner = word.partition(".")
-        yield from of_script(part, *SCRIPTS[part]) if part in SCRIPTS else of_unittest(part, inner)
+    """The parts that are unittests, in the order in which they begin."""
+    found = {os.path.basename(path)[len("test_"):-len(".py")] for path in glob.glob(f"{TOP}/tests/test_*.py")}
+    long = [name for name in LONG if name in found]
+    return [*long, *sorted(found.difference(long, LAST)), *(name for name in LAST if name in found)]
 
 
 def junit(results: List[Result]) -> bytes:
@@ -153,27 +149,51 @@ def junit(results: List[Result]) -> bytes:
     return bytes(ElementTree.tostring(root, encoding="utf-8", xml_declaration=True))
 
 
-def main() -> int:
-    """Runs what the command line names."""
+def given() -> argparse.Namespace:
+    """What the command line says."""
     words = argparse.ArgumentParser(description=__doc__, formatter_class=argparse.RawDescriptionHelpFormatter)
+    words.add_argument("--all", action="store_true", help="runs all parts that are unittests")
+    words.add_argument("--but", metavar="PART", action="append", default=[], help="leaves a part of all out")
+    words.add_argument("--jobs", type=int, default=1, help="so many parts side by side")
+    words.add_argument("--times", metavar="FILE", default="", help="a file to which what each part took is added")
     words.add_argument("--junit", metavar="FILE", help="writes the results as CI reads them")
+    words.add_argument("--into", metavar="FILE", help="writes the results for the process that runs this part")
     words.add_argument("--list", action="store_true", help="prints the parts")
     words.add_argument("parts", nargs="*", metavar="PART[.TEST]")
-    given = words.parse_args()
-    unknown = [word for word in given.parts if word.partition(".")[0] not in names()]
-    if unknown or not given.parts and not given.list:
-        words.error(f"the parts are {', '.join(names())}" + (f", and not {', '.join(unknown)}" if unknown else ""))
-    if given.list:
-        print("\n".join(names()))
-        return 0
-    results = list(results_of(given.parts))
-    if given.junit:
-        with open(given.junit, "wb") as file:
-            file.write(junit(results))
+    said = words.parse_args()
+    known = [*names(), *SCRIPTS]
+    unknown = [word for word in [*said.parts, *said.but] if word.partition(".")[0] not in known]
+    if unknown or not (said.parts or said.all or said.list):
+        words.error(f"the parts are {', '.join(known)}" + (f", and not {', '.join(unknown)}" if unknown else ""))
+    said.parts = [name for name in names() if name not in said.but] if said.all else said.parts
+    return said
+
+
+def summed(results: List[Result]) -> int:
+    """Tells what failed once more, and how many there are; returns the status."""
     failed = [result for result in results if result.failure]
-    skipped = sum(bool(result.skipped) for result in results)
+    skipped = sum(bool(result.skipped) and not result.failure for result in results)
+    if len({result.part for result in results}) > 1:
+        print("".join(f"{line_of(result)}\n" for result in failed), end="")
     print(f"{len(results) - len(failed) - skipped} passed, {len(failed)} failed" + (f", {skipped} skipped" if skipped else ""))
     return 1 if failed or not results else 0
+
+
+def main() -> int:
+    """Runs what the command line names."""
+    said = given()
+    if said.list:
+        print("\n".join([*names(), *SCRIPTS]))
+        return 0
+    if said.jobs > 1 or said.times:
+        results = list(side_by_side(said.parts, said.jobs, said.times))
+    else:
+        results = [result for word in said.parts for result in results_of(word)]
+    for path, text in ((said.junit, junit(results)), (said.into, json.dumps(results).encode())):
+        if path:
+            with open(path, "wb") as file:
+                file.write(text)
+    return summed(results)
 
 
 if __name__ == "__main__":

@@ -16,7 +16,7 @@ from collections.abc import Iterator
 
 TOP = os.path.dirname(os.path.dirname(os.path.abspath(__file__)))
 MOST_WORDS, MOST_IN_SENTENCE = 13_000, 30
-APART = ("docs/CONFORM.md",)
+APART = ("docs/CONFORM.md", "docs/PACKAGES.md")
 SCRIPTED = re.compile(r"(?ms)^<!-- (?:filled|printed): [^\n]* -->\n.*?^<!-- end -->$")
 BLOCK = re.compile(r"(?ms)^```.*?^```$|^(?:    [^\n]*\n)+")
 CODE = re.compile(r'``.+?``|`[^`]+`|"[^"\n]+"')
@@ -35,14 +35,17 @@ def by_hand(path: str) -> str:
 
 
 def count(text: str) -> int:
+    """The words of a text."""
     return sum(1 for it in text.split() if re.search(r"\w", it))
 
 
 def counts() -> dict[str, int]:
+    """The words of each document."""
     return {path: count(by_hand(path)) for path in documents()}
 
 
 def total(counted: dict[str, int]) -> int:
+    """The words of all documents but those that are counted apart."""
     return sum(words for path, words in counted.items() if path not in APART)
 
 
@@ -65,6 +68,7 @@ def long_sentences(path: str) -> list[str]:
 
 
 def main() -> None:
+    """Prints the words, or the long sentences."""
     words = argparse.ArgumentParser(description=__doc__, formatter_class=argparse.RawDescriptionHelpFormatter)
     words.add_argument("--sentences", action="store_true", help=f"tell each sentence of more than {MOST_IN_SENTENCE} words")
     if words.parse_args().sentences:

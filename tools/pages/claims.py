@@ -58,6 +58,9 @@ def links(book: Book, rows: list[str], where: str) -> list[tuple[Item, list[str]
         found.append((item, labels))
     return found
 
+# the first line of a test says what it shows, and names it
+TEST = re.compile(r'def test_\w+\(self\)[^:]*:\n +"""(.*?)"""')
+
 
 def edits_below(path: str, where: str) -> list[Edit]:
     """The wrong bodies of a folder, or of one file."""
@@ -86,8 +89,8 @@ def wrong_of(book: Book, claim: Claim, paths: list[str], where: str) -> list[tup
 
 
 def tests_named() -> str:
-    """What names a test: the tests' own files, and the test functions of crates."""
-    named = "\n".join(read(f"tests/{it}") for it in ("hostile.py", "program.sh", "border.py", "flood.py"))
+    """What names a test: the first lines of tests of tests/, and the test functions of crates."""
+    named = "".join(f'"{name}"\n' for it in below("tests", ".py") for name in TEST.findall(read(it)))
     for path in below("crates", ".rt"):
         if "/src/" in path and path.split("/")[1].endswith(("checks", "calls")):
             crate = path.split("/")[1]

@@ -4,7 +4,7 @@ from __future__ import annotations
 import re
 
 from clauses import CLAUSE, end_of, flat, imports_of
-from wrong import block_of
+from wrong_bodies import block_of
 
 from .model import Block, Clause, Imports, Item
 
@@ -187,7 +187,7 @@ def read_crate(crate: str, texts: dict[str, tuple[str, str]], is_all_shown: bool
     mark_public(items, modules, names)
     if is_all_shown:
         for it in items:
-            it.is_public = it.is_public or it.kind == "fn"
+            it.is_public = it.is_public or it.kind in ("fn", "trait")
     set_anchors(items, modules)
     return items
 

@@ -10,7 +10,7 @@ from .book import Book
 # the way of a line of a script, from the bytes to the reply: the functions that it goes through
 WAY = (("tera_replay::main", "reads standard input, buffers standard output"),
        ("tera_replies::replay", "reads up to 8 KB, cuts lines"),
-       ("tera_script::read_line", "takes the word and the operands"), ("tera_context::step", "runs the call over the context"),
+       ("tera_script::read_line", "takes the word and the operands"), ("tera_context::answer", "answers the command over the context"),
        ("tera_values::Value.PartialEq.eq", "a call on values: here `==`"),
        ("tera_replies::answer_line", "puts the answer as one line"))
 HEAD = """digraph { rankdir=%s; bgcolor="transparent"; edge [arrowsize=0.6];

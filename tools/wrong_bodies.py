@@ -6,7 +6,7 @@ An edit is written as those of must-fail/ are: a line 'file: src/SUBJECT.rt', an
 function, with its type and trait as the prover spells them ('Value.format', 'ValueFromU8.from'), or that of a constant or
 another item. An edit of a definition or of a macro has a line 'only: PATH' too: the function that it makes false, such as
 a law. Its file may stand in specs/, FUNCTION is PATH's, and the edit is tried on that function; a lemma that the law's proof
-stands on may refuse it too. A definition's edit is made to a copy of it, for a copy of the law (tests/copies.py), and where
+stands on may refuse it too. A definition's edit is made to a copy of it, for a copy of the law (tools/copies.py), and where
 there is no law to copy, it is tried alone.
 
 A line 'goal: NAME' names a goal that the edit leaves open: one that has an answer by hand, or that one search proves of the right
@@ -17,7 +17,7 @@ that the edit names counts. Behind a name, 'by grind' says that `grind` proves t
 
 A check takes an edit of each of many functions. A function is proved over the contracts of what it calls, so the other functions have
 no body, but each `drop` has. Each further edit of a function is made to a copy of it at the end of its file, with its attributes, its
-contract and its proof by hand. Of a trait's function the impl and the trait are copied too, where tests/copies.py can; or the copy has
+contract and its proof by hand. Of a trait's function the impl and the trait are copied too, where tools/copies.py can; or the copy has
 the function's own clauses alone, where it has some and the trait asks nothing of who calls; else the edit is made in its place, in a
 further check. To a copy is made too each edit of a function that calls itself, or that stands in a cycle of calls: the
 copy calls functions without a body, and so is in no cycle, and of the cycle's proof by hand it has its own part. An edit is refused
@@ -27,7 +27,7 @@ what a shared check does not show is tried alone, and then from nothing, beside 
 edit took away, it is tried without that part; a goal that is then open counts only where the prover finds values at which it is
 false, or where it is proved of the right body without that part.
 
-Prints a line 'pass ..' or 'FAIL ..' for each edit, and 'wrong bodies: end'. It uses the libraries that `rt ci` built, and
+Prints a line 'pass ..' or 'FAIL ..' for each edit, and 'N passed, M failed'. It uses the libraries that `rt ci` built, and
 begins with a copy of the work that checks kept in out/. With `--gate LOG` it runs beside an `rt ci` that writes LOG, and begins
 with nothing: a crate's edits are tried once the log says that the crates below it are proved, of several crates the one that
 takes longest first, in all lanes but one until the log has its last line, and each check once a processor is free.
@@ -39,13 +39,13 @@ As `rt ci` keeps what it proved, this keeps on the machine which edits were refu
 on: the kit, this script, the crate's files and those of all crates below it, and the edit. Such an edit is not tried again,
 and its line says so. `--anew` tries all.
 """
+from __future__ import annotations
+
 import argparse
 import collections
 import contextlib
 import copy
 import hashlib
-import importlib.machinery
-import importlib.util
 import os
 import re
 import shutil
@@ -55,10 +55,16 @@ import tempfile
 import threading
 import time
 from concurrent.futures import ThreadPoolExecutor
+from typing import Callable, Dict, Generator, Iterable, Counter, Iterator, List, Match, Optional, Pattern, Set, Tuple
 
-sys.dont_write_bytecode = True
-import copies  # noqa: E402  (beside this script; no file of it is kept)
-from copies import FUNCTION, PUBLIC, above, end_of, read  # noqa: E402
+sys.dont_write_bytecode = True  # no folder beside the sources
+sys.path.insert(0, os.path.dirname(os.path.dirname(os.path.abspath(__file__))))
+from tools import copies, kit
+from tools.copies import FUNCTION, PUBLIC, Texts, above, end_of, read
+
+Place = Tuple[int, str, str]  # of a change: where, what stands there, and what is to
+Verdict = Tuple[List[str], Optional[str]]  # the goals that an edit is refused by, or why it is not
+Judge = Generator["Ask", "Said", Verdict]
 
 ITEM = re.compile(PUBLIC + r"(?:const|static|struct|enum|trait|type|impl)\b")
 BLOCK = re.compile(PUBLIC + r"(?:impl|trait)\b")
@@ -80,6 +86,7 @@ KEPT = re.compile(r"-(?:init|preserved)(?:-|$)|(?:^|-)invariant_of-")
 SAFE = re.compile(r"(?:^|-)(?:overflow_|nonzero_|(?:slice_|offset_)?bounds-)|-(?:requires|smaller)(?:-|$)")
 
 
+GONE = "\0"  # in the place of a file's text: the folder of that path goes
 CUT = "unreachable!()"  # what stands where a body is cut off
 # what proves a named goal of the right body, with the names that it cites and where they stand
 SEARCH = "search rules", {"rules": "Rattle.std.proofs.Common"}
@@ -91,43 +98,26 @@ FEW = 20  # a check of more edits keeps nothing: to keep it, the prover begins c
 # tries the function's goals where a callee is not proved too
 NO_FORM = "no_form"
 FALSE_LEMMA = f"\n{NO_FORM} : Type 0\n{NO_FORM} = Type 0\n"
-ROOM = 4_000_000_000  # the free memory, in bytes, that a check beside the gate begins with
 MONTH = 30 * 24 * 3600  # how many seconds an answer that no run asks for is kept
 
 
-def kit():
-    """The kit's own `rt`, by which crates, their libraries and the words of a check are found here."""
-    path = os.path.realpath(shutil.which("rt"))
-    sys.path.insert(0, os.path.dirname(path))
-    loader = importlib.machinery.SourceFileLoader("rt", path)
-    module = importlib.util.module_from_spec(importlib.util.spec_from_loader("rt", loader))
-    loader.exec_module(module)
-    return module
-
-
-def say(line):
+def say(line: str) -> None:
     """Prints a line in one piece, whichever crates are tried beside."""
     sys.stdout.write(f"{line}\n")
     sys.stdout.flush()
 
 
-def is_current(crate):
-    """Whether the crate's library is there, and newer than what it is built from."""
-    parts = [f"{crate.folder}/{part}" for part in ("src", "specs", "proofs")]
-    files = [f"{at}/{name}" for part in parts for at, _, names in os.walk(part) for name in names]
-    made_of = [*files, *[low.rlib for low in crate.below()]]
-    return os.path.isdir(crate.rlib) and max(map(os.path.getmtime, made_of)) <= os.path.getmtime(crate.rlib)
-
-
-def is_of_contract(goal):
+def is_of_contract(goal: str) -> bool:
+    """Whether a goal is one that a contract asks for."""
     return bool(RETURNS.match(goal)) or bool(KEPT.search(goal)) and not SAFE.search(goal)
 
 
-def is_within(goal, other):
+def is_within(goal: str, other: str) -> bool:
+    """Whether a goal is this one, or one within it."""
     return goal == other or goal.startswith(f"{other}-")
 
 
-def spelled(kind, parameters, joint=""):
+def spelled(kind: str, parameters: List[str], joint: str = "") -> str:
     """A type as the prover spells it in an impl's name: 'FmtFormatter' of 'fmt::Formatter<W>', 'RefStr' of '&str',
     'ResultError' of 'Result<T, Error>'. Parameters and lifetimes behind the name are left out."""
     name, _, behind = kind.partition("<")
@@ -139,31 +129,37 @@ def spelled(kind, parameters, joint=""):
     return joint.join([own, *arguments(behind, parameters)])
 
 
-def arguments(behind, parameters):
+def arguments(behind: str, parameters: List[str]) -> List[str]:
     """The types between a name's angle brackets, as the prover spells them."""
     given = re.sub("<.*>", "", behind.strip().removesuffix(">")).split(",")
     return [spelled(it, parameters) for it in map(str.strip, given) if it not in ("", "'_", *parameters) and it[0] != "'"]
 
 
-def block_of(header):
+def parts_of(header: str) -> List[str]:
+    """Of an impl's header its generics, its trait and its type, each as far as it has one."""
+    found = IMPL.match(header)
+    return [part or "" for part in found.groups()] if found else ["", "", ""]
+
+
+def block_of(header: str) -> Tuple[str, bool]:
     """A trait's or an impl's name as the prover spells it, and whether a trait's functions stand in it."""
     if not header.startswith("impl"):
-        return re.search(r"trait (\w+)", header)[1], True
-    generics, trait, kind = IMPL.match(header.replace("->", "").split(" where ")[0]).groups()
-    parameters = re.findall(r"[<,] ?(\w+)(?=[:,>])", generics or "")
-    name, _, behind = (trait or "").partition("<")
+        return "".join(re.findall(r"trait (\w+)", header)[:1]), True
+    generics, trait, kind = parts_of(header.replace("->", "").split(" where ")[0])
+    parameters = re.findall(r"[<,] ?(\w+)(?=[:,>])", generics)
+    name, _, behind = trait.partition("<")
     own = spelled(kind, parameters, "" if trait else "+")
     # a trait's argument that is the type itself is left out too
     return "".join([own, name.split("::")[-1], *(it for it in arguments(behind, parameters) if it != own)]), bool(trait)
 
 
-def without_trait(header):
+def without_trait(header: str) -> str:
     """The header of an impl of the type alone."""
-    generics, _, kind = IMPL.match(header).groups()
-    return f"impl{generics or ''} {kind}"
+    generics, _, kind = parts_of(header)
+    return f"impl{generics} {kind}"
 
 
-def place_of(lines, at):
+def place_of(lines: List[str], at: int) -> Optional[Tuple[int, int]]:
     """The first and the last line of the function around a line, or else of the other item."""
     while lines[at].lstrip().startswith(("#[", "//")):
         at += 1
@@ -176,7 +172,7 @@ def place_of(lines, at):
     return None
 
 
-def module_of(kind, crate):
+def module_of(kind: str, crate: kit.Crate) -> List[str]:
     """The module in which a type is declared."""
     bare = kind.partition("+")[0]
     declared = re.compile(rf"(?m)^(?:pub(?:\([^)]*\))? )?(?:struct|enum) {bare}\b")
@@ -185,12 +181,12 @@ def module_of(kind, crate):
     return [it for path in found[:1] for it in path.split("/") if it not in ("lib", "main")]
 
 
-def paths_of(before, tail):
+def paths_of(before: str, tail: str) -> Pattern[str]:
     """The pattern of a function's paths, as the prover spells them, and of its closures'."""
     return re.compile(rf"{before}(?:{re.escape(tail)}|fn::{re.escape(tail)}::.*)$")
 
 
-def is_generic(block, lines):
+def is_generic(block: str, lines: List[str]) -> bool:
     """Whether a function has a type parameter, or the impl that it stands in."""
     head = re.split(r"\b(?:requires|ensures|decreases)\b|\{", " ".join(map(str.strip, lines)))[0]
     own, above = re.search(r"\bfn \w+<((?:[^<>]|<[^<>]*>)*)>", head), IMPL.match(block.removeprefix("unsafe "))
@@ -198,7 +194,8 @@ def is_generic(block, lines):
     return bool(re.search(r"\bimpl \w", head)) or any(re.search(r"(?:^|, )(?!')\w", it) for it in parameters)
 
 
-def header_at(lines, first):
+def header_at(lines: List[str], first: int) -> str:
+    """The header of a block, on one line."""
     last = next(it for it in range(first, len(lines)) if "{" in lines[it])
     return " ".join(it.strip() for it in lines[first : last + 1]).partition("{")[0].strip()
 
@@ -206,20 +203,31 @@ def header_at(lines, first):
 class Edit:
     """A wrong body: what it puts in the place of what, and the function or other item that it stands in."""
 
-    def __init__(self, path, root, crate):
+    def __init__(self, path: str, root: str, crate: kit.Crate) -> None:
         self.path, self.crate = os.path.relpath(path, root).removesuffix(".edit"), crate
         self.name = f"{crate.name}/{self.path}"
         # how the prover names the function, if it is one: a pattern of its paths, and a path for `--only`; and its file of answers
-        self.own = self.only = self.answers = None
+        self.own: Optional[Pattern[str]] = None
+        self.only, self.answers = "", ""
         # the impl or trait in which it stands; and the number of the copy that is edited in its place, if one is
         self.block, self.is_of_trait, self.number, self.in_place = "", False, 0, self
         # the folder of the proof of its cycle of calls, and the first words of its goals there
         self.cycle, self.told_as = "", ""
         # the law that an edit of a definition makes false, where that can be copied, and the copies of a copy
-        self.law = self.copies = None
+        self.law: Optional[copies.Law] = None
+        self.copies: Optional[copies.Copies] = None
         # the trait in an impl of which it stands, if that can be copied
-        self.trait, self.members = None, []
-        text = read(path)
+        self.trait: Optional[copies.Trait] = None
+        self.members: List[str] = []
+        self.first = self.last = self.opened = 0
+        self.before = self.tail = ""
+        is_read = self.reads(read(path))
+        self.fault = self.placed(crate) if is_read else "a line 'goal:' of it is not read"
+        if self.own and not (self.fault or self.breaks):
+            self.answers = self.answers_in(crate)
+
+    def reads(self, text: str) -> bool:
+        """Reads the lines of the edit; says whether all that name goals are understood."""
         self.file = "".join(re.findall(r"(?m)^file: (\S+)", text)[:1])
         # that its cut is never reached is a goal of no contract, which is not tried
         changes = re.findall(r"(?m)^old: (.*)\nnew: ?(.*)$", text)
@@ -229,18 +237,15 @@ class Edit:
         # the goals that it is to leave open, those by which it is tried, or none where it is tried by all, and what proves them
         self.ways = {it[1]: GRIND if it[2] else SEARCH for it in re.finditer(r"(?m)^goal: (\S+)( by grind)?$", text)}
         self.goals = self.asked = [*self.ways]
-        is_read = len(self.ways) == len(re.findall(r"(?m)^goal:", text))
-        self.fault = self.placed(crate) if is_read else "a line 'goal:' of it is not read"
-        if self.own and not (self.fault or self.breaks):
-            self.answers = self.answers_in(crate)
+        return len(self.ways) == len(re.findall(r"(?m)^goal:", text))
 
-    def placed(self, crate):
+    def placed(self, crate: kit.Crate) -> Optional[str]:
         """Finds where the edit stands, and answers why it cannot be tried, if so."""
         if not self.changes or not self.file.startswith(("src/", "specs/") if self.breaks else "src/"):
             return "it changes no file of src/, nor one of specs/ with a function that it makes false"
         self.text = read(f"{crate.folder}/{self.file}")
         lines = self.text.split("\n")
-        self.at = []
+        self.at: List[int] = []
         if self.breaks:
             return self.placed_anywhere(crate)
         for old, _ in self.changes:
@@ -262,7 +267,7 @@ class Edit:
             self.asked = []
         return None if os.path.dirname(self.path) == self.home else f"it belongs in {self.home}/"
 
-    def placed_anywhere(self, crate):
+    def placed_anywhere(self, crate: kit.Crate) -> Optional[str]:
         """The same for an edit of a definition or of a macro, which makes another function false."""
         for old, _ in self.changes:
             if self.text.count(old) != 1:
@@ -277,7 +282,7 @@ class Edit:
         return None if os.path.dirname(self.path) == home else f"it belongs in {home}/"
 
     @classmethod
-    def of_function(cls, crate, file, text, first, last):
+    def of_function(cls, crate: kit.Crate, file: str, text: str, first: int, last: int) -> Edit:
         """What is said of an edit, for a function in which none stands: its path, and its file of answers."""
         it = cls.__new__(cls)
         it.file, it.text, it.block, it.is_of_trait, it.number, it.cycle = file, text, "", False, 0, ""
@@ -287,22 +292,22 @@ class Edit:
         return it
 
     @property
-    def is_in_cycle(self):
+    def is_in_cycle(self) -> bool:
         """Whether the function calls itself, or is one of several that call one another, which have one proof."""
         return bool(self.cycle)
 
     @property
-    def place_in_crate(self):
+    def place_in_crate(self) -> Tuple[str, Tuple[int, int], int]:
         """What two edits of one function share, or of one copy; the copies of all laws are numbered together."""
         return ("", (0, 0), self.number) if self.law else (self.file, self.lines, self.number)
 
     @property
-    def can_be_copied(self):
+    def can_be_copied(self) -> bool:
         """Whether it can be made to a copy of its function, which stands beside that."""
         is_of_other_trait = self.is_of_trait and not (self.trait or self.has_own_contract())
         return bool(self.law) or bool(self.answers) and self.is_inside and not is_of_other_trait
 
-    def has_own_contract(self):
+    def has_own_contract(self) -> bool:
         """Whether a function of an impl for a type of the crate has clauses of its own, by which a copy that is in no impl of the trait may
         be refused. The copy may assume no less, since the trait asks nothing."""
         if not re.search(rf"\b(?:{'|'.join(FREE)})(?:<[^>]*>)? for ", self.block):
@@ -312,11 +317,11 @@ class Edit:
         return is_said and bool(module_of(block_of(without_trait(self.block))[0], self.crate))
 
     @property
-    def is_never_in_place(self):
+    def is_never_in_place(self) -> bool:
         """Whether a check that it shares tries no more of it than a copy."""
         return self.is_in_cycle or bool(self.law)
 
-    def in_copy(self, number):
+    def in_copy(self, number: int) -> Edit:
         """The same edit, made to a copy of its function, or of a definition."""
         it, behind = copy.copy(self), f"_copy{number}"
         it.number = number
@@ -340,7 +345,7 @@ class Edit:
         it.answers = f"{place}{behind}/Answers.antt"
         return it
 
-    def trait_in(self, crate):
+    def trait_in(self, crate: kit.Crate) -> Optional[copies.Trait]:
         """The trait in an impl of which it stands, if that can be copied. Finds the impl's lines but its functions."""
         found = re.search(r"(\w+)(?:<[^>]*>)? for ", self.block) if IMPL.match(self.block) else None
         trait = copies.Trait(crate, found[1], self.tail.rpartition("::")[2]) if found else None
@@ -351,7 +356,7 @@ class Edit:
         self.members = copies.alone(lines[opens + 1 : last], "")
         return trait if trait and trait.text else None
 
-    def with_copy(self, texts, is_right):
+    def with_copy(self, texts: Texts, is_right: bool) -> Texts:
         """The texts with the copy in them or beside them."""
         if not self.copies:
             texts = {**texts, self.file: texts.get(self.file, self.text)}
@@ -360,24 +365,24 @@ class Edit:
         edited = self.text if is_right else changed(self.text, self.places())
         return {**texts, **self.copies.texts(texts, edited)}
 
-    def copied(self, text, is_right):
+    def copied(self, text: str, is_right: bool) -> str:
         """A text of the file with the copy at its end. Finds the copy's lines."""
         name, (first, last) = self.tail.rpartition("::")[2], self.lines
         at = next(it for it, line in enumerate(self.text.split("\n")[first:]) if FUNCTION.match(line))
         lines = (self.text if is_right else changed(self.text, self.places())).split("\n")[first : last + 1]
         lines[:at] = [CYCLE.sub("", it) for it in lines[:at]]
         lines[at] = re.sub(rf"\bfn {name}\b", f"fn {name}_copy{self.number}", lines[at])
-        members = self.members if self.trait else []
+        members: List[str] = self.members if self.trait else []
         self.first = text.count("\n") + bool(self.block) + len(members)
         self.last = self.first + last - first
         own = "".join(f"{it}\n" for it in [*members, *lines])
         return text + (f"{self.block} {{\n{own}}}\n" if self.block else own)
 
-    def places(self):
+    def places(self) -> List[Place]:
         """The places of its changes, and of the attribute for which no goal without an answer is searched, if it is tried by some goals."""
         return [*((at, old, new) for at, (old, new) in zip(self.at, self.changes)), *self.place_of_none()]
 
-    def place_of_none(self):
+    def place_of_none(self) -> List[Place]:
         """The place of that attribute; none where the function has one of its own, or where a change goes over the place."""
         if not self.asked:
             return []
@@ -389,7 +394,7 @@ class Edit:
         has_own = any("#[tactic(" in it for it in lines[self.lines[0] : at])
         return [] if not at or is_changed or has_own else [(place, "", "#[tactic(none)] ")]
 
-    def proofs(self, crate):
+    def proofs(self, crate: kit.Crate) -> Dict[str, str]:
         """The files of the function's proof by hand, and of the same for its copy, with the lemma that is false."""
         if self.copies:
             found = {self.answers: "", **self.copies.answers()}
@@ -402,7 +407,7 @@ class Edit:
             found[f"{to}/{name}"] = text.replace(f".{own}.".replace("/", "."), f".{to}.".replace("/", "."))
         return {**found, self.answers: self.answered(crate, found[self.answers]) + FALSE_LEMMA}
 
-    def answered(self, crate, text):
+    def answered(self, crate: kit.Crate, text: str) -> str:
         """An Answers file with one way, and no more, at each goal of the edit that the file does not answer: it proves that goal of the
         right body, as the control shows, where that has it; and at a goal without an answer the prover tries six ways more."""
         lines = self.text.split("\n")[self.lines[0] : self.lines[1] + 1]
@@ -417,21 +422,22 @@ class Edit:
         found = [f"\npub {it} : goal.{it}\n{it} {given} = {self.ways[it][0]}\n" for it in goals]
         return "".join([*uses, text, *found])
 
-    def place(self, lines, at):
+    def place(self, lines: List[str], at: int) -> Optional[Tuple[int, int]]:
+        """The first and the last line of what stands around a place."""
         return place_of(lines, self.text[:at].count("\n"))
 
-    def home_of(self, lines, place):
+    def home_of(self, lines: List[str], place: Tuple[int, int]) -> str:
         """Where the edits of the item at a place stand: its file, then its name."""
         self.first, self.last = place
         subject = self.file.removeprefix("src/").removesuffix(".rt")
         return f"{subject}/{self.named(lines, [it for it in subject.split('/') if it not in ('lib', 'main')])}"
 
-    def is_at_home(self, lines, at):
+    def is_at_home(self, lines: List[str], at: int) -> bool:
         """Whether a place stands in the function that the edit's folder names."""
         place = self.place(lines, at)
-        return bool(place) and os.path.dirname(self.path) == self.home_of(lines, place)
+        return place is not None and os.path.dirname(self.path) == self.home_of(lines, place)
 
-    def named(self, lines, modules):
+    def named(self, lines: List[str], modules: List[str]) -> str:
         """The item's name. Finds the function's paths."""
         found = FUNCTION.match(lines[self.first])
         if not found:
@@ -449,7 +455,7 @@ class Edit:
         self.only = tail if "(" in before else before + tail
         return tail.replace("::", ".")
 
-    def answers_in(self, crate):
+    def answers_in(self, crate: kit.Crate) -> str:
         """The file of the function's answers, or of those of its cycle of calls, which has one proof. Finds both folders."""
         *kind, name = self.only.split("::")
         if len(kind) == 1 and kind[0][0].isupper():
@@ -464,25 +470,32 @@ class Edit:
             self.told_as = os.path.relpath(self.folder, os.path.dirname(self.cycle)).replace("/", "::")
         elif os.path.isdir(f"{crate.folder}/{place}/+{name}"):
             self.cycle = f"{place}/+{name}"
-        return None if cycle and not self.cycle else f"{self.cycle or self.folder}/Answers.antt"
+        return "" if cycle and not self.cycle else f"{self.cycle or self.folder}/Answers.antt"
 
-    def is_own(self, path):
+    def is_own(self, path: str) -> bool:
+        """Whether the prover names the edit's function so."""
         return not self.own or bool(self.own.match(path))
 
-    def is_around(self, said):
-        if said and self.copies:
+    def is_around(self, said: Optional[Match[str]]) -> bool:
+        """Whether the prover speaks of a place in the edit's function."""
+        if not said:
+            return False
+        if self.copies:
             return said[1] == self.file
-        return bool(said) and (self.breaks or not self.own or said[1] == self.file and self.first < int(said[2]) <= self.last + 1)
+        is_anywhere = bool(self.breaks) or not self.own
+        return is_anywhere or said[1] == self.file and self.first < int(said[2]) <= self.last + 1
 
 
 class Said:
     """What a check said of an edit's function, or of all functions where the edit stands in none."""
 
-    def __init__(self, edit, lines):
-        self.edit, self.lines, self.by_hand, self.lost = edit, lines, [], set()
+    def __init__(self, edit: Edit, lines: List[str]) -> None:
+        self.edit, self.lines = edit, lines
+        self.by_hand: List[str] = []
+        self.lost: Set[Tuple[str, str]] = set()
         self.reached = any(it.startswith(("logic=", "only=")) for it in lines)
         self.statuses = [it[2] for it in map(STATUS.match, lines) if it and edit.is_own(it[1])]
-        found = [it for it in map(OPEN.match, lines) if edit.is_around(it)]
+        found = [it for it in map(OPEN.match, lines) if it and edit.is_around(it)]
         self.open = {it[3]: "values at which this goal is false" in it[4] for it in found}
         for said in filter(None, map(BY_HAND.match, lines)):
             file, path, goal, text = said.groups()
@@ -500,7 +513,7 @@ class Said:
         own = edit.copies.name if edit.copies else None
         self.lemmas = [f"the lemma {it[2]}" for it in lemmas if it[1] == own and not MISSES.search(it[3])]
 
-    def refused_by(self):
+    def refused_by(self) -> List[str]:
         """The goals of the contract that are not proved, but those whose proof by hand lost a name. Of an edit that names goals, these
         alone: another goal's proof by hand may fail for the form of the text."""
         lost = [goal for _, goal in self.lost if goal]
@@ -510,11 +523,11 @@ class Said:
         found = [it for it in [*self.by_hand, *opened] if is_of_contract(it)]
         return [*(it for it in found if it in (self.edit.goals or found)), *lemmas]
 
-    def unread(self):
+    def unread(self) -> List[str]:
         """What the prover could not read of the code or of a definition."""
         return [it for it in self.lines if re.match(r"(?:\./)?(?:src|specs)/\S+: error", it)]
 
-    def cause(self):
+    def cause(self) -> str:
         """Why the edit is not refused."""
         if not self.reached:
             return f"it does not compile: {next(filter(PLACE.match, self.lines), self.lines[0])[:200]}"
@@ -541,7 +554,7 @@ class Kept:
     """The goals that edits were refused by in earlier runs on this machine, each in a file whose name is the sum of all that it
     stands on. A crate whose files change while it is looked at keeps nothing."""
 
-    def __init__(self, is_anew):
+    def __init__(self, is_anew: bool) -> None:
         home = os.environ.get("XDG_CACHE_HOME") or os.path.expanduser("~/.cache")
         self.at, self.is_anew, self.judge = f"{home}/dithvong/wrong", is_anew, [*map(read, (os.path.abspath(__file__), copies.__file__))]
         with contextlib.suppress(OSError):
@@ -549,11 +562,12 @@ class Kept:
                 if it.stat().st_mtime < time.time() - MONTH:
                     os.unlink(it.path)
 
-    def place(self, edit, stamp):
+    def place(self, edit: Edit, stamp: str) -> str:
+        """The file in which an answer is kept."""
         told = repr((self.judge, stamp, edit.name, edit.file, edit.changes, edit.breaks, edit.ways))
         return f"{self.at}/{hashlib.sha256(told.encode()).hexdigest()}"
 
-    def goal(self, edit, stamp):
+    def goal(self, edit: Edit, stamp: str) -> Optional[str]:
         """The goal that the edit was refused by, if it was."""
         if self.is_anew or edit.fault:
             return None
@@ -562,7 +576,8 @@ class Kept:
             return read(self.place(edit, stamp))
         return None
 
-    def keep(self, edit, stamp, goal):
+    def keep(self, edit: Edit, stamp: str, goal: str) -> None:
+        """Keeps the goal that an edit was refused by."""
         with contextlib.suppress(OSError):
             os.makedirs(self.at, 0o700, exist_ok=True)
             with tempfile.NamedTemporaryFile("w", dir=self.at, delete=False, encoding="utf-8") as it:
@@ -570,12 +585,12 @@ class Kept:
             os.replace(it.name, self.place(edit, stamp))
 
 
-def bare(line):
+def bare(line: str) -> str:
     """An attribute's line, but nothing of one that tells how its function is proved, or of which cycle of calls it is."""
     return "" if re.match(r" *#\[(?:tactic|cycle)\(", line) else line
 
 
-def apart(text, name):
+def apart(text: str, name: str) -> str:
     """Of a cycle's proof by hand the part of one function, as that of a function in no cycle: its goals do not begin with its name, and
     a call is not to be smaller than it, so that another goal, or none, says that it is allowed. Where it is the only function of its
     cycle, the name is empty."""
@@ -586,37 +601,39 @@ def apart(text, name):
     return head + re.sub(r"(?m)^(\S+(?: g)?) t (?=[^=\n]*=)", r"\1 ", found)
 
 
-def parts(lost):
+def parts(lost: Set[Tuple[str, str]]) -> str:
+    """The goals or files of proofs by hand that name what an edit took away."""
     return ", ".join(sorted({goal or file for file, goal in lost}))
 
 
-def changed(text, places):
+def changed(text: str, places: List[Place]) -> str:
+    """A text with these changes."""
     for at, old, new in sorted(places, reverse=True):
         text = text[:at] + new + text[at + len(old) :]
     return text
 
 
-def edited(edits):
+def edited(edits: List[Edit]) -> Texts:
     """The texts of the files with all these edits, which stand in different functions."""
     texts = {it.file: it.text for it in edits}
     return {file: changed(texts[file], [place for it in edits if it.file == file for place in it.places()]) for file in texts}
 
 
-def left_out(text, goals):
+def left_out(text: str, goals: Iterable[str]) -> str:
     """A proof by hand without its answers to these goals, or nothing where one is no goal's."""
     for goal in goals:
         text = re.sub(rf"(?ms)^(?:pub )?{re.escape(goal)} :.*?(?=^(?:pub |-- |\S+ : )|\Z)", "", text) if goal else ""
     return text
 
 
-def flags_of(edits, jobs):
+def flags_of(edits: List[Edit], jobs: int) -> List[str]:
     """The flags of a check of the edits' functions, or of the whole crate where an edit stands in none. Goals that are printed whole
     would take a tenth more processor time."""
     only = [f"--only={it.only}" for it in edits if it.only]
     return ["--jobs", str(jobs), "--short-goals", *(dict.fromkeys(only) if len(only) == len(edits) else [])]
 
 
-def hollow(lines, first, last, margin):
+def hollow(lines: List[str], first: int, last: int, margin: str) -> bool:
     """Puts no more into a function than that it is never reached, in as many lines, where it has a body of a line or more. Answers
     whether it has."""
     opens = [it for it in range(first, last) if lines[it] == f"{margin}{{"]
@@ -628,7 +645,7 @@ def hollow(lines, first, last, margin):
     return True
 
 
-def without_others(crate, texts, edits):
+def without_others(crate: kit.Crate, texts: Texts, edits: List[Edit]) -> Texts:
     """The texts, and those of the crate's other files, where the functions that none of the edits is for have no body, since a function
     is proved over the contracts of what it calls; but not a `drop`, without whose proof no goal of a function that ends such a value is
     tried, nor what stands in a cycle with a function that is edited in its place."""
@@ -649,12 +666,12 @@ def without_others(crate, texts, edits):
                 if not (is_asked or ends or not other.answers or other.cycle in whole) and hollow(lines, first, last, margin):
                     lines[top:first] = map(bare, lines[top:first])
                     found[f"{other.folder}/Answers.antt"] = FALSE_LEMMA
-                    found.update({other.cycle: None} if other.cycle else {})
+                    found.update({other.cycle: GONE} if other.cycle else {})
             found[file] = "\n".join(lines)
     return found
 
 
-def functions_in(lines):
+def functions_in(lines: List[str]) -> List[Tuple[int, int, str]]:
     """The first and the last line of each function with a body, and its margin; but not of those that a macro writes."""
     found, at, macro = [], 0, False
     while at < len(lines):
@@ -670,12 +687,12 @@ def functions_in(lines):
 class Ask:
     """What a check is to have of an edit's function: the wrong body or the right one, and which proofs by hand with less in them."""
 
-    def __init__(self, edit, proofs, lost, is_right=False):
+    def __init__(self, edit: Edit, proofs: Dict[str, str], lost: Set[Tuple[str, str]], is_right: bool = False) -> None:
         self.edit, self.proofs, self.is_right = edit, dict(proofs), is_right
         self.title = edit.name + (f" without {parts(lost)}" if lost else "") + (", as it was" if is_right else "")
 
 
-def texts_of(asks, crate):
+def texts_of(asks: List[Ask], crate: kit.Crate) -> Texts:
     """The texts of the files that the asks change, with the copies that they ask for."""
     proofs = {file: text for ask in asks if ask.edit.answers for file, text in ask.edit.proofs(crate).items()}
     answers = {it.edit.answers for it in asks}
@@ -687,10 +704,12 @@ def texts_of(asks, crate):
     return {**texts, **proofs}
 
 
-def judging(edit, crate):
+def judging(edit: Edit, crate: kit.Crate) -> Judge:
     """Judges an edit: yields each ask, takes what the check said of it, and returns the goals that the edit is refused by, or else
     none and why it is not refused."""
-    said, proofs, lost = (yield Ask(edit, {}, set())), {}, set()
+    said = yield Ask(edit, {}, set())
+    proofs: Dict[str, str] = {}
+    lost: Set[Tuple[str, str]] = set()
     if edit.asked and not said.refused_by():
         edit.asked = []
         said = yield Ask(edit, {}, set())
@@ -708,10 +727,10 @@ def judging(edit, crate):
     return told, f"its proof by hand names what the edit took away: {parts(lost)}; without it the right body is open too"
 
 
-def with_copies(edits):
+def with_copies(edits: Iterable[Edit]) -> Iterator[Edit]:
     """The edits, each further one of a function made to a copy of it where it can be; the first too, where the function is in a cycle of
     calls, or an edit of a definition."""
-    before = collections.Counter()
+    before: Counter[Tuple[str, Tuple[int, int], int]] = collections.Counter()
     for edit in edits:
         place = edit.place_in_crate
         number = before[place] + edit.is_never_in_place
@@ -723,25 +742,29 @@ class Shared:
     """The asks of many edits, an edit of a function or of a copy to a check. What waits for another function, or asks for a right body,
     comes in a second pass."""
 
-    def __init__(self, edits, crate):
-        self.crate, self.judges, self.asks, self.later = crate, {}, {}, {}
+    def __init__(self, edits: List[Edit], crate: kit.Crate) -> None:
+        self.crate = crate
+        self.judges: Dict[Edit, Judge] = {}
+        self.asks: Dict[Edit, Ask] = {}
+        self.later: Dict[Edit, Ask] = {}
         for edit in with_copies(edits):
             self.begin(edit)
 
-    def begin(self, edit):
+    def begin(self, edit: Edit) -> None:
+        """Begins to judge an edit."""
         self.judges[edit] = judging(edit, self.crate)
         self.asks[edit] = next(self.judges[edit])
 
-    def batch(self):
+    def batch(self) -> List[Ask]:
         """The asks of the next check, at most one of each function, or none at the end. Functions of which most is left come first."""
         if not self.asks:
             self.asks, self.later = self.later, {}
-        found = {}
+        found: Dict[Tuple[str, Tuple[int, int], int], List[Ask]] = {}
         for ask in self.asks.values():
             found.setdefault(ask.edit.place_in_crate, []).append(ask)
         return [asks[0] for asks in sorted(found.values(), key=len, reverse=True)[:MANY]]
 
-    def take(self, batch, lines):
+    def take(self, batch: List[Ask], lines: List[str]) -> Iterator[Tuple[Edit, List[str]]]:
         """Takes what a check of these asks said. Yields each edit that is judged by that, with the goals that it is refused by: none where
         it is to be tried alone."""
         saids = {it: Said(it.edit, lines) for it in batch}
@@ -756,7 +779,7 @@ class Shared:
             else:
                 yield from self.judged(ask.edit, saids[ask])
 
-    def judged(self, edit, said):
+    def judged(self, edit: Edit, said: Said) -> Iterator[Tuple[Edit, List[str]]]:
         """Hands what was said of an edit on to its judge, who asks for more, or has judged. A copy's edit that is not refused comes again
         in its place."""
         if edit.number and not (edit.is_never_in_place or said.refused_by()):
@@ -769,7 +792,7 @@ class Shared:
             yield edit.in_place, end.value[0]
 
 
-def is_to_come(ask, said):
+def is_to_come(ask: Ask, said: Said) -> bool:
     """Whether another edit of the check is why the prover says too little of this one."""
     if not said.reached:
         return not any(said.edit.is_around(PLACE.match(it)) for it in said.lines)
@@ -777,38 +800,37 @@ def is_to_come(ask, said):
     return is_waiting and (ask.is_right or not (said.refused_by() or said.lost))
 
 
-def checked(rt, crate, texts, flags, kept):
+def checked(crate: kit.Crate, texts: Texts, flags: List[str], kept: Optional[str]) -> str:
     """What a check of a copy of the crate says, with these texts in place of its own or beside them, over the work that is kept, or
     else from nothing. The kit's own check of a copy makes no folder, and a function without answers has none."""
     with tempfile.TemporaryDirectory(prefix="wrong-") as room:
-        for part in filter(lambda it: os.path.isdir(f"{crate.folder}/{it}"), rt.rtlib.PARTS):
+        for part in filter(lambda it: os.path.isdir(f"{crate.folder}/{it}"), kit.parts()):
             shutil.copytree(f"{crate.folder}/{part}", f"{room}/{part}")
-        for path in filter(lambda it: texts[it] is None, texts):
+        for path in [path for path in texts if texts[path] == GONE]:
             shutil.rmtree(f"{room}/{path}")
-        for path, text in filter(lambda it: it[1] is not None, texts.items()):
+        for path, text in [(path, text) for path, text in texts.items() if text != GONE]:
             os.makedirs(os.path.dirname(f"{room}/{path}"), exist_ok=True)
             with open(f"{room}/{path}", "w", encoding="utf-8") as it:
                 it.write(text)
-        keeps = ["--incremental", kept] if kept else []
-        words = [*rt.rtlib.guarded(), rt.rtlib.RATTLE, "check", *crate.words(flags, keeps=False), *keeps]
-        how = {"cwd": room, "stdin": subprocess.DEVNULL, "stdout": subprocess.PIPE, "stderr": subprocess.STDOUT, "errors": "replace"}
-        return subprocess.run(words, check=False, **how).stdout
+        words = crate.check(flags, kept)
+        return subprocess.run(words, cwd=room, stdin=subprocess.DEVNULL, stdout=subprocess.PIPE, stderr=subprocess.STDOUT, text=True, errors="replace").stdout
 
 
 class Trial:
     """The checks of a crate's edits, each over the work of those before it, and how many edits are refused and are not. A check waits
     for its turn, which answers how many jobs it may have."""
 
-    def __init__(self, rt, crate, kept, told, turn=lambda: 1):
-        self.rt, self.crate, self.kept, self.told, self.turn, self.counts, self.refused = rt, crate, kept, told, turn, [0, 0], []
+    def __init__(self, crate: kit.Crate, kept: Optional[str], told: Optional[str], turn: Callable[[], int] = lambda: 1) -> None:
+        self.crate, self.kept, self.told, self.turn, self.counts = crate, kept, told, turn, [0, 0]
+        self.refused: List[Tuple[Edit, str]] = []
 
-    def checked(self, asks, is_hollow=False):
+    def checked(self, asks: List[Ask], is_hollow: bool = False) -> List[str]:
         """The lines of a check of what is asked; where that is hollow, the other functions have no body."""
         start, edits = time.monotonic(), [it.edit for it in asks]
         kept, texts = self.kept if len(asks) <= FEW else None, texts_of(asks, self.crate)
         if is_hollow:
             texts = without_others(self.crate, texts, edits)
-        said = checked(self.rt, self.crate, texts, flags_of(edits, self.turn()), kept)
+        said = checked(self.crate, texts, flags_of(edits, self.turn()), kept)
         if self.told:
             title = " ".join(it.title for it in asks)
             with open(self.told, "a", encoding="utf-8") as it:
@@ -816,7 +838,7 @@ class Trial:
         # what a line says goes on in the lines below that stand in from the margin
         return re.sub(r"\n +", " ", said.rstrip("\n")).split("\n")
 
-    def run_right(self, edits):
+    def run_right(self, edits: List[Edit]) -> None:
         """Judges the right bodies of the edits' functions, beside the lemma that is false: no goal may be open."""
         tried = {it.place_in_crate: it for it in with_copies(it for it in edits if it.answers or it.law)}
         asks = [Ask(it, {}, set(), is_right=True) for it in tried.values()]
@@ -829,15 +851,17 @@ class Trial:
             self.counts[bool(is_open)] += 1
             say(f"{'FAIL' if is_open else 'pass'} {ask.title}{f': {said.cause()}' if is_open else ''}")
 
-    def settle(self, edit, goals, fault):
+    def settle(self, edit: Edit, goals: List[str], fault: Optional[str]) -> None:
+        """Counts and tells what was found of an edit."""
         self.counts[not goals] += 1
         self.refused += [(edit, goals[0])] if goals else []
         say(f"pass {edit.name} is refused by {goals[0]}" if goals else f"FAIL {edit.name}: {fault}")
 
-    def run(self, edits):
+    def run(self, edits: List[Edit]) -> None:
+        """Tries all edits: most in shared checks, and then alone what these do not show."""
         for edit in edits:
             if edit.fault:
-                self.settle(edit, None, edit.fault)
+                self.settle(edit, [], edit.fault)
         edits = [it for it in edits if not it.fault]
         alone = [it for it in edits if it.breaks and not it.law or not it.own]
         shared = Shared([it for it in edits if it not in alone], self.crate)
@@ -848,15 +872,15 @@ class Trial:
                 else:
                     alone.append(edit)
         for edit in alone:
-            goals, fault = self.judged(edit, is_hollow=bool(edit.own))
-            self.settle(edit, *((goals, fault) if goals else self.judged_anew(edit)))
+            verdict = self.judged(edit, is_hollow=bool(edit.own))
+            self.settle(edit, *(verdict if verdict[0] else self.judged_anew(edit)))
 
-    def judged_anew(self, edit):
+    def judged_anew(self, edit: Edit) -> Verdict:
         """The same as `judged`, from nothing: what earlier checks kept is not why an edit is not refused."""
         with tempfile.TemporaryDirectory(prefix="wrong-") as room:
-            return Trial(self.rt, self.crate, room, self.told, self.turn).judged(edit)
+            return Trial(self.crate, room, self.told, self.turn).judged(edit)
 
-    def judged(self, edit, is_hollow=False):
+    def judged(self, edit: Edit, is_hollow: bool = False) -> Verdict:
         """The goals that an edit is refused by where it is tried alone, or else why it is not refused."""
         judge = judging(edit, self.crate)
         ask = next(judge)
@@ -864,15 +888,17 @@ class Trial:
             try:
                 ask = judge.send(Said(edit, self.checked([ask], is_hollow)))
             except StopIteration as end:
-                return end.value
+                verdict: Verdict = end.value
+                return verdict
 
 
-def edits_below(folder, crate):
+def edits_below(folder: str, crate: kit.Crate) -> List[Edit]:
+    """The edits of a crate, in order."""
     paths = sorted(f"{at}/{it}" for at, _, names in os.walk(folder) for it in names if it.endswith(".edit"))
     return [Edit(it, folder, crate) for it in paths]
 
 
-def provers():
+def provers() -> int:
     """How many processes of the prover run now, the gate's among them: a thread of each is running."""
     running = 0
     for pid in filter(str.isdigit, os.listdir("/proc")):
@@ -886,83 +912,94 @@ class Gate:
     """A run of `rt ci` beside this one, by its log; or none, and then all crates are proved already. What an earlier run
     on this machine has proved is kept, and so is proved."""
 
-    def __init__(self, log):
+    def __init__(self, log: str) -> None:
         self.log = log
 
-    def has_ended(self):
+    def has_ended(self) -> bool:
+        """Whether the gate has come to its last line."""
         return not self.log or bool(re.search(r"(?m)^\d+ passed, \d+ failed", self.told()))
 
-    def told(self):
+    def told(self) -> str:
+        """What the gate has printed so far."""
         return read(self.log) if os.path.isfile(self.log) else ""
 
-    def has_proved(self, crates):
+    def has_proved(self, crates: List[kit.Crate]) -> bool:
+        """Whether the gate has proved these crates, or kept their proofs."""
         told = self.told() if self.log else ""
         return not self.log or all(re.search(rf"(?m)^rt: {it.name} (?:proved$|is kept: )", told) for it in crates)
 
 
-def tried(rt, edits, given):
-    """Tries the crates' edits side by side, and returns for each list of them how many are refused and how many are not."""
-    lanes = rt.processors()
-    gate, earlier, waiting, left, taking = Gate(given.gate), Kept(given.anew), [*edits], [*edits], threading.Lock()
+class Lanes:
+    """The crates whose edits are tried side by side, beside a gate or alone."""
 
-    def taken():
+    def __init__(self, edits: Dict[kit.Crate, List[Edit]], given: argparse.Namespace) -> None:
+        self.edits, self.given, self.count = edits, given, kit.processors()
+        self.gate, self.earlier, self.taking = Gate(given.gate), Kept(given.anew), threading.Lock()
+        self.waiting, self.left = [*edits], [*edits]
+
+    def taken(self) -> Optional[kit.Crate]:
         """The first crate whose crates below are proved, or any once the gate has ended; none where all are to wait."""
-        with taking:
-            has_ended = gate.has_ended()
-            crate = next((it for it in waiting if has_ended or gate.has_proved(it.below())), None)
+        with self.taking:
+            has_ended = self.gate.has_ended()
+            crate = next((it for it in self.waiting if has_ended or self.gate.has_proved(it.below())), None)
             if crate:
-                waiting.remove(crate)
+                self.waiting.remove(crate)
             return crate
 
-    def lane(number, room):
+    def lane(self, number: int, room: str) -> List[List[int]]:
         """Tries one crate's edits after another's. The first of several lanes is the gate's until its end."""
         counts = []
-        while waiting:
-            is_free = number or lanes == 1 or gate.has_ended()
-            if crate := is_free and taken():
-                counts.append(counted(crate, edits[crate], f"{room}/{crate.name}"))
-                left.remove(crate)
+        while self.waiting:
+            is_free = number or self.count == 1 or self.gate.has_ended()
+            if crate := is_free and self.taken():
+                counts.append(self.counted(crate, self.edits[crate], f"{room}/{crate.name}"))
+                self.left.remove(crate)
             else:
                 time.sleep(2)
         return counts
 
-    def turn():
+    def turn(self) -> int:
         """Waits beside the gate for memory and for a processor on which no prover runs, since two on one take more than one after the
         other. Answers how many jobs a check may have: a second one takes a third more processor time, so only a run without a gate, for
         which somebody waits, has more in a lane that no other crate's edits fill any more."""
-        while not gate.has_ended() and not (rt.free() > ROOM and provers() < lanes):
+        while not self.gate.has_ended() and not (kit.free() > kit.ROOM and provers() < self.count):
             time.sleep(2)
-        return 1 if given.gate else max(1, lanes // max(1, len(left)))
+        return 1 if self.given.gate else max(1, self.count // max(1, len(self.left)))
 
-    def counted(crate, some, kept):
+    def counted(self, crate: kit.Crate, some: List[Edit], kept: str) -> List[int]:
+        """How many of a crate's edits are refused, and how many are not."""
         stamp = crate.stamp()
-        goals = {it: None if given.right else earlier.goal(it, stamp) for it in some}
+        goals = {it: None if self.given.right else self.earlier.goal(it, stamp) for it in some}
         for edit in filter(goals.get, some):
             say(f"pass {edit.name} is refused by {goals[edit]}, as an earlier run on this machine saw")
         new = [it for it in some if not goals[it]]
-        refused, failed = counted_anew(crate, new, kept, stamp) if new else (0, 0)
+        refused, failed = self.counted_anew(crate, new, kept, stamp) if new else (0, 0)
         return [len(some) - len(new) + refused, failed]
 
-    def counted_anew(crate, some, kept, stamp):
-        if not gate.has_proved(crate.below()):
+    def counted_anew(self, crate: kit.Crate, some: List[Edit], kept: str, stamp: str) -> List[int]:
+        """The same of those that no earlier run on this machine saw refused."""
+        if not self.gate.has_proved(crate.below()):
             say(f"FAIL {crate.name}: a crate below it is not proved, so its {len(some)} wrong bodies were not tried")
             return [0, len(some)]
         # a gate moves what checks kept out of its way
-        if not (given.gate or os.path.isdir(kept)) and os.path.isdir(f"{crate.folder}/out/incremental"):
+        if not (self.given.gate or os.path.isdir(kept)) and os.path.isdir(f"{crate.folder}/out/incremental"):
             shutil.copytree(f"{crate.folder}/out/incremental", kept)
         os.makedirs(kept, exist_ok=True)
-        trial = Trial(rt, crate, kept, given.told, turn)
-        trial.run_right(some) if given.right else trial.run(some)
+        trial = Trial(crate, kept, self.given.told, self.turn)
+        trial.run_right(some) if self.given.right else trial.run(some)
         for edit, goal in trial.refused if crate.stamp() == stamp else ():
-            earlier.keep(edit, stamp, goal)
+            self.earlier.keep(edit, stamp, goal)
         return trial.counts
 
-    with tempfile.TemporaryDirectory(prefix="wrong-") as room, ThreadPoolExecutor(lanes) as pool:
-        runs = [pool.submit(lane, it, os.path.abspath(given.kept or room)) for it in range(lanes)]
-        return [counts for run in runs for counts in run.result()]
+    def all(self) -> List[List[int]]:
+        """Tries all, and returns for each crate how many are refused and how many are not."""
+        with tempfile.TemporaryDirectory(prefix="wrong-") as room, ThreadPoolExecutor(self.count) as pool:
+            runs = [pool.submit(self.lane, it, os.path.abspath(self.given.kept or room)) for it in range(self.count)]
+            return [counts for run in runs for counts in run.result()]
 
 
-def main():
+def said() -> argparse.Namespace:
+    """What the command line says."""
     words = argparse.ArgumentParser(description=__doc__, formatter_class=argparse.RawDescriptionHelpFormatter)
     words.add_argument("names", nargs="*", metavar="NAME", help="the crates; without names all")
     words.add_argument("--folder", default="wrong", help="where the edits stand in a crate's folder")
@@ -972,25 +1009,26 @@ def main():
     words.add_argument("--anew", action="store_true", help="try again what an earlier run on this machine saw refused")
     words.add_argument("--right", action="store_true", help="try right bodies as wrong ones are tried: none may be refused")
     words.add_argument("--told", help="a file to which what the prover said is appended")
-    given = words.parse_args()
+    return words.parse_args()
+
+
+def main() -> int:
+    """Tries the wrong bodies of the crates that the command line names."""
+    given = said()
     os.chdir(os.path.dirname(os.path.dirname(os.path.abspath(__file__))))
-    rt = kit()
-    rt.rtlib.guarded()
-    crates = [it for it in rt.rtlib.crates_below(os.getcwd()) if not given.names or it.name in given.names]
-    for it in crates:
-        # as a static library it would be checked with the code of all libraries below it, by which no edit is refused
-        it.is_static = False
+    crates = [it for it in kit.crates(os.getcwd()).values() if not given.names or it.name in given.names]
     edits = {it: [edit for edit in edits_below(f"{it.folder}/{given.folder}", it) if given.edit in edit.path] for it in crates}
     # how long a crate takes, about: an edit takes the longer, the more crates stand below its own
     taking = {it: len(edits[it]) * (4 + len(it.below())) for it in crates if edits[it]}
-    edits = {it: edits[it] for it in sorted(taking, key=taking.get, reverse=True)}
+    edits = {it: edits[it] for it in sorted(taking, key=lambda it: taking[it], reverse=True)}
     below = {low.name: low for it in edits for low in it.below()}.values()
     for low in sorted(below, key=lambda it: len(it.below())) if not given.gate else []:
-        if not is_current(low) and low.build_rlib(["--jobs", "1"], anew=False):
+        if not (low.is_current() or low.build()):
             sys.exit(f"{low.name} is not proved")
-    counts = tried(rt, edits, given)
-    say("wrong bodies: end")
-    return 1 if any(failed for _, failed in counts) else 0
+    counts = Lanes(edits, given).all()
+    refused, failed = (sum(column) for column in zip(*counts, [0, 0]))
+    say(f"{refused} passed, {failed} failed")
+    return 1 if failed else 0
 
 
 if __name__ == "__main__":

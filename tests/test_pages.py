@@ -1,8 +1,6 @@
-#!/usr/bin/env python3
-"""Makes the pages (docs/build) and looks whether they hold together: a line 'pass ..' or 'FAIL ..' for each test, and behind a
-'FAIL ..' what breaks it. The last line is 'pages: end'.
+"""Makes the pages (docs/build), and looks whether they hold together.
 
-A headless Chromium loads pages, searches and follows a clause, at two widths; where there is none, that is skipped with a word.
+A headless Chromium loads pages, searches and follows a clause, at two widths; where there is none, that is skipped.
 """
 import html
 import html.parser
@@ -14,29 +12,23 @@ import subprocess
 import sys
 import tempfile
 import tomllib
+import unittest
 import urllib.parse
 
 sys.dont_write_bytecode = True
 TOP = os.path.dirname(os.path.dirname(os.path.abspath(__file__)))
-sys.path.insert(0, f"{TOP}/tools")
-from pages.book import Book, item_name  # noqa: E402
-from pages.claims import read_claims  # noqa: E402
-from pages.filled import stale, without_filled  # noqa: E402
-from pages.site import fill_prose  # noqa: E402
-from pages.sources import Repository, crates_listed, read  # noqa: E402
-from pages.text import CODE, cells_of  # noqa: E402
+sys.path[:0] = [f"{TOP}/tools", f"{TOP}/tests"]
+from pages.book import Book, item_name
+from pages.claims import read_claims
+from pages.filled import stale, without_filled
+from pages.site import fill_prose
+from pages.sources import Repository, crates_listed, read
+from pages.text import CODE, cells_of
 
 DOCUMENTS = ("README.md", "docs/CALLING.md", "docs/PROVED.md", "docs/BORDER.md")
 WIDTHS = (360, 1280)
 # the traits behind what a document writes of a call
 OPERATORS = {"==": "PartialEq::eq", "{}": "Display::fmt", "{:?}": "Debug::fmt", "?": "From::from"}
-
-
-def tell(name, broken):
-    print(f"{'FAIL' if broken else 'pass'} pages: {name}")
-    for it in broken[:40]:
-        print(f"     {it}")
-    sys.stdout.flush()
 
 
 def built(folder, change=None):
@@ -257,15 +249,6 @@ FAULTS = {
 }
 
 
-def faults_that_pass(folder):
-    for name, change in FAULTS.items():
-        status, told = built(folder, change)
-        if status == 0:
-            yield f"the pages are made in spite of {name}: {told.strip()}"
-        elif "Traceback" in told and "ValueError" not in told:
-            yield f"{name}: {told}"
-
-
 # ---- a browser
 
 
@@ -350,6 +333,7 @@ class Browser:
         os.close(self.given)
 
 
+CHROMIUM = shutil.which("chromium") or shutil.which("chromium-browser") or shutil.which("google-chrome")
 SEARCH = """(() => { const box = document.getElementById('search'); box.value = %s; box.dispatchEvent(new Event('input'));
 const links = [...document.querySelectorAll('#hits a')];
 return links.map((it) => it.querySelector('b').textContent + ' ' + it.href); })()"""
@@ -381,38 +365,64 @@ def faults_in_browser(browser, folder, width):
     browser.errors.clear()
 
 
-def in_browser(folder, room):
-    program = shutil.which("chromium") or shutil.which("chromium-browser") or shutil.which("google-chrome")
-    if not program:
-        print("skip pages: no browser (the Debian package chromium)")
-        return
-    browser = Browser(program, room)
-    try:
+class Pages(unittest.TestCase):
+    """The pages of the repository."""
+
+    @classmethod
+    def setUpClass(cls):
+        room = tempfile.TemporaryDirectory(prefix="pages-")
+        cls.addClassCleanup(room.cleanup)
+        cls.room, cls.folder = room.name, f"{room.name}/docs"
+        status, told = built(cls.folder)
+        if status:
+            raise AssertionError(f"the pages are not made: {told}")
+        cls.book = Book(Repository())
+        fill_prose(cls.book)
+
+    def none(self, broken):
+        """Nothing is broken, or the first 40 of what is are told."""
+        found = list(broken)
+        if found:
+            self.fail("\n".join(["", *found[:40]]))
+
+    def test_links(self):
+        """each link leads somewhere"""
+        pages = parsed(self.folder)
+        self.none([*lost_links(self.folder, pages), *lost_entries(self.folder, pages)])
+
+    def test_imports(self):
+        """what `tera` gives out is imported from there"""
+        self.none(imported_from_below(self.folder))
+
+    def test_calls(self):
+        """each call that documents name has its anchor, and each clause is one of it"""
+        self.none(unknown_calls(self.book))
+
+    def test_filled(self):
+        """documents have what the sources say"""
+        self.none(f"{path}: `./docs/build --fill`" for path, _ in stale(self.book, read_claims(self.book)))
+
+    def test_promises(self):
+        """each promise of README has a claim"""
+        self.none(promises_without_claim(self.book))
+
+    def test_faults(self):
+        """what is not there is refused"""
+        for name, change in FAULTS.items():
+            with self.subTest(name):
+                status, told = built(f"{self.room}/faulty", change)
+                self.assertTrue(status, f"the pages are made in spite of it: {told.strip()}")
+                self.assertTrue("Traceback" not in told or "ValueError" in told, told)
+
+    @unittest.skipUnless(CHROMIUM, "no browser (the Debian package chromium)")
+    def test_browser(self):
+        """a browser loads, searches and follows a clause at 360 and 1280 pixels"""
+        browser = Browser(CHROMIUM, self.room)
+        self.addCleanup(browser.end)
         for width in WIDTHS:
-            broken = list(faults_in_browser(browser, folder, width))
-            tell(f"a browser loads, searches and follows a clause at {width} pixels", broken)
-    finally:
-        browser.end()
-
-
-def main():
-    with tempfile.TemporaryDirectory(prefix="pages-") as room:
-        folder = f"{room}/docs"
-        status, told = built(folder)
-        tell("the pages are made", [told] if status else [])
-        if status == 0:
-            pages = parsed(folder)
-            tell("each link leads somewhere", [*lost_links(folder, pages), *lost_entries(folder, pages)])
-            book = Book(Repository())
-            fill_prose(book)
-            tell("what `tera` gives out is imported from there", list(imported_from_below(folder)))
-            tell("each call that documents name has its anchor, and each clause is one of it", list(unknown_calls(book)))
-            tell("documents have what the sources say", [f"{path}: `./docs/build --fill`" for path, _ in stale(book, read_claims(book))])
-            tell("each promise of README has a claim", list(promises_without_claim(book)))
-            tell("what is not there is refused", list(faults_that_pass(f"{room}/faulty")))
-            in_browser(folder, room)
-    print("pages: end")
+            with self.subTest(width):
+                self.none(faults_in_browser(browser, self.folder, width))
 
 
 if __name__ == "__main__":
-    sys.exit(main())
+    unittest.main()

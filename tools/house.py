@@ -1,51 +1,47 @@
 #!/usr/bin/env python3
 """Looks whether the repository keeps its house rules, without the prover: a line 'pass ..' or 'FAIL ..' for each rule, and
-behind a 'FAIL ..' each place that breaks it. The last line is 'house: end'.
-
-- calls: each word of a call in crates/tera_script/specs is in a script of script_checks or examples/, has a row in
-  docs/SCRIPT.md, an entry in tests/second.py, and a line that tests/fuzz.py makes; all of these, and the comments of
-  tera_context's `Step` and `Call`, let just those heed `->` that the specs do; and what `step` calls for it, or its arm
-  there, has a wrong body
-- imports: a crate imports a lower crate's proofs by its files of laws alone (docs/ARCHITECTURE.md says which these are)
-- surface: the crate `tera` gives out each public item of the libraries that it stands on, each of their files of
-  definitions and of laws, and what each of their types is to a clause
-- lemmas: each is cited, and no two have one statement up to the names of variables
-- memory: each public call that takes memory has a row in tests/calls.py, by which its requests are refused, or a test
-  that tests/calls.py names for it; and each test that docs/TESTS.md names is there
-- lengths: no file of src/, specs/ or proofs/ is longer than its bound, and no line is wider
-- docs: each path, module and name that README.md and docs/ write as code is there
-- tour: the tour of README.md shows the lines and the answers of examples/tour.replay
-- words: the documents have as many words by hand, and sentences as long, as tools/words.py lets them
+behind a 'FAIL ..' each place that breaks it. A rule is a function that gives the places.
 """
+from __future__ import annotations
+
 import collections
+import importlib
 import itertools
 import os
 import random
 import re
 import subprocess
 import sys
+from typing import Counter, Dict, Iterable, Iterator, List, Match, Set, Tuple
 
 sys.dont_write_bytecode = True  # no folder beside this file
-import calls as memory_calls
-import fuzz
-import hostile
-import second
-
 TOP = os.path.dirname(os.path.dirname(os.path.abspath(__file__)))
-sys.path.append(f"{TOP}/tools")
-import words as prose
+sys.path[:0] = [TOP, f"{TOP}/tests"]
+from conformance import reference
+from conformance.scripts import Maker
+from tools import words as prose
+
+memory_calls = importlib.import_module("calls")  # tests/calls.py
+
 FILE_LINES = 400
 WIDTHS = {"src": 100, "specs": 100, "proofs": 160}
 LAWS = re.compile(r"\w*Laws$")
 WORD = re.compile(r"[\w'-]+")
 
 
-def read(path):
+def read(path: str) -> str:
+    """The text of a file."""
     with open(path, encoding="utf-8") as it:
         return it.read()
 
 
-def files():
+def found(pattern: str, text: str, group: int = 1) -> str:
+    """The group of the first place that fits, or nothing."""
+    place = re.search(pattern, text)
+    return place[group] if place else ""
+
+
+def files() -> List[str]:
     """The files that git tracks or would track."""
     words = ["git", "ls-files", "--cached", "--others", "--exclude-standard"]
     if os.path.isdir(".git") or os.path.isfile(".git"):
@@ -55,10 +51,11 @@ def files():
     return sorted(it for it in found if it and os.path.isfile(it))
 
 
-FILES = [it for it in (os.chdir(TOP), files())[1]]
+os.chdir(TOP)
+FILES = files()
 
 
-def below(*folders, end=""):
+def below(*folders: str, end: str = "") -> List[str]:
     """The files of these folders of crates ('src', 'specs', ..) with that end."""
     return [it for it in FILES if re.match(rf"crates/\w+/(?:{'|'.join(folders)})/", it) and it.endswith(end)]
 
@@ -66,38 +63,46 @@ def below(*folders, end=""):
 # ---- calls
 
 
-def said_calls():
+def said_calls() -> Dict[str, bool]:
     """Each word of a call in the specs, and whether the line may end in a name for what is found."""
-    return {word: form[0].endswith(">") for word, form in second.CALLS.items()}
+    return {word: form[0].endswith(">") for word, form in reference.CALLS.items()}
 
 
-def rows_in_specs():
+def rows_in_specs() -> Dict[str, Tuple[str, bool]]:
     """Each verb of tera_script's table, with its word and whether it heeds a name for what is found."""
     table = read("crates/tera_script/specs/Verb.antt")
     return {verb: (word, how == "keeping") for verb, how, word in
             re.findall(r'(?m)^row_of verb\.(\w+) = (plain|keeping) \(codes "([a-z_]+)"\)', table)}
 
 
-def words_told_to_keep(page, words):
+def words_told_to_keep(page: str, words: Iterable[str]) -> Set[str]:
     """The words that the language's page lets end in a name for what is found; those from `add` to `pow` are operators."""
-    told = re.search(r"(?s)\n- ([^.]*?) may end in\s+`-> NAME`", page)[1]
-    operators = re.search(r"\| (`add NAME NAME`[^|]*)\|", page)[1]
+    told = found(r"(?s)\n- ([^.]*?) may end in\s+`-> NAME`", page)
+    operators = found(r"\| (`add NAME NAME`[^|]*)\|", page)
     return {it for it in re.findall(r"`([a-z_]+)[ `]", told + operators) if it in words}
 
 
-def calls_told_to_keep():
+def calls_told_to_keep() -> Set[str]:
     """The calls that comments say heed the name for what is found: that of `Step`, and those that tell of `Get`."""
     text = read("crates/tera_context/src/call.rt")
-    told = re.search(r"(?s)Only (.*?) heed that name", text)[1]
+    told = found(r"(?s)Only (.*?) heed that name", text)
     notes = re.findall(r"((?:    ///[^\n]*\n)+)    (\w+) \{", text)
     alike = {call for note, call in notes if "as `Get` does" in re.sub(r"\s*///\s*", " ", note)}
     return set(re.findall(r"`(\w+)`", told)) | alike
 
 
-def words_made():
+def comments_on_calls(table: Dict[str, Tuple[str, bool]]) -> Iterator[str]:
+    """Where comments of the code do not let just those heed `->` that the specs do."""
+    variants = set(re.findall(r"(?m)^    (\w+) \{", read("crates/tera_context/src/call.rt")))
+    own = {verb if verb in variants else "Binary" for verb, (_, keeps) in table.items() if keeps}
+    for call in sorted(own ^ calls_told_to_keep()):
+        yield f"crates/tera_context/src/call.rt: whether `{call}` heeds `->` is not as in tera_script's table"
+
+
+def words_made() -> Dict[str, Set[bool]]:
     """The words of the lines that tests/fuzz.py makes, each with whether a line of it had a name for what is found."""
     made = collections.defaultdict(set)
-    lines, _ = fuzz.Maker(random.Random(1)).script(3000, 0)
+    lines, _ = Maker(random.Random(1)).script(3000, 0)
     for line in lines:
         words = line.decode(errors="replace").split()
         if words:
@@ -105,16 +110,15 @@ def words_made():
     return made
 
 
-def calls():
+def calls() -> Iterator[str]:
+    """Each word of a call in the specs is in a script, has a row in docs/SCRIPT.md, an entry in the reference, a line that
+    tests/fuzz.py makes, and a wrong body; all of these let just those heed `->` that the specs do."""
     told = said_calls()
     table = rows_in_specs()
     spec = dict(table.values())
     page = read("docs/SCRIPT.md")
     keep = words_told_to_keep(page, spec)
-    variants = set(re.findall(r"(?m)^    (\w+) \{", read("crates/tera_context/src/call.rt")))
-    own = {verb if verb in variants else "Binary" for verb, (_, keeps) in table.items() if keeps}
-    for call in sorted(own ^ calls_told_to_keep()):
-        yield f"crates/tera_context/src/call.rt: whether `{call}` heeds `->` is not as in tera_script's table"
+    yield from comments_on_calls(table)
     rows = set(re.findall(r"`([a-z_]+)[ `]", "\n".join(it for it in page.split("\n") if it.startswith("| "))))
     tests = "".join(read(it) for it in FILES if re.match(r"crates/script_checks/src/|examples/.*\.replay$", it))
     made = words_made()
@@ -146,18 +150,28 @@ SHORT = {"equal": "eq", "compare": "cmp", "try_compare": "try_cmp"}
 READS = {"value_at", "absent_value"}
 
 
-def variants(path, name):
+def variants(path: str, name: str) -> Dict[str, str]:
     """The variants of an enum, in small letters: 'is_safe' of `IsSafe`."""
-    body = re.search(rf"(?ms)^pub enum {name} \{{\n(.*?)^\}}", read(path))[1]
+    body = found(rf"(?ms)^pub enum {name} \{{\n(.*?)^\}}", read(path))
     return {re.sub(r"(?<=[a-z])(?=[A-Z])", "_", it).lower(): it for it in re.findall(r"(?m)^    ([A-Z]\w*)", body)}
 
 
-def bodies(words):
+def by_request(arm: str) -> str:
+    """An arm of `step`, or that of `ask`, `weigh` or `find` to which it hands its operands on."""
+    for function, kind in (("ask", "Question"), ("weigh", "Weighing"), ("find", "Search")):
+        handed = re.search(rf"\b{function}\(.*?\b{kind}::(\w+)", arm, re.DOTALL)
+        if handed:
+            text = read(f"crates/tera_context/src/{function}.rt").partition(f"pub(crate) fn {function}(")[2].partition("\n}\n")[0]
+            return found(rf"(?ms)^        {kind}::{handed[1]}\b(.*?)(?=^        {kind}::|\Z)", text)
+    return arm
+
+
+def bodies(words: Set[str]) -> Iterator[str]:
     """Each word whose call has no wrong body: of a function that its arm of `step` calls, or of the arm."""
     edits = [it for it in FILES if re.match(r"crates/tera_(?:context|values|scalars)/wrong/.*\.edit$", it)]
     wrong = {it.split("/")[-2] for it in edits}
     step = read("crates/tera_context/src/steps.rt").partition("pub fn step(")[2].partition("\n}\n")[0]
-    arms = dict(re.findall(r"(?ms)^        Call::(\w+)(.*?)(?=^        Call::|\Z)", step))
+    arms = {call: by_request(arm) for call, arm in re.findall(r"(?ms)^        Call::(\w+)(.*?)(?=^        Call::|\Z)", step)}
     edited = {it for path in edits if "/steps/step/" in path for it in re.findall(r"\bCall::(\w+)", read(path))}
     for name, variant in variants("crates/tera_context/src/call.rt", "Call").items():
         word = SHORT.get(name, name)
@@ -180,12 +194,13 @@ def bodies(words):
 # ---- imports
 
 
-def given_out(text):
+def given_out(text: str) -> Set[str]:
     """The names of the files that a Lib.antt makes public, its own and those that it passes on."""
     return {name or path.rpartition(".")[2] for path, name in re.findall(r"(?m)^pub (?:mod|use) ([\w.]+)(?: as (\w+))?$", text)}
 
 
-def imports():
+def imports() -> Iterator[str]:
+    """A crate imports a lower crate's proofs by its files of laws alone (docs/ARCHITECTURE.md says which these are)."""
     shared = {}
     for path in below("proofs", end="/Lib.antt"):
         crate = path.split("/")[1]
@@ -203,13 +218,13 @@ def imports():
 PUBLIC = re.compile(r"(?m)^pub (struct|enum|trait|type|fn|mod) (\w+)")
 
 
-def items_used(text):
+def items_used(text: str) -> Iterator[str]:
     """What a text gives out by `pub use`: each path, without the name that it gets."""
     for path, names in re.findall(r"pub use ([\w:]+)(?:::\{([^}]*)\})?(?: as \w+)?;", text):
         yield from (f"{path}::{it}" for it in re.findall(r"\w+", names)) if names else [path]
 
 
-def items_public(crate):
+def items_public(crate: str) -> Iterator[str]:
     """The paths of what a library's root makes public of its own, a module by its items."""
     root = read(f"crates/{crate}/src/lib.rt")
     yield from (f"{crate}::{it.rpartition('::')[2]}" for it in items_used(root) if not it.startswith("tera_"))
@@ -220,7 +235,7 @@ def items_public(crate):
         yield from (f"{crate}::{it}" for it in macros)
 
 
-def files_public(crate):
+def files_public(crate: str) -> Iterator[str]:
     """The paths by which clauses and proofs name a library's definitions, laws and types."""
     for folder in ("specs", "proofs"):
         found = re.findall(r"(?m)^pub mod (\w+)", read(f"crates/{crate}/{folder}/Lib.antt"))
@@ -231,11 +246,13 @@ def files_public(crate):
         yield from (f"Rattle.{crate}.specs.declared.{'.'.join(inner)}.{it}" for it in kinds)
 
 
-def surface():
+def surface() -> Iterator[str]:
+    """The crate `tera` gives out each public item of the libraries that it stands on, each of their files of
+    definitions and of laws, and what each of their types is to a clause."""
     used = {it for path in below("src") if path.startswith("crates/tera/") for it in items_used(read(path))}
     named = "".join(read(it) for it in below("specs", "proofs") if it.startswith("crates/tera/"))
     passed = set(re.findall(r"(?m)^pub use ([\w.]+)", named))
-    for crate in re.search(r"(?m)^tera: (.*)$", read("crates.txt"))[1].split():
+    for crate in found(r"(?m)^tera: (.*)$", read("crates.txt")).split():
         for item in items_public(crate):
             if not any(item == it or item.startswith(f"{it}::") for it in used):
                 yield f"crates/tera does not give out `{item}`"
@@ -250,7 +267,8 @@ SAYS = re.compile(r"[≡≢<≤⊥⊎↔×]|\b(?:Is|Are|Has)[A-Z]")
 
 
 class Lemma:
-    def __init__(self, path, head, text):
+    """A lemma, or what looks like one: where it stands, and what it states."""
+    def __init__(self, path: str, head: Match[str], text: str) -> None:
         self.path, self.name = path, head[2]
         self.line = text[: head.start()].count("\n") + 1
         after = NEXT.search(text, head.end())
@@ -268,23 +286,24 @@ class Lemma:
 NEXT = re.compile(r"(?m)^ *(?:module _|(?:pub )?ruleset |(?:pub )?(?:unfoldable |abbrev |opaque )*[^\W\d][\w'-]* :(?= |$))")
 
 
-def lemmas_of(path, text):
+def lemmas_of(path: str, text: str) -> List[Lemma]:
     """The lemmas of a file of proofs: what stands at its margin, or below a `module _`."""
     heads = [it for it in HEAD.finditer(text) if not it[1] or it[1] == "  " and is_of_module(text, it.start())]
     return [Lemma(path, it, text) for it in heads]
 
 
-def is_of_module(text, at):
+def is_of_module(text: str, at: int) -> bool:
     """Whether the last line at the margin above a place opens a module."""
     above = [it for it in text[:at].split("\n") if it[:1] not in ("", " ", "-")]
     return bool(above) and above[-1].startswith(("module _", "mutual"))
 
 
-def lemmas():
+def lemmas() -> Iterator[str]:
+    """Each lemma is cited, and no two have one statement up to the names of variables."""
     texts = {it: read(it) for it in below("src", "specs", "proofs")}
     bare = {it: re.sub(r"--.*", "", texts[it]) for it in texts}
     used = {it: collections.Counter(WORD.findall(bare[it])) for it in texts}
-    everywhere = collections.Counter()
+    everywhere: Counter[str] = collections.Counter()
     for it in used.values():
         everywhere.update(it)
     same = collections.defaultdict(list)
@@ -303,7 +322,7 @@ def lemmas():
             yield f"one statement: {', '.join(f'{it.path}:{it.line} `{it.name}`' for it in group)}"
 
 
-def homes_of(path, text):
+def homes_of(path: str, text: str) -> Dict[str, str]:
     """Where the names of this repository that a file uses come from: {name: file and name there}."""
     homes = {it[2]: f"{path}.{it[2]}" for it in HEAD.finditer(text)}
     homes.update((it, f"{path}.{it}") for it in re.findall(r"(?m)^ *(?:pub |abbrev |unfoldable )*([A-Z]\w*) :", text))
@@ -314,7 +333,7 @@ def homes_of(path, text):
     return homes
 
 
-def spelled(lemma, homes):
+def spelled(lemma: Lemma, homes: Dict[str, str]) -> str:
     """The statement with its variables numbered in the order in which they stand, those of its module's first, and with
     the repository's own names in full. A definition is spelled with its body."""
     text = lemma.statement.partition(":")[2]
@@ -325,7 +344,7 @@ def spelled(lemma, homes):
         if set(group[1:].partition(":")[0].split()) & set(WORD.findall(text)):
             text = f"{group} {text}"
     text = re.sub(r"\s+", " ", text).strip()
-    names = {}
+    names: Dict[str, str] = {}
     for group in re.findall(r"[({]([^(){}:]+?) :", text):
         for name in group.split():
             names.setdefault(name, f"#{len(names)}")
@@ -338,13 +357,13 @@ LIBRARIES = "tera_report tera_scalars tera_values tera_conversions tera_argument
 HEADED = re.compile(r"(?m)^(?P<block>(?:impl|pub trait)\b[^{;]*)\{|^ *(?P<public>pub )?fn (?P<name>\w+)(?P<rest>[^;{]*?)(?=\n\s*(?:requires|ensures)\b|[{;])|^(?P<end>\})")
 
 
-def plain_type(text):
+def plain_type(text: str) -> str:
     """A type as rows name it: without lifetimes and parameters."""
     text = re.sub(r"<.*>", "", re.sub(r"'\w+ ?", "", text.replace("'static", ""))).strip()
     return {"KwargsOf": "Kwargs"}.get(text, text)
 
 
-def public_calls(crate):
+def public_calls(crate: str) -> Iterator[Tuple[str, str]]:
     """Each public call of a library that is given an allocator, or whose answer may be want of memory."""
     names = read(f"crates/{crate}/src/lib.rt")
     modules = set(re.findall(r"pub mod (\w+)", names))
@@ -374,7 +393,9 @@ def public_calls(crate):
                 yield path, f"{own}::{found['name']}" if block else f"{module}::{found['name']}" if module in modules else found["name"]
 
 
-def memory():
+def memory() -> Iterator[str]:
+    """Each public call that takes memory has a row in tests/calls.py, by which its requests are refused, or a test that
+    tests/calls.py names for it; and each test that docs/TESTS.md names is there."""
     rows = {row.name.split()[0] for row in memory_calls.rows(2)}
     tests = tests_there()
     found = set()
@@ -394,15 +415,19 @@ def memory():
                 yield f"docs/TESTS.md: no test `{name[0] or name[1]}`"
 
 
-def rows_of(page):
+# the first line of a test says what it shows, and names it
+TEST = re.compile(r'def test_\w+\(self\)[^:]*:\n +"""(.*?)"""')
+
+
+def rows_of(page: str) -> List[List[str]]:
     """The cells of each row of a page's tables, but for their heads."""
     rows = [[it.strip() for it in line.split("|")[1:-1]] for line in page.split("\n") if line.startswith("|")]
     return [it for it in rows if it[0] != "test" and set(it[0]) != {"-"}]
 
 
-def tests_there():
-    """The names of all tests: those of tests/hostile.py and tests/program.sh, and those of crates with their crate."""
-    named = set(hostile.TESTS) | set(re.findall(r'(?m)^ *tell "([^"$]+)"', read("tests/program.sh")))
+def tests_there() -> Set[str]:
+    """The names of all tests: the first lines of those of tests/, and those of crates with their crate."""
+    named = {name for path in FILES if path.startswith("tests/") for name in TEST.findall(read(path))}
     for path in below("src", end=".rt"):
         named.update(f"{path.split('/')[1]}::{it}" for it in re.findall(r"#\[test\]\s*fn (\w+)", read(path)))
     return named
@@ -411,7 +436,8 @@ def tests_there():
 # ---- lengths
 
 
-def lengths():
+def lengths() -> Iterator[str]:
+    """No file of src/, specs/ or proofs/ is longer than its bound, and no line is wider."""
     for path in below(*WIDTHS):
         lines = read(path).split("\n")
         if len(lines) - 1 > FILE_LINES:
@@ -431,7 +457,8 @@ PATH = re.compile(r"^[\w.-]+(?:/[\w.*+-]+)+/?$|^[\w-]+\.(?:md|py|sh|rt|antt|c|tx
 NAME = re.compile(r"^[A-Za-z_]\w*(?:(?:::|\.)[A-Za-z_*]\w*)*$")
 
 
-def docs():
+def docs() -> Iterator[str]:
+    """Each path, module and name that README.md and docs/ write as code is there."""
     pages = [it for it in FILES if it.endswith(".md")]
     sources = [it for it in FILES if not it.endswith(".md") and "/wrong/" not in it]
     words = set()
@@ -458,7 +485,7 @@ def docs():
                     yield f"{path}: `{code}` names {', '.join(missing)}, which is nowhere"
 
 
-def is_there(code):
+def is_there(code: str) -> bool:
     """Whether a path is there; words in capitals, and stars, stand for any name."""
     parts = code.removeprefix("./").rstrip("/").split("/")
     if parts[0] not in TOPS and "." not in parts[-1] or "out" in parts:
@@ -467,7 +494,7 @@ def is_there(code):
     return any(re.match(rf"(?:.*/)?{pattern}(?:\.\w+)?(?:/.*)?$", it) for it in FILES)
 
 
-def tour():
+def tour() -> Iterator[str]:
     """Each line of README's tour, with its answer and behind two blanks a remark, is that of the example."""
     shown = re.search(r"\n## A tour of the language\n(?:.*\n)*?\n((?:    .*\n)+)", read("README.md"))
     rows = [it[4:] for it in shown[1].splitlines()] if shown else []
@@ -477,7 +504,7 @@ def tour():
             yield f"README.md shows `{row}`, and examples/tour.replay `{line}` with the answer `{answer}`"
 
 
-def words():
+def words() -> Iterator[str]:
     """The documents that are too long in all, and each sentence of them that is."""
     counted = prose.counts()
     if prose.total(counted) > prose.MOST_WORDS:
@@ -500,7 +527,8 @@ RULES = {
 }
 
 
-def main():
+def main() -> int:
+    """Tells which rules are kept."""
     status = 0
     for rule, broken in RULES.items():
         found = list(dict.fromkeys(broken()))

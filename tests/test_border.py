@@ -1,139 +1,99 @@
-#!/usr/bin/env python3
 """The library for C, C++, Python and Rust (docs/BORDER.md), as ./bindings/build makes it.
 
-- tests/rooms.c and the examples compile without a warning as C and as C++, and run under valgrind with no error and no leak
-- tests/stack.c calls on 64 levels of arrays and maps, on threads with as little stack as the header names
-- keys and names made to collide, in a session under a seed (tests/flood.py), and a script under several seeds
-- a session, a script and an escaped text with each request for memory refused, and with all of them from one on: nothing is
-  held at the end, and the session goes on as the second implementation says
-- lines of tests/fuzz.py, good and bad ones, with each end of line and with line feeds inside, in one session of the Python
-  module, answered as by the second implementation; sessions on four threads; the module's examples
-- the tests of the Rust crate, where there is a `cargo`
-- the examples of docs/USE.md, by the commands that stand there
-
-Prints 'pass ..' or 'FAIL ..' for each, and 'border: end'. The gate proves tera_c and leaves no archive: where the libraries
-that it left are those of the sources, the archive is made over them, so that nothing is proved twice.
+What a session answers is that of the reference, line by line; what it holds is counted by tests/counted.c and by valgrind.
 """
 import ctypes
 import doctest
-import importlib
 import os
 import random
 import re
 import shutil
-import subprocess
-import sys
-import tempfile
 import threading
+import unittest
 
-sys.dont_write_bytecode = True  # no folder beside this file
-TOP = os.path.dirname(os.path.dirname(os.path.abspath(__file__)))
-sys.path[:0] = [os.path.join(TOP, "bindings/python"), os.path.join(TOP, "tests")]
+import built
 import flood
 import fuzz
 import refused
 import second
-import wrong
+from built import TOP, heard
 
-ARCHIVE = f"{TOP}/crates/tera_c/out/libtera_c.a"
+built.library()
+import tera  # over the library that is made above
+
 STRICT = ["-Wall", "-Wextra", "-Werror", "-pedantic", f"-I{TOP}/out"]
 LANGUAGES = {"C": ["cc", "-std=c11", "-x", "c"], "C++": ["c++", "-std=c++17", "-x", "c++"]}
+WRAP = [f"-Wl,--wrap={name}" for name in ("malloc", "realloc", "free")]
+CHECKED = ["valgrind", "-q", "--leak-check=full", "--show-leak-kinds=all", "--errors-for-leak-kinds=all", "--error-exitcode=9"]
 EVERY = 2**32 - 1
 # what stands behind a line that a session is given: a carriage return alone is a part of it
 ENDS = b"", b"", b"", b"\n", b"\n", b"\r\n", b"\r\n", b"\r"
 EXTEND = 'extend {"t": "another text, longer than twenty bytes", "n2": [2, s"x"], "n1": [1, s"x"]}'
-# where Debian's package of a command has another name
-PACKAGES = {"c++": "g++", "cc": "gcc"}
 
 
-def say(holds, what):
-    print("pass" if holds else "FAIL", "border:", what, flush=True)
-
-
-def ran(*words, **how):
-    return subprocess.run(words, capture_output=True, cwd=TOP, stdin=subprocess.DEVNULL, **how)
-
-
-def installed():
-    """Installs by apt-get what the tests need and do not find."""
-    lacking = [PACKAGES.get(it, it) for it in ("cc", "c++", "valgrind") if not shutil.which(it)]
-    if lacking:
-        ran("apt-get", "update", "-q")
-        ran("apt-get", "install", "-q", "-y", *lacking)
-
-
-def is_archived():
-    """Makes the archive over the libraries of tera_c as they stand, where these are newer than their sources and it is not."""
-    if ran("sh", "-c", '. tests/fresh.sh; is_fresh "$1"', "", ARCHIVE, env=dict(os.environ, top=TOP)).returncode == 0:
-        return True
-    rt = wrong.kit()
-    crate = next(it for it in rt.rtlib.crates_below(TOP) if it.name == "tera_c")
-    if not all(map(wrong.is_current, crate.below())):
-        return False
-    os.makedirs(os.path.dirname(ARCHIVE), exist_ok=True)
-    crate.held, crate.out = rt.rtlib.lock([crate]), sys.stderr
-    return crate.build_static(["--jobs", "1"]) == 0
-
-
-# ---- C and C++
-
-
-def compiled(language, source, to):
-    return ran(*LANGUAGES[language], *STRICT, f"{TOP}/{source}", "-x", "none", f"{TOP}/out/libtera.a", "-o", to).returncode == 0
-
-
-def is_clean(*words):
-    """What a program writes to standard output under valgrind, where it ends with status 0, no error and no leak."""
-    done = ran("valgrind", "-q", "--leak-check=full", "--show-leak-kinds=all", "--errors-for-leak-kinds=all", "--error-exitcode=9", *words)
-    return done.stdout if done.returncode == 0 and not done.stderr else None
-
-
-def in_c(folder):
-    for language in LANGUAGES:
-        program = f"{folder}/rooms"
-        say(compiled(language, "tests/rooms.c", program), f"rooms of every size compile as {language} without a warning")
-        say(is_clean(program) == b"", f"rooms of every size, in {language}: none is overrun, and no block is lost")
-        say(compiled(language, "bindings/c/session.c", program), f"the example of a session compiles as {language} without a warning")
-        say(is_clean(program) == b'ok\nvalue "A & B"\n', f"the example of a session, in {language}, with no error and no leak")
-
-
-# ---- small stacks
-
-
-def on_small_stacks(folder):
-    program = f"{folder}/stack"
-    for language in LANGUAGES:
-        say(compiled(language, "tests/stack.c", program), f"calls on small stacks compile as {language} without a warning")
-        say(ran(program).returncode == 0, f"every call on 64 levels, in {language}, on a thread with the stack that tera.h names")
-
-
-# ---- seeds
-
-
-def under_seeds(folder):
-    program = f"{folder}/flood"
-    say(compiled("C", "tests/flood.c", program), "a session under a seed compiles as C without a warning")
-    for holds, row in flood.rows(program, "a session"):
-        say(holds, row)
-    script = "".join(f"set n{number % 40} {{{pairs(number)}}}\nwalk n{number % 40}\n" for number in range(60)).encode()
-    say(len({tera.replay(script) for _ in range(8)}) == 1, "a script answers the same under eight seeds")
+def compiled(language, source, *words):
+    """The program that a source is in a language, compiled without a warning."""
+    to = f"{built.ROOM.name}/{os.path.basename(source)}.{language}"
+    source = [f"{TOP}/{source}", "-x", "none", f"{TOP}/out/libtera.a"]
+    built.made(*LANGUAGES[language], *STRICT, *words, *source, "-o", to)
+    return to
 
 
 def pairs(number):
+    """The pairs of a map of so many keys."""
     return ", ".join(f'"key {place * number % 101}": {place}' for place in range(number))
+
+
+class InC(unittest.TestCase):
+    """Programs in C and in C++, each compiled without a warning."""
+
+    def in_each(self, source, said, *checked):
+        """A program in each language writes this to standard output, and ends with status 0."""
+        for language in LANGUAGES:
+            with self.subTest(language):
+                self.assertEqual(heard(*checked, compiled(language, source)), (said, b"", 0))
+
+    def test_rooms(self):
+        """rooms of every size: none is overrun, and no block is lost"""
+        self.in_each("tests/rooms.c", b"", *CHECKED)
+
+    def test_session(self):
+        """the example of a session, with no error and no leak"""
+        self.in_each("bindings/c/session.c", b'ok\nvalue "A & B"\n', *CHECKED)
+
+    def test_stacks(self):
+        """every call on 64 levels, on a thread with the stack that tera.h names"""
+        self.in_each("tests/stack.c", b"")
+
+    def test_closed(self):
+        """closed sessions of the library for C hold no block"""
+        program = compiled("C", "tests/closed.c", *WRAP, "-x", "c", f"{TOP}/tests/counted.c")
+        self.assertEqual(heard(*CHECKED, program), (b"", b"", 0))
+
+
+class Seeds(unittest.TestCase):
+    """Sessions and scripts under seeds."""
+
+    def test_floods(self):
+        """keys and names that collide, in a session under a seed"""
+        for holds, row in flood.rows(compiled("C", "tests/flood.c"), "a session"):
+            with self.subTest(row):
+                self.assertTrue(holds, row)
+
+    def test_seeds(self):
+        """a script answers the same under eight seeds"""
+        turns = [f"set n{number % 40} {{{pairs(number)}}}\nwalk n{number % 40}\n" for number in range(60)]
+        self.assertEqual(len({tera.replay("".join(turns).encode()) for _ in range(8)}), 1)
 
 
 # ---- memory that is refused
 
 
-def counted(folder):
+def counted():
     """The library with tests/counted.c below it."""
-    to = f"{folder}/libcounted.so"
-    wrap = [f"-Wl,--wrap={it}" for it in ("malloc", "realloc", "free")]
-    archive = ["-Wl,--whole-archive", f"{TOP}/out/libtera.a", "-Wl,--no-whole-archive"]
-    done = ran("cc", "-shared", "-fPIC", "-O1", *wrap, f"{TOP}/tests/counted.c", *archive, "-o", to)
-    if done.returncode:
-        sys.exit(done.stderr.decode())
+    to = f"{built.ROOM.name}/libcounted.so"
+    archive = ["-Wl,--whole-archive", f"{built.library()}/libtera.a", "-Wl,--no-whole-archive"]
+    built.made("cc", "-shared", "-fPIC", "-O1", *WRAP, f"{TOP}/tests/counted.c", *archive, "-o", to)
     library = tera.load(to)
     library.refuse.argtypes = (ctypes.c_size_t, ctypes.c_size_t)
     library.blocks.restype = library.requests.restype = ctypes.c_size_t
@@ -254,16 +214,6 @@ def replays(library):
     return holds and library.blocks() == 0
 
 
-def in_want(folder):
-    library = counted(folder)
-    for what, last in (("each request for memory", lambda it: it), ("all requests for memory from one on", lambda it: EVERY)):
-        count = in_a_session(library, last)
-        say(count, f"a session of every call with {what} of a line refused, {count} in turn: it goes on, and no block is lost")
-        for name, run in (("a script", replays), ("an escaped text", escapes)):
-            count = in_turn(library, lambda run=run: run(library), last)
-            say(count, f"{name} with {what} refused, {count} in turn: no block is lost")
-
-
 # ---- Python
 
 
@@ -331,68 +281,83 @@ def on_a_later_thread():
     return told == [None]
 
 
-def in_python():
-    lines = good_and_bad(5000)
-    bad = in_one_session(lines)
-    say(bad, f"{len(lines)} lines in one session, {bad} of them bad, are answered as by the second implementation")
-    say(on_threads(lines[:1000]), "sessions on four threads share nothing")
-    say(on_a_later_thread(), "a session goes by its thread, not by a number that a later thread has")
-    done = doctest.testmod(tera)
-    say(done.attempted and not done.failed, f"{done.attempted} examples of the Python module")
+class Want(unittest.TestCase):
+    """Memory that is refused, in turn or from a request on."""
+
+    LASTS = {"each in turn": lambda number: number, "all from one on": lambda number: EVERY}
+
+    def test_session(self):
+        """a session of every call with requests for memory of a line refused: it goes on, and no block is lost"""
+        for what, last in self.LASTS.items():
+            with self.subTest(what):
+                self.assertTrue(in_a_session(counted(), last))
+
+    def test_script(self):
+        """a script and an escaped text with requests for memory refused: no block is lost"""
+        library = counted()
+        for what, last in self.LASTS.items():
+            for run in (replays, escapes):
+                with self.subTest(f"{run.__name__}, {what}"):
+                    self.assertTrue(in_turn(library, lambda run=run: run(library), last))
 
 
-# ---- Rust, and the examples of docs/USE.md
+class InPython(unittest.TestCase):
+    """The Python module."""
 
+    def test_lines(self):
+        """5,000 lines, good and bad ones, in one session are answered as by the second implementation"""
+        self.assertTrue(in_one_session(good_and_bad(5000)))
 
-def in_rust(folder):
-    if not shutil.which("cargo"):
-        print("border: the Rust crate is skipped, as there is no `cargo`")
-        return
-    env = dict(os.environ, CARGO_TARGET_DIR=f"{folder}/cargo")
-    done = ran("cargo", "test", "-q", "--offline", "--manifest-path", f"{TOP}/bindings/rust/Cargo.toml", env=env)
-    say(done.returncode == 0, "the tests of the Rust crate")
+    def test_threads(self):
+        """sessions on four threads share nothing"""
+        self.assertTrue(on_threads(good_and_bad(5000)[:1000]))
+
+    def test_later_thread(self):
+        """a session goes by its thread, not by a number that a later thread has"""
+        self.assertTrue(on_a_later_thread())
+
+    def test_examples(self):
+        """the examples of the Python module"""
+        done = doctest.testmod(tera)
+        self.assertTrue(done.attempted and not done.failed, done)
 
 
 def shown():
     """The examples of docs/USE.md: of each its language, its command, and its lines."""
-    with open(f"{TOP}/docs/USE.md", encoding="utf-8") as it:
-        section = it.read().partition("\n## From C, Python, Rust\n")[2].partition("\n## ")[0]
+    with open(f"{TOP}/docs/USE.md", encoding="utf-8") as file:
+        section = file.read().partition("\n## From C, Python, Rust\n")[2].partition("\n## ")[0]
     return re.findall(r"(?m)^```(c|python|rust)\n(?://|#) (.*)\n((?:.*\n)*?)```", section)
 
 
-def examples(folder):
-    found = shown()
-    say([it for it, _, _ in found] == ["c", "python", "rust"], "docs/USE.md has an example in C, in Python and in Rust")
-    for language, command, lines in found:
-        if language == "rust" and not shutil.which("cargo"):
-            continue
-        path = re.search(r"bindings/[\w/.]*\.(?:c|py)|bindings/rust", command)[0]
-        file = path if "." in path else f"{path}/examples/page.rs"
-        with open(f"{TOP}/{file}", encoding="utf-8") as it:
-            text = re.sub(r"(?m)^\s+", "", it.read())
-        done = ran("sh", "-c", command, env=dict(os.environ, CARGO_TARGET_DIR=f"{folder}/cargo", CARGO_NET_OFFLINE="true"))
-        is_there = re.sub(r"(?m)^\s+", "", lines) in text
-        say(is_there and (done.returncode, done.stdout) == (0, b"&lt;b&gt;A &amp; B&lt;/b&gt;\n"), f"docs/USE.md's example {file}")
+def bare(text):
+    """A text without the blanks at its margin."""
+    return re.sub(r"(?m)^\s+", "", text)
 
 
-def main():
-    global tera
-    installed()
-    is_made = is_archived() and ran("./bindings/build").returncode == 0
-    say(is_made, "./bindings/build makes the library")
-    if not is_made:
-        sys.exit(1)
-    tera = importlib.import_module("tera")
-    with tempfile.TemporaryDirectory() as folder:
-        in_c(folder)
-        on_small_stacks(folder)
-        under_seeds(folder)
-        in_want(folder)
-        in_python()
-        in_rust(folder)
-        examples(folder)
-    print("border: end")
+class Shown(unittest.TestCase):
+    """The Rust crate, and the examples of docs/USE.md by the commands that stand there."""
+
+    CARGO = {"CARGO_TARGET_DIR": f"{built.ROOM.name}/cargo", "CARGO_NET_OFFLINE": "true"}
+
+    @unittest.skipUnless(shutil.which("cargo"), "there is no `cargo`")
+    def test_rust(self):
+        """the tests of the Rust crate"""
+        words = ["cargo", "test", "-q", "--offline", "--manifest-path", f"{TOP}/bindings/rust/Cargo.toml"]
+        built.made(*words, env=self.CARGO)
+
+    def test_examples(self):
+        """the examples of docs/USE.md in C, in Python and in Rust"""
+        self.assertEqual([language for language, *_ in shown()], ["c", "python", "rust"])
+        for language, command, lines in shown():
+            with self.subTest(language):
+                if language == "rust" and not shutil.which("cargo"):
+                    self.skipTest("there is no `cargo`")
+                path = re.search(r"bindings/[\w/.]*\.(?:c|py)|bindings/rust", command)[0]
+                with open(f"{TOP}/{path}" if "." in path else f"{TOP}/{path}/examples/page.rs", encoding="utf-8") as file:
+                    self.assertIn(bare(lines), bare(file.read()))
+                done = heard("sh", "-c", command, env=self.CARGO)
+                self.assertEqual((done.status, done.out), (0, b"&lt;b&gt;A &amp; B&lt;/b&gt;\n"), done.err)
 
 
 if __name__ == "__main__":
-    main()
+    unittest.main()

@@ -1,4 +1,4 @@
-"""The copies to which `tests/wrong.py` makes edits beside those that it makes in place.
+"""The copies to which `tools/wrong_bodies.py` makes edits beside those that it makes in place.
 
 A wrong definition is tried in copies of the law that it makes false, and of the modules that stand between the two: those that the
 edit changes, by themselves or by what they name, and that the law stands on. The copies of one edit stand in files and folders of
@@ -8,8 +8,15 @@ own. So one check takes many edits of definitions, none of which the others see.
 An edit of a function of an impl is tried in a copy of that impl, for a copy of the trait, where that is the crate's own, one of a crate
 below it, or one of three of the kit. Both have that one function, by a name of its own, so that no other call means it.
 """
+from __future__ import annotations
+
 import os
 import re
+from typing import Dict, Iterable, List, Match, Optional, Set
+
+from tools import kit
+
+Texts = Dict[str, str]  # of the files that a check changes, by their paths
 
 PUBLIC = r"( *)(?:pub(?:\([^)]*\))? )?(?:unsafe )?"
 FUNCTION = re.compile(PUBLIC + r'(?:const )?(?:extern "C" )?fn (\w+)')
@@ -64,12 +71,13 @@ ghost use Rattle.std.specs.Iterator.{Count, MakesProgress};
 }
 
 
-def read(path):
+def read(path: str) -> str:
+    """The text of a file."""
     with open(path, encoding="utf-8") as it:
         return it.read()
 
 
-def end_of(lines, first, margin, is_function):
+def end_of(lines: List[str], first: int, margin: str, is_function: bool) -> int:
     """The last line of an item: its closing brace, or a line that ends in ';' before a brace opens."""
     is_open = False
     for at in range(first, len(lines)):
@@ -80,16 +88,17 @@ def end_of(lines, first, margin, is_function):
     return len(lines) - 1
 
 
-def above(lines, first):
+def above(lines: List[str], first: int) -> int:
     """The first line of the attributes above an item."""
     while lines[first - 1].lstrip().startswith("#["):
         first -= 1
     return first
 
 
-def alone(lines, name):
+def alone(lines: List[str], name: str) -> List[str]:
     """The lines of a block but its other functions, and what is said of its items."""
-    found, at = [], 0
+    found: List[str] = []
+    at = 0
     while at < len(lines):
         named = FUNCTION.match(lines[at])
         last = end_of(lines, at, named[1], True) if named else at
@@ -102,7 +111,7 @@ def alone(lines, name):
     return found
 
 
-def modules_of(crate):
+def modules_of(crate: kit.Crate) -> Dict[str, str]:
     """The texts of the modules of specs/ and proofs/, by their names; but not what stands in a function's folder."""
     found = {}
     for part in ("specs", "proofs"):
@@ -113,11 +122,12 @@ def modules_of(crate):
     return {name: text for name, text in found.items() if not name.endswith(".Lib")}
 
 
-def parent_of(module):
+def parent_of(module: str) -> str:
+    """The module above a module."""
     return module.rpartition(".")[0]
 
 
-def imports_of(source, text):
+def imports_of(source: str, text: str) -> List[str]:
     """The imports of a file that a text of it names, or whose operators it may write."""
     named, lines = {*re.findall(r"\w+", text)}, [it for it in source.split("\n") if USE.fullmatch(it)]
     return [it for it in lines if "◌" in it or named & {*re.findall(r"\w+", re.split(r"[.:](?=\{|\w+[ ;])", it)[-1])}]
@@ -126,7 +136,7 @@ def imports_of(source, text):
 class Law:
     """A law: a function without a body, in the file of its module."""
 
-    def __init__(self, crate, path):
+    def __init__(self, crate: kit.Crate, path: str) -> None:
         *modules, self.name = path.split("::")
         self.crate, self.modules = crate, modules
         file = f"{crate.folder}/src/{'/'.join(modules) or 'lib'}.rt"
@@ -135,16 +145,17 @@ class Law:
         self.text = found[0] if found and found[0].count("fn ") == 1 else ""
 
     @property
-    def folder(self):
+    def folder(self) -> str:
+        """The folder of its proof by hand."""
         return "/".join(["proofs", *self.modules, self.name])
 
-    def imports(self):
+    def imports(self) -> str:
         """The imports of its module that it names, or whose operators it may write, and of what its module declares."""
         named, kept = {*re.findall(r"\w+", self.text)}, imports_of(self.source, self.text)
         declared = sorted({*re.findall(r"(?m)^pub (?:struct|enum|trait) (\w+)", self.source)} & named)
         return "\n".join([*kept, *(f"use crate::{'::'.join(self.modules)}::{it};" for it in declared)])
 
-    def answers(self):
+    def answers(self) -> Dict[str, str]:
         """The files of its proof by hand, by their names."""
         at = f"{self.crate.folder}/{self.folder}"
         return {it: read(f"{at}/{it}") for it in sorted(os.listdir(at))} if os.path.isdir(at) else {}
@@ -153,7 +164,7 @@ class Law:
 class Copies:
     """The copies of an edit of a definition."""
 
-    def __init__(self, law, file, number):
+    def __init__(self, law: Law, file: str, number: int) -> None:
         self.law, self.number, self.modules = law, number, modules_of(law.crate)
         self.name, self.file, self.path = f"copy{number}", f"src/law{number}.rt", f"law{number}::{law.name}"
         self.edited = file.removesuffix(".antt").replace("/", ".")
@@ -166,22 +177,25 @@ class Copies:
         while more := {it for name in self.copied for it in (parent_of(name), *self.children_of(name))} & {*uses} - self.copied:
             self.copied |= more
 
-    def children_of(self, name):
+    def children_of(self, name: str) -> Set[str]:
+        """The modules right below a module."""
         return {it for it in self.modules if parent_of(it) == name}
 
-    def module_at(self, part, rest):
+    def module_at(self, part: str, rest: str) -> Optional[str]:
         """The module that a path begins with, the longest of several."""
         words = [part, *re.findall(r"\w+", rest)]
         names = (".".join(words[:end]) for end in range(len(words), 1, -1))
         return next(filter(self.modules.__contains__, names), None)
 
-    def named_in(self, text):
-        return {self.module_at(*it) for it in self.mention.findall(text)} - {None}
+    def named_in(self, text: str) -> Set[str]:
+        """The modules that a text names."""
+        return {*filter(None, (self.module_at(*it) for it in self.mention.findall(text)))}
 
-    def renamed(self, text):
+    def renamed(self, text: str) -> str:
         """A text that names the copies."""
 
-        def to_copy(found):
+        def to_copy(found: Match[str]) -> str:
+            """The name of a module's copy where it has one."""
             part, joint = found[1], "::" if "::" in found[0] else "."
             if self.module_at(part, found[2]) not in self.copied:
                 return found[0]
@@ -189,19 +203,21 @@ class Copies:
 
         return self.mention.sub(to_copy, text)
 
-    def answers(self):
+    def answers(self) -> Dict[str, str]:
         """The files of the law's proof by hand, as those of its copy."""
         own, to = (f".{it}.".replace("/", ".") for it in (self.law.folder, self.folder))
         return {f"{self.folder}/{name}": self.renamed(text).replace(own, to) for name, text in self.law.answers().items()}
 
     @property
-    def folder(self):
+    def folder(self) -> str:
+        """The folder of its proof by hand."""
         return f"proofs/law{self.number}/{self.law.name}"
 
-    def texts(self, texts, edited):
+    def texts(self, texts: Texts, edited: str) -> Dict[str, str]:
         """The texts of the files that the copies need, with the edited module's, beside these of the crate's files."""
 
-        def own(file):
+        def own(file: str) -> str:
+            """The text of a file as it stands so far."""
             return texts.get(file) or read(f"{self.law.crate.folder}/{file}")
 
         changed = {**self.modules, self.edited: edited}
@@ -214,7 +230,8 @@ class Copies:
         found["src/lib.rt"] = f"{own('src/lib.rt')}mod law{self.number};\n"
         return found
 
-    def placed(self, name):
+    def placed(self, name: str) -> str:
+        """The file of a module's copy."""
         part, _, rest = name.partition(".")
         return f"{part}/{self.name}/{rest.replace('.', '/')}.antt"
 
@@ -222,7 +239,7 @@ class Copies:
 class Trait:
     """A trait, of which a copy has one function, for the edits of an impl's. That of another crate is copied into a file of its own."""
 
-    def __init__(self, crate, name, function):
+    def __init__(self, crate: kit.Crate, name: str, function: str) -> None:
         self.name, self.function, self.folder = name, function, crate.folder
         self.file, self.text, self.head = f"src/copied_{name.lower()}.rt", "", None
         for owner in [crate, *crate.below()]:
@@ -236,15 +253,17 @@ class Trait:
         if not self.text:
             self.head, self.text = OF_KIT.get((name, function), (None, ""))
 
-    def copy_name(self, number):
+    def copy_name(self, number: int) -> str:
+        """The name of the copy of that number."""
         return f"{self.name}_{self.function}_copy{number}"
 
-    def with_copy(self, texts, number, file):
+    def with_copy(self, texts: Texts, number: int, file: str) -> Texts:
         """The texts with the copy of that number, and with an import of it in the file of an impl of it."""
         name, found = self.copy_name(number), dict(texts)
         module = self.file.removeprefix("src/").removesuffix(".rt").replace("/", "::")
 
-        def add(path, lines):
+        def add(path: str, lines: str) -> None:
+            """Adds lines to a file."""
             found[path] = (found[path] if path in found else read(f"{self.folder}/{path}")) + lines
 
         if self.head is not None and self.file not in found:
@@ -261,11 +280,12 @@ class Trait:
         return found
 
 
-def sources(folder):
+def sources(folder: str) -> List[str]:
+    """The files of a crate's code."""
     return [f"{at}/{it}" for at, _, names in os.walk(f"{folder}/src") for it in sorted(names)]
 
 
-def reached(begins, edges):
+def reached(begins: Iterable[str], edges: Dict[str, Set[str]]) -> Set[str]:
     """What is reached from these, with them."""
     found, left = set(), [*begins]
     while left:

@@ -1,0 +1,157 @@
+#!/usr/bin/env python3
+"""What tests stand on: the proved programs, the library for C, and the library that refuses memory.
+
+    python3 tests/built.py library     makes out/libtera.a, out/libtera.so and out/tera.h, and prints their folder
+    python3 tests/built.py program     makes the program that is installed as `tera`, and prints its path
+
+Each is made where it is not there, or not newer than what it is made from, and else taken as it is. One test makes at a
+time, and those beside it wait.
+"""
+from __future__ import annotations
+
+import contextlib
+import fcntl
+import functools
+import os
+import shutil
+import subprocess
+import sys
+import tempfile
+from typing import Any, Iterator, Mapping, NamedTuple
+
+sys.dont_write_bytecode = True  # no folder beside the sources
+TOP = os.path.dirname(os.path.dirname(os.path.abspath(__file__)))
+sys.path[:0] = [path for path in (TOP, f"{TOP}/bindings/python") if path not in sys.path]
+from tools import kit, prove
+from tools.packages.given import PROGRAM
+
+# Debian's packages of commands that have another name
+PACKAGES = {"cc": "gcc", "c++": "g++"}
+# The library for C, and what it is made of.
+MADE = ["libtera.a", "libtera.so", "libtera.so.0", "tera.h"]
+MADE_OF = ["crates/tera_c/out/libtera_c.a", "include/tera.h", "bindings/build", "bindings/link.py"]
+ROOM = tempfile.TemporaryDirectory(prefix="built-")
+
+
+class NotMade(Exception):
+    """What is not made, with the words of what was to make it."""
+
+
+class Ran(NamedTuple):
+    """What a program wrote, and its status."""
+
+    out: bytes
+    err: bytes
+    status: int
+
+
+def ran(*words: str, **how: Any) -> subprocess.CompletedProcess[bytes]:
+    """Runs a program in the repository's folder."""
+    how = {"stdin": subprocess.DEVNULL, **how}
+    return subprocess.run(words, capture_output=True, cwd=TOP, **how)
+
+
+def heard(*words: str, given: bytes = b"", seconds: float = 600, env: Mapping[str, str] = {}) -> Ran:
+    """What a program writes on a standard input, with more in its environment."""
+    done = ran(*words, stdin=None, input=given, env={**os.environ, **env}, timeout=seconds)
+    return Ran(done.stdout, done.stderr, done.returncode)
+
+
+@contextlib.contextmanager
+def alone() -> Iterator[None]:
+    """Waits until no other test makes something. The lock ends with the process that holds it."""
+    held = os.open(f"{TOP}/tests", os.O_RDONLY)
+    try:
+        fcntl.flock(held, fcntl.LOCK_EX)
+        yield
+    finally:
+        os.close(held)
+
+
+def install(*commands: str) -> bool:
+    """Installs by apt-get those of these commands that are not there; says whether all are."""
+    lacking = [PACKAGES.get(name, name) for name in commands if not shutil.which(name)]
+    if lacking and shutil.which("apt-get"):
+        with alone():
+            ran("apt-get", "update", "-q")
+            ran("apt-get", "install", "-q", "-y", *lacking)
+    return all(map(shutil.which, commands))
+
+
+def made(*words: str, env: Mapping[str, str] = {}) -> None:
+    """Runs what makes something; a failure tells what it said."""
+    done = heard(*words, seconds=7200, env=env)
+    if done.status:
+        said = (done.out + done.err).decode(errors="replace")
+        raise NotMade(f"{' '.join(words)}: status {done.status}\n{said}")
+
+
+@functools.lru_cache(None)
+def program(name: str) -> str:
+    """The path of a crate's proved program."""
+    path = f"{TOP}/crates/{name}/out/{name}"
+    with alone():
+        if not prove.is_fresh(path):
+            made(sys.executable, f"{TOP}/tools/prove.py", name, "tests/built.py")
+    return path
+
+
+def installed_program() -> str:
+    """The same of the program that is installed as `tera`."""
+    return program(PROGRAM)
+
+
+def is_library_made() -> bool:
+    """Whether the library for C stands, newer than all that it is made from."""
+    sources, files = [f"{TOP}/{path}" for path in MADE_OF], [f"{TOP}/out/{name}" for name in MADE]
+    if not all(map(os.path.exists, [*sources, *files])):
+        return False
+    is_newest = max(map(os.path.getmtime, sources)) <= min(map(os.path.getmtime, files))
+    return is_newest and prove.is_fresh(sources[0])
+
+
+@functools.lru_cache(None)
+def library() -> str:
+    """The folder with the library for C as ./bindings/build makes it: libtera.a, libtera.so and tera.h."""
+    install("cc", "c++", "valgrind")
+    with alone():
+        if not is_library_made():
+            archive()
+            made(f"{TOP}/bindings/build")
+    return f"{TOP}/out"
+
+
+def archive() -> None:
+    """Makes the archive of tera_c where the gate left its libraries and no archive, so that nothing is proved twice."""
+    crate = kit.crates(TOP)["tera_c"]
+    is_there = prove.is_fresh(f"{crate.folder}/out/libtera_c.a")
+    if not is_there and all(low.is_current() for low in crate.below()):
+        crate.archive()
+
+
+@functools.lru_cache(None)
+def refusing() -> str:
+    """The library that refuses memory (tests/refuse.c), which a program is told to load."""
+    install("cc")
+    made("cc", "-shared", "-fPIC", "-o", f"{ROOM.name}/refuse.so", f"{TOP}/tests/refuse.c", "-ldl")
+    return f"{ROOM.name}/refuse.so"
+
+
+def clone(to: str) -> str:
+    """Copies the repository, without what was built in it."""
+    return str(shutil.copytree(TOP, to, ignore=shutil.ignore_patterns("out", ".git", ".qr", "__pycache__")))
+
+
+def main() -> None:
+    """Makes what the command line names."""
+    makes = {"library": library, "program": installed_program}
+    if len(sys.argv) != 2 or sys.argv[1] not in makes:
+        sys.exit(f"built.py: it takes one of {', '.join(makes)}")
+    try:
+        print(makes[sys.argv[1]]())
+    except NotMade as why:
+        sys.exit(f"built.py: {why}")
+
+
+if __name__ == "__main__":
+    main()

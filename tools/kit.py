@@ -1,0 +1,109 @@
+"""All that the tools take of the kit beside its commands and what these are told to print, each with the reason.
+
+`rt` is loaded as a module. tests/test_wrong_bodies.py says so where the kit has changed and this no longer fits.
+"""
+from __future__ import annotations
+
+import functools
+import importlib.machinery
+import importlib.util
+import os
+import shutil
+import sys
+from typing import Any, Dict, List, Optional
+
+# The parts of `rt`, and of the module beside it that its commands share, which are taken here.
+OF_RT = "processors", "free", "rtlib"
+OF_SHARED = "crates_below", "guarded", "lock", "PARTS", "RATTLE"
+ROOM = 4_000_000_000  # the free memory, in bytes, that a check begins with
+OF_CRATE = "name", "folder", "rlib", "is_static", "below", "stamp", "words", "build_rlib", "build_static"
+
+
+@functools.lru_cache(None)
+def rt() -> Any:
+    """The kit's `rt`, as a module."""
+    path = os.path.realpath(shutil.which("rt") or "rt")
+    sys.path.insert(0, os.path.dirname(path))
+    loader = importlib.machinery.SourceFileLoader("rt", path)
+    spec = importlib.util.spec_from_loader("rt", loader)
+    assert spec is not None
+    module = importlib.util.module_from_spec(spec)
+    loader.exec_module(module)
+    return module
+
+
+def parts() -> List[str]:
+    """The folders of a crate that a check reads: those that a copy of it needs."""
+    return list(rt().rtlib.PARTS)
+
+
+def processors() -> int:
+    """How many checks the gate would run side by side, of which no command tells."""
+    return int(rt().processors())
+
+
+def free() -> int:
+    """The free memory in bytes, as the gate weighs it: under the limit of a container too."""
+    return int(rt().free())
+
+
+def lanes() -> int:
+    """How many checks may run side by side: one a processor, or as many as the free memory has room for. `rt ci` looks at
+    memory only where nobody tells it that number."""
+    return max(1, min(processors(), free() // ROOM))
+
+
+class Crate:
+    """A crate of the repository, as the kit knows it."""
+
+    def __init__(self, own: Any) -> None:
+        # a static library is checked with the code of all libraries below it, by which no edit is refused
+        self.own = own
+        own.is_static = False
+        self.name, self.folder, self.library = str(own.name), str(own.folder), str(own.rlib)
+
+    def below(self) -> List[Crate]:
+        """The crates that it stands on, as the kit resolves them."""
+        return [Crate(low) for low in self.own.below()]
+
+    def stamp(self) -> str:
+        """A sum of all that a verdict on it stands on, by which the gate tells whether one still holds."""
+        return str(self.own.stamp())
+
+    def check(self, flags: List[str], kept: Optional[str]) -> List[str]:
+        """The words of a check of a copy of the crate, over the work that is kept in a folder: no command checks a copy."""
+        words = [*rt().rtlib.guarded(), rt().rtlib.RATTLE, "check", *self.own.words(flags, keeps=False)]
+        return words + (["--incremental", kept] if kept else [])
+
+    def is_current(self) -> bool:
+        """Whether its library is there, and newer than what it is built from; no command asks that and proves nothing."""
+        folders = [f"{self.folder}/{part}" for part in parts()]
+        files = [f"{at}/{name}" for folder in folders for at, _, names in os.walk(folder) for name in names]
+        made_of = [*files, *(low.library for low in self.below())]
+        return os.path.isdir(self.library) and max(map(os.path.getmtime, made_of)) <= os.path.getmtime(self.library)
+
+    def build(self) -> bool:
+        """Builds its library over what the gate left, as the gate does; `rt lib` would ask for the crate's folder alone."""
+        return not self.own.build_rlib(["--jobs", "1"], anew=False)
+
+    def archive(self) -> bool:
+        """Makes the static library over the libraries that the gate left; `rt lib` would prove the crate again."""
+        os.makedirs(f"{self.folder}/out", exist_ok=True)
+        self.own.is_static, self.own.out = True, sys.stderr
+        self.own.held = rt().rtlib.lock([self.own])
+        return not self.own.build_static(["--jobs", "1"])
+
+
+def crates(top: str) -> Dict[str, Crate]:
+    """The crates of a repository by their names, lowest first."""
+    rt().rtlib.guarded()
+    found = [Crate(own) for own in rt().rtlib.crates_below(top)]
+    return {crate.name: crate for crate in found}
+
+
+def changes() -> List[str]:
+    """Each part of the kit that is taken here and is there no more."""
+    lost = [f"rt has no {name}" for name in OF_RT if not hasattr(rt(), name)]
+    lost += [f"rtlib has no {name}" for name in OF_SHARED if not hasattr(rt().rtlib, name)]
+    known = {*dir(rt().rtlib.Crate), *rt().rtlib.Crate.__init__.__code__.co_names}
+    return lost + [f"a crate has no {name}" for name in OF_CRATE if name not in known]
