@@ -10,6 +10,7 @@ cc -O2 -Wall -Wextra "-I$top/out" "$top/bench/border/main.c" "$top/out/libtera.a
 within() {
     calls=$1
     shift
+    # shellcheck disable=SC2086
     valgrind --tool=callgrind --callgrind-out-file=/dev/null $calls "$@" 2>&1 >/dev/null |
         sed -n 's/.*Collected : \([0-9]*\).*/\1/p'
 }
