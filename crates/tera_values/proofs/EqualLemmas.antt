@@ -17,9 +17,9 @@ use Rattle.tera_meaning.specs.Order.{compare, same}
 use Rattle.tera_meaning.specs.Pairs.{key_form_order, value_at, HasDistinctKeys, AgreeEverywhere}
 use Rattle.tera_meaning.proofs.KeyLaws.{form_total}
 use Rattle.tera_values.proofs.PartsLaws.{lists_order}
-use Rattle.tera_values.proofs.UnlikeLemmas.{from_left, left_walk, both_walks, walks_meet_least, one_walk, all_tie, length_keys}
-use Rattle.tera_values.specs.inner.Unlike.{form_values, is_before, difference_at, met, least_met, maps_order, IsLeastUnlike}
-use Rattle.tera_values.specs.declared.unlike.Unlike.{Unlike}
+use Rattle.tera_values.proofs.MapDifferenceLemmas.{from_left, left_walk, both_walks, walks_meet_least, one_walk, all_tie, length_keys}
+use Rattle.tera_values.specs.inner.MapDifference.{form_values, is_before, difference_at, met, least_met, maps_order, IsDifference}
+use Rattle.tera_values.specs.declared.map_difference.Difference.{Difference}
 
 not_equal : (o : Ordering) → o ≢ Equal → is_eq o ≡ false
 not_equal Less n = refl
@@ -84,24 +84,24 @@ all_even (x ∷ xs) (y ∷ ys) (suc n) e h = all_even xs ys n (omega arith) (ome
 -- ---- maps
 
 -- a walk that has met a difference has met one at its end
-met_some : (d : KeyForm × Unlike) (k : KeyForm) (how : Option Unlike) → IsSome (met (Some d) k how)
+met_some : (d : KeyForm × Difference) (k : KeyForm) (how : Option Difference) → IsSome (met (Some d) k how)
 met_some d k how =
     elim (is_before key_form_order k (Some d)) as (λ b. IsSome (cond b (difference_at how k (Some d)) (Some d))) [
       | true ↦ elim how as (λ h. IsSome (difference_at h k (Some d))) [ None ↦ refl | Some h ↦ refl ]
       | false ↦ refl
     ]
 
-some_left : {V : Type 0} (differs : KeyForm × V → Option Unlike) (found : Option (KeyForm × Unlike)) (es : List (KeyForm × V)) → IsSome found
+some_left : {V : Type 0} (differs : KeyForm × V → Option Difference) (found : Option (KeyForm × Difference)) (es : List (KeyForm × V)) → IsSome found
     → IsSome (least_met differs found es)
 some_left differs None es some = cc
 some_left differs (Some d) [] some = refl
 some_left differs (Some d) (e ∷ es) some = some_left differs (met (Some d) e.0 (differs e)) es (met_some d e.0 (differs e))
 
-some_new : (k : KeyForm) (how : Option Unlike) → not (is_some how) ≡ false → IsSome (met None k how)
+some_new : (k : KeyForm) (how : Option Difference) → not (is_some how) ≡ false → IsSome (met None k how)
 some_new k None is = cc
 some_new k (Some h) is = refl
 
-pub none_new : (k : KeyForm) (how : Option Unlike) → not (is_some how) ≡ true → met None k how ≡ None
+pub none_new : (k : KeyForm) (how : Option Difference) → not (is_some how) ≡ true → met None k how ≡ None
 none_new k None is = refl
 none_new k (Some h) is = cc
 
@@ -141,7 +141,7 @@ module _ (es fs : List (KeyForm × Form)) where
         n (omega (arith, more, fewer)))
 
     -- where the walk meets a difference, they do not mean the same
-    apart : (found : Option (KeyForm × Unlike)) → IsLeastUnlike es fs found → IsSome found → is_eq (maps_order es fs) ≡ false
+    apart : (found : Option (KeyForm × Difference)) → IsDifference es fs found → IsSome found → is_eq (maps_order es fs) ≡ false
     apart None least some = cc
     apart (Some d) least some = not_equal (maps_order es fs) (λ tie. let same = agree tie d.0 in let other = least.0.0 in cc)
 

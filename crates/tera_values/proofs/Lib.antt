@@ -6,9 +6,9 @@ mod EqualLemmas
 mod FieldLemmas
 mod KeyLemmas
 mod LookupLemmas
+mod MapDifferenceLemmas
 pub mod PartsLaws
 mod PathLemmas
 mod PrintLemmas
 mod PrintPairs
 mod SliceLemmas
-mod UnlikeLemmas

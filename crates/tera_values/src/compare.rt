@@ -12,11 +12,11 @@ ghost use Rattle.tera_meaning.proofs.OrderLaws.{same_partial_equivalence};
 ghost use Rattle.tera_meaning.specs.Tree.{truth, number, text, bytes, array, object, items};
 ghost use Rattle.tera_meaning.specs.Tree.{members};
 ghost use Rattle.tera_values.specs.inner.Held.{holds_values};
-ghost use Rattle.tera_values.specs.inner.Unlike.{unlike, maps_order};
+ghost use Rattle.tera_values.specs.inner.MapDifference.{differing, maps_order};
 ghost use Rattle.tera_scalars.specs.Whole.{whole_value};
 
 use crate::equal::equal;
-use crate::unlike::{Unlike, goes_on, least_difference};
+use crate::map_difference::{Difference, goes_on, least_difference};
 use crate::value::ValueInner;
 use crate::{Map, Value, ranks};
 use std::cmp::Ordering;
@@ -159,13 +159,13 @@ fn pairs_order(left: &Map, right: &Map) -> Ordering
     ensures { result ≡ maps_order left.now right.now }
 {
     match least_difference(&*left, &*right) {
-        Some((_, Unlike::Values(order))) => order,
-        Some((key, Unlike::LeftAlone)) => if goes_on(right, key) {
+        Some((_, Difference::Values(order))) => order,
+        Some((key, Difference::LeftAlone)) => if goes_on(right, key) {
             Ordering::Less
         } else {
             Ordering::Greater
         },
-        Some((key, Unlike::RightAlone)) => if goes_on(left, key) {
+        Some((key, Difference::RightAlone)) => if goes_on(left, key) {
             Ordering::Greater
         } else {
             Ordering::Less
@@ -176,16 +176,16 @@ fn pairs_order(left: &Map, right: &Map) -> Ordering
 
 /// How a value and what another map has at its key differ, where they do.
 #[cycle(order)]
-pub(crate) fn unlike(value: &Value, other: Option<&Value>) -> Option<Unlike>
-    ensures { result ≡ unlike (Some value.now) (option_copied other.entry) }
+pub(crate) fn differing(value: &Value, other: Option<&Value>) -> Option<Difference>
+    ensures { result ≡ differing (Some value.now) (option_copied other.entry) }
 {
     let Some(other) = other else {
-        return Some(Unlike::LeftAlone);
+        return Some(Difference::LeftAlone);
     };
     match order(value, other) {
         Ordering::Equal => None,
-        Ordering::Less => Some(Unlike::Values(Ordering::Less)),
-        Ordering::Greater => Some(Unlike::Values(Ordering::Greater)),
+        Ordering::Less => Some(Difference::Values(Ordering::Less)),
+        Ordering::Greater => Some(Difference::Values(Ordering::Greater)),
     }
 }
 

@@ -6,7 +6,7 @@ ghost use Rattle.std.specs.Ordering.{is_eq};
 ghost use Rattle.tera_meaning.specs.Meaning.{meaning};
 ghost use Rattle.tera_meaning.specs.Order.{same};
 ghost use Rattle.tera_meaning.specs.Tree.{array, items, object, members};
-ghost use Rattle.tera_values.specs.inner.Unlike.{maps_order, unlike};
+ghost use Rattle.tera_values.specs.inner.MapDifference.{maps_order, differing};
 
 use crate::compare::order;
 use crate::value::ValueInner;
@@ -99,7 +99,7 @@ fn pairs_equal(left: &Map, right: &Map) -> bool
 // Whether what another map has at the key of a value means the same.
 #[cycle(equal)]
 fn alike(value: &Value, other: Option<&Value>) -> bool
-    ensures { result ≡ not (is_some (unlike (Some value.now) (option_copied other.entry))) }
+    ensures { result ≡ not (is_some (differing (Some value.now) (option_copied other.entry))) }
 {
     match other {
         Some(other) => equal(value, other),

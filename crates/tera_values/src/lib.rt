@@ -1,7 +1,6 @@
 //! The values that templates compute with: what makes them, compares them and prints them.
 #![tactic(auto)]
 
-mod columns;
 mod compare;
 mod contains;
 mod convert;
@@ -14,10 +13,10 @@ mod hash_state;
 mod integers;
 mod key;
 mod key_text;
-mod keys;
 mod kind;
 mod lookup;
 mod map;
+mod map_difference;
 mod new_key;
 pub mod number;
 mod path;
@@ -27,7 +26,6 @@ mod read;
 mod refused;
 mod slice;
 mod stage;
-mod unlike;
 mod value;
 mod well_made;
 

@@ -7,9 +7,12 @@ ghost use Rattle.tera_values.specs.inner.Map.{keys_held, AreListsOf};
 ghost use Rattle.tera_report.specs.Errors.{IsOutOfMemory};
 ghost use Rattle.tera_values.specs.Key.{key_form};
 
-use crate::columns::Columns;
-use crate::keys::{Keys, OwnKeys, next_key};
+mod columns;
+mod keys;
+
 use crate::{HashState, Key, Value};
+use columns::Columns;
+use keys::{Keys, OwnKeys, next_key};
 use std::alloc::{AllocError, Global};
 use std::marker::Model;
 use std::{fmt, slice, vec};

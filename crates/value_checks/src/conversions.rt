@@ -61,9 +61,9 @@ where
 
 #[test]
 fn ends_of_integer_types(rt: HostRuntime) {
-    hold(
+    hold!(
         &rt,
-        &[
+        [
             ends((u8::MIN as i128, u8::MIN), (u8::MAX as u128, u8::MAX)),
             ends((u16::MIN as i128, u16::MIN), (u16::MAX as u128, u16::MAX)),
             ends((u32::MIN as i128, u32::MIN), (u32::MAX as u128, u32::MAX)),
@@ -150,9 +150,9 @@ fn numbers_past_the_ends_of_integer_types(rt: HostRuntime) {
     let past_i128 = "170141183460469231731687303715884105728";
     let past_u32 = (4294967296, "4294967296");
     let below_i32 = (-2147483649, "-2147483649");
-    hold(
+    hold!(
         &rt,
-        &[
+        [
             has_neither::<u8>(alloc, "u8", MINUS_ONE, (256, "256")),
             has_neither::<u16>(alloc, "u16", MINUS_ONE, (65536, "65536")),
             has_neither::<u32>(alloc, "u32", MINUS_ONE, past_u32),
@@ -180,9 +180,9 @@ fn other_kinds_are_told(rt: HostRuntime) {
     let of_text = "Invalid type for the value, expected `u8` but got `string`";
     let of_none = "Invalid type for the value, expected `u8` but got `none`";
     let of_number = "Invalid type for the value, expected `bool` but got `u64`";
-    hold(
+    hold!(
         &rt,
-        &[
+        [
             is_told::<u8>(alloc, text(alloc, "x"), of_text),
             is_told::<u8>(alloc, Value::none(), of_none),
             is_told::<bool>(alloc, Value::from(1u8), of_number),
@@ -204,9 +204,9 @@ fn what_is_debugged(rt: HostRuntime) {
     let told = "Err(WrongType { expected: \"u8\", actual: \"none\" })";
     let outside = "Err(OutOfRange { value: Value { inner: U64(300) }, target: \"u8\" })";
     let number = Number::Integer(-5);
-    hold(
+    hold!(
         &rt,
-        &[
+        [
             is_debugged(alloc, Value::none(), told),
             is_debugged(alloc, Value::from(300u64), outside),
             displays(alloc, &number, "-5"),

@@ -17,9 +17,9 @@ fn printed_keys(rt: HostRuntime) {
     let alloc = rt.alloc();
     let greatest = "340282366920938463463374607431768211455";
     let least = "-170141183460469231731687303715884105728";
-    hold(
+    hold!(
         &rt,
-        &[
+        [
             prints(alloc, Key::Bool(true), "true"),
             prints(alloc, Key::Bool(false), "false"),
             prints(alloc, Key::U64(u64::MAX), "18446744073709551615"),

@@ -40,9 +40,9 @@ fn is_in_place(key: Key<'static>) -> bool {
 #[test]
 fn texts_that_fit_stand_in_place(rt: HostRuntime) {
     let alloc = rt.alloc();
-    hold(
+    hold!(
         &rt,
-        &[
+        [
             is_in_place(in_place(alloc, "")),
             is_in_place(in_place(alloc, "0123456789abcd\u{e9}")),
             !is_in_place(in_place(alloc, "0123456789abcde\u{e9}")),
@@ -57,9 +57,9 @@ fn texts_that_fit_stand_in_place(rt: HostRuntime) {
 
 #[test]
 fn one_number_is_one_key(rt: HostRuntime) {
-    hold(
+    hold!(
         &rt,
-        &[
+        [
             are_equal(Key::U64(1), Key::I64(1)),
             are_equal(Key::I64(1), Key::U128(1)),
             are_equal(Key::U128(1), Key::I128(1)),
@@ -95,9 +95,9 @@ fn fed_negative(z: i128) -> u64 {
 // The writes that a hasher is fed, named by what else makes them.
 #[test]
 fn hashes_go_by_meaning(rt: HostRuntime) {
-    hold(
+    hold!(
         &rt,
-        &[
+        [
             feeds(Key::U64(1), fed_natural(1)),
             feeds(Key::I64(1), fed_natural(1)),
             feeds(Key::U128(1), fed_natural(1)),
@@ -157,9 +157,9 @@ fn has_value(alloc: Global, key: Key<'static>, wanted: &str) -> bool {
 fn values_of_keys(rt: HostRuntime) {
     let alloc = rt.alloc();
     let text = "Value { inner: String(false, \"a\") }";
-    hold(
+    hold!(
         &rt,
-        &[
+        [
             has_value(alloc, Key::Bool(true), "Value { inner: Bool(true) }"),
             has_value(alloc, Key::U64(1), "Value { inner: U64(1) }"),
             has_value(alloc, Key::I64(1), "Value { inner: I64(1) }"),
@@ -182,9 +182,9 @@ fn is_copied(alloc: Global, key: Key<'static>, wanted: &str) -> bool {
 #[test]
 fn copies_of_keys(rt: HostRuntime) {
     let alloc = rt.alloc();
-    hold(
+    hold!(
         &rt,
-        &[
+        [
             is_copied(alloc, Key::Bool(true), "Bool(true)"),
             is_copied(alloc, Key::U64(1), "U64(1)"),
             is_copied(alloc, Key::I64(1), "I64(1)"),

@@ -45,9 +45,9 @@ fn gives(alloc: Global, op: BinaryOp, left: i64, right: u8, wanted: i128) -> boo
 #[test]
 fn each_operator_has_its_function(rt: HostRuntime) {
     let alloc = rt.alloc();
-    hold(
+    hold!(
         &rt,
-        &[
+        [
             gives(alloc, BinaryOp::Add, -7, 2, -5),
             gives(alloc, BinaryOp::Sub, -7, 2, -9),
             gives(alloc, BinaryOp::Mul, -7, 2, -14),
@@ -93,9 +93,9 @@ fn arithmetic_in_i128(rt: HostRuntime) {
         Value::from(u128::MAX),
         Value::from(0u64),
     );
-    hold(
+    hold!(
         &rt,
-        &[
+        [
             is(sum, 1),
             is(rest, -5),
             refusal_holds(past, "Unable to perform"),
@@ -114,9 +114,9 @@ fn negated(alloc: Global, of: Value) -> TeraResult<Value> {
 #[test]
 fn can_negate(rt: HostRuntime) {
     let alloc = rt.alloc();
-    hold(
+    hold!(
         &rt,
-        &[
+        [
             refusal_holds(negated(alloc, Value::from(i128::MIN)), "overflow"),
             is(negated(alloc, Value::from(5i64)), -5),
             is(negated(alloc, Value::from(-5i64)), 5),
@@ -149,9 +149,9 @@ fn numbers_are_read(rt: HostRuntime) {
     let minus_one = (true, Some(Number::Integer(-1)), None, Some(-1), None);
     let seven = (true, Some(Number::Integer(7)), Some(7), Some(7), Some(7));
     let greatest = (true, None, Some(u128::MAX), None, None);
-    hold(
+    hold!(
         &rt,
-        &[
+        [
             reads(Value::from(u128::MAX), greatest),
             reads(Value::from(-1i8), minus_one),
             reads(Value::from(-1i128), minus_one),
@@ -171,9 +171,9 @@ fn kind_of(value: Value) -> ValueKind {
 #[test]
 fn numbers_are_compared(rt: HostRuntime) {
     let (two, three) = (Number::Integer(2), Number::Integer(3));
-    hold(
+    hold!(
         &rt,
-        &[
+        [
             two == Number::Integer(2),
             two != three,
             two < three,
@@ -199,9 +199,9 @@ fn what_is_not_computed_says_why(rt: HostRuntime) {
     let wide = u128::MAX;
     let outside = NotComputed::OperandOutsideI128 { operand: wide };
     let no_number = NotComputed::NotANumber { kind: "bool" };
-    hold(
+    hold!(
         &rt,
-        &[
+        [
             quotient(Value::from(-7i64), Value::from(2u128)) == Ok(-4),
             quotient(Value::from(wide), Value::from(true)) == Err(outside),
             quotient(Value::from(true), Value::from(wide)) == Err(no_number),

@@ -88,9 +88,9 @@ fn ranks_are_left_undecided(rt: HostRuntime) {
 
 #[test]
 fn integers_of_every_width_become_values(rt: HostRuntime) {
-    hold(
+    hold!(
         &rt,
-        &[
+        [
             are_equal(Value::from(u8::MAX), Value::from(255u64)),
             are_equal(Value::from(u16::MAX), Value::from(65535u64)),
             are_equal(Value::from(u32::MAX), Value::from(4294967295u64)),

@@ -44,9 +44,9 @@ fn filled(alloc: Global) -> Map {
 #[test]
 fn what_is_put_is_found(rt: HostRuntime) {
     let map = filled(rt.alloc());
-    hold(
+    hold!(
         &rt,
-        &[
+        [
             is(map.get(&Key::Str("b")), 3),
             key_has(&map, Key::I64(7), 2),
             map.get(&Key::Str("7")).is_none(),
@@ -76,7 +76,7 @@ fn what_was_there_is_given_back(rt: HostRuntime) {
     let first = gives_back(&mut map, Key::U64(7), 1, None);
     let second = gives_back(&mut map, Key::Str("7"), 2, None);
     let third = gives_back(&mut map, Key::I128(7), 3, Some(1));
-    hold(&rt, &[first, second, third, map.len() == 2]);
+    hold!(&rt, [first, second, third, map.len() == 2]);
     drop(map);
 }
 
@@ -85,9 +85,9 @@ fn what_was_there_is_given_back(rt: HostRuntime) {
 fn pairs_come_in_the_order_of_their_keys_first_insertion(rt: HostRuntime) {
     let map = filled(rt.alloc());
     let mut left = map.iter();
-    hold(
+    hold!(
         &rt,
-        &[
+        [
             is_pair(left.next(), Key::Str("b"), 3),
             is_pair(left.next(), Key::U64(7), 2),
             left.next().is_none(),
@@ -99,9 +99,9 @@ fn pairs_come_in_the_order_of_their_keys_first_insertion(rt: HostRuntime) {
 #[test]
 fn pairs_have_places(rt: HostRuntime) {
     let map = filled(rt.alloc());
-    hold(
+    hold!(
         &rt,
-        &[
+        [
             is_pair(map.get_index(0), Key::Str("b"), 3),
             is_pair(map.get_index(1), Key::U64(7), 2),
             map.get_index(2).is_none(),
@@ -115,9 +115,9 @@ fn pairs_have_places(rt: HostRuntime) {
 #[test]
 fn the_first_key_stays(rt: HostRuntime) {
     let alloc = rt.alloc();
-    hold(
+    hold!(
         &rt,
-        &[
+        [
             keeps_first(alloc, 1, 0),
             keeps_first(alloc, 12, 11),
             keeps_first(alloc, 13, 0),
@@ -172,9 +172,9 @@ fn copies_keep_the_order(rt: HostRuntime) {
 #[test]
 fn a_map_without_pairs_has_none(rt: HostRuntime) {
     let map = Map::new(rt.alloc());
-    hold(
+    hold!(
         &rt,
-        &[
+        [
             map.is_empty(),
             map.len() == 0,
             map.get(&Key::Bool(true)).is_none(),
@@ -210,9 +210,9 @@ fn gives_away(map: Map, count: u8) -> bool {
 #[test]
 fn pairs_are_given_away_in_their_order(rt: HostRuntime) {
     let alloc = rt.alloc();
-    hold(
+    hold!(
         &rt,
-        &[
+        [
             gives_away(counted(Map::new(alloc), 0..0), 0),
             gives_away(counted(Map::new(alloc), 0..1), 1),
             gives_away(counted(Map::new(alloc), 0..12), 12),
@@ -233,9 +233,9 @@ fn copy_grows(alloc: Global, count: u8) -> bool {
 #[test]
 fn copies_grow(rt: HostRuntime) {
     let alloc = rt.alloc();
-    hold(
+    hold!(
         &rt,
-        &[
+        [
             copy_grows(alloc, 0),
             copy_grows(alloc, 1),
             copy_grows(alloc, 5),
@@ -249,9 +249,9 @@ fn copies_grow(rt: HostRuntime) {
 #[test]
 fn many_pairs_are_found(rt: HostRuntime) {
     let map = counted(Map::new(rt.alloc()), 0..100);
-    hold(
+    hold!(
         &rt,
-        &[
+        [
             key_has(&map, Key::I64(12), 12),
             key_has(&map, Key::U128(99), 99),
             map.get(&Key::U64(100)).is_none(),

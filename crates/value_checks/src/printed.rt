@@ -26,9 +26,9 @@ fn a_width_changes_nothing(rt: HostRuntime) {
     let alloc = rt.alloc();
     let numbers = two_items(alloc, Value::from(1i64), Value::undefined());
     let twice = at_texts(alloc, &[("b", 1), ("a", 2), ("b", 3)]);
-    hold(
+    hold!(
         &rt,
-        &[
+        [
             prints(alloc, Value::from(true), "true"),
             prints(alloc, Value::from(-12i64), "-12"),
             prints(alloc, safe(alloc, "<é>"), "<é>"),
@@ -57,9 +57,9 @@ fn items_are_printed_in_their_order(rt: HostRuntime) {
     let kinds = with_item(with_item(kinds, bytes(alloc, b"hi")), no_items(alloc));
     let quoted = text(alloc, "a\"\u{1f}\u{7f}'");
     let cut = bytes(alloc, b"\xe2\x82A\xf0\x80\x80");
-    hold(
+    hold!(
         &rt,
-        &[
+        [
             writes(alloc, one_item(alloc, Value::none()), "[]"),
             writes(alloc, Value::of_array(items), "[1, , 2]"),
             writes(alloc, Value::of_array(kinds), "[\"a\", hi, []]"),
@@ -81,9 +81,9 @@ fn pairs_are_printed_in_their_order(rt: HostRuntime) {
     let pairs = with(Map::new(alloc), Key::Str("1"), Value::from(3u8));
     let pairs = with(pairs, Key::U64(1), Value::from(2u8));
     let pairs = with(pairs, Key::Bool(true), Value::from(1u8));
-    hold(
+    hold!(
         &rt,
-        &[
+        [
             writes(
                 alloc,
                 Value::of_map(named),
@@ -121,9 +121,9 @@ fn just_fits(alloc: Global, value: Value, wanted: &str) -> bool {
 fn a_room_takes_what_fits(rt: HostRuntime) {
     let alloc = rt.alloc();
     let pairs = with(Map::new(alloc), Key::Str("ü"), text(alloc, "\u{7f}…"));
-    hold(
+    hold!(
         &rt,
-        &[
+        [
             just_fits(alloc, text(alloc, "é"), "é"),
             just_fits(alloc, one_item(alloc, text(alloc, "é")), "[\"é\"]"),
             just_fits(alloc, Value::of_map(pairs), "{\"ü\": \"\\u{7f}…\"}"),

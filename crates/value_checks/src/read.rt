@@ -67,9 +67,9 @@ fn reads(value: Value, kind: ValueKind, name: &str, has_parts: bool) -> bool {
 #[test]
 fn what_is_gone_over(rt: HostRuntime) {
     let alloc = rt.alloc();
-    hold(
+    hold!(
         &rt,
-        &[
+        [
             reads(text(alloc, "a"), ValueKind::String, "string", true),
             reads(bytes(alloc, b"ab"), ValueKind::Bytes, "bytes", true),
             reads(many_items(alloc, 2), ValueKind::Array, "array", true),
@@ -119,9 +119,9 @@ fn pairs_taken(value: Value) -> Option<usize> {
 #[test]
 fn parts_are_lent_and_handed_over(rt: HostRuntime) {
     let alloc = rt.alloc();
-    hold(
+    hold!(
         &rt,
-        &[
+        [
             lent(many_items(alloc, 2)) == Some(2),
             lent(many_pairs(alloc, 3)) == Some(3),
             items_taken(many_items(alloc, 2)) == Some(2),
@@ -145,9 +145,9 @@ fn holds_at(value: Value, at: Value, wanted: Option<i64>) -> bool {
 fn items_are_lent(rt: HostRuntime) {
     let alloc = rt.alloc();
     let pairs = at_texts(alloc, &[("a", 5), ("b", 6)]);
-    hold(
+    hold!(
         &rt,
-        &[
+        [
             holds_at(pairs, text(alloc, "b"), Some(6)),
             holds_at(many_pairs(alloc, 20), text(alloc, "key é 19"), Some(19)),
             holds_at(

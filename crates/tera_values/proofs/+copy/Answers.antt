@@ -17,15 +17,15 @@ copy::copies-push_copy-requires t c =
       omega (arith, c.loop-value.invariant.so_many, c.loop-value.invariant.room, c.loop-value-test.true),
     )
 
-pub columns::Columns::copy-copies-requires : goal.columns::Columns::copy-copies-requires
-columns::Columns::copy-copies-requires t c =
+pub map::columns::Columns::copy-copies-requires : goal.map::columns::Columns::copy-copies-requires
+map::columns::Columns::copy-copies-requires t c =
     let deep = column_depth (keys_held c.self.inside.keys) c.self.inside.values.items c.self.invariant.even in
     let same = ap (λ ps. members_depth (members ps)) c.self.view_is in
     let slice = ap (λ vs. items_depth (items vs)) c.as_slice.ensures.value in
     (omega (arith, deep, same, slice), tt)
 
-pub columns::Columns::copy-returns : goal.columns::Columns::copy-returns
-columns::Columns::copy-returns t c =
+pub map::columns::Columns::copy-returns : goal.map::columns::Columns::copy-returns
+map::columns::Columns::copy-returns t c =
     let made = keys_held c.in_ok-keys.keys in
     let values = c.in_ok-values.ensures.ok ∙ c.as_slice.ensures.value in
     let pairs : pairs_held made c.in_ok-values.values.items ≡ c.args.self.now = ap (pairs_held made) values

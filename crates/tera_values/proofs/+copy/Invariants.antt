@@ -15,8 +15,8 @@ invariant-copy::copies-loop-value l =
       room : length l.all ≤ vec_capacity l.made;
     }
 
-abbrev pub decreases-columns::Columns::copy : goal.decreases-columns::Columns::copy
-decreases-columns::Columns::copy l = 5 * members_depth (members l.self.now) + 3
+abbrev pub decreases-map::columns::Columns::copy : goal.decreases-map::columns::Columns::copy
+decreases-map::columns::Columns::copy l = 5 * members_depth (members l.self.now) + 3
 
 abbrev pub decreases-map::Map::copy : goal.decreases-map::Map::copy
 decreases-map::Map::copy l = 5 * members_depth (members l.self.now) + 4

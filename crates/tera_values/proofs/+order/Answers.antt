@@ -7,8 +7,9 @@ use Rattle.tera_meaning.specs.Form.{Form}
 use Rattle.tera_meaning.specs.KeyMeaning.{KeyForm}
 use Rattle.tera_meaning.specs.Pairs.{key_form_order, value_at}
 use Rattle.tera_values.specs.Key.{key_form}
-use Rattle.tera_values.specs.inner.Unlike.{IsLeastUnlike, least_met, unlike, lacking, difference_at, met}
-use Rattle.tera_values.proofs.UnlikeLemmas.{from_left, met_below, met_not_below, by_held, by_left, by_right, all_tie, walks_meet_least, one_walk, none_found}
+use Rattle.tera_values.specs.inner.MapDifference.{IsDifference, least_met, differing, lacking, difference_at, met}
+use Rattle.tera_values.proofs.MapDifferenceLemmas.{from_left, met_below, met_not_below, by_held, by_left, by_right, all_tie, walks_meet_least, one_walk}
+use Rattle.tera_values.proofs.MapDifferenceLemmas.{none_found}
 use Rattle.tera_values.proofs.PartsLaws.{depth_at, first_depth, array_of_items, map_of_members, order_ended}
 use Rattle.tera_values.proofs.+order.Goals as goal
 
@@ -71,31 +72,31 @@ pub compare::pairs_order-returns-in-None : goal.compare::pairs_order-returns-in-
 compare::pairs_order-returns-in-None t c =
     sym (all_tie c.args.left.now c.args.right.now c.in-None.ensures)
 
-pub unlike::least_difference-returns : goal.unlike::least_difference-returns
-unlike::least_difference-returns t c =
+pub map_difference::least_difference-returns : goal.map_difference::least_difference-returns
+map_difference::least_difference-returns t c =
     let es = c.args.left.now in
     let fs = c.args.right.now in
     let met = c.least_absent.ensures.least
-    ∙ ap (λ l. least_met (λ e. lacking (value_at key_form_order es e.0)) l fs) c.least_unlike-found.ensures.least in
-    subst (IsLeastUnlike es fs) (sym met) (walks_meet_least es fs c.least_unlike-found.ensures.distinct c.least_absent.ensures.distinct)
+    ∙ ap (λ l. least_met (λ e. lacking (value_at key_form_order es e.0)) l fs) c.least_differing-found.ensures.least in
+    subst (IsDifference es fs) (sym met) (walks_meet_least es fs c.least_differing-found.ensures.distinct c.least_absent.ensures.distinct)
 
-pub unlike::least_difference-returns-then-len : goal.unlike::least_difference-returns-then-len
-unlike::least_difference-returns-then-len t c =
+pub map_difference::least_difference-returns-then-len : goal.map_difference::least_difference-returns-then-len
+map_difference::least_difference-returns-then-len t c =
     let es = c.args.left.now in
     let fs = c.args.right.now in
-    let none = none_found (λ d. (key_form d.0.now, d.1)) c.least_unlike-found.result (c.is_none.ensures ∙ ap not c.if-is_none.true) in
+    let none = none_found (λ d. (key_form d.0.now, d.1)) c.least_differing-found.result (c.is_none.ensures ∙ ap not c.if-is_none.true) in
     let even = sym c.len.ensures.len ∙ c.if-len.true ∙ c.len-then-is_none.ensures.len in
-    one_walk es fs c.len.ensures.distinct c.len-then-is_none.ensures.distinct (sym c.least_unlike-found.ensures.least ∙ none) even
+    one_walk es fs c.len.ensures.distinct c.len-then-is_none.ensures.distinct (sym c.least_differing-found.ensures.least ∙ none) even
 
-pub unlike::least_unlike-unlike-requires : goal.unlike::least_unlike-unlike-requires
-unlike::least_unlike-unlike-requires t c =
+pub map_difference::least_differing-differing-requires : goal.map_difference::least_differing-differing-requires
+map_difference::least_differing-differing-requires t c =
     let p : KeyForm × Form = (key_form c.in-Some.key.now, c.in-Some.value.now) in
     let less_deep = first_depth c.loop-key.key-iterator c.next.new.self p c.in-Some.ensures.steps in
     let within = c.loop-key.invariant.within in
     (omega (arith, less_deep.0, within), tt)
 
-pub unlike::least_unlike-loop-key-preserved-then-is_below : goal.unlike::least_unlike-loop-key-preserved-then-is_below
-unlike::least_unlike-loop-key-preserved-then-is_below t c =
+pub map_difference::least_differing-loop-key-preserved-then-is_below : goal.map_difference::least_differing-loop-key-preserved-then-is_below
+map_difference::least_differing-loop-key-preserved-then-is_below t c =
     let k = key_form c.in-Some.key.now in
     let p : KeyForm × Form = (k, c.in-Some.value.now) in
     let left = c.loop-key.key-iterator in
@@ -106,7 +107,7 @@ unlike::least_unlike-loop-key-preserved-then-is_below t c =
     let no_deeper : members_depth (members rest) ≤ members_depth (members c.args.left.now) = omega (arith, less_deep.1, within) in
     let least = option_map (λ d. (key_form d.0.now, d.1)) c.loop-key.least in
     let new : option_map (λ d. (key_form d.0.now, d.1)) c.difference_at-least.result ≡ met least k (from_left qs p) = c.difference_at-least.ensures
-    ∙ ap (λ h. difference_at h k least) (c.unlike.ensures ∙ ap (unlike (Some c.in-Some.value.now)) c.get.ensures)
+    ∙ ap (λ h. difference_at h k least) (c.differing.ensures ∙ ap (differing (Some c.in-Some.value.now)) c.get.ensures)
     ∙ sym (met_below least k (from_left qs p) (sym c.is_below.ensures ∙ c.if-is_below.true)) in
     record {
       within = no_deeper;
@@ -115,8 +116,8 @@ unlike::least_unlike-loop-key-preserved-then-is_below t c =
           ∙ c.loop-key.invariant.least;
     }
 
-pub unlike::least_unlike-loop-key-preserved : goal.unlike::least_unlike-loop-key-preserved
-unlike::least_unlike-loop-key-preserved t c =
+pub map_difference::least_differing-loop-key-preserved : goal.map_difference::least_differing-loop-key-preserved
+map_difference::least_differing-loop-key-preserved t c =
     let k = key_form c.in-Some.key.now in
     let p : KeyForm × Form = (k, c.in-Some.value.now) in
     let left = c.loop-key.key-iterator in

@@ -3,7 +3,7 @@ use Rattle.std.specs.Option.{option_map}
 use Rattle.tera_meaning.specs.Pairs.{key_form_order, value_at}
 use Rattle.tera_meaning.specs.Tree.{items, members, depth, items_depth, members_depth}
 use Rattle.tera_values.specs.Key.{key_form}
-use Rattle.tera_values.specs.inner.Unlike.{least_met, unlike}
+use Rattle.tera_values.specs.inner.MapDifference.{least_met, differing}
 use Rattle.tera_values.proofs.PartsLaws.{lists_order}
 use Rattle.tera_values.proofs.+order.Given as goal
 
@@ -29,20 +29,20 @@ decreases-compare::map_order l = 6 * members_depth (members l.left.now) + 6
 abbrev pub decreases-compare::pairs_order : goal.decreases-compare::pairs_order
 decreases-compare::pairs_order l = 6 * members_depth (members l.left.now) + 5
 
-abbrev pub decreases-unlike::least_difference : goal.decreases-unlike::least_difference
-decreases-unlike::least_difference l = 6 * members_depth (members l.left.now) + 4
+abbrev pub decreases-map_difference::least_difference : goal.decreases-map_difference::least_difference
+decreases-map_difference::least_difference l = 6 * members_depth (members l.left.now) + 4
 
-abbrev pub decreases-unlike::least_unlike : goal.decreases-unlike::least_unlike
-decreases-unlike::least_unlike l = 6 * members_depth (members l.left.now) + 3
+abbrev pub decreases-map_difference::least_differing : goal.decreases-map_difference::least_differing
+decreases-map_difference::least_differing l = 6 * members_depth (members l.left.now) + 3
 
-abbrev pub decreases-compare::unlike : goal.decreases-compare::unlike
-decreases-compare::unlike l = 6 * depth l.value.now + 2
+abbrev pub decreases-compare::differing : goal.decreases-compare::differing
+decreases-compare::differing l = 6 * depth l.value.now + 2
 
 -- what is left is no deeper, and the least so far and what is left give the least of all
-abbrev pub invariant-unlike::least_unlike-loop-key : goal.invariant-unlike::least_unlike-loop-key
-invariant-unlike::least_unlike-loop-key l =
+abbrev pub invariant-map_difference::least_differing-loop-key : goal.invariant-map_difference::least_differing-loop-key
+invariant-map_difference::least_differing-loop-key l =
     record {
       within : members_depth (members l.key-iterator) ≤ members_depth (members l.left);
-      least : least_met (λ e. unlike (Some e.1) (value_at key_form_order l.right e.0)) (option_map (λ d. (key_form d.0.now, d.1)) l.least) l.key-iterator
-          ≡ least_met (λ e. unlike (Some e.1) (value_at key_form_order l.right e.0)) None l.left;
+      least : least_met (λ e. differing (Some e.1) (value_at key_form_order l.right e.0)) (option_map (λ d. (key_form d.0.now, d.1)) l.least) l.key-iterator
+          ≡ least_met (λ e. differing (Some e.1) (value_at key_form_order l.right e.0)) None l.left;
     }

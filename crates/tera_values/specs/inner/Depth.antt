@@ -16,7 +16,7 @@ use Rattle.tera_values.specs.declared.value.ValueInner.{ValueInner}
 use Rattle.tera_values.specs.declared.value.ValueInner.TheVariants.{Undefined, None, Bool as Truth}
 use Rattle.tera_values.specs.declared.value.ValueInner.TheVariants.{U64, I64, U128, I128, String}
 use Rattle.tera_values.specs.declared.value.ValueInner.TheVariants.{Array, Bytes, Map as Members}
-use Rattle.tera_values.specs.declared.columns.Columns.TheDeep.{deep-Map, deep-ValueInner}
+use Rattle.tera_values.specs.declared.map.Map.TheDeep.{deep-Map, deep-ValueInner}
 
 most_le-items_depth : (xs : List Form) → most (λ v. value_size v + 1) xs
     ≤ 3 * items_depth (items xs) + 1

@@ -7,12 +7,13 @@ use Rattle.tera_meaning.specs.Form.{Form}
 use Rattle.tera_meaning.specs.KeyMeaning.{KeyForm, key_order, text_key}
 use Rattle.tera_values.specs.Key.{key_form, meaning_of_key}
 use Rattle.tera_values.specs.declared.key.Key.{Key}
-use Rattle.tera_values.specs.declared.keys.Keys.{Keys}
+use Rattle.tera_values.specs.declared.map.keys.Keys.{Keys}
 use Rattle.tera_values.specs.declared.map.Held.{Held}
 use Rattle.tera_values.specs.declared.map.Held.TheVariants.{Nothing, Pairs}
-use Rattle.tera_values.specs.declared.keys.Keys.TheVariants.{Few, Many}
-use Rattle.tera_values.specs.declared.keys.OwnKeys.{OwnKeys}
-use Rattle.tera_values.specs.declared.keys.OwnKeys.TheVariants.{Few as FewLeft, Many as ManyLeft}
+use Rattle.tera_values.specs.declared.map.keys.Keys.TheVariants.{Few, Many}
+use Rattle.tera_values.specs.declared.map.keys.OwnKeys.{OwnKeys}
+use Rattle.tera_values.specs.declared.map.keys.OwnKeys.TheVariants.{Few as FewLeft}
+use Rattle.tera_values.specs.declared.map.keys.OwnKeys.TheVariants.{Many as ManyLeft}
 
 -- whether two keys are equal
 abbrev pub keys_tie : Key → Key → Bool

@@ -19,9 +19,9 @@ fn lists_and_sets_are_arrays(rt: HostRuntime) {
     let values = "Array([Value { inner: String(true, \"<\") }])";
     let numbers = "Array([Value { inner: I64(-2) }, Value { inner: I64(7) }])";
     let one = "Array([Value { inner: String(false, \"a\") }])";
-    hold(
+    hold!(
         &rt,
-        &[
+        [
             gives(alloc, two_of(alloc, 1u8, 255u8), bytes),
             gives(alloc, one_of(alloc, "b"), texts),
             gives(alloc, one_of(alloc, safe(alloc, "<")), values),
@@ -39,9 +39,9 @@ fn slices_are_arrays_or_bytes(rt: HostRuntime) {
     let array = "Array([Value { inner: String(true, \"<\") }, Value { inner: U128(7) }])";
     let no_values: &[Value] = &[];
     let no_bytes: &[u8] = &[];
-    hold(
+    hold!(
         &rt,
-        &[
+        [
             gives(alloc, values.as_slice(), array),
             gives(alloc, no_values, "Array([])"),
             gives(alloc, b"a\xff".as_slice(), "Bytes([97, 255])"),
@@ -62,9 +62,9 @@ fn maps_are_maps(rt: HostRuntime) {
     let negative = "Map({I128(-7): Value { inner: I128(7) }})";
     let some = "Map({Str(\"a\"): Value { inner: Bool(false) }})";
     let none = "Map({Str(\"a\"): Value { inner: None }})";
-    hold(
+    hold!(
         &rt,
-        &[
+        [
             gives(alloc, table_of(alloc, "é", 7u8), lent),
             gives(alloc, table_of(alloc, owned(alloc, "é"), ()), kept),
             gives(alloc, table_of(alloc, 7u128, true), wide),
@@ -93,9 +93,9 @@ fn collections_nest(rt: HostRuntime) {
     let numbers = "Map({String(\"a\"): \
         Value { inner: Array([Value { inner: I128(-1) }, Value { inner: I128(2) }]) }})";
     let numbers_of = two_of(alloc, -1i128, 2i128);
-    hold(
+    hold!(
         &rt,
-        &[
+        [
             gives(alloc, lists_of_bytes(alloc), lists),
             gives(
                 alloc,

@@ -29,9 +29,9 @@ pub fn gives<T: ToValue>(alloc: Global, source: T, wanted: &str) -> bool {
 #[test]
 fn numbers_keep_their_sign(rt: HostRuntime) {
     let alloc = rt.alloc();
-    hold(
+    hold!(
         &rt,
-        &[
+        [
             gives(alloc, u8::MAX, "U64(255)"),
             gives(alloc, u16::MAX, "U64(65535)"),
             gives(alloc, u32::MAX, "U64(4294967295)"),
@@ -62,9 +62,9 @@ fn numbers_keep_their_sign(rt: HostRuntime) {
 #[test]
 fn single_values_are_given(rt: HostRuntime) {
     let alloc = rt.alloc();
-    hold(
+    hold!(
         &rt,
-        &[
+        [
             gives(alloc, "é<", "String(false, \"é<\")"),
             gives(alloc, owned(alloc, "é<"), "String(false, \"é<\")"),
             gives(alloc, CowStr::Borrowed("é<"), "String(false, \"é<\")"),
@@ -109,9 +109,9 @@ pub fn text_key(alloc: Global, of: &str) -> Key<'static> {
 #[test]
 fn keys_and_values_are_given_as_they_are(rt: HostRuntime) {
     let alloc = rt.alloc();
-    hold(
+    hold!(
         &rt,
-        &[
+        [
             gives(alloc, Key::Bool(true), "Bool(true)"),
             gives(alloc, Key::U64(7), "U64(7)"),
             gives(alloc, Key::I64(-7), "I64(-7)"),
@@ -132,9 +132,9 @@ fn keys_and_values_are_given_as_they_are(rt: HostRuntime) {
 #[test]
 fn what_is_lent_gives_the_same(rt: HostRuntime) {
     let alloc = rt.alloc();
-    hold(
+    hold!(
         &rt,
-        &[
+        [
             gives(alloc, &true, "Bool(true)"),
             gives(alloc, &'é', "String(false, \"é\")"),
             gives(alloc, &owned(alloc, "é"), "String(false, \"é\")"),

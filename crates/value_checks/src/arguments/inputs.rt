@@ -60,9 +60,9 @@ fn is_escaped(alloc: Global, value: Value, wanted: &str) -> bool {
 #[test]
 fn only_unsafe_texts_are_escaped(rt: HostRuntime) {
     let alloc = rt.alloc();
-    hold(
+    hold!(
         &rt,
-        &[
+        [
             stands(alloc, safe(alloc, "<"), true, "<"),
             stands(alloc, safe(alloc, "<"), false, "<"),
             is_escaped(alloc, text(alloc, "<"), "&lt;"),
@@ -89,9 +89,9 @@ fn is_input(alloc: Global, value: Value, text: &str, is_safe: bool) -> bool {
 #[test]
 fn texts_come_with_their_flag(rt: HostRuntime) {
     let alloc = rt.alloc();
-    hold(
+    hold!(
         &rt,
-        &[
+        [
             is_input(alloc, safe(alloc, "é<"), "é<", true),
             is_input(alloc, text(alloc, "é<"), "é<", false),
             is_input(alloc, text(alloc, ""), "", false),
@@ -126,9 +126,9 @@ fn flags_are_kept(rt: HostRuntime) {
     let (marked, plain) = (safe(alloc, "<"), text(alloc, "<"));
     let (copy, other) = ("String(true, \"<\")", "String(true, \"é\")");
     let (plain_copy, plain_other) = ("String(false, \"<\")", "String(false, \"é\")");
-    hold(
+    hold!(
         &rt,
-        &[
+        [
             keeps_flag(alloc, marked, copy, other),
             keeps_flag(alloc, plain, plain_copy, plain_other),
         ],
@@ -150,9 +150,9 @@ fn what_inputs_show(rt: HostRuntime) {
     let alloc = rt.alloc();
     let marked = "StringInput { text: \"é\\n<\", safe: true }";
     let plain = "StringInput { text: \"\", safe: false }";
-    hold(
+    hold!(
         &rt,
-        &[
+        [
             input_shows(alloc, safe(alloc, "é\n<"), marked),
             input_shows(alloc, text(alloc, ""), plain),
         ],

@@ -50,9 +50,9 @@ fn ends_of_small_types_without_a_sign(rt: HostRuntime) {
     let of_8 = around([-1, 0], [255, 256]);
     let of_16 = around([-1, 0], [65535, 65536]);
     let of_32 = around([-1, 0], [4294967295, 4294967296]);
-    hold(
+    hold!(
         &rt,
-        &[
+        [
             keeps_to(alloc, &of_8, [u8::MIN, u8::MAX], ["-1", "256", "u8"]),
             keeps_to(alloc, &of_16, [u16::MIN, u16::MAX], ["-1", "65536", "u16"]),
             keeps_to(
@@ -82,9 +82,9 @@ fn ends_of_types_without_a_sign(rt: HostRuntime) {
         Value::from(340282366920938463463374607431768211455u128),
         Value::from(-1i128),
     ];
-    hold(
+    hold!(
         &rt,
-        &[
+        [
             keeps_to(alloc, &of_64, [u64::MIN, u64::MAX], ["-1", PAST_U64, "u64"]),
             keeps_to(
                 alloc,
@@ -106,9 +106,9 @@ fn ends_of_small_types_with_a_sign(rt: HostRuntime) {
     let of_16 = around([-32769, -32768], [32767, 32768]);
     let of_32 = around([-2147483649, -2147483648], [2147483647, 2147483648]);
     let told_32 = ["-2147483649", "2147483648", "i32"];
-    hold(
+    hold!(
         &rt,
-        &[
+        [
             keeps_to(alloc, &of_8, [i8::MIN, i8::MAX], ["-129", "128", "i8"]),
             keeps_to(
                 alloc,
@@ -148,9 +148,9 @@ fn ends_of_types_with_a_sign(rt: HostRuntime) {
     let told_64 = [BELOW_I64, PAST_I64, "i64"];
     let told_size = [BELOW_I64, PAST_I64, "isize"];
     let told_128 = [PAST_I128, PAST_I128, "i128"];
-    hold(
+    hold!(
         &rt,
-        &[
+        [
             keeps_to(alloc, &of_64, [i64::MIN, i64::MAX], told_64),
             keeps_to(alloc, &of_64, [isize::MIN, isize::MAX], told_size),
             keeps_to(alloc, &of_128, [i128::MIN, i128::MAX], told_128),
@@ -198,9 +198,9 @@ fn least_numbers_are_taken_from_each_kind(rt: HostRuntime) {
     let of_32 = in_each_kind(-2147483648);
     let of_64 = in_each_kind(-9223372036854775808);
     let of_128 = in_each_kind(i128::MIN);
-    hold(
+    hold!(
         &rt,
-        &[
+        [
             takes_each(alloc, &zero, u8::MIN),
             takes_each(alloc, &zero, u16::MIN),
             takes_each(alloc, &zero, u32::MIN),
@@ -231,9 +231,9 @@ fn greatest_numbers_of_types_with_a_sign_are_taken_from_each_kind(rt: HostRuntim
     let of_32 = in_each_kind(2147483647);
     let of_64 = in_each_kind(9223372036854775807);
     let of_128 = in_each_kind(i128::MAX);
-    hold(
+    hold!(
         &rt,
-        &[
+        [
             takes_each(alloc, &of_8, i8::MAX),
             takes_each(alloc, &of_16, i16::MAX),
             takes_each(alloc, &of_32, i32::MAX),
@@ -257,9 +257,9 @@ fn greatest_numbers_of_types_without_a_sign_are_taken_from_each_kind(rt: HostRun
     let of_32 = in_each_kind(4294967295);
     let of_64 = in_each_kind(18446744073709551615);
     let of_127 = in_each_kind(i128::MAX);
-    hold(
+    hold!(
         &rt,
-        &[
+        [
             takes_each(alloc, &of_8, u8::MAX),
             takes_each(alloc, &of_16, u16::MAX),
             takes_each(alloc, &of_32, u32::MAX),

@@ -25,9 +25,9 @@ fn is_key(alloc: Global, key: Key<'static>, wanted: &str) -> bool {
 #[test]
 fn keys_are_given(rt: HostRuntime) {
     let alloc = rt.alloc();
-    hold(
+    hold!(
         &rt,
-        &[
+        [
             gives_key(alloc, "é", "Str(\"é\")"),
             gives_key(alloc, owned(alloc, "é"), "String(\"é\")"),
             gives_key(alloc, CowStr::Borrowed("é"), "String(\"é\")"),

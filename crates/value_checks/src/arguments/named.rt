@@ -61,9 +61,9 @@ where
 fn can_get_kwarg_with_type(rt: HostRuntime) {
     let alloc = rt.alloc();
     let hello = one_argument(alloc, "hello", text(alloc, "world"));
-    hold(
+    hold!(
         &rt,
-        &[
+        [
             gets(alloc, &hello, "hello", "world"),
             gets(alloc, &hello, "hello", owned(alloc, "world")),
             lacks::<Value, i64>(alloc, &hello, "unknown"),
@@ -80,9 +80,9 @@ fn int_out_of_range_reports_range_not_type(rt: HostRuntime) {
     let negative = one_argument(alloc, "n", Value::from(-1i64));
     let past = "Value `300` is out of range for `u8`";
     let below = "Value `-1` is out of range for `usize`";
-    hold(
+    hold!(
         &rt,
-        &[
+        [
             is_denied::<Value, u8>(alloc, &wide, "n", past),
             is_denied::<Value, usize>(alloc, &negative, "n", below),
             gets(alloc, &wide, "n", 300u16),
@@ -109,9 +109,9 @@ fn what_has_to_be_there_is_told(rt: HostRuntime) {
     let text_at_n = one_argument(alloc, "n", text(alloc, "x"));
     let missing = "Missing keyword argument `n`";
     let wrong = "Invalid type for the value, expected `u8` but got `string`";
-    hold(
+    hold!(
         &rt,
-        &[
+        [
             is_missing::<Value, u8>(alloc, &none, "n", missing),
             is_missing::<Value, &Value>(alloc, &none, "é", "Missing keyword argument `é`"),
             is_denied::<Value, u8>(alloc, &text_at_n, "n", wrong),
@@ -141,9 +141,9 @@ fn of_equal_keys_the_later_value_stands(rt: HostRuntime) {
     let alloc = rt.alloc();
     let same = two_numbers(alloc, ("n", 1), ("n", 2));
     let apart = two_numbers(alloc, ("n", 1), ("é", 2));
-    hold(
+    hold!(
         &rt,
-        &[
+        [
             gets(alloc, &same, "n", 2i64),
             comes_as(same.iter(), &["n"]),
             gets(alloc, &apart, "n", 1i64),
@@ -161,9 +161,9 @@ fn arguments_are_made_of_pairs(rt: HostRuntime) {
     let none: [(&'static str, Value); 0] = [];
     let one = [("n", Value::from(1u8))];
     let shown = "KwargsOf { values: Value { inner: Map({Str(\"n\"): Value { inner: U64(1) }}) } }";
-    hold(
+    hold!(
         &rt,
-        &[
+        [
             is_shown(alloc, or_none(alloc, Kwargs::from_pairs(alloc, one)), shown),
             is_of_no_pair(Kwargs::from_pairs(alloc, none)),
         ],
@@ -228,9 +228,9 @@ fn arguments_of_any_size(rt: HostRuntime) {
     let alloc = rt.alloc();
     let one = arguments(alloc, many_pairs(alloc, 1));
     let many = arguments(alloc, many_pairs(alloc, 1000));
-    hold(
+    hold!(
         &rt,
-        &[
+        [
             gets(alloc, &one, "key é 0", 0u8),
             lacks::<Value, u8>(alloc, &one, "key é 1"),
             gets(alloc, &many, "key é 0", 0u64),
@@ -271,9 +271,9 @@ fn copies_keep_kinds_and_flags(rt: HostRuntime) {
     let told = "KwargsOf { values: Value { inner: \
         Map({Str(\"n\"): Value { inner: U128(7) }}) } }";
     let empty = "KwargsOf { values: Value { inner: Map({}) } }";
-    hold(
+    hold!(
         &rt,
-        &[
+        [
             copy_shows(alloc, marked, shown),
             copy_shows(alloc, wide, told),
             copy_shows(alloc, none, empty),

@@ -37,9 +37,9 @@ fn maps_stand_as_what_gives_them(rt: HostRuntime) {
     let falls = "Map({Str(\"b\"): Value { inner: U64(1) }, Str(\"a\"): Value { inner: U64(2) }})";
     let rises = "Map({Str(\"a\"): Value { inner: U64(2) }, Str(\"b\"): Value { inner: U64(1) }})";
     let later = "Map({Str(\"b\"): Value { inner: U64(2) }})";
-    hold(
+    hold!(
         &rt,
-        &[
+        [
             gives(alloc, falling(alloc), falls),
             gives(alloc, row_of(alloc, ("b", 1u8), ("a", 2u8)), falls),
             gives(alloc, row_of(alloc, ("a", 2u8), ("b", 1u8)), rises),
@@ -78,9 +78,9 @@ fn gives_rising(alloc: Global, count: i64) -> bool {
 #[test]
 fn hashed_maps_give_rising_ones(rt: HostRuntime) {
     let alloc = rt.alloc();
-    hold(
+    hold!(
         &rt,
-        &[
+        [
             gives_rising(alloc, 0),
             gives_rising(alloc, 1),
             gives_rising(alloc, 2),
@@ -93,9 +93,9 @@ fn hashed_maps_give_rising_ones(rt: HostRuntime) {
 fn arguments_come_in_their_order(rt: HostRuntime) {
     let alloc = rt.alloc();
     let put_again = with(falling(alloc), Key::Str("b"), Value::from(3u8));
-    hold(
+    hold!(
         &rt,
-        &[
+        [
             have_names(Kwargs::new(Map::new(alloc)), &[]),
             have_names(Kwargs::new(falling(alloc)), &["b", "a"]),
             have_names(Kwargs::new(put_again), &["b", "a"]),
@@ -120,7 +120,7 @@ fn an_equal_key_keeps_its_place(rt: HostRuntime) {
         Str(\"a\"): Value { inner: U64(2) }}) } }";
     let of = with_equal_key(alloc);
     let is_walked = comes_as(of.iter(), &["b", "a"]);
-    hold(&rt, &[is_walked, is_shown(alloc, of, shown)]);
+    hold!(&rt, [is_walked, is_shown(alloc, of, shown)]);
 }
 
 // The arguments come at 999, 998, .. down to 0, and are 0, 1, .. up to 999.
@@ -157,9 +157,9 @@ fn prints(alloc: Global, map: Map, wanted: &str) -> bool {
 fn maps_print_in_their_order(rt: HostRuntime) {
     let alloc = rt.alloc();
     let put_again = with(falling(alloc), Key::Str("b"), Value::from(3u8));
-    hold(
+    hold!(
         &rt,
-        &[
+        [
             prints(alloc, falling(alloc), "{\"b\": 1, \"a\": 2}"),
             prints(alloc, put_again, "{\"b\": 3, \"a\": 2}"),
         ],

@@ -57,9 +57,9 @@ fn maps_are_copied_or_lent(rt: HostRuntime) {
         Str(\"a\"): Value { inner: I64(2) }})";
     let pairs = [("b", 1), ("a", 2)];
     let items = no_items(alloc);
-    hold(
+    hold!(
         &rt,
-        &[
+        [
             copies_map(alloc, one_pair_of(alloc), map),
             copies_map(alloc, at_texts(alloc, &pairs), falling),
             lends_map(alloc, one_pair_of(alloc), "é", 7),
@@ -91,9 +91,9 @@ fn has_no_items(alloc: Global, value: Value, name: &str) -> bool {
 fn items_are_lent(rt: HostRuntime) {
     let alloc = rt.alloc();
     let held = two_of(alloc, Value::from(1i64), Value::from(2i64));
-    hold(
+    hold!(
         &rt,
-        &[
+        [
             lends_items(alloc, numbers(alloc, &[1, 2]), held),
             has_no_items(alloc, no_pairs(alloc), "map/struct"),
             has_no_items(alloc, bytes(alloc, b"\x01"), "bytes"),
@@ -114,9 +114,9 @@ fn lists_are_taken_item_by_item(rt: HostRuntime) {
     let [nested, both, one_text, one_truth, none] = &of;
     let lists = two_of(alloc, two_of(alloc, 1u8, 255u8), Vec::new(alloc));
     let texts = two_of(alloc, owned(alloc, "5"), owned(alloc, "é"));
-    hold(
+    hold!(
         &rt,
-        &[
+        [
             takes(alloc, nested, lists),
             takes(alloc, both, texts),
             takes(alloc, one_text, one_of(alloc, "é")),
@@ -144,9 +144,9 @@ fn the_first_refusal_of_an_item_is_passed_on(rt: HostRuntime) {
     let [one_and_text, wide_and_text] = &of;
     let text_and_wide = two_items(alloc, text(alloc, "x"), Value::from(300u16));
     let told = "Value `300` is out of range for `u8`";
-    hold(
+    hold!(
         &rt,
-        &[
+        [
             is_no::<Value, Vec<u8>>(alloc, one_and_text, "u8", "string"),
             is_no_list(alloc, text_and_wide, "u8", "string"),
             refuses::<Value, Vec<u8>>(alloc, wide_and_text, told),

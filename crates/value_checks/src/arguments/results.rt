@@ -20,9 +20,9 @@ fn single_values_and_what_succeeds_are_answered(rt: HostRuntime) {
     let number: TeraResult<u8> = Ok(7);
     let list: TeraResult<Vec<u8>> = Ok(one_of(alloc, 1u8));
     let value: TeraResult<Value> = Ok(safe(alloc, "<"));
-    hold(
+    hold!(
         &rt,
-        &[
+        [
             answers(alloc, number, "U64(7)"),
             answers(alloc, list, "Array([Value { inner: U64(1) }])"),
             answers(alloc, value, "String(true, \"<\")"),
@@ -55,9 +55,9 @@ fn collections_are_answered(rt: HostRuntime) {
     let one = "Array([Value { inner: U64(1) }])";
     let pair = "Map({Str(\"a\"): Value { inner: U64(1) }})";
     let values = one_of(alloc, Value::from(1u8));
-    hold(
+    hold!(
         &rt,
-        &[
+        [
             answers(alloc, one_of(alloc, 1u8), one),
             answers(alloc, set_of(alloc, 1u8, 1u8), one),
             answers(alloc, values.as_slice(), one),

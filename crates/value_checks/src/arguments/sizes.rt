@@ -55,9 +55,9 @@ fn lends_text(alloc: Global, count: usize) -> bool {
 #[test]
 fn parts_of_any_size_are_lent(rt: HostRuntime) {
     let alloc = rt.alloc();
-    hold(
+    hold!(
         &rt,
-        &[
+        [
             lends_items(alloc, 0),
             lends_items(alloc, 1),
             lends_items(alloc, 1000),

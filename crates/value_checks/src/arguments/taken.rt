@@ -59,9 +59,9 @@ fn numbers_are_taken_from_any_kind(rt: HostRuntime) {
         Value::from(7i128),
     ];
     let [whole, signed, wide, wide_signed] = &of;
-    hold(
+    hold!(
         &rt,
-        &[
+        [
             takes(alloc, whole, 7i8),
             takes(alloc, signed, 7u16),
             takes(alloc, wide, 7i32),
@@ -89,9 +89,9 @@ fn lends_text(alloc: Global, value: Value, wanted: &str) -> bool {
 #[test]
 fn truth_and_texts_are_taken_as_they_are(rt: HostRuntime) {
     let alloc = rt.alloc();
-    hold(
+    hold!(
         &rt,
-        &[
+        [
             keeps_truth(alloc, true),
             keeps_truth(alloc, false),
             lends_text(alloc, text(alloc, "é<"), "é<"),
@@ -131,9 +131,9 @@ fn texts_are_printed(rt: HostRuntime) {
     let alloc = rt.alloc();
     let mixed = two_items(alloc, Value::from(1u8), text(alloc, "é"));
     let falling = at_texts(alloc, &[("é", 2), ("a", 1)]);
-    hold(
+    hold!(
         &rt,
-        &[
+        [
             prints_as(alloc, Value::none(), ""),
             prints_as(alloc, Value::undefined(), ""),
             prints_as(alloc, Value::from(5u8), "5"),
@@ -189,9 +189,9 @@ fn is_printed(alloc: Global, value: Value, wanted: &str) -> bool {
 #[test]
 fn texts_are_lent_and_other_values_printed(rt: HostRuntime) {
     let alloc = rt.alloc();
-    hold(
+    hold!(
         &rt,
-        &[
+        [
             stands(alloc, text(alloc, "é<"), "é<"),
             stands(alloc, safe(alloc, "é<"), "é<"),
             stands(alloc, text(alloc, ""), ""),
@@ -224,9 +224,9 @@ fn values_are_copied_or_lent(rt: HostRuntime) {
     let alloc = rt.alloc();
     let safe_text = "String(true, \"<\")";
     let array = "Array([Value { inner: String(true, \"<\") }])";
-    hold(
+    hold!(
         &rt,
-        &[
+        [
             copies(alloc, safe(alloc, "<"), safe_text),
             copies(alloc, Value::from(7u128), "U128(7)"),
             copies(alloc, one_item(alloc, safe(alloc, "<")), array),
@@ -249,9 +249,9 @@ fn numbers_of_an_i128_are_taken(rt: HostRuntime) {
     let alloc = rt.alloc();
     let wide = Value::from(u128::MAX);
     let told = "Number `340282366920938463463374607431768211455` is out of range for i128";
-    hold(
+    hold!(
         &rt,
-        &[
+        [
             is_number(alloc, Value::from(7u64), 7),
             is_number(alloc, Value::from(-7i64), -7),
             is_number(alloc, Value::from(7u128), 7),
@@ -275,9 +275,9 @@ fn other_kinds_are_refused(rt: HostRuntime) {
         text(alloc, "7"),
     ];
     let [number, negative, none, letter, wide, undefined, digit] = &of;
-    hold(
+    hold!(
         &rt,
-        &[
+        [
             is_no::<Value, bool>(alloc, number, "bool", "u64"),
             is_no::<Value, &str>(alloc, negative, "&str", "i64"),
             is_no::<Value, StringInput<'_>>(alloc, none, "string", "none"),

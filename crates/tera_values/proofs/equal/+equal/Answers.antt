@@ -7,10 +7,10 @@ use Rattle.tera_meaning.specs.Meaning.{meaning}
 use Rattle.tera_meaning.specs.Order.{same}
 use Rattle.tera_meaning.specs.Tree.{array, items, object, members, members_depth}
 use Rattle.tera_values.specs.Key.{key_form}
-use Rattle.tera_values.specs.inner.Unlike.{least_met, unlike}
+use Rattle.tera_values.specs.inner.MapDifference.{least_met, differing}
 use Rattle.tera_values.proofs.EqualLemmas.{uneven_items, goes_even, differs_here, all_even, none_new, uneven, met_here, met_nowhere}
 use Rattle.tera_values.proofs.PartsLaws.{lists_order, depth_at, first_depth, array_of_items, map_of_members}
-use Rattle.tera_values.proofs.UnlikeLemmas.{from_left}
+use Rattle.tera_values.proofs.MapDifferenceLemmas.{from_left}
 use Rattle.tera_values.proofs.equal.+equal.Goals as goal
 
 pub array_equal-returns-in-Some : goal.array_equal-returns-in-Some
@@ -90,7 +90,7 @@ pairs_equal-returns-then-not-alike t c =
     let left = c.args.left.now in
     let right = c.args.right.now in
     let walk = c.loop-key.invariant.walk ∙ ap (least_met (from_left right) None) c.in-Some.ensures.steps in
-    let how = ap (λ o. not (is_some (unlike (Some c.in-Some.value.now) o))) (sym c.get.ensures) ∙ sym c.alike.ensures ∙ c.if-not-alike.true in
+    let how = ap (λ o. not (is_some (differing (Some c.in-Some.value.now) o))) (sym c.get.ensures) ∙ sym c.alike.ensures ∙ c.if-not-alike.true in
     sym (met_here left right c.len.ensures.distinct c.len-2.ensures.distinct p c.next.new.self walk how)
 
 pub pairs_equal-loop-key-preserved : goal.pairs_equal-loop-key-preserved
@@ -101,7 +101,7 @@ pairs_equal-loop-key-preserved t c =
     let less_deep = first_depth c.loop-key.key-iterator rest p c.in-Some.ensures.steps in
     let within = c.loop-key.invariant.within in
     let no_deeper : members_depth (members rest) ≤ members_depth (members c.args.left.now) = omega (arith, less_deep.1, within) in
-    let how = ap (λ o. not (is_some (unlike (Some c.in-Some.value.now) o))) (sym c.get.ensures) ∙ sym c.alike.ensures ∙ c.if-not-alike.false in
+    let how = ap (λ o. not (is_some (differing (Some c.in-Some.value.now) o))) (sym c.get.ensures) ∙ sym c.alike.ensures ∙ c.if-not-alike.false in
     record {
       within = no_deeper;
       walk = c.loop-key.invariant.walk ∙ ap (least_met (from_left right) None) c.in-Some.ensures.steps

@@ -1,8 +1,8 @@
 use Rattle.std.proofs.Common.{◌≡◌, ◌+◌, ◌*◌, ◌≤◌, None, drop}
 use Rattle.tera_meaning.specs.Tree.{items, members, depth, items_depth, members_depth}
-use Rattle.tera_values.specs.inner.Unlike.{least_met}
+use Rattle.tera_values.specs.inner.MapDifference.{least_met}
 use Rattle.tera_values.proofs.PartsLaws.{lists_order}
-use Rattle.tera_values.proofs.UnlikeLemmas.{from_left, left_walk}
+use Rattle.tera_values.proofs.MapDifferenceLemmas.{from_left, left_walk}
 use Rattle.tera_values.proofs.equal.+equal.Given as goal
 
 abbrev pub decreases-equal : goal.decreases-equal

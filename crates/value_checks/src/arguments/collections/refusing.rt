@@ -88,9 +88,9 @@ fn the_first_refusal_of_a_part_is_passed_on(rt: HostRuntime) {
     let alloc = rt.alloc();
     let first = "Error { kind: Msg(\"é 1\"), source: Some(the cause) }";
     let second = "Error { kind: Msg(\"é 2\"), source: Some(the cause) }";
-    hold(
+    hold!(
         &rt,
-        &[
+        [
             refuses(alloc, Some(Part::Refuses(1)), first),
             refuses(alloc, one_of(alloc, Part::Refuses(1)), first),
             refuses(alloc, two_refuse(alloc), second),
@@ -112,9 +112,9 @@ fn the_first_refusal_of_a_value_is_passed_on(rt: HostRuntime) {
     let second = "Error { kind: Msg(\"é 2\"), source: Some(the cause) }";
     let row = row_of(alloc, ("b", Part::Refuses(2)), ("a", Part::Refuses(1)));
     let later = row_of(alloc, ("a", Part::Gives), ("b", Part::Refuses(1)));
-    hold(
+    hold!(
         &rt,
-        &[
+        [
             refuses(alloc, row, second),
             refuses(alloc, later, first),
             refuses(alloc, tree_of(alloc, "a", Part::Refuses(1)), first),
@@ -127,9 +127,9 @@ fn the_first_refusal_of_a_value_is_passed_on(rt: HostRuntime) {
 fn the_refusal_of_a_key_comes_first(rt: HostRuntime) {
     let alloc = rt.alloc();
     let first = "Error { kind: Msg(\"é 1\"), source: Some(the cause) }";
-    hold(
+    hold!(
         &rt,
-        &[
+        [
             refuses(alloc, unfit_row(alloc), first),
             refuses(
                 alloc,
@@ -164,9 +164,9 @@ fn the_refusal_of_a_key_of_arguments_is_passed_on(rt: HostRuntime) {
     let first = "Error { kind: Msg(\"é 1\"), source: Some(the cause) }";
     let one = Kwargs::from_pairs(alloc, [make_unfit(1)]);
     let two = Kwargs::from_pairs(alloc, [make_unfit(1), make_unfit(2)]);
-    hold(
+    hold!(
         &rt,
-        &[
+        [
             are_refused(alloc, one, first),
             are_refused(alloc, two, first),
         ],
