@@ -1,3 +1,4 @@
+mod ByName
 mod Extends
 mod Found
 mod Kept

@@ -1,14 +1,13 @@
 -- How much room a map of names needs for what it takes over.
 use Rattle.std.specs.Prelude.{◌≡◌, ℕ, zero, suc, ◌+◌, ◌≤◌, ◌<◌, Bool, true, false, cond, not, List, [], ◌∷◌, length}
-use Rattle.std.specs.Prelude.{Option, Some, None, Result, Ok, Err, IsOk, OnErr, is_some, if◌then◌else◌, refl, String}
+use Rattle.std.specs.Prelude.{Option, Some, None, Result, Ok, Err, IsOk, OnErr, OnOk, is_ok, is_some, if◌then◌else◌, refl, String}
 use Rattle.std.proofs.Common.{sym, ◌∙◌, ap, subst, arith}
 use Rattle.std.proofs.lemmas.Bool.{false≢true}
-use Rattle.std.specs.Cmp.Lexicographic.{slice_cmp, nat_list_cmp_total}
-use Rattle.std.specs.FinMap.{contains_key, empty, get, get-empty, get-insert, insert}
+use Rattle.std.specs.Cmp.Lexicographic.{nat_list_cmp_total}
+use Rattle.std.specs.FinMap.{contains_key, get, get-insert, insert}
 use Rattle.std.specs.List.{AllByRecursion, IsDistinct, filter}
 use Rattle.std.specs.Map.{keys_of}
 use Rattle.std.specs.Option.{IsSome}
-use Rattle.std.specs.Ordering.{nat_cmp}
 use Rattle.std.specs.String.{string_bytes, string_eq}
 use Rattle.std.specs.declared.cmp.PartialEq as eq
 use Rattle.std.specs.declared.hash.Hash as hash
@@ -42,16 +41,22 @@ pub no_error : {X E : Type 0} (r : Result X E) (P : Type 0) → IsOk r → OnErr
 no_error (Ok x) P h = tt
 no_error (Err e) P h = absurd (false≢true h)
 
+-- what holds where it succeeds holds once it has
+pub on_success : {X E : Type 0} (r : Result X E) (P : Type 0) → OnOk r P → is_ok r ≡ true → P
+on_success (Ok x) P h is = h
+on_success (Err e) P h is = absurd (false≢true is)
+
+-- what would succeed is not what has failed
+pub on_failure : {X E : Type 0} (r : Result X E) (P Q : Type 0) → (P → IsOk r) → ((P → ⊥) → Q) → OnErr r Q
+on_failure (Ok x) P Q goes_on h = tt
+on_failure (Err e) P Q goes_on h = h (λ p. false≢true (goes_on p))
+
 -- what there is no room for is something
 pub some_wanted : (n room : ℕ) → (n ≤ room → ⊥) → 0 < n
 some_wanted zero room none = absurd (none (omega arith))
 some_wanted (suc n) room none = omega arith
 
 -- ---- the names that are new
-
-pub no_names : {A : Type 0} (pairs : List (String A × Form)) → length pairs ≡ 0 → state_of pairs ≡ empty
-no_names [] e = refl
-no_names (p ∷ pairs) e = absurd (omega (arith, e))
 
 counted : {X : Type 0} (b : Bool) (x : X) (xs : List X) → length (cond (not b) (x ∷ xs) xs) ≡ (if b then 0 else 1) + length xs
 counted true x xs = omega arith
@@ -61,6 +66,10 @@ less : (b : Bool) (all left room after : ℕ) → all ≡ (if b then 0 else 1) +
     → room ≤ after + (if b then 0 else 1) → left ≤ after
 less true all left room after is fits one = omega (arith, is, fits, one)
 less false all left room after is fits one = omega (arith, is, fits, one)
+
+one_at_most : (b : Bool) → (if b then 0 else 1) ≤ 1
+one_at_most true = omega arith
+one_at_most false = omega arith
 
 either : (b : Bool) (value : Form) (o : Option Form) → IsSome o → IsSome (cond b (Some value) o)
 either true value o is = refl
@@ -75,14 +84,14 @@ module _ {A : Type 0} (state : State) where
       → new_names state (p ∷ pairs) ≡ (if contains_key state (string_bytes p.0) then 0 else 1) + new_names state pairs
   new_next p pairs = counted (contains_key state (string_bytes p.0)) p (filter is_new pairs)
 
-  -- in a state of no names all are new
-  pub all_new : (pairs : List (String A × Form)) → state ≡ empty → length pairs ≡ new_names state pairs
-  all_new [] none = refl
-  all_new (p ∷ pairs) none =
-      let absent = ap (λ s. contains_key s (string_bytes p.0)) none ∙ ap is_some (get-empty {X = Form} (slice_cmp nat_cmp) (string_bytes p.0)) in
-      let first = new_next p pairs ∙ ap (λ b. (if b then 0 else 1) + new_names state pairs) absent in
-      let rest = all_new pairs none in
-      omega (arith, first, rest)
+  -- no more are new than there are
+  pub few_new : (pairs : List (String A × Form)) → new_names state pairs ≤ length pairs
+  few_new [] = omega arith
+  few_new (p ∷ pairs) =
+      let first = new_next p pairs in
+      let one = one_at_most (contains_key state (string_bytes p.0)) in
+      let rest = few_new pairs in
+      omega (arith, first, one, rest)
 
   pub none_new : (pairs : List (String A × Form)) → length pairs ≡ 0 → new_names state pairs ≡ 0
   none_new [] e = refl

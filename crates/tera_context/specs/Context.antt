@@ -1,5 +1,6 @@
 -- From the code's map of names to a state.
 use Rattle.std.specs.Prelude.{ℕ, List, length, map, not, String}
+use Rattle.std.specs.Borrow.{Bor}
 use Rattle.std.specs.Cmp.{IsPartialEquivalence}
 use Rattle.std.specs.FinMap.{contains_key, from_entries}
 use Rattle.std.specs.List.{filter}
@@ -14,6 +15,10 @@ named pairs = map (λ p. (string_bytes p.0, p.1)) pairs
 
 abbrev pub state_of : {A : Type 0} → List (String A × Form) → State
 state_of pairs = from_entries (named pairs)
+
+-- what lent names and values refer to
+abbrev pub lent_entries : List (Bor (List ℕ) × Bor Form) → List (List ℕ × Form)
+lent_entries all = map (λ entry. (entry.0.now, entry.1.now)) all
 
 -- how many of the pairs have a name that the state has not
 abbrev pub new_names : {A : Type 0} → State → List (String A × Form) → ℕ

@@ -1,5 +1,6 @@
 pub mod Call
 pub mod Context
+pub mod Known
 pub mod Lent
 pub mod Request
 pub mod Steps

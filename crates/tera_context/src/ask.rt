@@ -11,6 +11,7 @@ ghost use Rattle.tera_context.specs.Steps.{ShowsOneOf};
 
 use crate::call::Answer;
 use crate::context::Context;
+use crate::known::known_of;
 use crate::request::Question;
 use std::mem::ManuallyDrop;
 use tera_report::{TeraResult, escape_text};
@@ -35,17 +36,14 @@ pub(crate) fn ask(context: &Context, question: Question, name: &str) -> TeraResu
     ensures { ShowsOneOf result (λ outcome.
         IsStep context.now (asking (ask (question_of question) name.now)) outcome context.now) }
 {
-    let absent = absent_value();
+    if let Some(known) = known_of(context, question, name) {
+        return Ok(known.into_answer());
+    }
     match question {
-        Question::Has => Ok(Answer::Truth(context.contains_key(name))),
-        Question::Truthy => Ok(Answer::Truth(value_at(context, name, &absent).is_truthy())),
-        Question::IsSafe => Ok(Answer::Truth(value_at(context, name, &absent).is_safe())),
-        Question::Len => Ok(Answer::Size(value_at(context, name, &absent).len())),
-        Question::Kind => Ok(Answer::Kind(value_at(context, name, &absent).kind())),
-        Question::Print => print(context, name),
         Question::Escape => escape(context, name),
         Question::Fields => fields(context, name),
         Question::Walk => walk(context, name),
+        _ => print(context, name),
     }
 }
 

@@ -1,7 +1,7 @@
 //! The values that a template's names stand for.
 ghost use Rattle.std.specs.Prelude.{◌≡◌, ◌⊎◌, ◌↔◌, ◌+◌, ◌<◌, ◌≤◌, IfOk, IfErr, IsOk, IsTrue};
 ghost use Rattle.std.specs.Prelude.{if◌then◌else◌, MatchOption, None, Some, OnOk, OnErr};
-ghost use Rattle.std.specs.FinMap.{empty, get, contains_key, insert, remove};
+ghost use Rattle.std.specs.FinMap.{empty, entries, get, contains_key, insert, remove};
 ghost use Rattle.std.specs.String.{string_bytes};
 ghost use Rattle.tera_meaning.specs.Alike.{MeanTheSame};
 ghost use Rattle.tera_meaning.specs.Form.{Form};
@@ -11,8 +11,10 @@ ghost use Rattle.tera_meaning.specs.Step.{marking, ExtendTakes};
 ghost use Rattle.tera_meaning.specs.WellMade.{IsWellMadeState};
 ghost use Rattle.tera_report.specs.Errors.{IsOutOfMemory};
 ghost use Rattle.indexmap.specs.IndexMap.{spare};
-ghost use Rattle.tera_context.specs.Context.{equal_laws, new_names, state_of};
+ghost use Rattle.tera_context.specs.Context.{equal_laws, lent_entries, new_names, state_of};
 
+use crate::by_name::by_name;
+use crate::debug::ByName;
 use indexmap::IndexMap;
 use std::alloc::{AllocError, Global};
 use std::marker::Model;
@@ -28,7 +30,7 @@ pub struct Context {
 }
 
 // Names with their values, hashed under the state of their context.
-type Names = IndexMap<String, Value, HashState>;
+pub(crate) type Names = IndexMap<String, Value, HashState>;
 
 /// All that it holds ends with it. Where a context ends, this is called, and not written out there.
 impl Drop for Context {
@@ -77,40 +79,6 @@ impl fmt::Debug for Context {
             .field("values", &ByName(&self.values))
             .finish()
     }
-}
-
-// Shows the names in the order of their bytes, with their values. It takes no memory, and looks
-// for each next name among all.
-#[derive(Drop)]
-struct ByName<'a>(&'a Names);
-
-impl<'a> fmt::Debug for ByName<'a> {
-    fn fmt<W: fmt::Write>(&self, f: &mut fmt::Formatter<W>) -> fmt::Result {
-        let mut shown = f.debug_map();
-        let mut last = None;
-        for _ in 0..self.0.len() {
-            if let Some((name, value)) = first_behind(self.0, last) {
-                shown.entry(name, value);
-                last = Some(name);
-            }
-        }
-        shown.finish()
-    }
-}
-
-// The first name behind the last one, by their bytes, and its value.
-fn first_behind<'a>(
-    values: &'a Names,
-    last: Option<&'a String>,
-) -> Option<(&'a String, &'a Value)> {
-    let mut first: Option<(&'a String, &'a Value)> = None;
-    for (name, value) in values {
-        let is_behind = last.is_none_or(|last| name > last);
-        if is_behind && first.is_none_or(|found| name < found.0) {
-            first = Some((name, value));
-        }
-    }
-    first
 }
 
 impl Context {
@@ -166,19 +134,14 @@ impl Context {
         ensures unchanged { OnErr result (self.new ≡ self.old) }
         ensures absent { OnErr result (get self.old name.now ≡ None) }
     {
-        let Some(value) = self.replace(name, value) else {
-            return Ok(());
-        };
-        let name = String::from_str(self.alloc, name)?;
-        self.keep(name, value)?;
-        Ok(())
+        Ok(self.put_value(name, value)?)
     }
 
     /// Takes over each name of the source with its value, in the place of what was there. Mirrors
     /// `Context::extend`. The source is consumed.
     ///
-    /// The only error is `Out of memory`, and then nothing has changed. Takes memory, but for a
-    /// source whose names are all there.
+    /// The only error is `Out of memory`, and then nothing has changed. Takes memory, but does
+    /// without for a source whose names are all there.
     pub fn extend(&mut self, source: Context) -> TeraResult<()>
         ensures ok { OnOk result (self.new ≡ extended self.old source) }
         ensures err { IfErr result IsOutOfMemory }
@@ -227,6 +190,17 @@ impl Context {
         self.values.contains_key(name)
     }
 
+    /// The names with their values, lent, in the order of the bytes of the names.
+    ///
+    /// The only error is `Out of memory`. Takes memory, but where no name is held.
+    pub fn entries(&self) -> TeraResult<Vec<(&str, &Value)>>
+        ensures ok { IfOk result (λ all. lent_entries all.items ≡ entries self.now) }
+        ensures err { IfErr result IsOutOfMemory }
+        ensures nothing { self.now ≡ empty → IsOk result }
+    {
+        Ok(by_name(self.alloc, &self.values)?)
+    }
+
     /// Takes the name away, and answers the value that it had. Mirrors `Context::remove`. Takes no
     /// memory.
     pub fn remove(&mut self, name: &str) -> Option<Value>
@@ -256,6 +230,21 @@ impl Context {
         }
     }
 
+    // Keeps the value under the name, in the place of what was there. Takes memory, but for a name
+    // that is there.
+    #[inline(always)]
+    pub(crate) fn put_value(&mut self, name: &str, value: Value) -> Result<(), AllocError>
+        ensures ok { OnOk result (self.new ≡ insert self.old name.now value) }
+        ensures unchanged { OnErr result (self.new ≡ self.old) }
+        ensures absent { OnErr result (get self.old name.now ≡ None) }
+    {
+        let Some(value) = self.replace(name, value) else {
+            return Ok(());
+        };
+        let name = String::from_str(self.alloc, name)?;
+        self.insert_owned(name, value)
+    }
+
     // Puts the value in the place of what the name has. It comes back where the name isn't there.
     fn replace(&mut self, name: &str, value: Value) -> Option<Value>
         ensures { MatchOption result (self.new ≡ insert self.old name.now value)
@@ -268,10 +257,11 @@ impl Context {
         None
     }
 
-    /// Keeps the value under the name, in the place of what was there.
+    /// Keeps a value under a name that comes with its memory, in the place of what was there.
     ///
-    /// Takes memory, but for a name that is there; where it is refused nothing has changed.
-    pub(crate) fn keep(&mut self, name: String, value: Value) -> Result<(), AllocError>
+    /// Takes memory, but for a name that is there. Where memory is refused nothing has changed.
+    /// Mirrors `Context::insert_value`, whose name is a text.
+    pub fn insert_owned(&mut self, name: String, value: Value) -> Result<(), AllocError>
         ensures ok { OnOk result (self.new ≡ insert self.old (string_bytes name) value) }
         ensures unchanged { OnErr result (self.new ≡ self.old) }
         ensures absent { OnErr result (get self.old (string_bytes name) ≡ None) }
@@ -313,18 +303,30 @@ fn take_over(values: &mut Names, taken: Names) -> Result<(), AllocError>
         (ExtendTakes (state_of values.old.entries) (state_of taken.entries)) }
     ensures nothing { state_of taken.entries ≡ empty → IsOk result }
 {
-    // Once there is room for the new names, no name wants memory.
-    values.reserve(count_new(values, &taken))?;
+    // Once there is room, no name wants memory.
+    make_room(values, &taken)?;
     put_all(values, taken)
 }
 
-// How many of the names are new. Where no name is there all are, and none is looked up.
+// Makes room for as many names as are taken, so that none of them is looked up twice. Where memory
+// for these is refused, for those that are new.
+fn make_room(values: &mut Names, taken: &Names) -> Result<(), AllocError>
+    ensures entries { state_of values.new.entries ≡ state_of values.old.entries }
+    ensures ok { OnOk result
+        (new_names (state_of values.new.entries) taken.now.entries ≤ spare values.new) }
+    ensures wanted { OnErr result
+        (0 < new_names (state_of values.old.entries) taken.now.entries) }
+{
+    if values.reserve(taken.len()).is_ok() {
+        return Ok(());
+    }
+    values.reserve(count_new(values, taken))
+}
+
+// How many of the names are new.
 fn count_new(values: &Names, taken: &Names) -> usize
     ensures { result ≡ new_names (state_of values.now.entries) taken.now.entries }
 {
-    if values.is_empty() {
-        return taken.len();
-    }
     let mut count = 0;
     for (name, _) in taken {
         if !values.contains_key(name) {

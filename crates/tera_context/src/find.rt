@@ -149,10 +149,10 @@ pub(crate) fn keep_or_answer(
         → Finds context.old search (name_of into.entry) result context.new }
 {
     match into {
-        Some(into) => {
-            context.insert_value(into, found)?;
-            Ok(Answer::Done)
-        }
+        Some(into) => match context.put_value(into, found) {
+            Ok(()) => Ok(Answer::Done),
+            Err(want) => Err(Error::from(want)),
+        },
         None => Ok(Answer::Found(Some(found))),
     }
 }

@@ -2,11 +2,14 @@
 #![tactic(auto)]
 
 mod ask;
+mod by_name;
 mod call;
 mod compute;
 mod context;
+mod debug;
 mod entries;
 mod find;
+mod known;
 mod lent;
 mod owned;
 mod request;
@@ -15,6 +18,7 @@ mod weigh;
 
 pub use call::{Answer, Call, Step};
 pub use context::Context;
+pub use known::Known;
 pub use lent::{Lent, lend};
 pub use request::{Command, Question, Request, Search, Weighing};
 pub use steps::{answer, run, step};

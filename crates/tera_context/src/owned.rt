@@ -1,8 +1,9 @@
 //! Commands with names and texts of their own.
-ghost use Rattle.std.specs.Prelude.{◌≡◌, IfOk};
+ghost use Rattle.std.specs.Prelude.{◌≡◌, IfOk, IsOk, None};
 ghost use Rattle.std.specs.Option.{option_map};
 ghost use Rattle.std.specs.String.{string_bytes};
-ghost use Rattle.tera_meaning.specs.Request.{ask, find, weigh};
+ghost use Rattle.tera_meaning.specs.Request.{ask, asking, extend, find, weigh};
+ghost use Rattle.tera_meaning.specs.State.{State};
 ghost use Rattle.tera_context.specs.Call.{command_of, request_of};
 ghost use Rattle.tera_context.specs.Request.{command_form, name_of, question_of, request_form};
 ghost use Rattle.tera_context.specs.Request.{search_form, weighing_of};
@@ -13,9 +14,11 @@ use std::alloc::{AllocError, Global};
 
 impl Command<'_> {
     /// The step that it is, with names and texts of its own. Takes memory for these, and fails for
-    /// want of it alone.
+    /// want of it alone. An `Extend` that keeps nothing has none.
     pub fn into_step(self, alloc: Global) -> Result<Step, AllocError>
-        ensures { IfOk result (λ step. command_of step ≡ command_form self.entry) }
+        ensures step { IfOk result (λ step. command_of step ≡ command_form self.entry) }
+        ensures free { (source : State) → command_form self.entry ≡ asking (extend source)
+            → IsOk result }
     {
         let Command { request, into } = self;
         let into = owned_name(alloc, into)?;
@@ -26,7 +29,8 @@ impl Command<'_> {
 
 // A name of its own, if there is one.
 fn owned_name(alloc: Global, name: Option<&str>) -> Result<Option<String>, AllocError>
-    ensures { IfOk result (λ own. option_map string_bytes own ≡ name_of name.entry) }
+    ensures name { IfOk result (λ own. option_map string_bytes own ≡ name_of name.entry) }
+    ensures free { name_of name.entry ≡ None → IsOk result }
 {
     match name {
         Some(name) => Ok(Some(String::from_str(alloc, name)?)),
@@ -36,7 +40,8 @@ fn owned_name(alloc: Global, name: Option<&str>) -> Result<Option<String>, Alloc
 
 // The call that a request is.
 fn owned_call(alloc: Global, request: Request<'_>) -> Result<Call, AllocError>
-    ensures { IfOk result (λ call. request_of call ≡ request_form request.entry) }
+    ensures call { IfOk result (λ call. request_of call ≡ request_form request.entry) }
+    ensures free { (source : State) → request_form request.entry ≡ extend source → IsOk result }
 {
     match request {
         Request::Set { name, value } => {
@@ -54,7 +59,7 @@ fn owned_call(alloc: Global, request: Request<'_>) -> Result<Call, AllocError>
         }
         Request::Ask { question, name } => {
             let name = String::from_str(alloc, name)?;
-            Ok(asking(question, name))
+            Ok(question_call(question, name))
         }
         Request::Weigh {
             weighing,
@@ -63,14 +68,14 @@ fn owned_call(alloc: Global, request: Request<'_>) -> Result<Call, AllocError>
         } => {
             let left = String::from_str(alloc, left)?;
             let right = String::from_str(alloc, right)?;
-            Ok(weighing_of_two(weighing, left, right))
+            Ok(weighing_call(weighing, left, right))
         }
         Request::Find(search) => owned_search(alloc, search),
     }
 }
 
 // The call that asks this of the value of a name.
-fn asking(question: Question, name: String) -> Call
+fn question_call(question: Question, name: String) -> Call
     ensures { request_of result ≡ ask (question_of question) (string_bytes name) }
 {
     match question {
@@ -87,7 +92,7 @@ fn asking(question: Question, name: String) -> Call
 }
 
 // The call that weighs the values of two names so.
-fn weighing_of_two(weighing: Weighing, left: String, right: String) -> Call
+fn weighing_call(weighing: Weighing, left: String, right: String) -> Call
     ensures { request_of result
         ≡ weigh (weighing_of weighing) (string_bytes left) (string_bytes right) }
 {

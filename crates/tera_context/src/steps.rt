@@ -19,7 +19,7 @@ use crate::find::find;
 use crate::request::{Command, Question, Request, Search, Weighing};
 use crate::weigh::weigh;
 use std::borrow::CowStr;
-use tera_report::TeraResult;
+use tera_report::{Error, TeraResult};
 use tera_values::Value;
 
 /// Answers a command: by its answer, with what it changes of the context; or by its refusal, and
@@ -141,8 +141,10 @@ fn set(context: &mut Context, name: &str, value: Value) -> TeraResult<Answer>
         IsStep context.old (asking (set name.now value)) outcome context.new) }
     ensures unchanged { OnErr result (context.new ≡ context.old) }
 {
-    context.insert_value(name, value)?;
-    Ok(Answer::Done)
+    match context.put_value(name, value) {
+        Ok(()) => Ok(Answer::Done),
+        Err(want) => Err(Error::from(want)),
+    }
 }
 
 // Takes over what the source holds.

@@ -3,12 +3,8 @@ use Rattle.std.specs.String.{string_bytes}
 use Rattle.tera_meaning.specs.Form.{Form}
 use Rattle.tera_context.specs.Context.{new_names, state_of}
 use Rattle.tera_context.proofs.Names.{get_named}
-use Rattle.tera_context.proofs.Rooms.{all_new, new_next, no_names}
+use Rattle.tera_context.proofs.Rooms.{new_next}
 use Rattle.tera_context.proofs.context.count_new.Goals as goal
-
-pub returns-then-is_empty : goal.returns-then-is_empty
-returns-then-is_empty c =
-    c.len.ensures.len ∙ all_new _ c.args.taken.now.entries (no_names c.args.values.now.entries (c.is_empty.ensures.0 c.if-is_empty.true))
 
 pub loop-name-preserved-then-not-contains_key : goal.loop-name-preserved-then-not-contains_key
 loop-name-preserved-then-not-contains_key c =

@@ -1,11 +1,13 @@
 use Rattle.std.proofs.Common.{inr, refl}
-use Rattle.tera_context.proofs.ShownLaws.{want_shown}
+use Rattle.tera_report.specs.Refusal.{memory_refused}
+use Rattle.tera_context.proofs.ShownLaws.{want_shows}
 use Rattle.tera_context.proofs.find.keep_or_answer.Goals as goal
 
-pub returns-in_err-insert_value-in-Some : goal.returns-in_err-insert_value-in-Some
-returns-in_err-insert_value-in-Some c search found =
-    record {
-      shown = want_shown c.from_residual.result c.in_err-insert_value-in-Some.field-0.0 _
-          c.from_residual.ensures.1 c.in_err-insert_value-in-Some.ensures.err
-          (inr (inr (rw (c.in-Some.is, found) c.in_err-insert_value-in-Some.ensures.absent), refl, c.in_err-insert_value-in-Some.ensures.unchanged));
-    }
+pub returns-in-Err : goal.returns-in-Err
+returns-in-Err c search found = record {
+  shown = (
+    memory_refused,
+    want_shows c.from.result c.from.ensures,
+    inr (inr (rw (c.in-Some.is, found) c.in-Err.ensures.absent), refl, c.in-Err.ensures.unchanged),
+  );
+}

@@ -1,8 +1,8 @@
 use Rattle.std.proofs.Common.{inr, refl}
-use Rattle.tera_context.proofs.ShownLaws.{want_shown}
+use Rattle.tera_report.specs.Refusal.{memory_refused}
+use Rattle.tera_context.proofs.ShownLaws.{want_shows}
 use Rattle.tera_context.proofs.steps.set.Goals as goal
 
-pub returns-in_err-insert_value-clause-outcome : goal.returns-in_err-insert_value-clause-outcome
-returns-in_err-insert_value-clause-outcome c =
-    want_shown c.from_residual.result c.in_err-insert_value.field-0.0 _ c.from_residual.ensures.1 c.in_err-insert_value.ensures.err
-    (inr (c.in_err-insert_value.ensures.absent, refl, c.in_err-insert_value.ensures.unchanged))
+pub returns-in-Err-clause-outcome : goal.returns-in-Err-clause-outcome
+returns-in-Err-clause-outcome c =
+    (memory_refused, want_shows c.from.result c.from.ensures, inr (c.in-Err.ensures.absent, refl, c.in-Err.ensures.unchanged))
