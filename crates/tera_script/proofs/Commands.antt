@@ -15,7 +15,7 @@ use Rattle.tera_script.specs.Word.{is_name_byte}
 use Rattle.tera_script.specs.Line.{SpellsGiven, SpellsOperands, SpellsCommand, BringsNothing, HasNoEscape, IsBare}
 use Rattle.tera_script.specs.Readers.{Stops, name_at, into_in, is_word_byte}
 use Rattle.tera_script.specs.inner.Call.{IsOfShape, IsVerbOf, request_in, with_into}
-use Rattle.tera_script.specs.inner.Command.{AreLight, Begins, IsGivenAt, IsLightCommand, EndsIn, AreOperandsOf, IsCommandAt}
+use Rattle.tera_script.specs.inner.Command.{OperandsNeedNone, Begins, IsGivenAt, CommandNeedsNone, EndsIn, AreOperandsOf, IsCommandAt}
 use Rattle.tera_script.proofs.Fronts.{all_behind}
 use Rattle.tera_script.proofs.Names.{name_found, name_only}
 use Rattle.tera_script.proofs.Operands.{HasInto, into_found, into_only, into_ends_word}
@@ -180,15 +180,15 @@ module _ (bytes : List ℕ) {word rest : List ℕ} (n : name_at bytes ≡ Some (
       (subst (λ xs. EndsIn (SpellsOperands (row_of parts.verb)) xs command) (sym same.1) parts.behind))
 
 -- a command that brings nothing has light operands
-light_operands : (verb : Verb) (bytes : List ℕ) (request : Request) (given : Given (shape_of (row_of verb).making))
-    → request ≡ requested (row_of verb).making given → BringsNothing request → HasNoEscape bytes → AreLight (row_of verb).making bytes
-light_operands verb.Set bytes request given e h n = absurd (subst BringsNothing e h)
-light_operands verb.Extend bytes request given e h n = absurd (subst BringsNothing e h)
-light_operands verb.Path bytes request given e h n = inr n
-light_operands verb.Attr bytes request given e h n = inr n
-light_operands v bytes request given e h n = tt
+lent_operands : (verb : Verb) (bytes : List ℕ) (request : Request) (given : Given (shape_of (row_of verb).making))
+    → request ≡ requested (row_of verb).making given → BringsNothing request → HasNoEscape bytes → OperandsNeedNone (row_of verb).making bytes
+lent_operands verb.Set bytes request given e h n = absurd (subst BringsNothing e h)
+lent_operands verb.Extend bytes request given e h n = absurd (subst BringsNothing e h)
+lent_operands verb.Path bytes request given e h n = inr n
+lent_operands verb.Attr bytes request given e h n = inr n
+lent_operands v bytes request given e h n = tt
 
-bare_operands : (verb : Verb) (bytes : List ℕ) → IsBare bytes → AreLight (row_of verb).making bytes
+bare_operands : (verb : Verb) (bytes : List ℕ) → IsBare bytes → OperandsNeedNone (row_of verb).making bytes
 bare_operands verb.Set bytes h = h
 bare_operands verb.Extend bytes h = h
 bare_operands verb.Path bytes h = inl h
@@ -196,14 +196,14 @@ bare_operands verb.Attr bytes h = inl h
 bare_operands v bytes h = tt
 
 module _ (bytes : List ℕ) {word rest : List ℕ} (n : name_at bytes ≡ Some (word, rest)) where
-  pub light_command : (verb : Verb) → word_of verb ≡ word → IsLightCommand bytes → AreLight (row_of verb).making rest
-  light_command verb v (inl bare) = bare_operands verb rest (all_behind _ word rest (subst IsBare (name_found bytes word rest n).spelled bare))
-  light_command verb v (inr (free, (command, h, nothing))) =
+  pub free_command : (verb : Verb) → word_of verb ≡ word → CommandNeedsNone bytes → OperandsNeedNone (row_of verb).making rest
+  free_command verb v (inl bare) = bare_operands verb rest (all_behind _ word rest (subst IsBare (name_found bytes word rest n).spelled bare))
+  free_command verb v (inr (free, (command, h, nothing))) =
       let parts = command_parts bytes command h in
       let same = some_pair_parts word (word_of parts.verb) rest parts.rest (sym n ∙ parts.named) in
       let verbs : parts.verb ≡ verb = same_verb parts.verb verb (sym same.0 ∙ sym v) in
       let behind = subst (λ w. EndsIn (SpellsOperands (row_of w)) parts.rest command) verbs parts.behind in
-      light_operands verb rest command.request behind.spells.given behind.spells.request nothing
+      lent_operands verb rest command.request behind.spells.given behind.spells.request nothing
       (all_behind _ word rest (subst HasNoEscape (name_found bytes word rest n).spelled free))
 
 pub one_command_at : (bytes : List ℕ) (a b : Command) → EndsIn SpellsCommand bytes a → EndsIn SpellsCommand bytes b → a ≡ b

@@ -5,9 +5,9 @@ use Rattle.std.proofs.lemmas.Bool.Decides.{nat_tests}
 use Rattle.tera_meaning.specs.Request.{Command}
 use Rattle.tera_script.specs.Word.{is_blank, AreBlanks, IsName}
 use Rattle.tera_script.specs.Verb.{word_of}
-use Rattle.tera_script.specs.Line.{Says, SaysLightly, IsSkipped, IsBad, IsBare, SpellsCommand}
+use Rattle.tera_script.specs.Line.{Says, SaysLent, IsSkipped, IsBad, IsBare, SpellsCommand}
 use Rattle.tera_script.specs.Readers.{Stops, front, past, is_end_or_comment}
-use Rattle.tera_script.specs.inner.Command.{EndsIn, IsCommandAt, IsLightCommand}
+use Rattle.tera_script.specs.inner.Command.{EndsIn, IsCommandAt, CommandNeedsNone}
 use Rattle.tera_script.proofs.Bare.{all_past_blanks}
 use Rattle.tera_script.proofs.Fronts.{front_all, past_is, front_cut}
 use Rattle.tera_script.proofs.Names.{name_is_not_blank}
@@ -75,11 +75,11 @@ module _ {line bytes : List ℕ} {ends : Bool} (b : bytes ≡ past is_blank line
   not_skipped h s = let yes = skipped_past line s in cc
 
   -- a line that takes no memory to read has a command that takes none, where it has one
-  pub light_line : ends ≡ false → IsUtf8 line → IsSkipped line ⊎ ((¬ IsUtf8 line) ⊎ (IsBare line ⊎ SaysLightly line)) → IsLightCommand bytes
-  light_line h u (inl skipped) = absurd (not_skipped h skipped)
-  light_line h u (inr (inl not_utf8)) = absurd (not_utf8 u)
-  light_line h u (inr (inr (inl bare))) = inl (all_past_blanks _ line b bare)
-  light_line h u (inr (inr (inr (free, (command, says, nothing))))) =
+  pub free_line : ends ≡ false → IsUtf8 line → IsSkipped line ⊎ ((¬ IsUtf8 line) ⊎ (IsBare line ⊎ SaysLent line)) → CommandNeedsNone bytes
+  free_line h u (inl skipped) = absurd (not_skipped h skipped)
+  free_line h u (inr (inl not_utf8)) = absurd (not_utf8 u)
+  free_line h u (inr (inr (inl bare))) = inl (all_past_blanks _ line b bare)
+  free_line h u (inr (inr (inr (free, (command, says, nothing))))) =
       inr (all_past_blanks _ line b free, (command, subst (λ xs. EndsIn SpellsCommand xs command) (sym b) (says_command line command says), nothing))
 
   pub bad_utf8 : ends ≡ false → ¬ IsUtf8 line → IsBad line

@@ -21,15 +21,15 @@ use Rattle.tera_values.specs.Key.{key_value}
 
 -- ---- one pair
 
-at_value_utf8 : (xs : List ℕ) (k : KeyForm) (after next : List ℕ) → BeginsWithKey xs k after → past is_blank after ≡ 58 ∷ next → IsUtf8 xs
+pub at_value_utf8 : (xs : List ℕ) (k : KeyForm) (after next : List ℕ) → BeginsWithKey xs k after → past is_blank after ≡ 58 ∷ next → IsUtf8 xs
     → IsUtf8 (past is_blank next)
 at_value_utf8 xs k after next b e u =
     past_utf8 next (after_byte next 58 (omega arith) (subst IsUtf8 e (past_utf8 after (literal_utf8 xs (key_value k) after (key_literal xs k after b) u))))
 
-abbrev pair_depth : KeyForm × Form → ℕ
+abbrev pub pair_depth : KeyForm × Form → ℕ
 pair_depth p = depth p.1
 
-pair_parts : ArePartsOf BeginsWithPair EndsPair 125
+pub pair_parts : ArePartsOf BeginsWithPair EndsPair 125
 pair_parts = record {
   closed = pairs_closed;
   only = λ e. only_pair e.0 e.1 (only_at e.1);
@@ -65,7 +65,7 @@ module _ {xs : List ℕ} {k : KeyForm} {after : List ℕ} (read : IsKeyAt xs (So
 abbrev pair_value : KeyForm × Form → KeyForm × Form
 pair_value p = (p.0, tree_value p.1)
 
-deepest_pair : (all : Members Integer MarkedText KeyForm) → deepest pair_depth (members_list all) ≡ members_depth all
+pub deepest_pair : (all : Members Integer MarkedText KeyForm) → deepest pair_depth (members_list all) ≡ members_depth all
 deepest_pair no_members = refl
 deepest_pair (member k x ps) = ap (max (depth x)) (deepest_pair ps)
 

@@ -1,7 +1,8 @@
 -- Worked lines: each part of a line is what its reader answers, and that is computed.
 use Rattle.std.proofs.Common.{◌≡◌, ◌≢◌, ◌≤◌, ℕ, zero, suc, pos, true, false, cond, eqb, List, [], ◌∷◌, ◌++◌, Option, Some, None, refl, sym, ap, ◌∙◌, arith}
-use Rattle.std.proofs.Common.{append-nil, append_assoc, lit<, lit≤}
+use Rattle.std.proofs.Common.{append-nil, append_assoc, lit<, lit≤, not}
 use borrow.Author.Tests.{eqb_apart}
+use Rattle.std.specs.List.{list_all}
 use Rattle.std.specs.Prelude.{codes}
 use Rattle.tera_meaning.specs.Form.{Form}
 use Rattle.tera_meaning.specs.Integer.{i64, Integer, IntegerKind}
@@ -11,17 +12,18 @@ use Rattle.tera_meaning.specs.Tree.{none, number, object, members, no_members, m
 use Rattle.tera_script.specs.declared.verb.Verb.{Verb}
 use Rattle.tera_script.specs.declared.verb.Verb.TheVariants.{Set}
 use Rattle.tera_script.specs.declared.verb.Shape.TheVariants as shape
-use Rattle.tera_script.specs.Line.{levels, Says, IsBad, AreNamed}
+use Rattle.tera_script.specs.Line.{levels, HasNoEscape, Says, IsBad, AreNamed}
 use Rattle.tera_script.specs.Literal.{IsPair, SpellsKey, SpellsTree}
 use Rattle.tera_script.specs.Nested.{in_brackets, in_arrays, in_turns, in_both}
 use Rattle.tera_script.specs.Number.{SpellsNumber}
 use Rattle.tera_script.specs.Readers.{past, gap_at, name_at, operand_at, names_at, into_in, BeginsWithKey, BeginsWithPair, BeginsWithLiteral, IsPairAt, Ends}
-use Rattle.tera_script.specs.Readers.{bounds_at, Stops, is_word_byte, IsLiteralAt, IsMapAt, is_end_or_comment}
+use Rattle.tera_script.specs.Readers.{bounds_at, Stops, is_word_byte, IsLiteralAt, IsMapAt, IsQuotedAt, is_end_or_comment}
 use Rattle.tera_script.specs.Text.{itself}
 use Rattle.tera_script.specs.Verb.{Given, Making, of_name, of_names, shape_of, requested, row_of, word_of}
 use Rattle.tera_script.specs.Word.{is_blank, AreBlanks}
 use Rattle.tera_script.proofs.Commands.{no_given, no_into, answered, command_answer}
 use Rattle.tera_script.proofs.Values.{name_part, both_at, value_parts, value_at, names_part, bounds_parts, bounds_part, type_found, source_found}
+use Rattle.tera_script.proofs.Values.{quoted_parts, text_at, spelled_text}
 use Rattle.tera_script.proofs.Lines.{bad_command, line_says}
 use Rattle.tera_script.proofs.Literals.{IsOpenedAt, literal_found, only_at}
 use Rattle.tera_script.proofs.Maps.{no_pairs_yet, no_more_pair}
@@ -102,6 +104,12 @@ pub value_given : (behind : List ℕ) {name at_value literal : List ℕ} → ope
     → (answer : Option (Form × List ℕ)) → IsLiteralAt levels literal answer
     → IsGivenAt shape.Literal behind (option_map (λ found. ((name, found.0), found.1)) answer)
 value_given behind {name} {at_value} {literal} o g answer h = both_at value_parts behind (sym o) answer (value_at at_value g answer h)
+
+-- a name and a text
+pub text_given : (behind : List ℕ) {name at_text quoted : List ℕ} → operand_at behind ≡ Some (name, at_text) → gap_at at_text ≡ Some (34 ∷ quoted)
+    → (t rest : List ℕ) → IsQuotedAt false quoted (Some (spelled_text t, rest)) → IsGivenAt shape.Text behind (Some ((name, t), rest))
+text_given behind {at_text = at_text} {quoted} o g t rest h =
+    both_at quoted_parts behind (sym o) (Some (t, rest)) (text_at at_text g quoted refl (Some (t, rest)) h)
 
 blanks_only : (after : List ℕ) → AreBlanks after → into_in false after ≡ Some None
 unfolding into_in
@@ -189,3 +197,8 @@ a_is_one rest s = (number (one i64), refl, pair_at (key_a (codes ": 1" ++ rest))
 
 pub apart : {b c : ℕ} {xs ys : List ℕ} → eqb b c ≡ false → b ∷ xs ≢ c ∷ ys
 apart {b} {c} n e = eqb_apart b c n (cc)
+
+-- a line that is computed to have no backslash
+pub has_no_escape : (line : List ℕ) → list_all (λ b. not (eqb b 92)) line ≡ true → HasNoEscape line
+has_no_escape [] h = tt
+has_no_escape (b ∷ line) h = (λ is. cc, has_no_escape line (grind (arith, h)))

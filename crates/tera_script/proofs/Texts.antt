@@ -22,10 +22,10 @@ use Rattle.tera_script.proofs.Utf8.{utf8_tokens}
 -- ---- what is read is spelled so
 
 -- behind some bytes of a token stand the others, further tokens and a closing quote
-record GoesOn (front bytes t rest : List ℕ) : Type 0 where
-  inner : List ℕ
-  spells : SpellsText (front ++ inner) t
-  spelled : bytes ≡ inner ++ 34 ∷ rest
+pub record GoesOn (front bytes t rest : List ℕ) : Type 0 where
+  pub inner : List ℕ
+  pub spells : SpellsText (front ++ inner) t
+  pub spelled : bytes ≡ inner ++ 34 ∷ rest
 
 one_byte : (front : List ℕ) (b : ℕ) (bytes t rest : List ℕ) → GoesOn (front ++ b ∷ []) bytes t rest → GoesOn front (b ∷ bytes) t rest
 one_byte front b bytes t rest g = record {
@@ -53,7 +53,7 @@ letter_is b p e = grind (arith, nat_tests)
 mutual
   unfolding text_from
 
-  token_found : (bytes t rest : List ℕ) → text_from bytes at_token ≡ Some (t, rest) → GoesOn [] bytes t rest
+  pub token_found : (bytes t rest : List ℕ) → text_from bytes at_token ≡ Some (t, rest) → GoesOn [] bytes t rest
   token_found [] t rest e = cc
   token_found (b ∷ bytes) t rest e =
       let h : ((b ≡ 34) × (t ≡ []) × (bytes ≡ rest)) ⊎ ((b ≡ 92) × (text_from bytes at_letter ≡ Some (t, rest)))
@@ -215,9 +215,12 @@ module _ (before run rest old decoded bytes : List ℕ) (r : BeginsWithRun befor
     pub stopped : text_from rest at_token ≡ None → (text : List ℕ) (used : ℕ) → BeginsWithText bytes text used → ⊥
     stopped none text used b = no_text (sym read ∙ ap (behind decoded) none) b
 
-    pub closed : {after : List ℕ} {byte : ℕ} → rest ≡ byte ∷ after → byte ≡ 34 → BeginsWithText bytes decoded (length bytes - length after)
+    pub read_whole : {after : List ℕ} {byte : ℕ} → rest ≡ byte ∷ after → byte ≡ 34 → text_from bytes at_token ≡ Some (decoded, after)
     unfolding text_from
-    closed {after} {byte} e is = text_found bytes decoded after (sym read ∙ rw (e, is, append-nil decoded) refl)
+    read_whole e is = sym read ∙ rw (e, is, append-nil decoded) refl
+
+    pub closed : {after : List ℕ} {byte : ℕ} → rest ≡ byte ∷ after → byte ≡ 34 → BeginsWithText bytes decoded (length bytes - length after)
+    closed {after} e is = text_found bytes decoded after (read_whole e is)
 
     pub no_escape : {after : List ℕ} {byte : ℕ} → rest ≡ byte ∷ after → byte ≢ 34 → None ≡ escape_at after at_letter → (text : List ℕ) (used : ℕ)
         → BeginsWithText bytes text used → ⊥

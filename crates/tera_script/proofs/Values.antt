@@ -114,7 +114,7 @@ at_literal bytes value rest h =
     let v = h.spells in
     rw (h.spelled, v.7, append_assoc v.0 v.1 rest) (gap_only v.0 (v.1 ++ rest) v.3 (literal_stops_blanks v.1 rest v.2 v.4))
 
-literal_of : (bytes at_value : List ℕ) (g : gap_at bytes ≡ Some at_value) (value : Form) (rest : List ℕ) (h : Begins SpellsValue bytes value rest)
+pub literal_of : (bytes at_value : List ℕ) (g : gap_at bytes ≡ Some at_value) (value : Form) (rest : List ℕ) (h : Begins SpellsValue bytes value rest)
     → BeginsWithLiteral at_value h.spells.2 rest
 literal_of bytes at_value g value rest h =
     record { literal = h.spells.1; spells = h.spells.4; spelled = same_Some _ _ (sym g ∙ at_literal bytes value rest h) }
@@ -153,7 +153,7 @@ value_at bytes {at_value} g (Some (value, rest)) found =
 
 -- ---- texts in quotes
 
-abbrev spelled_text : List ℕ → Form
+abbrev pub spelled_text : List ℕ → Form
 spelled_text t = text (record { spelled = t; safe = false })
 
 -- a text is a value
@@ -217,10 +217,10 @@ bounds_part bytes {answer = Some (bounds, rest)} e = bounds_found bytes bounds r
 
 -- ---- maps whose keys are all texts
 
-pairs_same : (ps qs : List (KeyForm × Form)) → object (members ps) ≡ object (members qs) → ps ≡ qs
+pub pairs_same : (ps qs : List (KeyForm × Form)) → object (members ps) ≡ object (members qs) → ps ≡ qs
 pairs_same ps qs e = same_Some ps qs (sym (ap Some (list_of_members ps)) ∙ ap members_in e ∙ ap Some (list_of_members qs))
 
-source_value : (bytes : List ℕ) (source : State) (rest : List ℕ) (h : Begins SpellsSource bytes source rest)
+pub source_value : (bytes : List ℕ) (source : State) (rest : List ℕ) (h : Begins SpellsSource bytes source rest)
     → Begins SpellsValue bytes (object (members h.spells.0)) rest
 source_value bytes source rest h = record { part = h.part; spells = h.spells.1; spelled = h.spelled }
 

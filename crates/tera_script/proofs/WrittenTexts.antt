@@ -14,7 +14,6 @@ use Rattle.std.proofs.lemmas.Fmt.{digits_is_IsNumeral}
 use Rattle.std.proofs.lemmas.List.Concat.{flat_map-append}
 use Rattle.std.proofs.lemmas.Str.{encode_ascii, inside_one, encodes-chars, scalars-chars, digit_value-digit_char}
 use Rattle.tera_meaning.specs.Integer.{IntegerKind, IsOfKind}
-use Rattle.tera_meaning.specs.Tree.{number, bytes}
 use Rattle.tera_meaning.specs.WellMade.{IsByte}
 use Rattle.tera_script.specs.Literal.{SpellsBytes}
 use Rattle.tera_script.specs.Number.{signed, IsKindFor, SpellsNumber}
@@ -194,7 +193,7 @@ each_itself (b ∷ bs) h =
     let first = h 0 (omega arith) in
     ((λ e. omega (arith, e, first), λ e. omega (arith, e, first)), each_itself bs (λ k within. h (suc k) (omega arith)))
 
-past_ascii : (c : ℕ) → 127 < c → (k : ℕ) → k < length (encode c) → 127 < get_or (encode c) k 0
+pub past_ascii : (c : ℕ) → 127 < c → (k : ℕ) → k < length (encode c) → 127 < get_or (encode c) k 0
 past_ascii c h k within = elim (cases_lt (get_or (encode c) k 0) 128) [
   | inl low ↦ absurd (omega (arith, inside_one c [] (encode c) k (sym (append-nil _)) within low))
   | inr high ↦ omega arith

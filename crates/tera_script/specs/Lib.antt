@@ -8,5 +8,7 @@ pub mod Line
 pub mod Readers
 pub mod Nested
 pub mod Written
+pub mod Saved
+pub mod Expected
 pub mod Said
 pub mod inner

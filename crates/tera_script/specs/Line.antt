@@ -159,6 +159,6 @@ BringsNothing (extend source) = ⊥
 BringsNothing _ = Unit {0}
 
 -- it says a command that brings no value, by no text with an escape
-abbrev pub SaysLightly : List ℕ → Type 0
-SaysLightly line =
+abbrev pub SaysLent : List ℕ → Type 0
+SaysLent line =
     HasNoEscape line × ((command : Command) × Says line command × BringsNothing command.request)

@@ -1,2 +1,4 @@
 pub mod Call
 pub mod Command
+pub mod Marked
+pub mod Passed

@@ -25,9 +25,9 @@ pub(crate) fn take_bounds(bytes: &[u8]) -> Option<(Bounds, &[u8])>
     Some((Bounds { start, end, step }, rest))
 }
 
-// The bound behind a gap, and the bytes behind it.
+/// The bound behind a gap, and the bytes behind it. Takes no memory.
 #[tactic(auto, unfolding(crate::specs::Readers::bound_at))]
-fn take_bound(bytes: &[u8]) -> Option<(Option<i128>, &[u8])>
+pub(crate) fn take_bound(bytes: &[u8]) -> Option<(Option<i128>, &[u8])>
     ensures { option_map with_rest result ≡ bound_at bytes.now }
 {
     let (word, rest) = split_word(past_gap(bytes)?);

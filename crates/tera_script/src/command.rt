@@ -4,7 +4,7 @@ ghost use Rattle.std.specs.Option.{option_map};
 ghost use Rattle.tera_context.specs.Request.{command_form};
 ghost use Rattle.tera_script.specs.inner.Call.{IsKnown};
 ghost use Rattle.tera_script.specs.inner.Command.{AreOperandsOf, IsCommandAt};
-ghost use Rattle.tera_script.specs.inner.Command.{AreLight, IsLightCommand};
+ghost use Rattle.tera_script.specs.inner.Command.{OperandsNeedNone, CommandNeedsNone};
 ghost use Rattle.tera_script.specs.Verb.{row_of};
 
 use crate::shape::{
@@ -26,7 +26,7 @@ pub(crate) fn read_command<'a>(
 ) -> Result<Option<Command<'a>>, AllocError>
     ensures command { IfOk result (λ answer.
         IsCommandAt bytes.now (option_map command_form answer)) }
-    ensures free { IsLightCommand bytes.now → IsOk result }
+    ensures free { CommandNeedsNone bytes.now → IsOk result }
 {
     let Some((word, operands)) = take_name(bytes) else {
         return Ok(None);
@@ -47,7 +47,7 @@ fn read_operands<'a>(
     requires { IsKnown known }
     ensures operands { IfOk result (λ answer.
         AreOperandsOf (row_of known.verb) bytes.now (option_map command_form answer)) }
-    ensures free { AreLight (row_of known.verb).making bytes.now → IsOk result }
+    ensures free { OperandsNeedNone (row_of known.verb).making bytes.now → IsOk result }
 {
     match known.shape {
         Shape::Name => Ok(read_name(known, bytes)),

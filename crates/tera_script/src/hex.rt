@@ -33,8 +33,8 @@ pub(crate) fn take_hex(alloc: Global, bytes: &[u8]) -> Result<Option<(Vec<u8>, &
     }
 }
 
-// The byte of two digits. `None` where one of them is none.
-fn byte_of(high: u8, low: u8) -> Option<u8>
+/// The byte of two digits. `None` where one of them is none.
+pub(crate) fn byte_of(high: u8, low: u8) -> Option<u8>
     ensures { SomeIff result ((digit_value high < 16) × (digit_value low < 16))
         (digit_value high * 16 + digit_value low) }
 {

@@ -54,9 +54,9 @@ fn take_text_key(alloc: Global, bytes: &[u8]) -> Result<Option<(Key<'static>, us
     }
 }
 
-// The key without quotes at the front, and the bytes behind it.
+/// The key without quotes at the front, and the bytes behind it. Takes no memory.
 #[tactic(auto, unfolding(crate::specs::Readers::plain_key_at))]
-fn take_plain_key(bytes: &[u8]) -> Option<(Key<'static>, &[u8])>
+pub(crate) fn take_plain_key(bytes: &[u8]) -> Option<(Key<'static>, &[u8])>
     ensures { option_map key_rest result ≡ plain_key_at bytes.now }
 {
     let (word, rest) = split_word(bytes);

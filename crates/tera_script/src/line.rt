@@ -1,7 +1,7 @@
 //! Whole lines.
 ghost use Rattle.std.specs.Prelude.{◌≡◌, ◌⊎◌, IfOk, IsOk, IsUtf8};
 ghost use Rattle.std.specs.Bool.{MatchBool};
-ghost use Rattle.tera_script.specs.Line.{IsSkipped, IsBare, SaysLightly};
+ghost use Rattle.tera_script.specs.Line.{IsSkipped, IsBare, SaysLent};
 ghost use Rattle.tera_script.specs.Readers.{is_end_or_comment};
 ghost use Rattle.tera_script.specs.Said.{IsReadingOf};
 
@@ -36,7 +36,7 @@ pub fn read_line<'a>(
 ) -> Result<Reading<'a>, AllocError>
     ensures reading { IfOk result (IsReadingOf line.now) }
     ensures free { IsSkipped line.now ⊎ ((¬ IsUtf8 line.now) ⊎ (IsBare line.now
-        ⊎ SaysLightly line.now)) → IsOk result }
+        ⊎ SaysLent line.now)) → IsOk result }
 {
     let bytes = past_blanks(line);
     if is_end_or_comment(bytes) {
@@ -60,8 +60,8 @@ pub(crate) fn is_utf8(bytes: &[u8]) -> bool
     bytes.is_ascii() || str::from_utf8(bytes).is_ok()
 }
 
-// Whether there are no bytes, or the first begins a comment.
-fn is_end_or_comment(bytes: &[u8]) -> bool
+/// Whether there are no bytes, or the first begins a comment.
+pub(crate) fn is_end_or_comment(bytes: &[u8]) -> bool
     ensures { result ≡ is_end_or_comment bytes.now }
 {
     match bytes {

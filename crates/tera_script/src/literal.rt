@@ -219,9 +219,9 @@ fn take_number(bytes: &[u8]) -> Option<(Value, &[u8])>
     Some((value_of(number), rest))
 }
 
-// The literal without quotes at the front, and the bytes behind it.
+/// The literal without quotes at the front, and the bytes behind it. Takes no memory.
 #[tactic(auto, unfolding(crate::specs::Readers::plain_at))]
-fn take_plain(bytes: &[u8]) -> Option<(Value, &[u8])>
+pub(crate) fn take_plain(bytes: &[u8]) -> Option<(Value, &[u8])>
     ensures { option_map with_rest result ≡ plain_at bytes.now }
 {
     let (word, rest) = split_word(bytes);

@@ -176,9 +176,9 @@ fn with_digit(magnitude: u128, digit: u8) -> Option<u128>
     magnitude.checked_mul(10)?.checked_add(ones)
 }
 
-// The kind that a word names, or none where there is no word. `None` for any other word.
+/// The kind that a word names, or none where there is no word. `None` for any other word.
 #[tactic(auto, unfolding(crate::specs::Readers::suffix_in))]
-fn suffix_in(word: &[u8]) -> Option<Option<Suffix>>
+pub(crate) fn suffix_in(word: &[u8]) -> Option<Option<Suffix>>
     ensures { option_map (option_map suffix_kind) result ≡ suffix_in word.now }
 {
     if word.is_empty() {

@@ -82,9 +82,9 @@ pub(crate) fn into_in(keeps: bool, bytes: &[u8]) -> Option<Option<&str>>
     Some(Some(name))
 }
 
-// The bytes behind an arrow.
+/// The bytes behind an arrow.
 #[tactic(auto, unfolding(crate::specs::Readers::arrow_at))]
-fn past_arrow(bytes: &[u8]) -> Option<&[u8]>
+pub(crate) fn past_arrow(bytes: &[u8]) -> Option<&[u8]>
     ensures { option_map (λ rest. rest.now) result ≡ arrow_at bytes.now }
 {
     match bytes {

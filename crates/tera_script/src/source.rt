@@ -25,9 +25,8 @@ pub(crate) fn source_of(
         let Some(name) = key.as_str() else {
             return Ok(None);
         };
-        let Ok(()) = source.insert_value(name, held) else {
-            return Err(AllocError);
-        };
+        let name = String::from_str(alloc, name)?;
+        source.insert_owned(name, held)?;
     }
     Ok(Some(source))
 }

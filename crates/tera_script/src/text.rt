@@ -191,7 +191,7 @@ fn take_run<'a>(decoded: &mut Vec<u8>, bytes: &'a [u8]) -> Result<&'a [u8], Allo
 
 /// How many bytes at the front stand for themselves.
 #[tactic(auto, unfolding(bstr::specs::Bytes::is_in))]
-fn run_length(bytes: &[u8]) -> usize
+pub(crate) fn run_length(bytes: &[u8]) -> usize
     ensures within { result ≤ length bytes.now }
     ensures plain { (k : ℕ) → k < result → IsPlain (slice_index bytes.now k) }
     ensures ends { result < length bytes.now → (slice_index bytes.now result ≡ 34)

@@ -1,9 +1,11 @@
 //! The one literal of each value, put into any sink.
 ghost use Rattle.std.specs.Prelude.{◌≡◌, ◌≤◌, ◌<◌, ◌⊎◌, [], ◌∷◌, ◌++◌, codes, cond, nat_le, None};
-ghost use Rattle.std.specs.Prelude.{MatchOption, IfOk, IfErr, string_bytes};
+ghost use Rattle.std.specs.Prelude.{MatchOption, IfOk, IfErr, string_bytes, Bool};
 ghost use Rattle.std.specs.Char.{digit_char};
+ghost use Rattle.tera_meaning.specs.Integer.{i64};
+ghost use Rattle.tera_meaning.specs.Kind.{kind_in, number_kind};
 ghost use Rattle.tera_meaning.specs.Printed.{printed_truth};
-ghost use Rattle.tera_meaning.specs.Read.{number_in, items_in, members_in};
+ghost use Rattle.tera_meaning.specs.Read.{number_in, text_in, items_in, members_in};
 ghost use Rattle.tera_meaning.specs.Tree.{number, array, object, items, members, depth};
 ghost use Rattle.tera_meaning.specs.Tree.{items_depth, members_depth};
 ghost use Rattle.tera_report.specs.Errors.{IsOutOfMemory, Raises};
@@ -75,9 +77,9 @@ pub fn literal_text(alloc: Global, value: &Value, ascii: bool) -> TeraResult<Str
 
 const TOO_DEEP: &str = "Values nested deeper than 64 levels have no literal";
 
-// Whether arrays and maps nest at most so deep.
+/// Whether arrays and maps nest at most so deep.
 #[cycle(fits)]
-fn fits(value: &Value, levels: usize) -> bool
+pub(crate) fn fits(value: &Value, levels: usize) -> bool
     ensures { result ≡ nat_le (depth value.now) levels }
 {
     if let Some(items) = value.as_array() {
@@ -89,8 +91,10 @@ fn fits(value: &Value, levels: usize) -> bool
     true
 }
 
-// Whether each item nests at most so deep.
+// Whether each item nests at most so deep. This and `pairs_fit` are not copied into `fits`, so that
+// a value that holds no others costs no registers that only they save.
 #[cycle(fits)]
+#[inline(never)]
 fn items_fit(all: &[Value], levels: usize) -> bool
     ensures { result ≡ nat_le (items_depth (items all.now)) levels }
 {
@@ -104,6 +108,7 @@ fn items_fit(all: &[Value], levels: usize) -> bool
 
 // Whether each value of the map nests at most so deep.
 #[cycle(fits)]
+#[inline(never)]
 fn pairs_fit(map: &Map, levels: usize) -> bool
     ensures { result ≡ nat_le (members_depth (members map.now)) levels }
 {
@@ -115,9 +120,27 @@ fn pairs_fit(map: &Map, levels: usize) -> bool
     true
 }
 
-// Puts the literal, however deep it is.
+/// Puts the literal, however deep it is. Most values are numbers of 64 bits and texts: these are
+/// told apart first.
 #[cycle(write)]
-fn put_literal<S: Sink>(value: &Value, ascii: bool, out: &mut S) -> Result<(), S::Fault>
+#[inline(always)]
+pub(crate) fn put_literal<S: Sink>(value: &Value, ascii: bool, out: &mut S) -> Result<(), S::Fault>
+    ensures { PutsThese S.takes S.fails result (literal_of ascii value.now) out.old out.new }
+{
+    if let ValueKind::I64 = value.kind() {
+        return put_signed(value, out);
+    }
+    match value.as_str() {
+        Some(text) => put_marked(text, value.is_safe(), ascii, out),
+        None => put_other(value, ascii, out),
+    }
+}
+
+// Puts the literal of a value that is no text.
+#[cycle(write)]
+#[inline(never)]
+fn put_other<S: Sink>(value: &Value, ascii: bool, out: &mut S) -> Result<(), S::Fault>
+    requires no_text { text_in value.now ≡ None }
     ensures { PutsThese S.takes S.fails result (literal_of ascii value.now) out.old out.new }
 {
     if let Some(items) = value.as_array() {
@@ -126,11 +149,13 @@ fn put_literal<S: Sink>(value: &Value, ascii: bool, out: &mut S) -> Result<(), S
     if let Some(pairs) = value.as_map() {
         return put_map(pairs, ascii, out);
     }
-    put_flat(value, ascii, out)
+    put_flat(value, out)
 }
 
-// Puts items between brackets.
+// Puts items between brackets. This and `put_map` are not copied into `put_other`, for the same
+// cause.
 #[cycle(write)]
+#[inline(never)]
 fn put_array<S: Sink>(all: &[Value], ascii: bool, out: &mut S) -> Result<(), S::Fault>
     ensures { PutsThese S.takes S.fails result (literal_of ascii (array (items all.now)))
         out.old out.new }
@@ -159,6 +184,7 @@ fn put_items<S: Sink>(all: &[Value], ascii: bool, out: &mut S) -> Result<(), S::
 
 // Puts pairs between braces.
 #[cycle(write)]
+#[inline(never)]
 fn put_map<S: Sink>(map: &Map, ascii: bool, out: &mut S) -> Result<(), S::Fault>
     ensures { PutsThese S.takes S.fails result (literal_of ascii (object (members map.now)))
         out.old out.new }
@@ -221,15 +247,14 @@ fn put_key<S: Sink>(key: &Key<'static>, ascii: bool, out: &mut S) -> Result<(), 
     }
 }
 
-// Puts the literal of a value that holds no others.
-fn put_flat<S: Sink>(value: &Value, ascii: bool, out: &mut S) -> Result<(), S::Fault>
+// Puts the literal of a value that is no text and holds no others.
+fn put_flat<S: Sink>(value: &Value, out: &mut S) -> Result<(), S::Fault>
+    requires no_text { text_in value.now ≡ None }
     requires no_array { items_in value.now ≡ None }
     requires no_map { members_in value.now ≡ None }
-    ensures { PutsThese S.takes S.fails result (literal_of ascii value.now) out.old out.new }
+    ensures { (ascii : Bool) → PutsThese S.takes S.fails result (literal_of ascii value.now)
+        out.old out.new }
 {
-    if let Some(text) = value.as_str() {
-        return put_marked(text, value.is_safe(), ascii, out);
-    }
     if let Some(number) = number_of(value) {
         return put_number(number, out);
     }
@@ -243,6 +268,20 @@ fn put_flat<S: Sink>(value: &Value, ascii: bool, out: &mut S) -> Result<(), S::F
         return out.put("none");
     }
     out.put("undefined")
+}
+
+// Puts a number of 64 bits with a sign, which has no suffix, as it prints. It is one of these, and
+// `as_i64` answers it.
+#[inline(always)]
+fn put_signed<S: Sink>(value: &Value, out: &mut S) -> Result<(), S::Fault>
+    requires { kind_in value.now ≡ number_kind i64 }
+    ensures { (ascii : Bool) → PutsThese S.takes S.fails result (literal_of ascii value.now)
+        out.old out.new }
+{
+    match value.as_i64() {
+        Some(z) => put_integer(z, out),
+        None => value.print_to(out),
+    }
 }
 
 // The word for a truth value.

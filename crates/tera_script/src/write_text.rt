@@ -6,7 +6,7 @@ ghost use Rattle.tera_script.specs.Text.{spelling, character};
 ghost use Rattle.tera_script.specs.Written.{inside, quoted_literal, text_literal, tokens_of};
 ghost use Rattle.tera_script.specs.Written.{is_numbered};
 
-use tera_report::quote::put_quoted;
+use crate::marked::{greatest, plain_len, split_marked};
 use tera_report::sink::Sink;
 
 /// Puts a text between quotes, behind an s where it is marked safe.
@@ -25,35 +25,40 @@ pub(crate) fn put_marked<S: Sink>(
     put_text(text, ascii, out)
 }
 
-/// Puts a text between quotes. That of an ASCII text is its debug form, which is put in one pass.
+/// Puts a text between quotes.
 pub(crate) fn put_text<S: Sink>(text: &str, ascii: bool, out: &mut S) -> Result<(), S::Fault>
     ensures { PutsThese S.takes S.fails result (quoted_literal ascii text.now) out.old out.new }
 {
-    if text.is_ascii() {
-        return put_quoted(text, out);
-    }
-    put_mixed(text, ascii, out)
-}
-
-// The same, character by character.
-#[inline(never)]
-fn put_mixed<S: Sink>(text: &str, ascii: bool, out: &mut S) -> Result<(), S::Fault>
-    ensures { PutsThese S.takes S.fails result (quoted_literal ascii text.now) out.old out.new }
-{
     out.put("\"")?;
-    put_characters(text, ascii, out)?;
+    put_inside(text, ascii, out)?;
     out.put("\"")
 }
 
-// Puts what stands between the quotes, character by character.
-fn put_characters<S: Sink>(text: &str, ascii: bool, out: &mut S) -> Result<(), S::Fault>
+// Puts what stands between the quotes. Most texts stand for themselves.
+fn put_inside<S: Sink>(text: &str, ascii: bool, out: &mut S) -> Result<(), S::Fault>
     ensures { PutsThese S.takes S.fails result (inside ascii text.now) out.old out.new }
 {
-    let mut rest = text.chars();
-    'characters: while let Some(c) = rest.next() {
-        put_character(c, ascii, out)?;
+    let run = plain_len(text.as_bytes(), greatest(ascii));
+    if run < text.len() {
+        return put_runs(text, ascii, out);
     }
-    Ok(())
+    out.put(text)
+}
+
+// Puts what stands between the quotes, run by run: bytes that stand for themselves are put in one
+// piece. It is not copied into `put_inside`, so that a short text costs no registers that only this
+// saves.
+#[inline(never)]
+fn put_runs<S: Sink>(text: &str, ascii: bool, out: &mut S) -> Result<(), S::Fault>
+    ensures { PutsThese S.takes S.fails result (inside ascii text.now) out.old out.new }
+{
+    let mut rest = text;
+    'runs: while let Some((run, c, after)) = split_marked(rest, ascii) {
+        out.put(run)?;
+        put_character(c, ascii, out)?;
+        rest = after;
+    }
+    out.put(rest)
 }
 
 // Puts what stands for a character.

@@ -115,15 +115,15 @@ IsCommandAt bytes answer = IsOneOf SpellsCommand bytes answer
 
 -- operands that take no memory to read: those with a text where they have no escape, and those that
 -- bring values where no quote, bracket or brace stands in them
-abbrev pub AreLight : Making → List ℕ → Type 0
-AreLight (of_text f) bytes = IsBare bytes ⊎ HasNoEscape bytes
-AreLight (of_literal f) bytes = IsBare bytes
-AreLight (of_map f) bytes = IsBare bytes
-AreLight making bytes = Unit {0}
+abbrev pub OperandsNeedNone : Making → List ℕ → Type 0
+OperandsNeedNone (of_text f) bytes = IsBare bytes ⊎ HasNoEscape bytes
+OperandsNeedNone (of_literal f) bytes = IsBare bytes
+OperandsNeedNone (of_map f) bytes = IsBare bytes
+OperandsNeedNone making bytes = Unit {0}
 
 -- no quote, bracket or brace stands in the bytes, or they are a command that brings nothing, by no
 -- text with an escape
-abbrev pub IsLightCommand : List ℕ → Type 0
-IsLightCommand bytes = IsBare bytes
+abbrev pub CommandNeedsNone : List ℕ → Type 0
+CommandNeedsNone bytes = IsBare bytes
     ⊎ (HasNoEscape bytes × ((command : Command) × EndsIn SpellsCommand bytes command
     × BringsNothing command.request))

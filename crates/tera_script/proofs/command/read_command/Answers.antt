@@ -2,7 +2,7 @@ use Rattle.std.proofs.Common.{sym}
 use Rattle.std.specs.Option.{option_map}
 use Rattle.std.proofs.lemmas.Result.{IfOk-weaker}
 use Rattle.tera_context.specs.Request.{command_form}
-use Rattle.tera_script.proofs.Commands.{command_none_name, command_none_verb, command_answer, light_command}
+use Rattle.tera_script.proofs.Commands.{command_none_name, command_none_verb, command_answer, free_command}
 use Rattle.tera_script.proofs.command.read_command.Goals as goal
 
 pub returns-in_default-clause-command : goal.returns-in_default-clause-command
@@ -18,4 +18,4 @@ returns-clause-command c =
 
 pub returns-clause-free : goal.returns-clause-free
 returns-clause-free c = λ light.
-    c.read_operands.ensures.free (light_command c.args.bytes.now (sym c.in-Some.ensures) c.in-Some-verb_in.known.verb c.in-Some-verb_in.ensures.0 light)
+    c.read_operands.ensures.free (free_command c.args.bytes.now (sym c.in-Some.ensures) c.in-Some-verb_in.known.verb c.in-Some-verb_in.ensures.0 light)

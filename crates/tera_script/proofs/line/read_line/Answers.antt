@@ -1,4 +1,4 @@
-use Rattle.tera_script.proofs.Lines.{is_skipped, bad_utf8, bad_command, line_says, light_line}
+use Rattle.tera_script.proofs.Lines.{is_skipped, bad_utf8, bad_command, line_says, free_line}
 use Rattle.tera_script.proofs.line.read_line.Goals as goal
 
 pub returns-then-is_end_or_comment-clause-reading : goal.returns-then-is_end_or_comment-clause-reading
@@ -11,7 +11,7 @@ returns-then-not-is_utf8-clause-reading c = bad_utf8 c.past_blanks-bytes.ensures
 pub returns-in_err-command-clause-free : goal.returns-in_err-command-clause-free
 returns-in_err-command-clause-free c = λ h.
     absurd (cc (c.in_err-command.ensures.free
-    (light_line c.past_blanks-bytes.ensures c.is_end_or_comment.ensures c.if-is_end_or_comment.false c.if-not-is_utf8.ensures h)))
+    (free_line c.past_blanks-bytes.ensures c.is_end_or_comment.ensures c.if-is_end_or_comment.false c.if-not-is_utf8.ensures h)))
 
 pub returns-in-Some-clause-reading : goal.returns-in-Some-clause-reading
 returns-in-Some-clause-reading c =

@@ -1,5 +1,5 @@
-use Rattle.std.proofs.Common.{[], Some, ap, sym, ◌∙◌, subst}
-use Rattle.std.specs.FinMap.{get-empty}
+use Rattle.std.proofs.Common.{◌≡◌, ℕ, List, [], Some, ap, sym, ◌∙◌, subst}
+use Rattle.std.specs.FinMap.{get-empty, insert}
 use Rattle.tera_meaning.specs.Pairs.{HasDistinctKeys, key_form_order}
 use Rattle.tera_script.proofs.Sources.{HoldsSoFar, none_named, all_named, one_more}
 use Rattle.tera_script.proofs.source.source_of.Goals as goal
@@ -17,11 +17,17 @@ loop-key-init c = record {
 pub returns-in_default-as_str-clause-source : goal.returns-in_default-as_str-clause-source
 returns-in_default-as_str-clause-source c = none_named c.loop-key.invariant c.in-Some-2.ensures.steps c.in_default-as_str.ensures
 
-pub loop-key-preserved-in-Ok : goal.loop-key-preserved-in-Ok
-loop-key-preserved-in-Ok c = one_more c.loop-key.invariant c.in-Some-2.ensures.steps c.in-Some-as_str.ensures c.in-Ok.ensures.ok
+pub loop-key-preserved-in_ok-insert_owned : goal.loop-key-preserved-in_ok-insert_owned
+loop-key-preserved-in_ok-insert_owned c =
+    one_more c.loop-key.invariant c.in-Some-2.ensures.steps c.in-Some-as_str.ensures
+    (subst (λ (t : List ℕ). c.insert_owned.new.self ≡ insert c.loop-key.source t c.in-Some-2.held) c.in_ok-name.ensures.ok
+    c.in_ok-insert_owned.ensures.ok)
 
 pub loop-key-preserved : goal.loop-key-preserved
-loop-key-preserved c = one_more c.loop-key.invariant c.in-Some-2.ensures.steps c.in-Some-as_str.ensures c.in-Ok.ensures.ok
+loop-key-preserved c =
+    one_more c.loop-key.invariant c.in-Some-2.ensures.steps c.in-Some-as_str.ensures
+    (subst (λ (t : List ℕ). c.insert_owned.new.self ≡ insert c.loop-key.source t c.in-Some-2.held) c.in_ok-name.ensures.ok
+    c.in_ok-insert_owned.ensures.ok)
 
 pub returns-clause-source : goal.returns-clause-source
 returns-clause-source c = all_named c.loop-key.invariant c.in-None.ensures.steps.0

@@ -92,23 +92,23 @@ put_items-returns-in_err-put_literal-2 g t c =
     (g.met.S.Sink.failed_later _ (codes ", ") _ (literal_of c.args.ascii item) _ c.in_ok-put.ensures c.in_err-put_literal-2.ensures) in
     search rules
 
-pub put_literal-put_array-requires : goal.put_literal-put_array-requires
-put_literal-put_array-requires g t c κs within =
+pub put_other-put_array-requires : goal.put_other-put_array-requires
+put_other-put_array-requires g t c κs within =
     let deep = ap depth (array_of_items c.args.value.now c.in-Some.items.now c.in-Some.ensures) in
     (omega (arith, deep), within)
 
-pub put_literal-returns-in-Some : goal.put_literal-returns-in-Some
-put_literal-returns-in-Some g t c =
+pub put_other-returns-in-Some : goal.put_other-returns-in-Some
+put_other-returns-in-Some g t c =
     subst (λ v. PutsThese g.S.Sink.takes g.S.Sink.fails c.put_array.result (literal_of c.args.ascii v) c.args.out.now c.put_array.new.out)
     (array_of_items c.args.value.now c.in-Some.items.now c.in-Some.ensures) c.put_array.ensures
 
-pub put_literal-put_map-requires : goal.put_literal-put_map-requires
-put_literal-put_map-requires g t c κs within =
+pub put_other-put_map-requires : goal.put_other-put_map-requires
+put_other-put_map-requires g t c κs within =
     let deep = ap depth (map_of_members c.args.value.now c.in-Some-as_map.pairs.now c.in-Some-as_map.ensures) in
     (omega (arith, deep), within)
 
-pub put_literal-returns-in-Some-as_map : goal.put_literal-returns-in-Some-as_map
-put_literal-returns-in-Some-as_map g t c =
+pub put_other-returns-in-Some-as_map : goal.put_other-returns-in-Some-as_map
+put_other-returns-in-Some-as_map g t c =
     subst (λ v. PutsThese g.S.Sink.takes g.S.Sink.fails c.put_map.result (literal_of c.args.ascii v) c.args.out.now c.put_map.new.out)
     (map_of_members c.args.value.now c.in-Some-as_map.pairs.now c.in-Some-as_map.ensures) c.put_map.ensures
 

@@ -5,7 +5,10 @@ use Rattle.tera_script.specs.Written.{items_literal, more_literal, pairs_literal
 use Rattle.tera_script.proofs.write.+write.Given as goal
 
 abbrev pub decreases-put_literal : goal.decreases-put_literal
-decreases-put_literal g l = 6 * depth l.value.now + 1
+decreases-put_literal g l = 6 * depth l.value.now + 2
+
+abbrev pub decreases-put_other : goal.decreases-put_other
+decreases-put_other g l = 6 * depth l.value.now + 1
 
 abbrev pub decreases-put_items : goal.decreases-put_items
 decreases-put_items g l = 6 * items_depth (items l.all.now) + 4
