@@ -331,12 +331,16 @@ fn is_lent(alloc: Global, context: &Context, said: Command<'_>, wanted: &str) ->
     is_so
 }
 
-const LENT: [(&str, &str); 5] = [
+const LENT: [(&str, &str); 9] = [
     ("get con", "Some(Found(Some(Value { inner: I64(69) })))"),
     ("get x", "Some(Found(None))"),
     ("print con", "Some(Print(Value { inner: I64(69) }))"),
     ("get con -> c", "None"),
-    ("has con", "None"),
+    ("has con", "Some(Tell(Truth(true)))"),
+    ("cmp x con", "Some(Tell(Order(Some(Greater))))"),
+    ("len con", "Some(Tell(Size(None)))"),
+    ("add con con", "Some(Tell(Number(138)))"),
+    ("escape con", "None"),
 ];
 
 #[test]

@@ -14,4 +14,6 @@ mod replayer;
 #[cfg(test)]
 mod replays;
 #[cfg(test)]
+mod scripts;
+#[cfg(test)]
 mod states;

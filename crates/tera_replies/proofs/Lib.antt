@@ -3,4 +3,5 @@ mod InputLemmas
 mod OneLineLemmas
 mod ReadLemmas
 mod ReplyLemmas
+mod SavedLemmas
 mod StretchLemmas

@@ -140,3 +140,4 @@ want_shown (Err e) outcome (refusal, shows, is) = rw (is, shows.kind) (want_stat
 pub not_wanted : (lent : LentForm) (outcome : Outcome) → StandsFor lent outcome → is_want outcome ≡ false
 not_wanted (Lent.found part) outcome is = ap is_want is
 not_wanted (Lent.printed value) outcome (text, prints, is) = ap is_want is
+not_wanted (Lent.known answer) outcome is = ap is_want is

@@ -5,4 +5,5 @@ pub mod Output
 pub mod Source
 pub mod Log
 pub mod Stretch
+pub mod Saved
 pub mod inner

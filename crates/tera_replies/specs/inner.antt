@@ -1,4 +1,4 @@
 pub mod Endings
 pub mod Place
 pub mod Stated
-pub mod Terse
+pub mod ErrorSink

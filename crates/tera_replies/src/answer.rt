@@ -7,10 +7,12 @@ ghost use Rattle.tera_report.specs.Quoted.{QuotesList};
 ghost use Rattle.tera_report.specs.Refusal.{Tells};
 ghost use Rattle.tera_report.specs.Sink.{Puts, PutsThese, Sends};
 ghost use Rattle.tera_meaning.specs.Answer.{found};
+ghost use Rattle.tera_meaning.specs.Arithmetic.{as_i128};
 ghost use Rattle.tera_meaning.specs.Meaning.{layout};
 ghost use Rattle.tera_meaning.specs.Outcome.{is_want};
 ghost use Rattle.tera_meaning.specs.Quoted.{Prints};
 ghost use Rattle.tera_context.specs.Call.{answer_of};
+ghost use Rattle.tera_context.specs.Known.{known_form};
 ghost use Rattle.tera_context.specs.Lent.{lent_form, printed};
 ghost use Rattle.tera_replies.specs.Output.{BrokeOn};
 ghost use Rattle.tera_replies.specs.Reply.{IsFormOf, IsLentLine, IsListedLine};
@@ -19,11 +21,11 @@ ghost use Rattle.tera_replies.specs.Script.{ended};
 ghost use Rattle.tera_replies.specs.inner.Stated.{outcome_stated};
 ghost use Rattle.tera_replies.specs.inner.Endings.{ReplyStops};
 
+use crate::error_sink::ErrorSink;
 use crate::fault::{Fault, WriteError, put, written};
-use crate::terse::Terse;
 use itoa::Buffer;
 use std::cmp::Ordering;
-use tera_context::{Answer, Lent};
+use tera_context::{Answer, Known, Lent};
 use tera_report::quote::put_quoted_list;
 use tera_report::sink::Sink;
 use tera_report::{Error, ErrorKind, TeraResult};
@@ -79,14 +81,12 @@ fn put_answer<W: Sink>(answer: &Answer, out: &mut W) -> Result<(), WriteError>
 {
     match answer {
         Answer::Done => put("ok\n", out),
-        Answer::Truth(true) => put("true\n", out),
-        Answer::Truth(false) => put("false\n", out),
-        Answer::Order(order) => put(order_line(*order), out),
+        Answer::Truth(truth) => put_known(Known::Truth(*truth), out),
+        Answer::Order(order) => put_known(Known::Order(*order), out),
         Answer::Found(None) => put("nothing\n", out),
         Answer::Found(Some(value)) => put_value(value, out),
-        Answer::Size(None) => put("nothing\n", out),
-        Answer::Size(Some(size)) => put_size(*size, out),
-        Answer::Kind(kind) => put_line("kind ", kind.name(), out),
+        Answer::Size(size) => put_known(Known::Size(*size), out),
+        Answer::Kind(kind) => put_known(Known::Kind(*kind), out),
         Answer::Text(text) => put_line("text ", text.as_str(), out),
         Answer::Texts(names) => put_texts("fields ", names.as_slice(), out),
         Answer::Walked(names) => put_texts("walk ", names.as_slice(), out),
@@ -101,7 +101,33 @@ fn put_lent<W: Sink>(lent: Lent<'_>, out: &mut W) -> Result<(), WriteError>
         Lent::Found(None) => put("nothing\n", out),
         Lent::Found(Some(value)) => put_value(value, out),
         Lent::Print(value) => put_printed(value, out),
+        Lent::Tell(known) => put_known(known, out),
     }
+}
+
+// Puts the line for an answer that takes no memory.
+fn put_known<W: Sink>(known: Known, out: &mut W) -> Result<(), WriteError>
+    ensures { Puts W.takes W.fails result (IsReplyLine (Ok (known_form known))) out.old out.new }
+{
+    match known {
+        Known::Truth(true) => put("true\n", out),
+        Known::Truth(false) => put("false\n", out),
+        Known::Order(order) => put(order_line(order), out),
+        Known::Size(None) => put("nothing\n", out),
+        Known::Size(Some(size)) => put_size(size, out),
+        Known::Kind(kind) => put_line("kind ", kind.name(), out),
+        Known::Number(number) => put_number(number, out),
+    }
+}
+
+// Puts the line for a number that was computed.
+#[inline(never)]
+fn put_number<W: Sink>(number: i128, out: &mut W) -> Result<(), WriteError>
+    ensures { Puts W.takes W.fails result
+        (IsReplyLine (Ok (found (Some (as_i128 number))))) out.old out.new }
+{
+    let value = Value::from(number);
+    put_value(&value, out)
 }
 
 fn order_line(order: Option<Ordering>) -> &'static str
@@ -141,7 +167,7 @@ fn put_list<W: Sink>(texts: &[String], out: &mut W) -> Result<(), WriteError>
     ensures { Puts W.takes W.fails result
         (QuotesList (map string_bytes texts.now)) out.old out.new }
 {
-    put_quoted_list(texts, &mut Terse::new(out))
+    put_quoted_list(texts, &mut ErrorSink::new(out))
 }
 
 // Puts the line for a value.
@@ -165,7 +191,7 @@ fn put_form<W: Sink>(value: &Value, out: &mut W) -> Result<(), WriteError>
     if value.is_none() {
         return put("none", out);
     }
-    value.print_inside_to(&mut Terse::new(out))
+    value.print_inside_to(&mut ErrorSink::new(out))
 }
 
 // Puts the line for the text that a value prints, which is put where it goes.
@@ -182,7 +208,7 @@ fn put_printed<W: Sink>(value: &Value, out: &mut W) -> Result<(), WriteError>
 fn put_text<W: Sink>(value: &Value, out: &mut W) -> Result<(), WriteError>
     ensures { Puts W.takes W.fails result (Prints (layout value.now)) out.old out.new }
 {
-    value.print_to(&mut Terse::new(out))
+    value.print_to(&mut ErrorSink::new(out))
 }
 
 // Puts the line for a refusal.
@@ -201,7 +227,7 @@ fn put_words<W: Sink>(error: &Error, out: &mut W) -> Result<(), WriteError>
     ensures { Puts W.takes W.fails result
         (Tells (refusal_of (kind_of error.now))) out.old out.new }
 {
-    error.tell_to(&mut Terse::new(out))
+    error.tell_to(&mut ErrorSink::new(out))
 }
 
 // Puts a text as it is behind a word, line feeds and all.

@@ -73,7 +73,8 @@ impl Feed {
 
     /// Whether there is a number for each line that the piece may hold.
     pub fn has_numbers_for(&self, piece: &[u8]) -> bool
-        ensures { IsTrue result → self.now.number + length piece.now < 2 ^ 128 }
+        ensures numbers { IsTrue result → self.now.number + length piece.now < 2 ^ 128 }
+        ensures empty { piece.now ≡ [] → IsTrue result }
     {
         self.number.checked_add(piece.len() as u128).is_some()
     }
@@ -95,7 +96,11 @@ impl Feed {
             (Stops (place_of self.old) piece.now
             (λ text. Sends W.takes W.flushes out.old text out.new)
             (λ text. BrokeOn W.takes W.fails W.flushes W.flush_fails out.old text out.new)) }
+        ensures empty { piece.now ≡ [] → IsOk result }
     {
+        if piece.is_empty() {
+            return Ok(());
+        }
         let mut rest = piece;
         'lines: while let Some((line, later)) = split_line(rest) {
             self.end_line(alloc, line, out)?;
@@ -243,13 +248,13 @@ fn answer_command<W: Sink>(
             drop(command);
             answered
         }
-        None => answer_by_itself(command, context, out),
+        None => answer_and_write(command, context, out),
     }
 }
 
 // Answers a command for which the context lends nothing.
 #[inline(always)]
-fn answer_by_itself<W: Sink>(
+fn answer_and_write<W: Sink>(
     command: Command<'_>,
     context: &mut Context,
     out: &mut W,

@@ -2,14 +2,15 @@
 #![tactic(auto)]
 
 mod answer;
+mod error_sink;
 mod fault;
 mod feed;
 pub mod given;
 pub mod laws;
 mod replayer;
 mod replays;
+pub mod script_laws;
 mod source;
-mod terse;
 
 pub use fault::Fault;
 pub use feed::answer_line;

@@ -1,5 +1,6 @@
 //! The replay of a script that comes in pieces, for a loop of a caller's own.
-ghost use Rattle.std.specs.Prelude.{◌≡◌, ◌||◌, ℕ, Bool, List, [], ◌∷◌, IfErr, IfOk, OnOk};
+ghost use Rattle.std.specs.Prelude.{◌≡◌, ◌||◌, ℕ, Bool, List, [], ◌∷◌, IfErr, IfOk, IsOk};
+ghost use Rattle.std.specs.Prelude.{OnOk};
 ghost use Rattle.tera_report.specs.Sink.{Sends};
 ghost use Rattle.tera_replies.specs.Output.{BrokeOn};
 ghost use Rattle.tera_replies.specs.Script.{HasNoLineFeed, last_line};
@@ -50,7 +51,7 @@ impl Replayer {
     /// `BadLine` where such a line is bad; the lines before it are answered. `WriteFailed` where
     /// the sink refused a part of a reply. `OutOfMemory` where the replay itself finds no memory,
     /// or has no number for each line that the piece may hold: the last one is 2^128 - 1. Never
-    /// `ReadFailed`.
+    /// `ReadFailed`. A piece of no bytes is taken.
     ///
     /// Takes memory as `answer_line` does, and for the line at hand where it comes in parts.
     pub fn take<W: Sink>(&mut self, alloc: Global, piece: &[u8], out: &mut W) -> Result<(), Fault>
@@ -59,6 +60,7 @@ impl Replayer {
         ensures err { IfErr result (Stops self.old piece.now
             (λ text. Sends W.takes W.flushes out.old text out.new)
             (λ text. BrokeOn W.takes W.fails W.flushes W.flush_fails out.old text out.new)) }
+        ensures empty { piece.now ≡ [] → IsOk result }
     {
         if self.feed.has_numbers_for(piece) {
             self.feed.take_piece(alloc, piece, out)

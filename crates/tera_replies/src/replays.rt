@@ -12,10 +12,10 @@ ghost use Rattle.tera_replies.specs.Source.{ReadEnds, ReadFails, ReadsTo};
 ghost use Rattle.tera_replies.specs.Stretch.{start};
 ghost use Rattle.tera_replies.specs.inner.Endings.{Ends, EndsFlushed, EndsGiven, status_at, told};
 
+use crate::error_sink::ErrorSink;
 use crate::fault::{Fault, WriteError, put, written};
 use crate::replayer::Replayer;
 use crate::source::Source;
-use crate::terse::Terse;
 use std::alloc::Global;
 use tera_report::ReportError;
 use tera_report::sink::Sink;
@@ -243,7 +243,7 @@ fn put_report<E: Sink>(report: &ReportError, err: &mut E) -> Result<(), WriteErr
     ensures { PutsThese E.takes E.fails result (report_text (report_of report.now))
         err.old err.new }
 {
-    report.tell_to(&mut Terse::new(err))
+    report.tell_to(&mut ErrorSink::new(err))
 }
 
 // The exit status.

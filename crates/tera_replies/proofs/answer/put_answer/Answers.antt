@@ -1,5 +1,5 @@
 -- What is put is the reply, and a line feed.
-use Rattle.std.proofs.Common.{◌≡◌, rules, refl, ◌++◌, codes, decimal, map, Some}
+use Rattle.std.proofs.Common.{◌≡◌, rules, refl, ◌++◌, codes, map, Some}
 use Rattle.std.specs.String.{string_bytes}
 use Rattle.tera_context.specs.Call.{answer_of}
 use Rattle.tera_meaning.specs.Answer.{found, texts, walked}
@@ -9,15 +9,6 @@ use Rattle.tera_replies.proofs.answer.put_answer.Goals as goal
 
 pub returns-in-Done : goal.returns-in-Done
 returns-in-Done g c = puts_these g.W.Sink.takes g.W.Sink.fails _ c.put.result (codes "ok\n") _ _ (codes "ok", search rules, refl) c.put.ensures
-
-pub returns-in-Truth-true : goal.returns-in-Truth-true
-returns-in-Truth-true g c =
-    puts_these g.W.Sink.takes g.W.Sink.fails _ c.put-in-Truth-true.result (codes "true\n") _ _ (codes "true", search rules, refl) c.put-in-Truth-true.ensures
-
-pub returns-in-Truth-false : goal.returns-in-Truth-false
-returns-in-Truth-false g c =
-    puts_these g.W.Sink.takes g.W.Sink.fails _ c.put-in-Truth-false.result (codes "false\n") _ _ (codes "false", search rules, refl)
-    c.put-in-Truth-false.ensures
 
 pub returns-in-Found-None : goal.returns-in-Found-None
 returns-in-Found-None g c =
@@ -29,25 +20,10 @@ returns-in-Found-Some g c =
     let is : answer_of c.args.answer.now ≡ found (Some c.in-Found-Some.value) = search rules in
     rw is c.put_value.ensures
 
-pub returns-in-Size-None : goal.returns-in-Size-None
-returns-in-Size-None g c =
-    puts_these g.W.Sink.takes g.W.Sink.fails _ c.put-in-Size-None.result (codes "nothing\n") _ _ (codes "nothing", search rules, refl)
-    c.put-in-Size-None.ensures
-
-pub returns-in-Size-Some : goal.returns-in-Size-Some
-returns-in-Size-Some g c =
-    let line = codes "size " ++ decimal c.in-Size-Some.size in
-    puts_these g.W.Sink.takes g.W.Sink.fails _ c.put_size.result (ended line) _ _ (line, search rules, refl) c.put_size.ensures
-
-pub returns-in-Kind : goal.returns-in-Kind
-returns-in-Kind g c =
-    let line = codes "kind " ++ c.name.result.now in
-    puts_these g.W.Sink.takes g.W.Sink.fails _ c.put_line.result (ended line) _ _ (line, search rules, refl) c.put_line.ensures
-
 pub returns-in-Text : goal.returns-in-Text
 returns-in-Text g c =
     let line = codes "text " ++ c.as_str.result.now in
-    puts_these g.W.Sink.takes g.W.Sink.fails _ c.put_line-in-Text.result (ended line) _ _ (line, search rules, refl) c.put_line-in-Text.ensures
+    puts_these g.W.Sink.takes g.W.Sink.fails _ c.put_line.result (ended line) _ _ (line, search rules, refl) c.put_line.ensures
 
 pub returns-in-Texts : goal.returns-in-Texts
 returns-in-Texts g c =

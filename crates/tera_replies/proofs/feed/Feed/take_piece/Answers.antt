@@ -1,5 +1,6 @@
 -- What stands before the rest of the piece is read and answered.
-use Rattle.std.proofs.Common.{◌≡◌, ◌+◌, ◌++◌, [], ◌∷◌, length, length-append, sym, ◌∙◌, ap, refl, append_assoc, arith}
+use Rattle.std.proofs.Common.{rules, ◌≡◌, ◌+◌, ◌++◌, [], ◌∷◌, length, length-append, sym, ◌∙◌, ap, refl, append_assoc, arith}
+use Rattle.std.proofs.lemmas.List.{nil_from_length}
 use Rattle.std.proofs.lemmas.Result.{err_from_is_err_and}
 use Rattle.tera_report.proofs.SentLaws.{sends_nothing}
 use Rattle.tera_replies.specs.{inner.Place.place_of, Script.ended, Script.line_feed, declared.fault.Fault.TheVariants.OutOfMemory}
@@ -49,3 +50,8 @@ returns-clause-ok g c =
     let part = c.extend_from_slice.new.self.items in
     let goes = Goes-part (place_of c.lines.self) c.lines.rest.now part before.went.1.rest c.in_default.ensures.none c.in_ok-extend_from_slice.ensures.items in
     rw before.piece_is (went_on before.went ([], goes, sends_nothing g.W.Sink.takes g.W.Sink.flushes c.lines.out))
+
+pub returns-then-is_empty-clause-ok : goal.returns-then-is_empty-clause-ok
+returns-then-is_empty-clause-ok g c =
+    let none = nil_from_length c.args.piece.now (search rules) in
+    rw none (went_nowhere (place_of c.args.self.now) c.args.out.now c.requires.part)

@@ -6,7 +6,7 @@ use Rattle.tera_context.proofs.ShownLaws.{shown_outcome}
 use Rattle.tera_report.specs.declared.errors.Error.{Error}
 use Rattle.tera_replies.specs.{Reply.IsReplyLine, inner.Endings.AnswersCall, inner.Stated.outcome_stated}
 use Rattle.tera_replies.proofs.ReplyLemmas.{answers_so, reply_shown, want_shown}
-use Rattle.tera_replies.proofs.feed.answer_by_itself.Goals as goal
+use Rattle.tera_replies.proofs.feed.answer_and_write.Goals as goal
 
 answers_stated : (old new : State) (command : Command) (answer : Result Answer Error) → ShowsOneOf answer (λ outcome. IsStep old command outcome new)
     → (reply : List ℕ) → IsReplyLine (outcome_stated answer) reply → AnswersCall command old new reply (is_want (outcome_stated answer))
