@@ -36,9 +36,9 @@ fn tells(alloc: Global, text: &str, wanted: &str) -> bool {
 #[test]
 fn numbers_of_python_come_back(rt: HostRuntime) {
     let alloc = rt.alloc();
-    hold(
+    hold!(
         &rt,
-        &[
+        [
             tells(alloc, "0", "0"),
             tells(alloc, "-1", "-1"),
             tells(alloc, "9223372036854775807", "9223372036854775807"),
@@ -69,9 +69,9 @@ fn numbers_of_python_come_back(rt: HostRuntime) {
 #[test]
 fn shapes_of_python_come_back(rt: HostRuntime) {
     let alloc = rt.alloc();
-    hold(
+    hold!(
         &rt,
-        &[
+        [
             tells(alloc, "null", "null"),
             tells(alloc, "true", "true"),
             tells(alloc, "[]", "[]"),
@@ -99,9 +99,9 @@ fn shapes_of_python_come_back(rt: HostRuntime) {
 #[test]
 fn texts_of_python_come_back(rt: HostRuntime) {
     let alloc = rt.alloc();
-    hold(
+    hold!(
         &rt,
-        &[
+        [
             tells(alloc, "\"\"", "\"\""),
             tells(
                 alloc,
@@ -125,9 +125,9 @@ fn texts_of_python_come_back(rt: HostRuntime) {
 #[test]
 fn of_equal_names_the_last_value_stands_at_the_first(rt: HostRuntime) {
     let alloc = rt.alloc();
-    hold(
+    hold!(
         &rt,
-        &[
+        [
             tells(
                 alloc,
                 "{\"a\":1,\"b\":2,\"\\u0061\":3}",
@@ -151,9 +151,9 @@ fn refuses(alloc: Global, text: &str, number: &str, place: &str) -> bool {
 #[test]
 fn what_is_no_integer_is_refused_at_its_place(rt: HostRuntime) {
     let alloc = rt.alloc();
-    hold(
+    hold!(
         &rt,
-        &[
+        [
             refuses(alloc, "1.0", "1.0", ""),
             refuses(alloc, "{\"a\":[1.5]}", "1.5", "/a/0"),
             refuses(alloc, "[0, {\"a~/é\": [[], 1E5]}]", "1E5", "/1/a~0~1é/1"),
@@ -179,9 +179,9 @@ fn what_is_no_integer_is_refused_at_its_place(rt: HostRuntime) {
 fn what_python_does_not_read_is_no_json(rt: HostRuntime) {
     let alloc = rt.alloc();
     let no = "The text is not JSON";
-    hold(
+    hold!(
         &rt,
-        &[
+        [
             tells(alloc, "", no),
             tells(alloc, "[1,]", no),
             tells(alloc, "{\"a\"}", no),
@@ -242,9 +242,9 @@ fn deep_refusal(alloc: Global) -> String {
 fn at_most_64_levels_are_read(rt: HostRuntime) {
     let alloc = rt.alloc();
     let refusal = deep_refusal(alloc);
-    hold(
+    hold!(
         &rt,
-        &[
+        [
             levels_come_back(alloc, 64),
             levels_tell(alloc, 65, refusal.as_str()),
             levels_tell(alloc, 128, refusal.as_str()),

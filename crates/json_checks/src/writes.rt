@@ -47,9 +47,9 @@ fn keys_become_texts(rt: HostRuntime) {
         Key::Bool(true),
     );
     let inside = one_item(alloc, Value::of_map(truth));
-    hold(
+    hold!(
         &rt,
-        &[
+        [
             writes(
                 alloc,
                 Value::of_map(kinds),
@@ -75,9 +75,9 @@ fn undefined_and_bytes_are_refused_unless_null_is_chosen(rt: HostRuntime) {
     let both = two_items(alloc, Value::none(), bytes(alloc, b"a"));
     let again = two_items(alloc, Value::undefined(), bytes(alloc, b"a"));
     let at = Value::of_map(with(Map::new(alloc), Key::Str("a/b"), Value::undefined()));
-    hold(
+    hold!(
         &rt,
-        &[
+        [
             writes(
                 alloc,
                 Value::undefined(),
@@ -98,9 +98,9 @@ fn undefined_and_bytes_are_refused_unless_null_is_chosen(rt: HostRuntime) {
 fn flags_are_not_written(rt: HostRuntime) {
     let alloc = rt.alloc();
     let both = two_items(alloc, safe(alloc, "<"), text(alloc, "<"));
-    hold(
+    hold!(
         &rt,
-        &[
+        [
             writes(alloc, both, "[\"<\",\"<\"]"),
             writes(alloc, no_pairs(alloc), "{}"),
         ],

@@ -4,7 +4,7 @@ use crate::made::{Fill, Made, filled, item, name};
 use std::alloc::{AllocError, Global};
 use tera_context::{Command, Context, Request, Search, context, lend};
 use tera_report::TeraResult;
-use tera_script::{literal_text, read_line, take_text};
+use tera_script::{literal_text, read_line, script_text, take_text};
 use tera_values::{HashState, Value};
 
 // The items under so many names.
@@ -32,7 +32,9 @@ pub fn tell_contexts(rt: &(impl Print + AllocGlobal), made: &Made) -> TeraResult
     let hashed = Context::with_hasher(alloc, HashState::fixed());
     tell(rt, "Context::with_hasher", Ok(hashed));
     tell(rt, "context!", of_macro(alloc, text));
-    tell_changes(rt, made)
+    tell_changes(rt, made)?;
+    tell_entries(rt, of_items(alloc, made.count)?);
+    Ok(())
 }
 
 /// Contexts that are copied and changed.
@@ -70,6 +72,12 @@ fn tell_replace(rt: &impl Print, context: Context, text: &str) {
         answer,
         context,
     );
+}
+
+fn tell_entries(rt: &(impl Print + AllocGlobal), context: Context) {
+    tell(rt, "Context::entries", context.entries());
+    tell(rt, "script_text", script_text(rt.alloc(), &context, false));
+    drop(context);
 }
 
 /// Lines and texts of scripts.

@@ -28,9 +28,9 @@ fn writes(alloc: Global, text: &str, wanted: &str) -> bool {
 #[test]
 fn escaped_texts(rt: HostRuntime) {
     let alloc = rt.alloc();
-    hold(
+    hold!(
         &rt,
-        &[
+        [
             escapes(alloc, "", ""),
             escapes(alloc, "a", "a"),
             escapes(alloc, PAGE, ESCAPED_PAGE),
@@ -43,9 +43,9 @@ fn escaped_texts(rt: HostRuntime) {
 #[test]
 fn written_texts(rt: HostRuntime) {
     let alloc = rt.alloc();
-    hold(
+    hold!(
         &rt,
-        &[
+        [
             writes(alloc, "", ""),
             writes(alloc, "a", "a"),
             writes(alloc, PAGE, ESCAPED_PAGE),
@@ -65,9 +65,9 @@ fn puts(alloc: Global, text: &str, wanted: &str) -> bool {
 #[test]
 fn texts_that_are_put(rt: HostRuntime) {
     let alloc = rt.alloc();
-    hold(
+    hold!(
         &rt,
-        &[
+        [
             puts(alloc, "", ""),
             puts(alloc, "a", "a"),
             puts(alloc, PAGE, ESCAPED_PAGE),
@@ -109,9 +109,9 @@ fn overflows_behind(text: &str, room: Room, wanted: &str) -> bool {
 #[test]
 fn rooms_for_escaped_texts(rt: HostRuntime) {
     let alloc = rt.alloc();
-    hold(
+    hold!(
         &rt,
-        &[
+        [
             fits(alloc, "", 1, 0, ""),
             fits(alloc, "a", 5, 3, "a"),
             fits(alloc, PAGE, 1 + ESCAPED_PAGE.len(), 0, ESCAPED_PAGE),
@@ -149,9 +149,9 @@ fn is_escaped_at(alloc: Global, place: usize, special: &str, entity: &str) -> bo
 fn special_bytes_at_each_place(rt: HostRuntime) {
     let alloc = rt.alloc();
     for place in 0..72 {
-        hold(
+        hold!(
             &rt,
-            &[
+            [
                 is_escaped_at(alloc, place, "&", "&amp;"),
                 is_escaped_at(alloc, place, "<", "&lt;"),
                 is_escaped_at(alloc, place, ">", "&gt;"),
@@ -238,9 +238,9 @@ fn answers(text: &str, writer: Failing, wanted: Option<ErrorKind>) -> bool {
 #[test]
 fn writers_that_take_nothing(rt: HostRuntime) {
     let no_byte = Some(ErrorKind::WriteZero);
-    hold(
+    hold!(
         &rt,
-        &[
+        [
             answers("a", fails_after(5, 0, false), no_byte),
             answers("", fails_after(0, 1, false), None),
         ],
@@ -256,9 +256,9 @@ fn flush_answers(writer: Failing, wanted: Option<ErrorKind>) -> bool {
 #[test]
 fn flushes_of_a_watched_writer(rt: HostRuntime) {
     let full = Some(ErrorKind::StorageFull);
-    hold(
+    hold!(
         &rt,
-        &[
+        [
             flush_answers(fails_after(0, 1, false), full),
             flush_answers(fails_after(1, 1, false), None),
         ],

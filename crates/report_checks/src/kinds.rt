@@ -65,9 +65,9 @@ fn kinds_of_chains(rt: HostRuntime) {
     let same = "CircularInclude { tpl: \"a\", include_chain: [\"a\", \"b\"] }";
     let none = Error::circular_include(alloc, "a", Vec::new(alloc));
     let empty = "CircularInclude { tpl: \"a\", include_chain: [] }";
-    hold(
+    hold!(
         &rt,
-        &[
+        [
             tells_no_chain(alloc, extend, chain),
             tells_no_chain(alloc, include, same),
             tells_no_chain(alloc, none, empty),
@@ -82,9 +82,9 @@ fn kinds_of_templates(rt: HostRuntime) {
     let parent = "MissingParent { current: \"a\", parent: \"b\" }";
     let template = "TemplateNotFound(\"a\")";
     let component = "ComponentNotFound(\"a\")";
-    hold(
+    hold!(
         &rt,
-        &[
+        [
             tells_no_chain(alloc, Error::message(alloc, "it's \"so\"\n"), message),
             tells_no_chain(alloc, Error::missing_parent(alloc, "a", "b"), parent),
             tells_no_chain(alloc, Error::template_not_found(alloc, "a"), template),
@@ -113,9 +113,9 @@ fn kinds_of_arguments(rt: HostRuntime) {
     let of_type = "InvalidArgument { expected_type: \"u8\", actual_type: \"string\" }";
     let missing = "MissingArgument { arg_name: \"n\" }";
     let of_range = "OutOfRangeArgument { value: \"300\", target_type: \"u8\" }";
-    hold(
+    hold!(
         &rt,
-        &[
+        [
             tells_and_says(
                 alloc,
                 Error::invalid_arg_type(alloc, "u8", "string"),
@@ -149,9 +149,9 @@ fn kinds_that_hold_no_text(rt: HostRuntime) {
     let broken = ErrorKind::Io(io::ErrorKind::BrokenPipe);
     let broken_pipe = "Io error while writing rendered value to output: BrokenPipe";
     let no_text = "Invalid UTF-8 characters found while rendering.";
-    hold(
+    hold!(
         &rt,
-        &[
+        [
             tells_and_says(alloc, Error::new(broken), "Io(BrokenPipe)", broken_pipe),
             tells_and_says(
                 alloc,

@@ -62,9 +62,9 @@ fn reports_of_spans(rt: HostRuntime) {
     let at_0 = "error: bad\n --> a.html:0:2\n  |\n0 | \n  | ^^";
     let far = "error: bad\n --> a.html:1:18446744073709551616\n  |\n1 | x\n  |  ^";
     let turned = "error: bad\n --> a.html:1:4\n  |\n1 | é\tx\n  |  \t ^";
-    hold(
+    hold!(
         &rt,
-        &[
+        [
             says(alloc, TWO_LINES, on(2, 1, 3), at_tab),
             says(alloc, TWO_LINES, on(9, 0, 1), past),
             says(alloc, TWO_LINES, on(0, 1, 3), at_0),
@@ -83,9 +83,9 @@ fn reports_of_lines(rt: HostRuntime) {
     let third = "error: bad\n --> a.html:3:1\n  |\n3 | \n  | ^";
     let fourth = "error: bad\n --> a.html:4:3\n  |\n4 | baz\n  |   ^";
     let twelfth = "error: bad\n  --> a.html:12:1\n   |\n12 | end\n   | ^^^";
-    hold(
+    hold!(
         &rt,
-        &[
+        [
             says(alloc, "", on(1, 0, 1), empty),
             says(alloc, "x\n", on(2, 0, 0), last),
             says(alloc, FOUR_LINES, on(2, 0, 3), returned),
@@ -114,9 +114,9 @@ note: called from b:1:1\n  |\n1 | z\n  | ^\n\nnote: then b:1:1\n  |\n1 | z\n  | 
 #[test]
 fn reports_with_notes(rt: HostRuntime) {
     let alloc = rt.alloc();
-    hold(
+    hold!(
         &rt,
-        &[
+        [
             reads(alloc, noted(alloc, &["called from"]), NOTED),
             reads(alloc, noted(alloc, &["called from", "then"]), NOTED_TWICE),
         ],
@@ -158,9 +158,9 @@ fn parts_of_reports(rt: HostRuntime) {
     let at_end = "error: Unexpected end of input\n --> :1:3\n  |\n1 | \n  | ^";
     let error = Error::syntax_error(alloc, owned(alloc, "m"), &span);
     let syntax = "error: m\n --> :1:3\n  |\n1 | \n  | ^";
-    hold(
+    hold!(
         &rt,
-        &[
+        [
             is_given_a_source(alloc),
             lends_its_parts(alloc),
             reads(alloc, ended, at_end),
@@ -189,9 +189,9 @@ fn is_that(copy: ReportError, report: &ReportError) -> bool {
 fn reports_are_equal_by_their_parts(rt: HostRuntime) {
     let alloc = rt.alloc();
     let report = noted(alloc, &["a"]);
-    hold(
+    hold!(
         &rt,
-        &[
+        [
             is_its_clone(alloc, &report, noted(alloc, &["b"])),
             is_its_clone(alloc, &report, noted(alloc, &[])),
             is_its_clone(alloc, &report, noted(alloc, &["a", "a"])),
@@ -208,7 +208,7 @@ fn a_report_that_is_too_long(rt: HostRuntime) {
     let report = made(alloc, "m", "f", "x", on(1, 0, usize::MAX));
     let is_refused = finds_no_memory(alloc, &report);
     let same = made(alloc, "m", "f", "x", on(1, 0, usize::MAX));
-    hold(&rt, &[is_refused, is_that(same, &report)]);
+    hold!(&rt, [is_refused, is_that(same, &report)]);
     drop(report);
 }
 

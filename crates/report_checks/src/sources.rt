@@ -15,9 +15,9 @@ fn starts_at(number: usize, start: usize) -> bool {
 // There is no fifth line.
 #[test]
 fn can_get_line_starts(rt: HostRuntime) {
-    hold(
+    hold!(
         &rt,
-        &[
+        [
             starts_at(1, 0),
             starts_at(2, 4),
             starts_at(3, 9),

@@ -47,9 +47,9 @@ fn shows_anyhow(alloc: Global, span: &Span, wanted: &str) -> bool {
 #[test]
 fn texts_of_spans(rt: HostRuntime) {
     let alloc = rt.alloc();
-    hold(
+    hold!(
         &rt,
-        &[
+        [
             displays(alloc, &span(), " @ 1:0-1:4"),
             shows(alloc, &span(), " @ 1:0-1:4 (0..4)"),
             shows(alloc, &expanded(), " @ 1:0-7:8 (0..9)"),
@@ -85,9 +85,9 @@ fn nodes_with_places(rt: HostRuntime) -> Result<(), Fail> {
     let node = Spanned::new(alloc, Some(7u8), span())?;
     let moved = Spanned::new(alloc, Some(7u8), span())?;
     let other = Spanned::new(alloc, Some(8u8), span())?;
-    hold(
+    hold!(
         &rt,
-        &[
+        [
             shows(alloc, &node, "Some(7) @ 1:0-1:4 (0..4)"),
             is_its_copy(alloc, &node, &other),
             moves(moved, &node),

@@ -45,9 +45,9 @@ fn texts_of_chains(rt: HostRuntime) {
     let empty = "Circular include detected for template 'a'. Include chain: `[]`";
     let three =
         "Circular extend detected for template 'é'. Inheritance chain: `[\"é\\\"\", \"'\", \"\"]`";
-    hold(
+    hold!(
         &rt,
-        &[
+        [
             extend_says(alloc, "a", &["a", "b"], extend),
             extend_says(alloc, "é", &["é\"", "'", ""], three),
             include_says(alloc, "é", &["é\"", "\u{7f}"], quoted),
@@ -62,9 +62,9 @@ fn texts_of_names(rt: HostRuntime) {
     let parent = "Template 'a' is inheriting from 'b', which doesn't exist or isn't loaded.";
     let template = "Template 'é' not found";
     let component = "Component 'a' not found";
-    hold(
+    hold!(
         &rt,
-        &[
+        [
             says(alloc, Error::message(alloc, "it's \"so\""), "it's \"so\""),
             says(alloc, Error::missing_parent(alloc, "a", "b"), parent),
             says(alloc, Error::template_not_found(alloc, "é"), template),
@@ -172,9 +172,9 @@ fn causes(rt: HostRuntime) {
     let not_found = Error::from(io::Error::from(io::ErrorKind::NotFound));
     let of_its_own = Error::io_error(io::Error::other("the disk is gone"));
     let of_the_system = Error::io_error(io::Error::from_raw_os_error(28));
-    hold(
+    hold!(
         &rt,
-        &[
+        [
             displays(alloc, &chained, "outer"),
             has_cause(alloc, chained, "inner"),
             has_cause(alloc, not_found, "entity not found"),

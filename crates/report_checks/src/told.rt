@@ -50,9 +50,9 @@ fn texts_that_are_quoted(rt: HostRuntime) {
     let alloc = rt.alloc();
     let text = "a\\\u{7f}é\u{301}\u{200b}";
     let quoted = "\"a\\\\\\u{7f}é\\u{301}\\u{200b}\"";
-    hold(
+    hold!(
         &rt,
-        &[
+        [
             quotes(alloc, text, quoted),
             quotes_list(alloc, &["a", "b"], "[\"a\", \"b\"]"),
         ],

@@ -1,3 +1,10 @@
+pub mod FindLaws
+pub mod InTurnLaws
+pub mod KeyFormLaws
+pub mod ManyPutLaws
+pub mod PageLaws
+pub mod SpellingLaws
+pub mod SteppedLaws
 pub use Rattle.tera_report.proofs.EscapeLaws
 pub use Rattle.tera_report.proofs.PartLaws
 pub use Rattle.tera_report.proofs.PutLaws as PutBytesLaws

@@ -1,4 +1,10 @@
+pub mod Entities
+pub mod InPage
+pub mod InTurn
+pub mod PutKeys
+pub mod Stepped
 pub mod types
+pub mod inner
 pub use Rattle.tera_report.specs.EmptyReport
 pub use Rattle.tera_report.specs.Errors
 pub use Rattle.tera_report.specs.Escaping
@@ -66,6 +72,7 @@ pub use Rattle.tera_arguments.specs.Rendered
 pub use Rattle.tera_arguments.specs.Taken
 pub use Rattle.tera_context.specs.Call
 pub use Rattle.tera_context.specs.Context
+pub use Rattle.tera_context.specs.Known
 pub use Rattle.tera_context.specs.Lent
 pub use Rattle.tera_context.specs.Request as LentRequest
 pub use Rattle.tera_context.specs.Steps as ShownSteps

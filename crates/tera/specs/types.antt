@@ -31,6 +31,7 @@ pub use Rattle.tera_context.specs.declared.call.Answer
 pub use Rattle.tera_context.specs.declared.call.Call
 pub use Rattle.tera_context.specs.declared.call.Step
 pub use Rattle.tera_context.specs.declared.context.Context
+pub use Rattle.tera_context.specs.declared.known.Known
 pub use Rattle.tera_context.specs.declared.lent.Lent
 pub use Rattle.tera_context.specs.declared.request.Command
 pub use Rattle.tera_context.specs.declared.request.Question

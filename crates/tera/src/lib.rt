@@ -1,5 +1,6 @@
 //! The value layer of Tera as one crate to import: all that the libraries below it make public,
-//! under Tera's own paths. Of its own it has `headline` alone, which states equality by them.
+//! under Tera's own paths. Of its own it has `headline`, which states equality by them, `page`,
+//! which shows values, and `laws`.
 //!
 //! `args`, `context`, `errors`, `utils` and `value` are modules of Tera, and `run` holds calls by
 //! name. `quote`, `report`, `sink`, `watch` and `words` are modules of `tera_report`. `meaning` is
@@ -16,11 +17,15 @@
 pub mod args;
 pub mod context;
 pub mod errors;
+mod escaping_sink;
 pub mod headline;
+pub mod laws;
+pub mod page;
 pub mod run;
 pub mod utils;
 pub mod value;
 
+pub use page::{show_each_in_page, show_in_page};
 pub use tera_arguments::{ArgFromValue, Autoescape, Kwargs, KwargsIter, StringInput};
 pub use tera_context::{Context, context, insert_entry};
 pub use tera_conversions::{FunctionResult, ToKey, ToValue};

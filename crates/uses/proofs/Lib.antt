@@ -3,3 +3,5 @@ mod Joined
 mod Pages
 mod Added
 mod Replayed
+mod PickedLemmas
+mod Ruled

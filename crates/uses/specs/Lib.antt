@@ -5,3 +5,6 @@ pub mod Render
 pub mod Nested
 pub mod Sums
 pub mod Ordered
+pub mod Picks
+pub mod Rules
+pub mod Checks

@@ -1,16 +1,14 @@
 -- What a page of pieces is.
-use Rattle.std.specs.Prelude.{◌≡◌, ◌++◌, ℕ, Bool, true, false, List, [], ◌∷◌, Option, None, Some}
+use Rattle.std.specs.Prelude.{◌≡◌, ℕ, List, [], Option, None, Some}
 use Rattle.std.specs.Prelude.{IfSome, ⊤}
 use Rattle.std.specs.FinMap.{get}
 use Rattle.std.specs.Option.{option_and_then, option_map}
 use Rattle.std.specs.String.{string_bytes}
-use Rattle.tera.specs.Escaping.{Spells}
 use Rattle.tera.specs.Form.{Form}
+use Rattle.tera.specs.InPage.{ShowsInPage}
 use Rattle.tera.specs.Meaning.{layout}
 use Rattle.tera.specs.Path.{path}
 use Rattle.tera.specs.Printed.{IsExact, shown_in_page}
-use Rattle.tera.specs.Quoted.{Prints}
-use Rattle.tera.specs.Read.{safe_in}
 use Rattle.tera.specs.State.{State}
 use Rattle.uses.specs.declared.render.Piece.{Piece}
 use Rattle.uses.specs.declared.render.Piece.TheVariants.{Text, Path}
@@ -20,33 +18,16 @@ abbrev pub found : State → List ℕ → Option (List ℕ) → Option Form
 found state name None = get state name
 found state name (Some to) = option_and_then (λ value. path value to) (get state name)
 
--- what stands for a text: the text itself where it is safe, and else its spelling
-abbrev pub StandsFor : Bool → List ℕ → List ℕ → Type 0
-StandsFor true shown text = shown ≡ text
-StandsFor false shown text = Spells shown text
-
--- what a value shows: what stands for its printed text
-abbrev pub ShowsValue : Form → List ℕ → Type 0
-ShowsValue value shown = (text : List ℕ) × Prints (layout value) text × StandsFor (safe_in value)
-    shown text
-
--- and what is found: nothing is shown where nothing is
+-- what is shown of what is found: nothing where nothing is
 abbrev pub ShowsFound : Option Form → List ℕ → Type 0
 ShowsFound None shown = shown ≡ []
-ShowsFound (Some value) shown = ShowsValue value shown
+ShowsFound (Some value) shown = ShowsInPage value shown
 
 -- what a piece shows: a text itself, or what is found
 abbrev pub ShowsPiece : State → Piece → List ℕ → Type 0
 ShowsPiece state (Text text) shown = shown ≡ string_bytes text
 ShowsPiece state (Path name to) shown =
     ShowsFound (found state (string_bytes name) (option_map string_bytes to)) shown
-
--- the page of pieces: what the first shows, and then the page of the rest
-abbrev pub IsRendered : State → List Piece → List ℕ → Type 0
-IsRendered state [] page = page ≡ []
-IsRendered state (piece ∷ pieces) page =
-    (shown rest : List ℕ) × ShowsPiece state piece shown × IsRendered state pieces rest
-    × (page ≡ shown ++ rest)
 
 -- what a piece finds has one printed text
 abbrev pub IsExactPiece : State → Piece → Type 0

@@ -4,12 +4,14 @@ ghost use Rattle.std.specs.List.{AllByRecursion, flat_map};
 ghost use Rattle.std.specs.Option.{option_copied, option_map};
 ghost use Rattle.std.specs.String.{string_bytes};
 ghost use Rattle.tera.specs.Errors.{IsOutOfMemory};
-ghost use Rattle.uses.specs.Render.{IsRendered, ShowsPiece, ShowsValue, found};
-ghost use Rattle.uses.specs.Render.{IsExactPiece, shown_by};
+ghost use Rattle.tera.specs.Growing.{grown_bytes};
+ghost use Rattle.tera.specs.InTurn.{ShownInTurn};
+ghost use Rattle.uses.specs.Render.{IsExactPiece, ShowsPiece, found, shown_by};
 
 use std::alloc::Global;
-use tera::utils::one_spelling;
-use tera::{Context, TeraResult, Value, escape_text};
+use tera::laws::shown::pages_show_values;
+use tera::sink::{Growing, Sink};
+use tera::{Context, TeraResult, Value, show_in_page};
 
 /// A piece of a page.
 #[derive(Debug, Drop)]
@@ -26,30 +28,31 @@ pub enum Piece {
 ///
 /// Takes memory for the page; the only refusal is want of it, `Out of memory`.
 pub fn render_pieces(alloc: Global, context: &Context, pieces: &[Piece]) -> TeraResult<String>
-    ensures ok { IfOk result (λ page. IsRendered context.now pieces.now (string_bytes page)) }
+    ensures ok { IfOk result (λ page.
+        ShownInTurn (ShowsPiece context.now) pieces.now (string_bytes page)) }
     ensures known { AllByRecursion (IsExactPiece context.now) pieces.now → IfOk result
         (λ page. string_bytes page ≡ flat_map (shown_by context.now) pieces.now) }
     ensures err { IfErr result IsOutOfMemory }
 {
-    one_spelling();
-    let mut page = String::new(alloc);
+    pages_show_values();
+    let mut page = Growing::new(alloc);
     for piece in pieces {
-        put_piece(alloc, context, piece, &mut page)?;
+        put_piece(context, piece, &mut page)?;
     }
-    Ok(page)
+    Ok(page.into_text())
 }
 
 // Puts what a piece shows.
-fn put_piece(alloc: Global, context: &Context, piece: &Piece, page: &mut String) -> TeraResult<()>
+fn put_piece(context: &Context, piece: &Piece, page: &mut Growing) -> TeraResult<()>
     ensures ok { OnOk result ((shown : List ℕ) × ShowsPiece context.now piece.now shown
-        × (string_bytes page.new ≡ string_bytes page.old ++ shown)) }
+        × (grown_bytes page.new ≡ grown_bytes page.old ++ shown)) }
     ensures err { IfErr result IsOutOfMemory }
 {
     match piece {
-        Piece::Text(text) => page.push_str(text.as_str())?,
+        Piece::Text(text) => page.put(text.as_str())?,
         Piece::Path { name, path } => {
             if let Some(value) = found(context, name.as_str(), path) {
-                put_value(alloc, value, page)?;
+                show_in_page(value, page)?;
             }
         }
     }
@@ -66,19 +69,4 @@ fn found<'a>(context: &'a Context, name: &'a str, path: &'a Option<String>) -> O
         Some(path) => value.get_from_path(path.as_str()),
         None => Some(value),
     }
-}
-
-// Puts what a value shows.
-fn put_value(alloc: Global, value: &Value, page: &mut String) -> TeraResult<()>
-    ensures ok { OnOk result ((shown : List ℕ) × ShowsValue value.now shown
-        × (string_bytes page.new ≡ string_bytes page.old ++ shown)) }
-    ensures err { IfErr result IsOutOfMemory }
-{
-    let text = value.to_text(alloc)?;
-    if value.is_safe() {
-        page.push_str(text.as_str())?;
-    } else {
-        page.push_str(escape_text(alloc, text.as_str())?.as_str())?;
-    }
-    Ok(())
 }

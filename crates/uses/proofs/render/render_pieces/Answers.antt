@@ -1,22 +1,18 @@
-use Rattle.std.proofs.Common.{arith}
-use Rattle.std.specs.String.{string_bytes}
-use Rattle.uses.proofs.Pages.{next_shown, all_shown, page_known}
+use Rattle.std.proofs.Common.{◌∙◌, arith}
+use Rattle.tera.proofs.InTurnLaws.{shown_more, shown_all, shown_known}
+use Rattle.uses.proofs.Pages.{piece_known}
+use Rattle.uses.specs.Render.{IsExactPiece, ShowsPiece, shown_by}
 use Rattle.uses.proofs.render.render_pieces.Goals as goal
 
 pub loop-piece-preserved : goal.loop-piece-preserved
 loop-piece-preserved c =
-    let put = c.in_ok-put_piece.ensures.ok in
-    next_shown c.args.context.now c.args.pieces.now c.loop-piece.piece-index c.piece-item.result
-    (string_bytes c.loop-piece.page) put.0 (string_bytes c.put_piece.new.page)
-    c.loop-piece-test.true c.piece-item.is put.1 put.2 c.loop-piece.invariant
-
-pub returns-clause-ok : goal.returns-clause-ok
-returns-clause-ok c =
-    all_shown c.args.context.now c.args.pieces.now c.loop-piece.piece-index (string_bytes c.loop-piece.page)
-    (omega (arith, c.loop-piece-test.false)) c.loop-piece.invariant
+    let (shown, shows, grows) = c.in_ok-put_piece.ensures.ok in
+    shown_more (ShowsPiece c.args.context.now) c.args.pieces.now c.loop-piece.piece-index c.piece-item.result _ shown _
+    c.loop-piece-test.true c.piece-item.is c.loop-piece.invariant shows grows
 
 pub returns-clause-known : goal.returns-clause-known
 returns-clause-known c exact =
-    page_known c.one_spelling.ensures.word c.args.context.now c.args.pieces.now (string_bytes c.loop-piece.page) exact
-    (all_shown c.args.context.now c.args.pieces.now c.loop-piece.piece-index (string_bytes c.loop-piece.page)
-    (omega (arith, c.loop-piece-test.false)) c.loop-piece.invariant)
+    let state = c.args.context.now in
+    c.into_text.ensures
+    ∙ shown_known (ShowsPiece state) (IsExactPiece state) (shown_by state) (piece_known c.pages_show_values.ensures.known state) c.args.pieces.now _ exact
+    (shown_all (ShowsPiece state) c.args.pieces.now c.loop-piece.piece-index _ (omega (arith, c.loop-piece-test.false)) c.loop-piece.invariant)
