@@ -3,8 +3,7 @@ from __future__ import annotations
 
 import re
 
-from clauses import CLAUSE, end_of, flat, imports_of
-from wrong_bodies import block_of
+from source import CLAUSE, block_of, end_of, flat, imports_of
 
 from .model import Block, Clause, Imports, Item
 
@@ -158,7 +157,9 @@ def mark_public(items: list[Item], modules: set[str], names: set[str]) -> None:
         if it.block:
             it.is_public = it.said_public and is_seen(it.block.owner) and is_seen(it.block.trait)
         else:
-            it.is_public = it.said_public and (it.kind == "macro" or it.module in modules or it.name in names)
+            # what C calls is reached by its name, whatever its module
+            is_named = it.kind == "macro" or it.signature.startswith("pub extern ")
+            it.is_public = it.said_public and (is_named or it.module in modules or it.name in names)
 
 
 def set_anchors(items: list[Item], modules: set[str]) -> None:

@@ -122,7 +122,7 @@ def taken_in(book: Book, item: Item) -> str:
 
 def callers(book: Book, item: Item) -> str:
     """How the call is made in a crate of one's own: what is named there, and functions of `uses` that make it."""
-    if item.crate in ("uses", "tera_c", "tera_replay", "tera_cli") or item.block and item.block.trait:
+    if item.crate in ("uses", "tera_c", "tera_replay", "tera_cli", "tera_render") or item.block and item.block.trait:
         return ""
     said = f".{item.name}(" if item.block and "self" in item.signature else f"{item.name}("
     said = f"::{said}" if item.block and "self" not in item.signature else said

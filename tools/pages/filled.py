@@ -6,8 +6,8 @@ A part stands between two comments, of which the first says what it is of:
     <!-- filled: ledger -->                    a row for each public call and law that has clauses, crate by crate
     <!-- filled: crates -->                    the crates, with what they hold and what they stand on
     <!-- filled: script NAME -->               examples/NAME.replay, each line with its answer
-    <!-- filled: FILE NAME .. -->              these functions of a file of src/, or definitions of a file of specs/ or proofs/;
-                                               the whole file where none is named
+    <!-- filled: FILE NAME .. -->              these functions of a file of Rattle, Rust or C, or definitions of a file of specs/ or
+                                               proofs/; the whole file where none is named
     <!-- end -->
 """
 from __future__ import annotations
@@ -110,7 +110,7 @@ def first_of(comment: str) -> str:
 def code(path: str, names: list[str]) -> str:
     """These functions or definitions, as they stand in a file, with their comments."""
     text = read(path)
-    sign = "antt" if path.endswith(".antt") else "rust"
+    sign = {".antt": "antt", ".c": "c"}.get(os.path.splitext(path)[1], "rust")
     if not names:
         return f"```{sign}\n{text}```\n"
     blocks = [block_of(text, it, sign) for it in names]
@@ -122,8 +122,10 @@ def code(path: str, names: list[str]) -> str:
 
 def block_of(text: str, name: str, sign: str) -> str | None:
     """A function, from its comment to its closing brace; or a definition, from its comment to the next blank line."""
-    comment = "///[^\n]*\n" if sign == "rust" else "--[^\n]*\n"
-    if sign == "rust":
+    comment = "--[^\n]*\n" if sign == "antt" else "///[^\n]*\n"
+    if sign == "c":
+        found = re.search(rf"(?ms)^(?:/\*[^\n]*\*/\n)?\w[\w *]*\b{re.escape(name)}\([^\n]*\) \{{$.*?^\}}$", text)
+    elif sign == "rust":
         found = re.search(rf"(?ms)^(?:{comment})*(?:pub )?fn {re.escape(name)}\b.*?^\}}$", text)
     else:
         head = r"(?:abbrev |pub |unfoldable )*"

@@ -6,7 +6,7 @@ import os
 import re
 import shutil
 
-from clauses import imports_of
+from source import imports_of
 
 ROOTS = {"mathlib": "antt/port/mathlib/src", "lib": "antt/lib/src"}
 

@@ -3,7 +3,7 @@ from __future__ import annotations
 
 import re
 
-from clauses import imports_of
+from source import imports_of
 
 from .model import Definition, Module
 

@@ -1,0 +1,9 @@
+//! Tests of pages through public calls: templates and values in, texts out.
+#![tactic(auto)]
+
+#[cfg(test)]
+mod held;
+#[cfg(test)]
+mod hostile;
+#[cfg(test)]
+mod pages;

@@ -1,0 +1,227 @@
+//! What templates show, and what they are refused with.
+use crate::held::{Seen, hold, is_so, same};
+use std::alloc::Global;
+use tera::{Context, Key, Map, TeraResult, Value};
+use tera_page::{parse, render};
+
+// A shop: a name, a map with a map in it, two arrays, and values that are false.
+fn shop(alloc: Global) -> TeraResult<Context> {
+    let mut context = Context::new(alloc);
+    context.insert("title", "Tea & <Cakes>")?;
+    context.insert_value("markup", Value::safe_string(alloc, "<b>")?)?;
+    context.insert_value("count", Value::from(3u64))?;
+    context.insert_value("zero", Value::from(0u64))?;
+    context.insert_value("nothing", Value::none())?;
+    context.insert_value("missing", Value::undefined())?;
+    let mut inner = Map::new(alloc);
+    inner.insert(Key::Str("b"), words(alloc)?)?;
+    context.insert_value("a", Value::of_map(inner))?;
+    context.insert_value("words", words(alloc)?)?;
+    context.insert_value("empty", Value::of_array(Vec::new(alloc)))?;
+    Ok(context)
+}
+
+fn words(alloc: Global) -> TeraResult<Value> {
+    let mut items = Vec::new(alloc);
+    items.push(Value::normal_string(alloc, "x")?)?;
+    items.push(Value::normal_string(alloc, "y")?)?;
+    Ok(Value::of_array(items))
+}
+
+// The page of a template.
+fn page_of(alloc: Global, text: &str) -> TeraResult<String> {
+    let template = parse(alloc, text)?;
+    render(alloc, &template, &shop(alloc)?)
+}
+
+// The page of a template, or what its refusal says behind a mark.
+fn told(alloc: Global, text: &str) -> String {
+    match page_of(alloc, text) {
+        Ok(page) => page,
+        Err(error) => { format!(in alloc; "refused: {error}").unwrap_or(String::new(alloc)) }
+    }
+}
+
+fn shows(alloc: Global, text: &str, wanted: &str) -> Seen {
+    let found = told(alloc, text);
+    same(alloc, found.as_str(), wanted)
+}
+
+fn refused(alloc: Global, text: &str, wanted: &str) -> Seen {
+    let found = told(alloc, text);
+    let holds = found.as_str().starts_with("refused: ") && found.as_str().contains(wanted);
+    is_so(alloc, holds, found.as_str(), wanted)
+}
+
+#[test]
+fn values_are_shown(rt: HostRuntime) {
+    let alloc = rt.alloc();
+    hold!(
+        &rt,
+        [
+            shows(alloc, "", ""),
+            shows(alloc, "plain { text } % #", "plain { text } % #"),
+            shows(alloc, "{{ count }}", "3"),
+            shows(alloc, "{{count}}{{\n count\t}}", "33"),
+            shows(alloc, "{{ title }}", "Tea &amp; &lt;Cakes&gt;"),
+            shows(alloc, "{{ title | escape }}", "Tea &amp; &lt;Cakes&gt;"),
+            shows(alloc, "{{ title|safe }}", "Tea & <Cakes>"),
+            shows(alloc, "{{ markup }}{{ markup | escape }}", "<b><b>"),
+            shows(alloc, "{{ a.b.1 }}", "y"),
+            shows(alloc, "{{ nothing }}", ""),
+            shows(alloc, "{# a {{ comment }} #}x{##}", "x"),
+            shows(alloc, "{{ a.b }}", "[&quot;x&quot;, &quot;y&quot;]"),
+        ],
+    );
+}
+
+#[test]
+fn parts_are_chosen_and_repeated(rt: HostRuntime) {
+    let alloc = rt.alloc();
+    hold!(
+        &rt,
+        [
+            shows(alloc, "{% if count %}a{% endif %}b", "ab"),
+            shows(alloc, "{% if zero %}a{% endif %}b", "b"),
+            shows(alloc, "{% if absent %}a{% else %}b{% endif %}", "b"),
+            shows(alloc, "{% if a.b.7 %}a{% else %}b{% endif %}", "b"),
+            shows(
+                alloc,
+                "{% if zero %}a{% elif empty %}b{% elif words %}c{% else %}d{% endif %}",
+                "c",
+            ),
+            shows(alloc, "{% for w in words %}<{{ w }}>{% endfor %}", "<x><y>"),
+            shows(
+                alloc,
+                "{% for w in empty %}a{% else %}none{% endfor %}",
+                "none",
+            ),
+            shows(
+                alloc,
+                "{% for w in words %}{% for count in a.b %}{{ w }}{{ count }} {% endfor %}\
+                {{ count }}{% endfor %}",
+                "xx xy 3yx yy 3",
+            ),
+        ],
+    );
+}
+
+#[test]
+fn blanks_are_left_out(rt: HostRuntime) {
+    let alloc = rt.alloc();
+    hold!(
+        &rt,
+        [
+            shows(alloc, "a {{- count -}} b", "a3b"),
+            shows(alloc, "a {{- count }} b", "a3 b"),
+            shows(alloc, "a {{ count -}} b", "a 3b"),
+            shows(alloc, "a \t\r\n {#- said -#} \n\n b", "ab"),
+            shows(alloc, "a {#-#} b", "a b"),
+            shows(alloc, "a {#--#} b", "ab"),
+            shows(alloc, " {{-count-}} ", "3"),
+            shows(alloc, "{{ count -}}  {{- count }}", "33"),
+            shows(alloc, "{{ count }}  {{- count }}", "33"),
+            shows(alloc, "{{ count -}}  {{ count }}", "33"),
+            shows(alloc, "{{ count -}}{ }", "3{ }"),
+            shows(alloc, "\u{a0}{{- count }}", "\u{a0}3"),
+            shows(alloc, "{%- if count -%} a {%- endif -%} b", "ab"),
+            shows(
+                alloc,
+                "{% if zero %} a {%- else -%} b {% endif -%} c",
+                "b c"
+            ),
+            shows(
+                alloc,
+                "<ul>\n  {%- for w in words %}\n  <li>{{ w }}</li>\n  {%- endfor %}\n</ul>",
+                "<ul>\n  <li>x</li>\n  <li>y</li>\n</ul>",
+            ),
+        ],
+    );
+}
+
+#[test]
+fn what_is_not_there_is_refused(rt: HostRuntime) {
+    let alloc = rt.alloc();
+    hold!(
+        &rt,
+        [
+            refused(alloc, "{{ absent }}", "Nothing is found at `absent`"),
+            refused(alloc, "{{ missing }}", "Nothing is found at `missing`"),
+            refused(alloc, "{{ a.c.0 }}", "Nothing is found at `a.c.0`"),
+            refused(
+                alloc,
+                "{% for w in count %}{% endfor %}",
+                "What is found at `count` is no array",
+            ),
+            refused(
+                alloc,
+                "{% for w in words %}{% endfor %}{{ w }}",
+                "Nothing is found at `w`",
+            ),
+        ],
+    );
+}
+
+#[test]
+fn what_is_no_template_is_refused(rt: HostRuntime) {
+    let alloc = rt.alloc();
+    hold!(
+        &rt,
+        [
+            refused(alloc, "{{ count", "This is not read"),
+            refused(alloc, "{{ }}", "This is not read"),
+            refused(alloc, "{{ 1 }}", "This is not read"),
+            refused(alloc, "{{ true }}", "This is not read"),
+            refused(alloc, "{{ a..b }}", "This is not read"),
+            refused(alloc, "{{ a. }}", "This is not read"),
+            refused(alloc, "{{ a b }}", "This is not read"),
+            refused(alloc, "{{ a | upper }}", "This is not read"),
+            refused(alloc, "{{ a | safe | safe }}", "This is not read"),
+            refused(alloc, "{% if a %}", "This is not read"),
+            refused(alloc, "{% if a %}{% endfor %}", "This is not read"),
+            refused(alloc, "{% endif %}", "This is not read"),
+            refused(alloc, "{% else %}", "This is not read"),
+            refused(alloc, "{% iffy %}{% endif %}", "This is not read"),
+            refused(alloc, "{% for a of b %}{% endfor %}", "This is not read"),
+            refused(alloc, "{%- if a %}{% endfor %}", "This is not read"),
+            refused(alloc, "{{ -count }}", "This is not read"),
+            refused(alloc, "{{-- count }}", "This is not read"),
+            refused(alloc, "{# open", "This is not read"),
+            refused(alloc, "x\n  {#- open -", " --> :2:3\n"),
+        ],
+    );
+}
+
+// A choice inside so many others.
+fn nested(alloc: Global, levels: usize) -> TeraResult<String> {
+    let mut text = String::new(alloc);
+    for _ in 0..levels {
+        text.push_str("{% if a %}")?;
+    }
+    for _ in 0..levels {
+        text.push_str("{% endif %}")?;
+    }
+    Ok(text)
+}
+
+// A choice inside so many others is read, or is told to be too deep.
+fn reads(alloc: Global, levels: usize, wanted: &str) -> Seen {
+    let Ok(text) = nested(alloc, levels) else {
+        return same(alloc, "no memory", wanted);
+    };
+    let found = told(alloc, text.as_str());
+    let holds = found.as_str().is_empty() == wanted.is_empty() && found.as_str().contains(wanted);
+    is_so(alloc, holds, found.as_str(), wanted)
+}
+
+#[test]
+fn levels_are_bounded(rt: HostRuntime) {
+    let alloc = rt.alloc();
+    hold!(
+        &rt,
+        [
+            reads(alloc, 64, ""),
+            reads(alloc, 65, "More than 64 levels")
+        ],
+    );
+}

@@ -1,0 +1,5 @@
+mod Fronts
+mod Plainly
+mod Spelled
+mod Turns
+mod Views

@@ -1,0 +1,88 @@
+-- What templates are spelled by, one thing behind the other.
+use Rattle.std.specs.Prelude.{◌≡◌, ◌⊎◌, ℕ, true, List, [], ◌∷◌, ◌++◌, Option, None, Some, refl}
+use Rattle.std.proofs.Common.{inl, inr, ap, sym, subst, arith, rules}
+use Rattle.std.proofs.lemmas.Slice.Eq.{bytes_eq-Decides}
+use Rattle.std.specs.Str.{bytes_eq}
+use Rattle.std.specs.Borrow.{Bor}
+use Rattle.std.specs.Option.{option_map, unwrap_or}
+use Rattle.tera_page.proofs.Views.{part-Comment, part-Show, part-Text}
+use Rattle.tera_page.specs.Grammar as grammar
+use Rattle.tera_page.specs.Grammar.{IsPlace, IsPlain, IsRun, Marked, Shows, SpellsElse, SpellsPart, SpellsTag, SpellsUpTo}
+use Rattle.tera_page.specs.Grammar.{Tag, if_tag, for_tag, elif_tag, comment_mark, value_mark}
+use Rattle.tera_page.specs.Reading.{IsChoice, IsLoop, StopsAt}
+use Rattle.tera_page.specs.Template as tree
+use Rattle.tera_page.specs.Template.{Part, Parts}
+use Rattle.tera_page.specs.Tokens.{tag_of}
+use Rattle.tera_page.specs.View.{part_of, parts_of, place_of, showing_of}
+use Rattle.tera_page.specs.declared.token.Tag as code
+use Rattle.tera_page.specs.declared.tree.Node as node
+use Rattle.tera_page.specs.declared.tree.Place as code_place
+use Rattle.tera_page.specs.declared.tree.Showing as code_showing
+
+some_same : (x y : Tag) → Some x ≡ Some y → x ≡ y
+some_same x y is = ap (λ o. unwrap_or o x) is
+
+pub same_text : (xs ys : List ℕ) → bytes_eq xs ys ≡ true → xs ≡ ys
+same_text xs ys is = search (rules, bytes_eq-Decides)
+
+none_spelled : (text rest : List ℕ) → SpellsUpTo tree.no_parts text rest → text ≡ rest
+none_spelled text rest (grammar.nothing whole left is) = is
+
+some_spelled : (p : Part) (ps : Parts) (text rest : List ℕ) → SpellsUpTo (tree.part p ps) text rest
+    → (next : List ℕ) × SpellsPart p text next × SpellsUpTo ps next rest
+some_spelled p ps text rest (grammar.one_more q qs whole next left one more) = (next, one, more)
+
+-- one part more
+pub spelled_more : (nodes : List node.Node) (n : node.Node) (text next rest : List ℕ) → SpellsUpTo (parts_of nodes) text next
+    → SpellsPart (part_of n) next rest → SpellsUpTo (parts_of (nodes ++ n ∷ [])) text rest
+spelled_more [] n text next rest spelled one =
+    grammar.one_more (part_of n) tree.no_parts text rest rest
+    (subst (λ l. SpellsPart (part_of n) l rest) (sym (none_spelled text next spelled)) one) (grammar.nothing rest rest refl)
+spelled_more (x ∷ nodes) n text next rest spelled one =
+    let (middle, before, later) = some_spelled (part_of x) (parts_of nodes) text next spelled in
+    grammar.one_more (part_of x) (parts_of (nodes ++ n ∷ [])) text middle rest before (spelled_more nodes n middle next rest later one)
+
+-- what is left of a text in which nothing begins, where it is nothing or all
+pub plain_left : (text rest : List ℕ) → IsPlain text → (rest ≡ []) ⊎ (rest ≡ text) → IsPlain rest
+plain_left text rest plain (inl none) = subst IsPlain (sym none) (λ i below. absurd (omega (arith, below)))
+plain_left text rest plain (inr all) = subst IsPlain (sym all) plain
+
+-- what is next
+module _ (text rest : List ℕ) where
+  abbrev pub NextIs : node.Node → Type 0
+  NextIs n = SpellsPart (part_of n) text rest
+
+  pub next_text : (run : Bor (List ℕ)) → IsRun run.now text rest → NextIs (node.Text run)
+  next_text run is = subst (λ p. SpellsPart p text rest) (sym (part-Text run)) (grammar.text run.now text rest is)
+
+  pub next_comment : (said : Bor (List ℕ)) → Marked comment_mark said.now text rest → NextIs (node.Comment said)
+  next_comment said is = subst (λ p. SpellsPart p text rest) (sym (part-Comment said)) (grammar.comment said.now text rest is)
+
+  pub next_show : (at : code_place.Place) (how : code_showing.Showing)
+      → (said : List ℕ) × IsPlace (place_of at) × Shows (place_of at) (showing_of how) said × Marked value_mark said text rest
+      → NextIs (node.Show at how)
+  next_show at how (said, proper, shows, is) =
+      subst (λ p. SpellsPart p text rest) (sym (part-Show at how))
+      (grammar.show (place_of at) (showing_of how) said text rest proper shows is)
+
+  pub next_choice : (at : tree.Place) (n : node.Node) (body : List ℕ) → SpellsTag (if_tag at) text body → IsChoice at n body rest → NextIs n
+  next_choice at n body tag (chosen, otherwise, tail, view, inside, end) =
+      subst (λ p. SpellsPart p text rest) (sym view) (grammar.choice at chosen otherwise text body tail rest tag inside end)
+
+  pub next_loop : (name : List ℕ) (over : tree.Place) (n : node.Node) (body : List ℕ) → SpellsTag (for_tag name over) text body
+      → IsLoop name over n body rest → NextIs n
+  next_loop name over n body tag (repeated, otherwise, tail, view, inside, end) =
+      subst (λ p. SpellsPart p text rest) (sym view) (grammar.loop name over repeated otherwise text body tail rest tag inside end)
+
+-- an `elif` and what it begins
+pub else_elif : (at : tree.Place) (n : node.Node) (left text rest : List ℕ) → SpellsTag (elif_tag at) left text → IsChoice at n text rest
+    → SpellsElse (parts_of (n ∷ [])) left rest
+else_elif at n left text rest tag (chosen, otherwise, tail, view, inside, end) =
+    subst (λ p. SpellsElse (tree.part p tree.no_parts) left rest) (sym view)
+    (grammar.elif at chosen otherwise left text tail rest tag inside end)
+
+-- the tag at which parts stop
+pub ends_at : (stop : Option code.Tag) (end : Tag) (left rest : List ℕ) → option_map tag_of stop ≡ Some end → StopsAt stop left rest
+    → SpellsTag end left rest
+ends_at None end left rest same stops = absurd (cc)
+ends_at (Some tag) end left rest same spells = subst (λ t. SpellsTag t left rest) (some_same (tag_of tag) end same) spells

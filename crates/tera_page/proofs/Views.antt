@@ -1,0 +1,63 @@
+-- What nodes and scopes stand for, variant by variant.
+use Rattle.std.specs.Prelude.{◌≡◌, ℕ, nat_eq, length, false, cond, List, [], ◌∷◌, Some, Ok, Vec, refl}
+use Rattle.std.proofs.Common.{ap, rules, ◌∙◌}
+use Rattle.std.specs.Borrow.{Bor}
+use Rattle.std.specs.Cmp.{eq_by_cmp_equiv}
+use Rattle.std.specs.Cmp.Lexicographic.{nat_list_cmp_total}
+use Rattle.std.specs.FinMap.{get, insert, get-insert}
+use Rattle.std.specs.Str.{bytes_eq}
+use Rattle.std.specs.declared.alloc.Global.{Global}
+use Rattle.std.proofs.lemmas.Map.Text.{is_eq-slice_cmp}
+use Rattle.tera.specs.Form.{Form}
+use Rattle.tera.specs.State.{State}
+use Rattle.tera.specs.Arithmetic.{and_then}
+use Rattle.tera_page.specs.Rendering.{Pieces, all_pieces, each, found, found_items, joined, pieces, repeated}
+use Rattle.tera_page.specs.Template as tree
+use Rattle.tera_page.specs.View.{part_of, parts_of, place_of, showing_of, state_of}
+use Rattle.tera_page.specs.declared.scope.Scope as scope
+use Rattle.tera_page.specs.declared.tree.Node as node
+use Rattle.tera_page.specs.declared.tree.Place.{Place}
+use Rattle.tera_page.specs.declared.tree.Showing.{Showing}
+
+pub state-Item : (name : Bor (List ℕ)) (value : Bor Form) (outer : Bor scope.Scope)
+    → state_of (scope.Item name value outer) ≡ insert (state_of outer.now) name.now value.now
+state-Item name value outer = search (rules, scope.the_lemmas)
+
+pub part-Text : (shown : Bor (List ℕ)) → part_of (node.Text shown) ≡ tree.text shown.now
+part-Text shown = search (rules, node.the_lemmas)
+
+pub part-Comment : (said : Bor (List ℕ)) → part_of (node.Comment said) ≡ tree.comment said.now
+part-Comment said = search (rules, node.the_lemmas)
+
+pub part-Show : (at : Place) (how : Showing) → part_of (node.Show at how) ≡ tree.show (place_of at) (showing_of how)
+part-Show at how = search (rules, node.the_lemmas)
+
+pub part-For : (name : Bor (List ℕ)) (over : Place) (body otherwise : Vec node.Node Global)
+    → part_of (node.For name over body otherwise) ≡ tree.loop name.now (place_of over) (parts_of body.items) (parts_of otherwise.items)
+part-For name over body otherwise = search (rules, node.the_lemmas)
+
+-- the value of a name under one name more
+pub get_under : (state : State) (name : List ℕ) (value : Form) (other : List ℕ)
+    → get (insert state name value) other ≡ cond (bytes_eq name other) (Some value) (get state other)
+get_under state name value other =
+    get-insert nat_list_cmp_total state name value other
+    ∙ ap (λ b. cond b (Some value) (get state other)) ((eq_by_cmp_equiv nat_list_cmp_total).symm other name ∙ is_eq-slice_cmp name other)
+
+-- parts one behind the other
+pub all_each : (nodes : List node.Node) (state : State) → all_pieces (parts_of nodes) state ≡ each (λ n. pieces (part_of n) state) nodes
+all_each [] state = refl
+all_each (n ∷ nodes) state = ap (joined (pieces (part_of n) state)) (all_each nodes state)
+
+-- a loop over items that there are
+repeated_some : (body otherwise : State → Pieces) (state : State) (name : List ℕ) (xs : List Form) → nat_eq (length xs) 0 ≡ false
+    → repeated body otherwise state name xs ≡ each (λ v. body (insert state name v)) xs
+repeated_some body otherwise state name [] is = absurd (cc)
+repeated_some body otherwise state name (x ∷ xs) is = refl
+
+pub loop_items : (held : node.Node) (name : Bor (List ℕ)) (over : Place) (body otherwise : Vec node.Node Global) (state : State) (xs : List Form)
+    → held ≡ node.For name over body otherwise → found_items (place_of over) (found state (place_of over)) ≡ Ok xs → nat_eq (length xs) 0 ≡ false
+    → pieces (part_of held) state ≡ each (λ v. all_pieces (parts_of body.items) (insert state name.now v)) xs
+loop_items held name over body otherwise state xs is items some =
+    ap (λ p. pieces p state) (ap part_of is ∙ part-For name over body otherwise)
+    ∙ ap (λ r. and_then r (repeated (all_pieces (parts_of body.items)) (all_pieces (parts_of otherwise.items)) state name.now)) items
+    ∙ repeated_some (all_pieces (parts_of body.items)) (all_pieces (parts_of otherwise.items)) state name.now xs some

@@ -1,0 +1,119 @@
+-- By the lemmas on what is spelled one thing behind the other.
+use Rattle.std.proofs.Common.{◌≡◌, ◌<◌, true, length, ◌++◌, ◌∷◌, [], inl, inr, refl, ap, sym, subst, ◌∙◌, arith, rules}
+use Rattle.std.proofs.lemmas.Result.{IfOk-weaker}
+use Rattle.tera_page.proofs.Spelled.{else_elif, ends_at, next_choice, next_comment, next_loop, next_show, next_text, plain_left, spelled_more}
+use Rattle.tera_page.proofs.syntax.+read.Goals as goal
+use Rattle.tera_page.specs.Grammar as grammar
+use Rattle.tera_page.specs.Grammar.{SpellsEnd, SpellsElse, SpellsTag, SpellsUpTo, else_tag, elif_tag}
+use Rattle.tera_page.specs.Reading.{IsLastStep, IsStep, end_tag, rest_of}
+use Rattle.tera_page.specs.Tokens.{IsLastRun, SpellsToken, tag_of}
+use Rattle.tera_page.specs.View.{parts_of, place_of}
+
+pub read_else-returns-clause-spells : goal.read_else-returns-clause-spells
+read_else-returns-clause-spells t c left stops =
+    let node = c.in_ok-node.node in
+    let at = place_of c.in-Some.next in
+    let rest = c.in_ok-node.rest.now in
+    let tag = ends_at c.args.stop (elif_tag at) left c.args.rest.now c.in-Some.ensures stops in
+    let alone : c.push.new.self.items ≡ node ∷ [] =
+    c.in_ok-push.ensures.items ∙ ap (λ l. l ++ node ∷ []) c.new-otherwise.ensures.items in
+    subst (λ l. SpellsElse (parts_of l) left rest) (sym alone) (else_elif at node left c.args.rest.now rest tag c.in_ok-node.ensures.read)
+
+pub read_else-returns-in_default-clause-spells : goal.read_else-returns-in_default-clause-spells
+read_else-returns-in_default-clause-spells t c =
+    IfOk-weaker c.read_end.result _ _ (λ read ends left stops. grammar.last (parts_of read.0.items) left read.1.now (ends left stops))
+    c.read_end.ensures.spells
+
+pub read_end-returns-then-is_end-clause-spells : goal.read_end-returns-then-is_end-clause-spells
+read_end-returns-then-is_end-clause-spells t c left stops =
+    let rest = c.args.rest.now in
+    let tag = ends_at c.args.stop (end_tag c.args.end) left rest (c.is_end.ensures c.if-is_end.true) stops in
+    subst (λ l. SpellsEnd (end_tag c.args.end) (parts_of l) left rest) (sym c.new.ensures.items) (grammar.ended (end_tag c.args.end) left rest tag)
+
+pub read_end-returns-then-is_end-2-clause-spells : goal.read_end-returns-then-is_end-2-clause-spells
+read_end-returns-then-is_end-2-clause-spells t c left stops =
+    let read = c.in_ok-nodes.field-0 in
+    let yes : c.is_else.result ≡ true = search rules in
+    let tag = ends_at c.args.stop else_tag left c.args.rest.now (c.is_else.ensures yes) stops in
+    let (over, inside, at_end) = c.in_ok-nodes.ensures.ok in
+    grammar.otherwise (end_tag c.args.end) (parts_of read.nodes.items) left c.args.rest.now over read.rest.now tag inside
+    (ends_at read.stop (end_tag c.args.end) over read.rest.now (c.is_end-2.ensures c.if-is_end-2.true) at_end)
+
+pub read_node-returns-in-Run-clause-ok : goal.read_node-returns-in-Run-clause-ok
+read_node-returns-in-Run-clause-ok t c =
+    let token = subst (λ t. SpellsToken t c.args.text.now c.in-Some.rest.now) c.in-Run.is c.in-Some.ensures.spelled in
+    next_text c.args.text.now c.in-Some.rest.now c.in-Run.run' token
+
+pub read_node-returns-in-Comment-clause-ok : goal.read_node-returns-in-Comment-clause-ok
+read_node-returns-in-Comment-clause-ok t c =
+    let token = subst (λ t. SpellsToken t c.args.text.now c.in-Some.rest.now) c.in-Comment.is c.in-Some.ensures.spelled in
+    next_comment c.args.text.now c.in-Some.rest.now c.in-Comment.said token
+
+pub read_node-returns-in-Show-clause-ok : goal.read_node-returns-in-Show-clause-ok
+read_node-returns-in-Show-clause-ok t c =
+    let token = subst (λ t. SpellsToken t c.args.text.now c.in-Some.rest.now) c.in-Show.is c.in-Some.ensures.spelled in
+    next_show c.args.text.now c.in-Some.rest.now c.in-Show.at c.in-Show.how token
+
+pub read_node-returns-in-Tag-clause-ok : goal.read_node-returns-in-Tag-clause-ok
+read_node-returns-in-Tag-clause-ok t c =
+    let token = subst (λ t. SpellsToken t c.args.text.now c.in-Some.rest.now) c.in-Tag.is c.in-Some.ensures.spelled in
+    IfOk-weaker c.read_tag.result _ _ (λ step steps. steps token) c.read_tag.ensures.step
+
+pub read_node-returns-in-Run-clause-plain : goal.read_node-returns-in-Run-clause-plain
+read_node-returns-in-Run-clause-plain t c plain some = subst (λ t. IsLastRun t c.in-Some.rest.now) c.in-Run.is (c.in-Some.ensures.plain plain some)
+
+pub read_node-returns-in-Comment-clause-plain : goal.read_node-returns-in-Comment-clause-plain
+read_node-returns-in-Comment-clause-plain t c plain some =
+    absurd (subst (λ t. IsLastRun t c.in-Some.rest.now) c.in-Comment.is (c.in-Some.ensures.plain plain some))
+
+pub read_node-returns-in-Show-clause-plain : goal.read_node-returns-in-Show-clause-plain
+read_node-returns-in-Show-clause-plain t c plain some =
+    absurd (subst (λ t. IsLastRun t c.in-Some.rest.now) c.in-Show.is (c.in-Some.ensures.plain plain some))
+
+pub read_node-returns-in-Tag-clause-plain : goal.read_node-returns-in-Tag-clause-plain
+read_node-returns-in-Tag-clause-plain t c plain some =
+    absurd (subst (λ t. IsLastRun t c.in-Some.rest.now) c.in-Tag.is (c.in-Some.ensures.plain plain some))
+
+pub read_tag-returns-in_ok-node-in-If-clause-step : goal.read_tag-returns-in_ok-node-in-If-clause-step
+read_tag-returns-in_ok-node-in-If-clause-step t c spells =
+    next_choice c.args.from.now c.in_ok-node-in-If.rest.now (place_of c.in-If.at) c.in_ok-node-in-If.node c.args.rest.now
+    (subst (λ t. SpellsTag (tag_of t) c.args.from.now c.args.rest.now) c.in-If.is spells) c.in_ok-node-in-If.ensures.read
+
+pub read_tag-returns-in_ok-node-in-For-clause-step : goal.read_tag-returns-in_ok-node-in-For-clause-step
+read_tag-returns-in_ok-node-in-For-clause-step t c spells =
+    next_loop c.args.from.now c.in_ok-node-in-For.rest.now c.in-For.name.now (place_of c.in-For.over) c.in_ok-node-in-For.node c.args.rest.now
+    (subst (λ t. SpellsTag (tag_of t) c.args.from.now c.args.rest.now) c.in-For.is spells) c.in_ok-node-in-For.ensures.read
+
+pub read_nodes-parts-init : goal.read_nodes-parts-init
+read_nodes-parts-init t c =
+    let none = subst (λ l. SpellsUpTo (parts_of l) c.args.text.now c.args.text.now) (sym c.new-nodes.ensures.items)
+    (grammar.nothing c.args.text.now c.args.text.now refl) in
+    (search rules, none, search rules, λ plain. inr refl)
+
+pub read_nodes-parts-preserved : goal.read_nodes-parts-preserved
+read_nodes-parts-preserved t c =
+    let part = subst (λ s. IsStep s c.parts.rest.now) c.in-Node.is c.in_ok-node.ensures.ok in
+    let more = subst (λ l. SpellsUpTo (parts_of l) c.args.text.now c.in-Node.after.now) (sym c.in_ok-push-in-Node.ensures.items)
+    (spelled_more c.parts.nodes.items c.in-Node.node c.args.text.now c.parts.rest.now c.in-Node.after.now c.parts.invariant.1 part) in
+    let short = subst (λ s. length (rest_of s) < length c.parts.rest.now) c.in-Node.is c.in_ok-node.ensures.shorter in
+    let some : 0 < length c.parts.rest.now = search rules in (
+      search rules,
+      more,
+      omega (arith, short, c.parts.invariant.2),
+      λ plain. inl (subst IsLastStep c.in-Node.is (c.in_ok-node.ensures.plain (plain_left c.args.text.now c.parts.rest.now plain
+          (c.parts.invariant.3 plain)) some)),
+    )
+
+pub read_nodes-returns-in-Stop-clause-plain : goal.read_nodes-returns-in-Stop-clause-plain
+read_nodes-returns-in-Stop-clause-plain t c plain =
+    let some : 0 < length c.parts.rest.now = search rules in
+    absurd (subst IsLastStep c.in-Stop.is (c.in_ok-node.ensures.plain (plain_left c.args.text.now c.parts.rest.now plain (c.parts.invariant.3 plain)) some))
+
+pub read_nodes-returns-in-Stop-clause-within : goal.read_nodes-returns-in-Stop-clause-within
+read_nodes-returns-in-Stop-clause-within t c =
+    let short = subst (λ s. length (rest_of s) < length c.parts.rest.now) c.in-Stop.is c.in_ok-node.ensures.shorter in
+    omega (arith, short, c.parts.invariant.2)
+
+pub read_node-returns-in-Tag-clause-shorter : goal.read_node-returns-in-Tag-clause-shorter
+read_node-returns-in-Tag-clause-shorter t c =
+    IfOk-weaker c.read_tag.result _ _ (λ step within. omega (arith, within, c.in-Some.ensures.shorter)) c.read_tag.ensures.within

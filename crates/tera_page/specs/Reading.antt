@@ -1,0 +1,82 @@
+-- What the clauses of the reader cite.
+use Rattle.std.specs.Prelude.{◌≡◌, ◌⊎◌, ℕ, List, [], codes, Option, None, Some}
+use Rattle.tera.specs.Errors.{Raises}
+use Rattle.tera.specs.Refusal.{syntax_error}
+use Rattle.tera.specs.types.Error.{Error}
+use Rattle.tera.specs.types.Span.{Span}
+use Rattle.tera_page.specs.Grammar as grammar
+use Rattle.tera_page.specs.Grammar.{SpellsUpTo, SpellsElse, SpellsEnd, SpellsPart, SpellsTag}
+use Rattle.tera_page.specs.Template as tree
+use Rattle.tera_page.specs.Template.{Parts, Place}
+use Rattle.tera_page.specs.Tokens.{tag_of}
+use Rattle.tera_page.specs.View.{part_of, parts_of}
+use Rattle.tera_page.specs.declared.syntax.End.{End}
+use Rattle.tera_page.specs.declared.syntax.End.TheVariants.{If, For}
+use Rattle.tera_page.specs.declared.syntax.Section.{Section}
+use Rattle.tera_page.specs.declared.syntax.Step.{Step}
+use Rattle.tera_page.specs.declared.syntax.Step.TheVariants as step
+use Rattle.tera_page.specs.declared.token.Tag.{Tag}
+use Rattle.tera_page.specs.declared.tree.Node.{Node}
+
+-- the error is a report that shows the message at a place in the source of that file; or want of
+-- memory
+abbrev pub ShowsAt : List ℕ → List ℕ → List ℕ → Span → Error → Type 0
+ShowsAt message file source span e =
+    Raises (syntax_error (record {
+      message = message;
+      file = file;
+      source = source;
+      span = span;
+      notes = [];
+    })) e
+
+-- the same at some place
+abbrev pub ShowsIn : List ℕ → List ℕ → List ℕ → Error → Type 0
+ShowsIn message file source e = (span : Span) × ShowsAt message file source span e
+
+-- what no template is refused with, where it stands in this file
+abbrev pub IsSyntaxError : List ℕ → List ℕ → Error → Type 0
+IsSyntaxError file source e =
+    ShowsIn (codes "This is not read") file source e
+    ⊎ ShowsIn (codes "More than 64 levels") file source e
+
+-- parts end with the text, or at a tag, behind which is the rest
+abbrev pub StopsAt : Option Tag → List ℕ → List ℕ → Type 0
+StopsAt None left rest = left ≡ []
+StopsAt (Some tag) left rest = SpellsTag (tag_of tag) left rest
+
+abbrev pub IsSection : Section → List ℕ → Type 0
+IsSection read text =
+    (left : List ℕ) × SpellsUpTo (parts_of read.nodes.items) text left
+    × StopsAt read.stop left read.rest.now
+
+abbrev pub IsStep : Step → List ℕ → Type 0
+IsStep (step.Node node rest) text = SpellsPart (part_of node) text rest.now
+IsStep (step.Stop tag rest) text = SpellsTag (tag_of tag) text rest.now
+
+-- what stands behind it
+abbrev pub rest_of : Step → List ℕ
+rest_of (step.Node node rest) = rest.now
+rest_of (step.Stop tag rest) = rest.now
+
+-- a part, behind which stands nothing
+abbrev pub IsLastStep : Step → Type 0
+IsLastStep (step.Node node rest) = rest.now ≡ []
+IsLastStep (step.Stop tag rest) = ⊥
+
+-- the node is what its tag began, and the text is what stands behind the tag, and then the rest
+abbrev pub IsChoice : Place → Node → List ℕ → List ℕ → Type 0
+IsChoice at node text rest =
+    (chosen otherwise : Parts) × (tail : List ℕ)
+    × (part_of node ≡ tree.choice at chosen otherwise) × SpellsUpTo chosen text tail
+    × SpellsElse otherwise tail rest
+
+abbrev pub IsLoop : List ℕ → Place → Node → List ℕ → List ℕ → Type 0
+IsLoop name over node text rest =
+    (repeated otherwise : Parts) × (tail : List ℕ)
+    × (part_of node ≡ tree.loop name over repeated otherwise) × SpellsUpTo repeated text tail
+    × SpellsEnd grammar.endfor_tag otherwise tail rest
+
+abbrev pub end_tag : End → grammar.Tag
+end_tag If = grammar.endif_tag
+end_tag For = grammar.endfor_tag

@@ -1,0 +1,113 @@
+//! Why a text is no template.
+ghost use Rattle.std.specs.Prelude.{◌≡◌, IfOk, IfErr};
+ghost use Rattle.tera.specs.Errors.{IsOutOfMemory};
+ghost use Rattle.tera_page.specs.Reading.{IsSyntaxError, ShowsAt, ShowsIn};
+ghost use Rattle.tera_page.specs.declared.fault.Fault.TheVariants.{Memory};
+
+use crate::word::past_blanks;
+use std::alloc::{AllocError, AllocFailed, Global};
+use tera::{Error, ErrorKind, ReportError, Span, TeraResult};
+
+/// Why a text is no template, with the text from there on.
+#[derive(Drop)]
+pub(crate) enum Fault<'a> {
+    /// Memory was refused.
+    Memory,
+    /// What stands there is not read.
+    Bad(&'a str),
+    /// A tag inside as many others as there may be.
+    Deep(&'a str),
+}
+
+impl From<AllocError> for Fault<'_> {
+    ghost use Rattle.std.specs.Prelude.{◌≡◌};
+    ghost use Rattle.tera_page.specs.declared.fault.Fault.TheVariants.{Memory};
+
+    ghost from_gives = { λ _ s. s ≡ Memory };
+
+    fn from(_refused: AllocError) -> Self {
+        Fault::Memory
+    }
+}
+
+impl<T: Drop> From<AllocFailed<T>> for Fault<'_> {
+    ghost use Rattle.std.specs.Prelude.{◌≡◌};
+    ghost use Rattle.tera_page.specs.declared.fault.Fault.TheVariants.{Memory};
+
+    ghost from_gives = { λ _ s. s ≡ Memory };
+
+    fn from(_refused: AllocFailed<T>) -> Self {
+        Fault::Memory
+    }
+}
+
+impl Fault<'_> {
+    /// The error of a text of that file that is no template, with a report that shows the place.
+    pub(crate) fn into_error(self, alloc: Global, file: &str, source: &str) -> Error
+        ensures shows { IsSyntaxError file.now source.now result }
+        ensures memory { self.entry ≡ Memory → IsOutOfMemory result }
+    {
+        match self {
+            Fault::Memory => out_of_memory(),
+            Fault::Bad(at) => told(alloc, "This is not read", file, source, at),
+            Fault::Deep(at) => told(alloc, "More than 64 levels", file, source, at),
+        }
+    }
+}
+
+// The error that shows a message at a place.
+fn told(alloc: Global, message: &'static str, file: &str, source: &str, at: &str) -> Error
+    ensures { ShowsIn message.now file.now source.now result }
+{
+    let place = span(source, at);
+    match report(alloc, message, file, source, &place) {
+        Ok(error) => error,
+        Err(error) => error,
+    }
+}
+
+fn report(
+    alloc: Global,
+    message: &'static str,
+    file: &str,
+    source: &str,
+    place: &Span,
+) -> TeraResult<Error>
+    ensures ok { IfOk result (ShowsAt message.now file.now source.now place.now) }
+    ensures err { IfErr result IsOutOfMemory }
+{
+    let message = String::from_str(alloc, message)?;
+    let report = ReportError::new(alloc, message, file, source, place)?;
+    Ok(Error::new(ErrorKind::SyntaxError(Box::new(alloc, report)?)))
+}
+
+// Where the rest of a source begins, behind blanks that its mark leaves out: its line, counted from
+// 1, its column in characters, counted from 0, and two bytes, or none at the end.
+fn span(source: &str, at: &str) -> Span {
+    let (_, at) = past_blanks(at);
+    let start = source.len().saturating_sub(at.len());
+    let width = at.len().min(2);
+    let mut line = 1usize;
+    let mut column = 0usize;
+    for character in source.get(..start).unwrap_or("").chars() {
+        if character == '\n' {
+            line = line.saturating_add(1);
+            column = 0;
+        } else {
+            column = column.saturating_add(1);
+        }
+    }
+    Span {
+        start_line: line,
+        start_col: column,
+        end_line: line,
+        end_col: column.saturating_add(width),
+        range: start..start.saturating_add(width),
+    }
+}
+
+fn out_of_memory() -> Error
+    ensures { IsOutOfMemory result }
+{
+    Error::from(AllocError)
+}

@@ -1,0 +1,19 @@
+//! Pages: a template and what its names stand for in, a text out.
+//!
+//! What a template shows is stated by `specs/Rendering.antt`, by cases on its tree. A value without
+//! a safe flag brings no tag, and ends no quoted attribute: `laws` says so of every page.
+#![tactic(auto)]
+
+mod fault;
+pub mod laws;
+mod page;
+mod refused;
+mod scope;
+mod syntax;
+mod token;
+mod tree;
+mod word;
+
+pub use page::render;
+pub use syntax::{parse, parse_named};
+pub use tree::{Node, Place, Showing, Template};

@@ -1,0 +1,197 @@
+//! The page of a template.
+ghost use Rattle.std.specs.Prelude.{◌≡◌, ◌++◌, ℕ, List, IfOk, IfErr, OnOk, IsTrue};
+ghost use Rattle.std.specs.FinMap.{insert};
+ghost use Rattle.std.specs.String.{string_bytes};
+ghost use Rattle.tera.specs.Errors.{IsOutOfMemory, Refuses};
+ghost use Rattle.tera.specs.Form.{Form};
+ghost use Rattle.tera.specs.Growing.{grown_bytes};
+ghost use Rattle.tera_page.specs.Headline.{BringsNoTag};
+ghost use Rattle.tera_page.specs.Rendering.{IsPageOf, all_pieces, each, found, found_items};
+ghost use Rattle.tera_page.specs.Rendering.{ShowsPiece, found_shown, is_true, pieces};
+ghost use Rattle.tera_page.specs.Rendering;
+ghost use Rattle.tera_page.specs.View.{part_of, parts_of, place_of, showing_of, state_of, tree_of};
+
+use crate::laws::values_bring_no_tag;
+use crate::refused::{no_array_at, nothing_at};
+use crate::scope::{Scope, found};
+use crate::tree::{Node, Place, Showing, Template};
+use std::alloc::Global;
+use tera::sink::{Growing, Sink};
+use tera::{Context, TeraResult, Value, show_in_page};
+
+/// The page of a template, whose names stand for what the context holds, and inside a loop for its
+/// items. A value is shown as it prints, escaped unless it is safe: what is not marked safe brings
+/// no tag, and ends no quoted attribute.
+///
+/// Refuses the first place that is shown or looped over where nothing, or undefined, is found, with
+/// ``Nothing is found at `P` ``, without the last blank, and the first one that is looped over
+/// where no array is, with ``What is found at `P` is no array``. In a condition, what is not found
+/// is false. Takes memory for the page; want of it, `Out of memory`, is answered in its place.
+pub fn render<'a>(
+    alloc: Global,
+    template: &'a Template<'_>,
+    context: &'a Context,
+) -> TeraResult<String>
+    ensures ok { IfOk result (λ page.
+        IsPageOf (all_pieces (tree_of template.now) context.now) (string_bytes page)) }
+    ensures headline { IfOk result (λ page.
+        BringsNoTag (all_pieces (tree_of template.now) context.now) (string_bytes page)) }
+    ensures err { IfErr result (Refuses (all_pieces (tree_of template.now) context.now)) }
+{
+    values_bring_no_tag();
+    let mut page = Growing::new(alloc);
+    put_nodes(alloc, template.nodes(), &Scope::Context(context), &mut page)?;
+    Ok(page.into_text())
+}
+
+// Puts parts, one behind the other.
+#[cycle(put)]
+fn put_nodes<'a, 't>(
+    alloc: Global,
+    nodes: &'a [Node<'t>],
+    scope: &'a Scope<'a>,
+    page: &mut Growing,
+) -> TeraResult<()>
+    ensures ok { OnOk result ((shown : List ℕ)
+        × IsPageOf (all_pieces (parts_of nodes.now) (state_of scope.now)) shown
+        × (grown_bytes page.new ≡ grown_bytes page.old ++ shown)) }
+    ensures err { IfErr result (Refuses (all_pieces (parts_of nodes.now) (state_of scope.now))) }
+{
+    for node in nodes {
+        put_node(alloc, node, scope, page)?;
+    }
+    Ok(())
+}
+
+// Puts a part.
+#[cycle(put)]
+fn put_node<'a, 't>(
+    alloc: Global,
+    node: &'a Node<'t>,
+    scope: &'a Scope<'a>,
+    page: &mut Growing,
+) -> TeraResult<()>
+    ensures ok { OnOk result ((shown : List ℕ)
+        × IsPageOf (pieces (part_of node.now) (state_of scope.now)) shown
+        × (grown_bytes page.new ≡ grown_bytes page.old ++ shown)) }
+    ensures err { IfErr result (Refuses (pieces (part_of node.now) (state_of scope.now))) }
+{
+    match node {
+        Node::Text(text) => Ok(page.put(*text)?),
+        Node::Comment(_) => Ok(()),
+        Node::Show { at, how } => put_found(alloc, *at, *how, scope, page),
+        Node::If {
+            at,
+            then,
+            otherwise,
+        } => {
+            if is_true(*at, scope) {
+                put_nodes(alloc, then.as_slice(), scope, page)
+            } else {
+                put_nodes(alloc, otherwise.as_slice(), scope, page)
+            }
+        }
+        Node::For {
+            name,
+            over,
+            body,
+            otherwise,
+        } => {
+            let items = found_items(alloc, *over, scope)?;
+            if items.is_empty() {
+                put_nodes(alloc, otherwise.as_slice(), scope, page)
+            } else {
+                put_each(alloc, body.as_slice(), *name, items, scope, page)
+            }
+        }
+    }
+}
+
+// Puts parts for each item, under a name.
+#[cycle(put)]
+fn put_each<'a, 't>(
+    alloc: Global,
+    body: &'a [Node<'t>],
+    name: &'a str,
+    items: &'a [Value],
+    scope: &'a Scope<'a>,
+    page: &mut Growing,
+) -> TeraResult<()>
+    ensures ok { OnOk result ((shown : List ℕ)
+        × IsPageOf (each (λ v. all_pieces (parts_of body.now)
+        (insert (state_of scope.now) name.now v)) items.now) shown
+        × (grown_bytes page.new ≡ grown_bytes page.old ++ shown)) }
+    ensures err { IfErr result (Refuses (each (λ v. all_pieces (parts_of body.now)
+        (insert (state_of scope.now) name.now v)) items.now)) }
+{
+    for value in items {
+        let inner = Scope::Item {
+            name: &*name,
+            value: &*value,
+            outer: &*scope,
+        };
+        put_nodes(alloc, &*body, &inner, page)?;
+    }
+    Ok(())
+}
+
+// Puts what is found at a place.
+#[tactic(auto, using(tera::proofs::InTurnLaws::shown_alone))]
+fn put_found<'a>(
+    alloc: Global,
+    at: Place<'a>,
+    how: Showing,
+    scope: &'a Scope<'a>,
+    page: &mut Growing,
+) -> TeraResult<()>
+    ensures ok { OnOk result ((shown : List ℕ)
+        × IsPageOf (found_shown (showing_of how) (place_of at.entry)
+        (found (state_of scope.now) (place_of at.entry))) shown
+        × (grown_bytes page.new ≡ grown_bytes page.old ++ shown)) }
+    ensures err { IfErr result (Refuses (found_shown (showing_of how) (place_of at.entry)
+        (found (state_of scope.now) (place_of at.entry)))) }
+{
+    let Some(value) = found(scope, at) else {
+        return Err(nothing_at(alloc, at));
+    };
+    put_value(value, how, page)
+}
+
+// Puts a value as a page shows it, or as it prints.
+fn put_value(value: &Value, how: Showing, page: &mut Growing) -> TeraResult<()>
+    ensures ok { OnOk result ((shown : List ℕ)
+        × ShowsPiece (Rendering.value (showing_of how) value.now) shown
+        × (grown_bytes page.new ≡ grown_bytes page.old ++ shown)) }
+    ensures err { IfErr result IsOutOfMemory }
+{
+    match how {
+        Showing::InPage => Ok(show_in_page(value, page)?),
+        Showing::AsPrinted => Ok(value.print_to(page)?),
+    }
+}
+
+// Whether what is found at a place counts as true.
+fn is_true<'a>(at: Place<'a>, scope: &'a Scope<'a>) -> bool
+    ensures { result ≡ is_true (found (state_of scope.now) (place_of at.entry)) }
+{
+    match found(scope, at) {
+        Some(value) => value.is_truthy(),
+        None => false,
+    }
+}
+
+// The items of the array that is found at a place.
+fn found_items<'a>(alloc: Global, at: Place<'a>, scope: &'a Scope<'a>) -> TeraResult<&'a [Value]>
+    ensures ok { IfOk result (λ items. found_items (place_of at.entry)
+        (found (state_of scope.now) (place_of at.entry)) ≡ Ok items.now) }
+    ensures err { IfErr result (Refuses (found_items (place_of at.entry)
+        (found (state_of scope.now) (place_of at.entry)))) }
+{
+    let Some(value) = found(scope, at) else {
+        return Err(nothing_at(alloc, at));
+    };
+    match value.as_array() {
+        Some(items) => Ok(items),
+        None => Err(no_array_at(alloc, at)),
+    }
+}

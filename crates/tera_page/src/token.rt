@@ -1,0 +1,263 @@
+//! What a template is read in: runs of text, comments, values and tags.
+ghost use Rattle.std.specs.Prelude.{◌≡◌, ◌++◌, ◌-◌, ◌≤◌, ◌<◌, ◌∷◌, [], ℕ, List, IfSome, IfNone};
+ghost use Rattle.std.specs.Prelude.{true, false, cond, take, drop, codes, length, slice_index};
+ghost use Rattle.std.specs.Option.{IsSomeAnd};
+ghost use Rattle.tera_page.specs.Grammar.{AreBlanks, DashFirst, DashLast, InTag, IsPlace, IsPlain};
+ghost use Rattle.tera_page.specs.Grammar.{Marked, NoneOpens, Shows, closing, filter_of, is_blank};
+ghost use Rattle.tera_page.specs.Grammar.{leaves_out, opening, opens, opens_dashed};
+ghost use Rattle.tera_page.specs.Tokens.{IsBareTag, IsForTag, IsLastRun, SpellsToken, begins};
+ghost use Rattle.tera_page.specs.Tokens.{mark_of, tag_of};
+ghost use Rattle.tera_page.specs.View.{place_of, showing_of};
+
+use crate::tree::{Place, Showing};
+use crate::word::{
+    are_blanks, behind, cut_at, is_blank, is_name, next_word, only_word, past_blanks, place_in,
+};
+
+/// What a tag says.
+#[derive(Clone, Copy)]
+pub(crate) enum Tag<'a> {
+    If(Place<'a>),
+    Elif(Place<'a>),
+    Else,
+    EndIf,
+    For(&'a str, Place<'a>),
+    EndFor,
+}
+
+/// The next thing in a template.
+#[derive(Clone, Copy)]
+pub(crate) enum Token<'a> {
+    /// A text in which nothing begins.
+    Run(&'a str),
+    Comment(&'a str),
+    Show(Place<'a>, Showing),
+    Tag(Tag<'a>),
+}
+
+/// What a value, a tag or a comment stands between.
+#[derive(Clone, Copy)]
+pub(crate) enum Mark {
+    Value,
+    Tag,
+    Comment,
+}
+
+fn opening(mark: Mark) -> &'static str
+    ensures { result.now ≡ opening (mark_of mark) }
+{
+    match mark {
+        Mark::Value => "{{",
+        Mark::Tag => "{%",
+        Mark::Comment => "{#",
+    }
+}
+
+fn closing(mark: Mark) -> &'static str
+    ensures { result.now ≡ closing (mark_of mark) }
+{
+    match mark {
+        Mark::Value => "}}",
+        Mark::Tag => "%}",
+        Mark::Comment => "#}",
+    }
+}
+
+/// The first token of a text, and what stands behind it. None where none is spelled, as of an empty
+/// text.
+pub(crate) fn take_token(text: &str) -> Option<(Token<'_>, &str)>
+    ensures spelled { IfSome result (λ taken. SpellsToken taken.0 text.now taken.1.now) }
+    ensures shorter { IfSome result (λ taken. length taken.1.now < length text.now) }
+    ensures plain { IsPlain text.now → 0 < length text.now
+        → IsSomeAnd result (λ taken. IsLastRun taken.0 taken.1.now) }
+{
+    let run = run_len(text.as_bytes());
+    if run > 0 {
+        let (run, rest) = text.split_at(run);
+        return Some((Token::Run(run), rest));
+    }
+    if let Some((said, rest)) = marked(text, Mark::Value) {
+        let (at, how) = show_in(said)?;
+        return Some((Token::Show(at, how), rest));
+    }
+    if let Some((said, rest)) = marked(text, Mark::Tag) {
+        return Some((Token::Tag(tag_in(said)?), rest));
+    }
+    let (said, rest) = marked(text, Mark::Comment)?;
+    Some((Token::Comment(said), rest))
+}
+
+// What is said between two marks, which begin a text maybe behind blanks that are left out, and
+// what stands behind them and behind blanks that are left out.
+fn marked(text: &str, mark: Mark) -> Option<(&str, &str)>
+    ensures marked { (0 < length text.now → begins text.now ≡ true)
+        → IfSome result (λ found. Marked (mark_of mark) found.0.now text.now found.1.now) }
+    ensures shorter { IfSome result (λ found. length found.1.now < length text.now) }
+{
+    let (_, front) = past_blanks(text);
+    let (inner, behind) = between(front, mark)?;
+    let (_, ahead) = dash_first(inner);
+    let (last, said) = dash_last(ahead);
+    if last {
+        let (_, rest) = past_blanks(behind);
+        Some((said, rest))
+    } else {
+        Some((said, behind))
+    }
+}
+
+// What stands between two marks at the front of a text, and behind them.
+fn between(text: &str, mark: Mark) -> Option<(&str, &str)>
+    ensures { IfSome result (λ found. text.now
+        ≡ opening (mark_of mark) ++ (found.0.now ++ (closing (mark_of mark) ++ found.1.now))) }
+{
+    cut_at(behind(text, opening(mark))?, closing(mark))
+}
+
+// Whether a `-` is first, and what stands behind it, or all.
+fn dash_first(text: &str) -> (bool, &str)
+    ensures { DashFirst result.0 text.now result.1.now }
+{
+    match text.strip_prefix('-') {
+        Some(rest) => (true, rest),
+        None => (false, text),
+    }
+}
+
+// Whether a `-` is last, and what stands before it, or all.
+fn dash_last(text: &str) -> (bool, &str)
+    ensures { DashLast result.0 text.now result.1.now }
+{
+    match text.strip_suffix('-') {
+        Some(front) => (true, front),
+        None => (false, text),
+    }
+}
+
+// How many bytes stand before the first place where something begins, without blanks that it
+// leaves out.
+fn run_len(bytes: &[u8]) -> usize
+    ensures within { result ≤ length bytes.now }
+    ensures run { NoneOpens result bytes.now }
+    ensures solid { leaves_out (drop result bytes.now) ≡ true → 0 < result
+        → is_blank (slice_index bytes.now (result - 1)) ≡ false }
+    ensures ascii { result < length bytes.now → slice_index bytes.now result < 128 }
+    ensures begins { 0 < length bytes.now → result ≡ 0 → begins bytes.now ≡ true }
+    ensures plain { IsPlain bytes.now → result ≡ length bytes.now }
+{
+    let mut solid = 0usize;
+    for at in 0..bytes.len() {
+        if opens(&bytes[at..]) {
+            return if opens_dashed(&bytes[at..]) {
+                solid
+            } else {
+                at
+            };
+        }
+        solid = at_blank(bytes[at], solid, at + 1);
+    }
+    bytes.len()
+}
+
+// The first of two numbers at a blank, and else the second.
+fn at_blank(byte: u8, kept: usize, other: usize) -> usize
+    ensures { result ≡ cond (is_blank byte) kept other }
+{
+    if is_blank(byte) { kept } else { other }
+}
+
+// Whether something begins there.
+fn opens(bytes: &[u8]) -> bool
+    ensures { result ≡ opens bytes.now }
+{
+    match bytes {
+        [first, second, ..] => {
+            *first == b'{' && (*second == b'{' || *second == b'%' || *second == b'#')
+        }
+        _ => false,
+    }
+}
+
+// Whether something begins there with a `-`.
+fn opens_dashed(bytes: &[u8]) -> bool
+    ensures { result ≡ opens_dashed bytes.now }
+{
+    match bytes {
+        [first, second, third, ..] => opens(&[*first, *second]) && *third == b'-',
+        _ => false,
+    }
+}
+
+// The value that is shown.
+fn show_in(inner: &str) -> Option<(Place<'_>, Showing)>
+    ensures proper { IfSome result (λ shown. IsPlace (place_of shown.0)) }
+    ensures shows { IfSome result
+        (λ shown. Shows (place_of shown.0) (showing_of shown.1) inner.now) }
+{
+    match cut_at(inner, "|") {
+        None => Some((place_in(only_word(inner)?)?, Showing::InPage)),
+        Some((left, right)) => {
+            let at = place_in(only_word(left)?)?;
+            Some((at, filter(only_word(right)?)?))
+        }
+    }
+}
+
+// What a filter asks for.
+fn filter(word: &str) -> Option<Showing>
+    ensures { IfSome result (λ how. word.now ≡ filter_of (showing_of how)) }
+{
+    if word == "safe" {
+        Some(Showing::AsPrinted)
+    } else if word == "escape" {
+        Some(Showing::InPage)
+    } else {
+        None
+    }
+}
+
+// What a tag says.
+fn tag_in(inner: &str) -> Option<Tag<'_>>
+    ensures { IfSome result (λ tag. InTag (tag_of tag) inner.now) }
+{
+    let (verb, rest) = next_word(inner);
+    if verb == "if" {
+        Some(Tag::If(place_in(only_word(rest)?)?))
+    } else if verb == "elif" {
+        Some(Tag::Elif(place_in(only_word(rest)?)?))
+    } else if verb == "for" {
+        for_in(rest)
+    } else {
+        bare_tag(verb, rest)
+    }
+}
+
+// What a `for` tag says behind its first word.
+fn for_in(text: &str) -> Option<Tag<'_>>
+    ensures { IfSome result (λ tag. IsForTag (tag_of tag) text.now) }
+{
+    let (name, rest) = next_word(text);
+    let (between, rest) = next_word(rest);
+    if between == "in" && is_name(name) {
+        Some(Tag::For(name, place_in(only_word(rest)?)?))
+    } else {
+        None
+    }
+}
+
+// What a tag of one word says.
+fn bare_tag<'a>(verb: &'a str, rest: &'a str) -> Option<Tag<'a>>
+    ensures { IfSome result (λ tag. IsBareTag (tag_of tag) verb.now × AreBlanks rest.now) }
+{
+    if !are_blanks(rest.as_bytes()) {
+        None
+    } else if verb == "else" {
+        Some(Tag::Else)
+    } else if verb == "endif" {
+        Some(Tag::EndIf)
+    } else if verb == "endfor" {
+        Some(Tag::EndFor)
+    } else {
+        None
+    }
+}

@@ -1,0 +1,5 @@
+pub mod Faults
+pub mod Names
+pub mod Page
+pub mod Rendered
+pub mod Words

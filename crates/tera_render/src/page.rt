@@ -1,0 +1,31 @@
+//! The page of a template's text over names.
+ghost use Rattle.std.specs.Prelude.{IfOk, IfErr};
+ghost use Rattle.std.specs.String.{string_bytes};
+ghost use Rattle.tera_render.specs.Page.{IsFaultOf, IsPage};
+
+use crate::fault::{Fault, no_template, refused};
+use std::alloc::Global;
+use tera::Context;
+use tera_page::{parse_named, render};
+
+/// The page of the template that the text of that name spells, over the names.
+///
+/// Refuses what is no template, with a report, and what rendering it refuses.
+pub(crate) fn page_of<'a>(
+    alloc: Global,
+    name: &'a str,
+    text: &str,
+    names: &Context,
+) -> Result<String, Fault<'a>>
+    ensures ok { IfOk result (λ page. IsPage text.now names.now (string_bytes page)) }
+    ensures err { IfErr result (IsFaultOf name.now text.now names.now) }
+{
+    let template = match parse_named(alloc, name, text) {
+        Ok(template) => template,
+        Err(error) => return Err(no_template(error)),
+    };
+    match render(alloc, &template, names) {
+        Ok(page) => Ok(page),
+        Err(error) => Err(refused(name, error)),
+    }
+}
