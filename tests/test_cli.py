@@ -10,18 +10,18 @@ import re
 import select
 import shutil
 import subprocess
-import tempfile
 import termios
 import unittest
 from typing import List, Optional, Sequence, Tuple, Union
 
 import built
-from built import TOP
+from built import TOP, WithFolder
 from talk import PATIENCE, kept_back
 
 PAGE = f"{TOP}/docs/man/tera.help"
 PROMPT = b"tera> "
 NO_MEMORY = b"error: Out of memory\n"
+NO_WORD = b"error: no such word; there are :help, :load FILE, :names, :quit and :save FILE\n"
 Word = Union[str, bytes]
 Ended = Tuple[int, bytes, bytes]
 
@@ -41,21 +41,6 @@ def ran(words: Sequence[Word], given: bytes = b"", program: Optional[str] = None
     """The status and both streams of the program on these words, or of another program."""
     done = subprocess.run([program or tera(), *words], input=given, capture_output=True, timeout=seconds, **more)  # type: ignore[call-overload]
     return done.returncode, done.stdout, done.stderr
-
-
-class WithFolder(unittest.TestCase):
-    """Files of a test, in a folder of its own."""
-
-    def setUp(self) -> None:
-        self.folder = tempfile.mkdtemp(prefix="cli-")
-        self.addCleanup(shutil.rmtree, self.folder, ignore_errors=True)
-
-    def file(self, name: str, text: str) -> str:
-        """Makes a file, and gives its path."""
-        path = f"{self.folder}/{name}"
-        with open(path, "w", encoding="utf-8") as file:
-            file.write(text)
-        return path
 
 
 class Words(WithFolder):
@@ -172,9 +157,95 @@ class Talks(WithFolder):
         for quit in (b":quit\n", b"  :quit\t \r\n", b":quit"):
             with self.subTest(quit):
                 self.assertEqual(ran(["-i"], b"get a\n" + quit + (b"get a\n" if quit.endswith(b"\n") else b"")), (0, b"nothing\n", b""))
-        for line in (":quit now", ":Quit", "quit", ": quit", ":"):
+        self.assertEqual(ran(["-i"], b"quit\nget a\n"), (0, b"nothing\n", report(1, "quit")))
+
+    def test_another_word_tells_which_there_are(self) -> None:
+        for line in (b":quit now", b":Quit", b": quit", b":", b":help a", b":load\xc3", b":names a", b":name", b":saved", b" :frob"):
             with self.subTest(line):
-                self.assertEqual(ran(["-i"], f"{line}\nget a\n".encode()), (0, b"nothing\n", report(1, line)))
+                self.assertEqual(ran(["-i"], line + b"\nget a\n"), (0, b"nothing\n", NO_WORD))
+
+    def test_a_word_without_a_file_tells_how_it_is_used(self) -> None:
+        for word in ("load", "save"):
+            told = f"error: no file is named; it is :{word} FILE\n".encode()
+            for line in (f":{word}", f" :{word} \t", f":{word} \r"):
+                with self.subTest(line):
+                    self.assertEqual(ran(["-i"], f"{line}\nget a\n".encode()), (0, b"nothing\n", told))
+            with self.subTest(word):
+                told = b"error: the name of the file is no UTF-8\n"
+                self.assertEqual(ran(["-i"], f":{word} a".encode() + b"\xff\nget a\n", cwd=self.folder), (0, b"nothing\n", told))
+                self.assertEqual(os.listdir(self.folder), [])
+
+    def test_help_has_each_word(self) -> None:
+        status, out, err = ran(["-i"], b":help\n")
+        self.assertEqual((status, err, [line.split()[0] for line in out.splitlines()]), (0, b"", [b":help", b":load", b":names", b":quit", b":save"]))
+
+    def test_names_are_shown_in_the_order_of_their_bytes(self) -> None:
+        said = b":names\nset b 1\nset a 2\nset a1 3\nset Z 4\nset _ 5\nset aa 6\n:names\nremove a\nset b 7\n:names\n"
+        shown = b"Z\n_\na\na1\naa\nb\n"
+        self.assertEqual(ran(["-i"], said), (0, b"ok\n" * 6 + shown + b"value 2\nok\n" + shown.replace(b"a\n", b"", 1), b""))
+
+    def test_a_name_that_no_line_sets_is_shown_as_a_text(self) -> None:
+        said = b'extend {"b": 1, "a b": 2, "": 3, "a\\nb": 4, "1": 5, "a\\"": 6, "a-": 7, "a": 8}\n:names\n'
+        self.assertEqual(ran(["-i"], said), (0, b'ok\n""\n"1"\na\n"a\\nb"\n"a b"\n"a\\""\n"a-"\nb\n', b""))
+
+    def test_what_is_saved_and_loaded_has_the_same_names_and_values(self) -> None:
+        literals = ["1", "1u64", "-1i128", "none", "undefined", "true", '"a\\n\\"\u00e9"', 's"<b>"', 'x"00ff"', '[1, [], {"k": {2u64: none}}]', "[" * 64 + "]" * 64]
+        names = [f"n{number}" for number in range(len(literals))]
+        sets = "".join(f"set {name} {literal}\n" for name, literal in zip(names, literals))
+        asks = "".join(f"get {name}\nkind {name}\nis_safe {name}\n" for name in names) + ":names\n"
+        path = self.file("kept script", "# of no use\n" * 1000)
+        saved = ran(["-i"], f"{sets}:save  {path} \n{asks}".encode())
+        self.assertEqual((saved[0], saved[2], saved[1].count(b"ok\n")), (0, b"", len(names)))
+        self.assertEqual(ran(["-i"], f":load {path}\n{asks}".encode()), saved)
+        with open(path, "rb") as file:
+            script = file.read()
+        self.assertEqual(ran(["-i"], f":load {path}\n:save -\n".encode()), (0, b"ok\n" * len(names) + script, b""))
+        self.assertEqual(ran([path]), (0, b"ok\n" * len(names), b""))
+
+    def test_no_names_are_an_empty_script(self) -> None:
+        path = self.file("a", "set a 1\n")
+        self.assertEqual(ran(["-i"], f":save {path}\n".encode()), (0, b"", b""))
+        self.assertEqual(os.path.getsize(path), 0)
+
+    def test_nothing_is_written_where_no_script_says_a_name(self) -> None:
+        path = self.file("a", "set a 1\n")
+        told = b"error: No script can say the name b c\n"
+        for name in (path, f"{self.folder}/b", "-"):
+            with self.subTest(name):
+                self.assertEqual(ran(["-i"], f'extend {{"b": 1, "b c": 2, "d e": 3}}\n:save {name}\nget b\n'.encode()), (0, b"ok\nvalue 1\n", told))
+        with open(path, encoding="utf-8") as file:
+            self.assertEqual(file.read(), "set a 1\n")
+        self.assertEqual(os.listdir(self.folder), ["a"])
+
+    def test_a_file_that_cannot_be_written_does_not_end_it(self) -> None:
+        for name in (self.folder, f"{self.folder}/none/a", f"{self.file('a', '')}/b", "/dev/full", "-" * 300):
+            with self.subTest(name):
+                told = f"error: cannot write {name}\n".encode()
+                self.assertEqual(ran(["-i"], f"set a 1\n:save {name}\nget a\n".encode()), (0, b"ok\nvalue 1\n", told))
+
+    @unittest.skipIf(os.geteuid() == 0, "root writes each file")
+    def test_a_file_without_leave_is_not_written(self) -> None:
+        closed = self.file("closed", "get a\n")
+        os.chmod(closed, 0o400)
+        self.assertEqual(ran(["-i"], f":save {closed}\n".encode()), (0, b"", f"error: cannot write {closed}\n".encode()))
+
+    def test_what_is_loaded_is_answered_over_the_names_that_stand(self) -> None:
+        path = self.file("a b", 'set a {"k": none}\nset b [1u64]')
+        said = f"set c 1\nset a 2\n:load  {path} \nget a\nget c\nget b\n".encode()
+        self.assertEqual(ran(["-i"], said), (0, b"ok\n" * 4 + b'value {"k": }\nvalue 1\nvalue [1]\n', b""))
+
+    def test_a_bad_line_ends_what_is_loaded_and_what_was_done_stands(self) -> None:
+        path = self.file("a", "set a 1\n# note\nfrob\nset a 2\n")
+        for words, more in ((["-i"], b""), (["-i", "--why"], b"expected the word of a call at character 1\n")):
+            self.assertEqual(ran(words, f":load {path}\nget a\n".encode()), (0, b"ok\nvalue 1\n", report(3, "frob") + more))
+        self.assertEqual(ran(["-i"], f":load {self.file('b', ':quit')}\nget a\n".encode()), (0, b"nothing\n", report(1, ":quit")))
+
+    def test_a_file_that_cannot_be_read_does_not_end_it(self) -> None:
+        for name in (self.folder, f"{self.folder}/none"):
+            with self.subTest(name):
+                told = f"error: cannot read {name}\n".encode()
+                self.assertEqual(ran(["-i"], f"set a 1\n:load {name}\nget a\n".encode()), (0, b"ok\nvalue 1\n", told))
+        self.assertEqual(ran(["-i"], b":load /proc/self/mem\nget a\n"), (0, b"nothing\n", b"error: reading failed\n"))
 
     def test_lines_end_as_those_of_scripts_do(self) -> None:
         said = b"set a 1\r\nget a\r\n"
@@ -193,9 +264,11 @@ class Talks(WithFolder):
         self.assertEqual(kept_back([tera(), "-i"], 1000), "")
 
     def test_an_answer_that_cannot_be_written_ends_it(self) -> None:
-        with open("/dev/full", "wb") as full:
-            done = subprocess.run([tera(), "-i"], input=b"get a\nget a\n", stdout=full, stderr=subprocess.PIPE)
-        self.assertEqual((done.returncode, done.stderr), (1, b"error: writing failed\n"))
+        path = self.file("a", "set a 1\n")
+        for line in (b"get a", b":help", f":load {path}".encode()):
+            with self.subTest(line), open("/dev/full", "wb") as full:
+                done = subprocess.run([tera(), "-i"], input=line + b"\nfrob\n", stdout=full, stderr=subprocess.PIPE)
+                self.assertEqual((done.returncode, done.stderr), (1, b"error: writing failed\n"))
 
     def test_a_report_that_cannot_be_written_changes_nothing(self) -> None:
         with open("/dev/full", "wb") as full:
@@ -207,6 +280,100 @@ class Talks(WithFolder):
         self.addCleanup(os.close, folder)
         done = subprocess.run([tera(), "-i"], stdin=folder, capture_output=True)
         self.assertEqual((done.returncode, done.stdout, done.stderr), (1, b"", b"error: reading failed\n"))
+
+
+class Reasons(WithFolder):
+    """What was expected of a bad line, beside its report."""
+
+    # a line, the number of a character in it, and what was expected there
+    ROWS = (
+        ("frob", 1, "the word of a call"),
+        ("1", 1, "the word of a call"),
+        ("get", 4, "a name"),
+        ("len 1", 5, "a name"),
+        ("len$", 4, "a blank"),
+        ("eq a", 5, "a name"),
+        ("len a b", 7, "the end of the line"),
+        ("get a b", 7, "'->' behind a blank, or the end of the line"),
+        ("get a-> b", 6, "'->' behind a blank, or the end of the line"),
+        ("get a ->", 9, "a name"),
+        ("get a ->b", 9, "a blank"),
+        ("get a -> b c", 12, "the end of the line"),
+        ("set x", 6, "a value"),
+        ("set x foo", 7, "a value"),
+        ("set x 1 -> b", 9, "the end of the line"),
+        ("set x 5u9", 8, "u64, i64, u128, i128 or nothing behind the number"),
+        ("set x -", 8, "a digit"),
+        ("set x -1u64", 7, "a number that its kind holds"),
+        ("set x 18446744073709551616u64", 7, "a number that its kind holds"),
+        ("set x " + "9" * 40, 7, "a number that its kind holds"),
+        ("set a [1,]", 10, "a value behind ','"),
+        ("set a [", 8, "a value or ']'"),
+        ("set a [1 2]", 10, "',' or ']'"),
+        ("set a [1", 9, "',' or ']'"),
+        ("set a [1, [2, [3, !]]]", 19, "a value behind ','"),
+        ("set a {", 8, "a key or '}'"),
+        ("set a {none: 1}", 8, "a key or '}'"),
+        ('set a {"k" 1}', 12, "':'"),
+        ('set a {"k": }', 13, "a value behind ':'"),
+        ('set a {"k": 1,}', 15, "a key behind ','"),
+        ('set a {"k": 1 2', 15, "',' or '}'"),
+        ('set a {5u9: 1}', 9, "u64, i64, u128, i128 or nothing behind the number"),
+        ("set a " + "[" * 65, 71, "no more than 64 arrays and maps one inside another"),
+        ("set a " + '{"\u00e9":' * 64 + "{", 7 + 64 * 5, "no more than 64 arrays and maps one inside another"),
+        ('set x "abc', 11, "'\"' at the end of the text"),
+        ('set x s"abc\\"', 14, "'\"' at the end of the text"),
+        ('set x "\u00e9\\q"', 9, 'one of the escapes \\", \\\\, \\n, \\r, \\t, \\0 and \\u{..}'),
+        ('set x "\\u{d800}"', 8, 'one of the escapes \\", \\\\, \\n, \\r, \\t, \\0 and \\u{..}'),
+        ('set x x"0', 9, "two hexadecimal digits or '\"'"),
+        ('set x x"00gg"', 11, "two hexadecimal digits or '\"'"),
+        ("path a b", 8, "a text"),
+        ('path a s"b"', 8, "a text"),
+        ("slice a 1 _", 12, "'_' or an integer"),
+        ("slice a 1 2u8 3", 11, "'_' or an integer"),
+        ("read u9 a", 6, "an integer type, as u8 or i128"),
+        ("extend [1]", 8, "a map"),
+        ('extend {"a": 1, 2: 3}', 17, "a text as the key"),
+    )
+
+    def test_each_refusal_of_the_grammar_has_its_place(self) -> None:
+        for line, number, what in self.ROWS:
+            with self.subTest(line):
+                status, out, err = ran(["--why"], f"set u 1\n{line}\nget u\n".encode())
+                self.assertEqual((status, out), (2, b"ok\n"))
+                self.assertEqual(err, ran([], f"set u 1\n{line}\n".encode())[2] + f"expected {what} at character {number}\n".encode())
+
+    def test_a_line_that_is_no_utf_8_has_the_place_of_its_first_byte_that_is_none(self) -> None:
+        self.assertEqual(ran(["--why"], b'set x "\xc3\xa9\xc3"\n')[2].splitlines()[-1], b"expected UTF-8 at character 9")
+
+    def test_a_conversation_and_files_tell_it(self) -> None:
+        script = self.file("a", "set a 1\nlen 1\n")
+        told = report(2, "len 1") + b"expected a name at character 5\n"
+        self.assertEqual(ran(["--why", script, script]), (2, b"ok\n", told))
+        self.assertEqual(ran(["-i", "--why"], b"set a 1\nlen 1\nget a\n"), (0, b"ok\nvalue 1\n", told))
+        self.assertEqual(ran(["--why", self.folder]), (1, b"", f"error: cannot read {self.folder}\n".encode()))
+
+    def test_scripts_are_answered_as_without_it(self) -> None:
+        for name in sorted(os.listdir(f"{TOP}/examples")):
+            with self.subTest(name):
+                status, out, err = ran([f"{TOP}/examples/{name}"])
+                explained = ran(["--why", f"{TOP}/examples/{name}"])
+                self.assertEqual((explained[0], explained[1]), (status, out))
+                self.assertTrue(explained[2].startswith(err))
+
+    def test_each_bad_line_has_one(self) -> None:
+        """lines of the examples, each with a byte taken away, a byte twice, or its end cut off"""
+        lines = set()
+        for name in sorted(os.listdir(f"{TOP}/examples")):
+            with open(f"{TOP}/examples/{name}", "rb") as file:
+                lines |= set(file.read().split(b"\n"))
+        cut = [piece for line in sorted(lines) if len(line) < 80 for at in range(0, len(line), 3)
+               for piece in (line[:at] + line[at + 1:], line[:at + 1] + line[at:], line[:at])]
+        said = b"\n".join(it for it in cut if not it.lstrip(b" \t").startswith(b":"))
+        err = ran(["-i", "--why"], said)[2]
+        self.assertGreater(err.count(b"error: bad line\n"), 100)
+        self.assertEqual(len(re.findall(rb"(?m)^expected .* at character \d+$", err)), err.count(b"error: bad line\n"))
+        self.assertIsNone(re.search(rb"(?m)^expected ", ran(["-i"], said)[2]))
 
 
 class Terminal:
@@ -258,6 +425,30 @@ class Terminals(WithFolder):
         talk.hears(b":quit\n")
         self.assertEqual(talk.ends(), (0, b""))
 
+    def test_a_file_is_loaded_and_a_bad_line_is_explained(self) -> None:
+        talk = Terminal(["-i", "--why"])
+        self.assertEqual(talk.says(PROMPT), PROMPT)
+        path = self.file("kept", "set a [1]").encode()
+        for said, answer in ((b"set a [1,]\n", report(1, "set a [1,]") + b"expected a value behind ',' at character 10\n"), (b"get a\n", b"nothing\n"), (b":load " + path + b"\n", b"ok\n"),
+                             (b"get a\n", b"value [1]\n"), (b":load\n", b"error: no file is named; it is :load FILE\n")):
+            talk.hears(said)
+            self.assertEqual(talk.says(PROMPT), answer + PROMPT)
+        talk.hears(b"\x04")
+        self.assertEqual(talk.ends(), (0, b"\n"))
+
+    def test_names_are_shown_saved_and_loaded(self) -> None:
+        path = f"{self.folder}/kept".encode()
+        for words in (((b"set b [1]\n", b"ok\n"), (b"set a s\"x\"\n", b"ok\n"), (b":save\n", b"error: no file is named; it is :save FILE\n"),
+                       (b":save " + path + b"/a\n", b"error: cannot write " + path + b"/a\n"), (b":save " + path + b"\n", b"")),
+                      ((b":names\n", b""), (b":load " + path + b"\n", b"ok\nok\n"), (b":names\n", b"a\nb\n"), (b":save -\n", b'set a s"x"\nset b [1]\n'))):
+            talk = Terminal(["-i"])
+            self.assertEqual(talk.says(PROMPT), PROMPT)
+            for said, answer in words:
+                talk.hears(said)
+                self.assertEqual(talk.says(PROMPT), answer + PROMPT)
+            talk.hears(b":quit\n")
+            self.assertEqual(talk.ends(), (0, b""))
+
     def test_the_end_of_the_input_ends_it_on_a_line_of_its_own(self) -> None:
         talk = Terminal(["-i"])
         self.assertEqual(talk.says(PROMPT), PROMPT)
@@ -297,11 +488,14 @@ class Manual(unittest.TestCase):
         with open(f"{TOP}/docs/man/tera.1", encoding="utf-8") as file:
             page = file.read()
         with open(PAGE, encoding="utf-8") as file:
-            choices = re.findall(r"(?m)^  -(\w), --(\w+)", file.read())
-        self.assertEqual(len(choices), 3)
+            choices = re.findall(r"(?m)^  (?:-(\w), |    )--(\w+)", file.read())
+        self.assertEqual(len(choices), 4)
         for short, long in choices:
-            self.assertIn(f".It Fl {short} , Fl -{long}\n", page)
-        for message in ("cannot read NAME", "reading failed", "writing failed", "Out of memory"):
+            self.assertIn(f".It Fl {short} , Fl -{long}\n" if short else f".It Fl -{long}\n", page)
+        for word in re.findall(rb"(?m)^:(\w+)( FILE)?", ran(["-i"], b":help\n")[1]):
+            self.assertIn(f".It Ic :{word[0].decode()}{' Ar file' if word[1] else ''}\n", page)
+        for message in ("cannot read NAME", "cannot write NAME", "no file is named; it is :load FILE", "no file is named; it is :save FILE", "the name of the file is no UTF-8",
+                        "No script can say the name NAME", "reading failed", "writing failed", "Out of memory"):
             self.assertIn(f'.It "error: {message}"\n', page)
 
 
@@ -334,6 +528,18 @@ class Memory(WithFolder):
             self.assertIn(status, (0, 1))
             self.assertIn(err, (b"", NO_MEMORY, f"error: cannot read {good}\n".encode()))
             self.assertTrue(status == 1 or out == wanted[1])
+
+    def test_a_list_or_a_script_for_which_no_memory_is_found_does_not_end_the_conversation(self) -> None:
+        path = f"{self.folder}/a"
+        said = f'set b "{"x" * 300}"\nset a 1\n:names\n:save {path}\n:save -\n'.encode()
+        wanted, *others = self.refused(["-i"], said)
+        script = b'set a 1\nset b "' + b"x" * 300 + b'"\n'
+        self.assertEqual(wanted, (0, b"ok\nok\na\nb\n" + script, b""))
+        for out in (b"ok\nok\n" + script, b"ok\nok\na\nb\n"):
+            self.assertIn((0, out, NO_MEMORY), others)
+        for status, out, err in others:
+            self.assertIn(status, (0, 1))
+            self.assertIn(err, (b"", NO_MEMORY, f"error: cannot write {path}\n".encode(), b"error: cannot write -\n"))
 
     def test_a_line_for_which_no_memory_is_found_does_not_end_the_conversation(self) -> None:
         said = b'set a [1, 2]\nset b "a text that takes memory"\nfrob\nget a\n'

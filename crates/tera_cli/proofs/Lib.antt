@@ -1,1 +1,5 @@
+mod NameLemmas
+mod OrderLemmas
+mod SavedLemmas
 mod TalkLemmas
+mod TurnLemmas

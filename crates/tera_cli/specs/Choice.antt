@@ -1,19 +1,22 @@
 -- What the words of a command line choose.
-use Rattle.std.specs.Prelude.{◌≡◌, ◌⊎◌, Bool, true, false, Option, Some, None, is_some, codes}
+use Rattle.std.specs.Prelude.{◌≡◌, ◌⊎◌, ℕ, List, Bool, true, false, Some, None, is_some, codes}
 use Rattle.clap.specs.Words.{found_of, matched_of, one_text}
 use Rattle.clap.specs.declared.error.kind.ErrorKind.{ErrorKind}
 use Rattle.clap.specs.declared.error.kind.ErrorKind.TheVariants.{DisplayHelp, DisplayVersion}
 use Rattle.clap.specs.declared.parser.matches.ArgMatches.{ArgMatches}
 
--- words that are understood ask for a conversation
-abbrev pub AskForTalk : ArgMatches → Type 0
-AskForTalk matches = one_text (found_of matches) (codes "interactive") ≡ Some (codes "true")
+-- what may be asked for: a conversation, and what was expected of bad lines
+abbrev pub talk : List ℕ
+talk = codes "interactive"
 
--- or for none
-abbrev pub AskForNoTalk : ArgMatches → Type 0
-AskForNoTalk matches =
-    (one_text (found_of matches) (codes "interactive") ≡ Some (codes "false"))
-    ⊎ (one_text (found_of matches) (codes "interactive") ≡ None)
+abbrev pub reasons : List ℕ
+reasons = codes "why"
+
+-- words that are understood ask for it, or not
+abbrev pub Asks : ArgMatches → List ℕ → Bool → Type 0
+Asks matches flag true = one_text (found_of matches) flag ≡ Some (codes "true")
+Asks matches flag false = (one_text (found_of matches) flag ≡ Some (codes "false"))
+    ⊎ (one_text (found_of matches) flag ≡ None)
 
 -- whether they name a file
 abbrev pub names_file : ArgMatches → Bool

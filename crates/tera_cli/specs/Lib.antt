@@ -1,4 +1,10 @@
 pub mod Choice
 pub mod Faults
+pub mod Names
+pub mod Obeyed
+pub mod Order
+pub mod Saved
 pub mod Scripts
 pub mod Talk
+pub mod Turns
+pub mod Why

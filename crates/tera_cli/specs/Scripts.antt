@@ -1,14 +1,11 @@
 -- A script that is opened by its name.
-use Rattle.std.specs.Prelude.{◌≡◌, ℕ, ◌≤◌, ◌⊎◌, Bool, List, ◌++◌, Option, None, Some, Result, codes}
+use Rattle.std.specs.Prelude.{◌≡◌, ℕ, ◌⊎◌, Bool, List, Option, None, Some, Result, codes}
+use Rattle.tera_cli.specs.Faults.{cannot}
 use Rattle.tera_replies.specs.Output.{BrokeOn, TakesOrFails}
 use Rattle.tera_replies.specs.Replay.{ReplaysGiven}
 use Rattle.tera_replies.specs.Source.{ReadEnds, ReadFails, ReadsTo}
 use Rattle.tera_replies.specs.declared.source.ReadError.{ReadError}
 use Rattle.tera_report.specs.Sink.{Delivers}
-
--- what is told of a script that cannot be read
-abbrev pub unread : List ℕ → List ℕ
-unread name = codes "error: cannot read " ++ name ++ codes "\n"
 
 -- an open script was replayed from no names, as standard input is
 abbrev pub ReplaysScript : {S W E : Type 0} → (S → Option (List ℕ)) → (S → Option Bool)
@@ -30,7 +27,8 @@ ReplaysScript {S} left fails gave takes refuses flushes flush_fails told untold 
 abbrev pub TellsUnread : {W E : Type 0} → (E → List ℕ → E → Type 0) → (E → List ℕ → E → Type 0)
     → List ℕ → W × E → ℕ → W × E → Type 0
 TellsUnread told untold name old status new =
-    (new.0 ≡ old.0) × TakesOrFails told untold old.1 (unread name) new.1 × (status ≡ 1)
+    (new.0 ≡ old.0) × TakesOrFails told untold old.1 (cannot (codes "read") name) new.1
+    × (status ≡ 1)
 
 -- the script that this name opened was replayed; or the name opened none, which is told
 abbrev pub ReplaysNamed : {S W E : Type 0} → (List ℕ → Option S → Type 0)

@@ -3,17 +3,27 @@
 
 ghost use Rattle.std.specs.Prelude.{⊤};
 
+mod files;
+mod lines;
+mod load;
+mod names;
+mod obey;
+mod order;
+mod saved;
 mod scripts;
 mod talk;
+mod told;
 mod words;
 
-use scripts::{Opens, replay_each};
+use clap::ArgMatches;
+use files::Files;
+use scripts::{explain_each, replay_each};
 use std::env::{Env, FillError};
 use std::fs::{File, OpenFile};
-use std::io::{BufReader, BufWriter, ErrorKind, IsTerminal, Read, Stdin, Stdout};
+use std::io::{BufReader, BufWriter, ErrorKind, IsTerminal, Read, Stdin, Stdout, Write};
 use std::process::ExitCode;
 use std::{env, fs, io};
-use talk::converse;
+use talk::{Manner, converse};
 use tera_replies::replay;
 use tera_report::sink::Sink;
 use tera_report::watch::Watched;
@@ -50,11 +60,9 @@ fn run_words(rt: &HostRuntime, state: HashState) -> u8 {
 fn run(rt: &HostRuntime, state: HashState, wanted: Wanted<'_>) -> u8 {
     match wanted {
         Wanted::Input => run_input(rt, state),
-        Wanted::Files(matches) => match matches.get_strs("FILE") {
-            Some(names) => run_files(rt, state, names),
-            None => run_input(rt, state),
-        },
-        Wanted::Talk => run_talk(rt, state),
+        Wanted::Files(matches) => run_files(rt, state, false, &matches),
+        Wanted::Explained(matches) => run_files(rt, state, true, &matches),
+        Wanted::Talk(why) => run_talk(rt, state, why),
         Wanted::Told(text) => match rt.print(&text) {
             Ok(()) => 0,
             Err(_) => tell(rt, "error: writing failed\n", 1),
@@ -75,21 +83,26 @@ fn run_input(rt: &HostRuntime, state: HashState) -> u8 {
     }
 }
 
-// Replays files in turn.
-fn run_files(rt: &HostRuntime, state: HashState, names: &[&str]) -> u8 {
+// Replays files in turn, or standard input where none is named.
+fn run_files(rt: &HostRuntime, state: HashState, why: bool, matches: &ArgMatches<'_>) -> u8 {
+    let names = matches.get_strs("FILE").unwrap_or(&["-"]);
     let mut stderr = rt.stderr();
     let mut err = Watched::new(&mut stderr);
     match buffered(rt) {
         Ok(mut buffer) => {
             let mut out = Watched::new(&mut buffer);
-            replay_each(rt.alloc(), state, rt, names, &mut out, &mut err)
+            if why {
+                explain_each(rt.alloc(), state, &Disk { rt }, names, &mut out, &mut err)
+            } else {
+                replay_each(rt.alloc(), state, &Disk { rt }, names, &mut out, &mut err)
+            }
         }
         Err(_) => no_memory(rt),
     }
 }
 
 // Holds a conversation with standard input.
-fn run_talk(rt: &HostRuntime, state: HashState) -> u8 {
+fn run_talk(rt: &HostRuntime, state: HashState, why: bool) -> u8 {
     let prompt = if rt.stdin().is_terminal() {
         "tera> "
     } else {
@@ -100,7 +113,16 @@ fn run_talk(rt: &HostRuntime, state: HashState) -> u8 {
     match (BufReader::new(rt.alloc(), rt.stdin()), buffered(rt)) {
         (Ok(mut input), Ok(mut buffer)) => {
             let mut out = Watched::new(&mut buffer);
-            converse(rt.alloc(), state, prompt, &mut input, &mut out, &mut err)
+            let manner = Manner { prompt, why };
+            converse(
+                rt.alloc(),
+                state,
+                manner,
+                &mut Disk { rt },
+                &mut input,
+                &mut out,
+                &mut err,
+            )
         }
         _ => no_memory(rt),
     }
@@ -138,21 +160,46 @@ impl Read for Script {
     }
 }
 
-/// `-` is standard input, and each other name that of a file. A folder is no script.
-impl Opens for HostRuntime {
+/// The files of the system.
+#[derive(Drop)]
+struct Disk<'a> {
+    rt: &'a HostRuntime,
+}
+
+/// `-` is standard input, and where it is written standard output; each other name is that of a
+/// file. A folder is no script.
+impl Files for Disk<'_> {
     type Script = Script;
+
+    type Lines = BufReader<Script>;
 
     // of files no clause can say more
     ghost opened = { λ _ _ _. ⊤ };
 
+    ghost opened_lines = { λ _ _ _. ⊤ };
+
+    ghost wrote = { λ _ _ _ _ _. ⊤ };
+
     fn open(&self, name: &str) -> Option<Script> {
         if name == "-" {
-            return Some(Script::Input(self.stdin()));
+            return Some(Script::Input(self.rt.stdin()));
         }
-        let file = fs::open(self, name).ok()?;
+        let file = fs::open(self.rt, name).ok()?;
         if file.metadata().ok()?.is_dir() {
             return None;
         }
         Some(Script::File(file))
+    }
+
+    fn open_lines(&self, name: &str) -> Option<BufReader<Script>> {
+        let script = self.open(name)?;
+        BufReader::new(self.rt.alloc(), script).ok()
+    }
+
+    fn write(&mut self, name: &str, text: &str) -> bool {
+        if name == "-" {
+            return self.rt.stdout().write_all(text.as_bytes()).is_ok();
+        }
+        fs::write(self.rt, name, text).is_ok()
     }
 }

@@ -1,34 +1,42 @@
 //! A conversation: lines are asked for, and a bad one does not end it.
-ghost use Rattle.std.specs.Prelude.{◌≡◌, ◌≢◌, ◌↔◌, ◌⊎◌, ◌≤◌, ℕ, List, [], codes, IfErr, OnOk};
-ghost use Rattle.std.specs.Prelude.{IsTrue, Ok, false, true};
+ghost use Rattle.std.specs.Prelude.{◌≡◌, ◌≤◌, IfOk, OnErr, OnOk};
 ghost use Rattle.std.specs.Io.{StopsAt};
 ghost use Rattle.std.specs.Io.KnownBytes.{Consumes, IsAtEnd};
-ghost use Rattle.tera_cli.specs.Faults.{told_of};
-ghost use Rattle.tera_cli.specs.Talk.{IsLine, IsTold, IsWord, Leaves, Replies};
-ghost use Rattle.tera_replies.specs.Output.{BrokeOn, TakesOrFails};
-ghost use Rattle.tera_replies.specs.Script.{ended, line_feed, without_return};
-ghost use Rattle.tera_replies.specs.declared.fault.Fault.TheVariants.{OutOfMemory, ReadFailed};
-ghost use Rattle.tera_replies.specs.declared.fault.Fault.TheVariants.{WriteFailed};
-ghost use Rattle.tera_report.specs.Errors.{report_of};
-ghost use Rattle.tera_report.specs.Report.{report_text};
-ghost use Rattle.tera_report.specs.Sink.{Delivers, PutsThese, Sends};
+ghost use Rattle.tera_cli.specs.Obeyed.{IsTurn, Obeys, goes_on_behind};
+ghost use Rattle.tera_cli.specs.Talk.{Leaves};
+ghost use Rattle.tera_replies.specs.Output.{TakesOrFails};
+ghost use Rattle.tera_replies.specs.Script.{line_feed};
 
+use crate::files::Files;
+use crate::lines::{hear, line_of};
+use crate::obey::obey;
+use crate::order::{Order, order_of};
+use crate::told::put_fault;
 use std::alloc::Global;
-use std::io::{BufRead, ErrorKind};
+use std::io::BufRead;
 use tera_context::Context;
-use tera_replies::{Fault, answer_line};
-use tera_report::ReportError;
+use tera_replies::Fault;
 use tera_report::sink::Sink;
 use tera_values::HashState;
+
+/// How a conversation is held.
+#[derive(Clone, Copy)]
+pub(crate) struct Manner<'a> {
+    /// What asks for a line.
+    pub(crate) prompt: &'a str,
+    /// Whether it tells of a bad line what was expected.
+    pub(crate) why: bool,
+}
 
 /// Asks for lines by the prompt, and answers each from what those before it have named, up to the
 /// line `:quit` or the end of the input. A bad line has its report, and changes nothing. Answers
 /// the exit status: 0, or 1 where a read or a write of an answer fails or no memory is found for
 /// the line itself, which is told.
-pub(crate) fn converse<I: BufRead, W: Sink, E: Sink>(
+pub(crate) fn converse<F: Files, I: BufRead, W: Sink, E: Sink>(
     alloc: Global,
     state: HashState,
-    prompt: &str,
+    manner: Manner<'_>,
+    files: &mut F,
     input: &mut I,
     out: &mut W,
     err: &mut E,
@@ -36,19 +44,20 @@ pub(crate) fn converse<I: BufRead, W: Sink, E: Sink>(
     ensures status { result ≤ 1 }
 {
     let mut context = Context::with_hasher(alloc, state);
-    match answer_lines(alloc, prompt, &mut context, input, out, err) {
+    match take_turns(alloc, manner, files, &mut context, input, out, err) {
         Ok(()) => 0,
         Err(fault) => {
-            let _ = tell(&fault, err);
+            let _ = put_fault(&fault, err);
             1
         }
     }
 }
 
-// Answers line after line.
-fn answer_lines<I: BufRead, W: Sink, E: Sink>(
+// Takes turn after turn.
+fn take_turns<F: Files, I: BufRead, W: Sink, E: Sink>(
     alloc: Global,
-    prompt: &str,
+    manner: Manner<'_>,
+    files: &mut F,
     context: &mut Context,
     input: &mut I,
     out: &mut W,
@@ -57,41 +66,69 @@ fn answer_lines<I: BufRead, W: Sink, E: Sink>(
     let mut heard = Vec::new(alloc);
     'lines: for done in 0..u64::MAX {
         let number = u128::from(done) + 1;
-        let goes_on = turn(alloc, number, prompt, &mut heard, context, input, out, err)?;
+        ask(manner.prompt, err);
+        let goes_on = turn(
+            alloc, number, manner, &mut heard, files, context, input, out, err,
+        )?;
         if !goes_on {
             return Ok(());
         }
     }
     // there is no number for this line
-    ask(prompt, err);
+    ask(manner.prompt, err);
     Err(Fault::OutOfMemory)
 }
 
-// Asks for a line, and answers it or tells why not. Says whether the conversation goes on.
-fn turn<I: BufRead, W: Sink, E: Sink>(
+// Hears a line, and does what it asks for or tells why not. Says whether the conversation goes on.
+fn turn<F: Files, I: BufRead, W: Sink, E: Sink>(
     alloc: Global,
     number: u128,
-    prompt: &str,
+    manner: Manner<'_>,
     heard: &mut Vec<u8>,
+    files: &mut F,
     context: &mut Context,
     input: &mut I,
     out: &mut W,
     err: &mut E,
-) -> Result<bool, Fault> {
-    ask(prompt, err);
+) -> Result<bool, Fault>
+    ensures heard { OnOk result (Consumes (I.remaining input.old) (I.remaining input.new)
+        heard.new.items × StopsAt heard.new.items line_feed) }
+    ensures ok { IfOk result (λ goes_on. IsTurn (TakesOrFails E.takes E.fails)
+        (Obeys F.wrote W.takes W.flushes E.takes E.fails manner.entry.why number)
+        manner.entry.prompt.now (IsAtEnd (I.remaining input.old)) heard.new.items goes_on
+        (record { files = files.old; out = out.old; err = err.old; names = context.old })
+        (record { files = files.new; out = out.new; err = err.new; names = context.new })) }
+    ensures err { OnErr result ((files.new ≡ files.old) × (err.new ≡ err.old)) }
+{
     heard.clear();
     let came = hear(input, heard)?;
     if !came {
-        leave(prompt, err);
+        leave(manner.prompt, err);
         return Ok(false);
     }
     let line = line_of(heard.as_slice());
-    let quits = is_quit(line);
-    if quits {
-        return Ok(false);
+    let order = order_of(line);
+    obey(
+        alloc, number, manner.why, line, order, files, context, out, err,
+    )?;
+    Ok(goes_on_behind(order))
+}
+
+// Whether a conversation goes on behind an order.
+fn goes_on_behind(order: Order<'_>) -> bool
+    ensures { result ≡ goes_on_behind order.entry }
+{
+    match order {
+        Order::Quit => false,
+        Order::Answer
+        | Order::Help
+        | Order::Names
+        | Order::Load(_)
+        | Order::LoadNone
+        | Order::Save(_)
+        | Order::SaveNone
+        | Order::Unknown => true,
     }
-    answer(alloc, number, line, context, out, err)?;
-    Ok(true)
 }
 
 // Puts the prompt, where the sink takes it.
@@ -109,133 +146,4 @@ fn leave<E: Sink>(prompt: &str, err: &mut E)
         return;
     }
     let _ = err.put("\n");
-}
-
-// Reads a line with its end behind what was heard, and says whether there is one.
-fn hear<I: BufRead>(input: &mut I, heard: &mut Vec<u8>) -> Result<bool, Fault>
-    requires { heard.old.items ≡ [] }
-    ensures bytes { Consumes (I.remaining input.old) (I.remaining input.new) heard.new.items }
-    ensures stops { StopsAt heard.new.items line_feed }
-    ensures some { result ≡ Ok true → heard.new.items ≢ [] }
-    ensures end { result ≡ Ok false → IsAtEnd (I.remaining input.old) }
-    ensures err { IfErr result (λ fault. (fault ≡ OutOfMemory) ⊎ (fault ≡ ReadFailed)) }
-{
-    match input.read_until(b'\n', heard) {
-        Ok(count) => Ok(count > 0),
-        Err(error) => match error.kind() {
-            ErrorKind::OutOfMemory => Err(Fault::OutOfMemory),
-            _ => Err(Fault::ReadFailed),
-        },
-    }
-}
-
-// Answers one line, or tells why not.
-fn answer<W: Sink, E: Sink>(
-    alloc: Global,
-    number: u128,
-    line: &[u8],
-    context: &mut Context,
-    out: &mut W,
-    err: &mut E,
-) -> Result<(), Fault>
-    ensures ok { OnOk result
-        ((Replies (Delivers W.takes W.flushes) number context.old line.now out.old out.new
-        context.new × (err.new ≡ err.old))
-        ⊎ IsTold (Sends W.takes W.flushes) (TakesOrFails E.takes E.fails) number context.old
-        line.now out.old out.new err.old err.new context.new) }
-    ensures err { IfErr result (λ fault. (fault ≡ WriteFailed) × (err.new ≡ err.old)
-        × Replies (BrokeOn W.takes W.fails W.flushes W.flush_fails) number context.old line.now
-        out.old out.new context.new) }
-{
-    match answer_line(alloc, number, line, context, out) {
-        Ok(_wanted) => pass_on(out),
-        Err(Fault::BadLine(report)) => {
-            tell_bad_line(&report, err);
-            Ok(())
-        }
-        Err(Fault::WriteFailed) => Err(Fault::WriteFailed),
-        Err(_) => {
-            tell_no_memory(err);
-            Ok(())
-        }
-    }
-}
-
-// Tells the report of a bad line, where the sink takes it.
-fn tell_bad_line<E: Sink>(report: &ReportError, err: &mut E)
-    ensures { TakesOrFails E.takes E.fails err.old
-        (ended (report_text (report_of report.now))) err.new }
-{
-    let _ = tell_report(report, err);
-}
-
-// Tells that no memory was found, where the sink takes it.
-fn tell_no_memory<E: Sink>(err: &mut E)
-    ensures { TakesOrFails E.takes E.fails err.old (codes "error: Out of memory\n") err.new }
-{
-    let _ = err.put("error: Out of memory\n");
-}
-
-// Passes on the answer.
-fn pass_on<W: Sink>(out: &mut W) -> Result<(), Fault>
-    ensures ok { OnOk result (W.flushes out.old out.new) }
-    ensures err { IfErr result
-        (λ fault. (fault ≡ WriteFailed) × W.flush_fails out.old out.new) }
-{
-    match out.flush() {
-        Ok(()) => Ok(()),
-        Err(_) => Err(Fault::WriteFailed),
-    }
-}
-
-// Puts what is to be said of a fault.
-fn tell<E: Sink>(fault: &Fault, err: &mut E) -> Result<(), E::Fault>
-    ensures { PutsThese E.takes E.fails result (told_of fault.now) err.old err.new }
-{
-    match fault {
-        Fault::BadLine(report) => tell_report(report, err),
-        Fault::ReadFailed => err.put("error: reading failed\n"),
-        Fault::WriteFailed => err.put("error: writing failed\n"),
-        Fault::OutOfMemory => err.put("error: Out of memory\n"),
-    }
-}
-
-// Puts a report, and a line feed.
-fn tell_report<E: Sink>(report: &ReportError, err: &mut E) -> Result<(), E::Fault>
-    ensures { PutsThese E.takes E.fails result (ended (report_text (report_of report.now)))
-        err.old err.new }
-{
-    report.tell_to(err)?;
-    err.put("\n")
-}
-
-// A line without its end: a line feed, and a carriage return just before that.
-fn line_of(heard: &[u8]) -> &[u8]
-    ensures { IsLine heard.now result.now }
-{
-    let len = heard.len();
-    if len > 0 && heard[len - 1] == b'\n' {
-        trimmed(&heard[..len - 1])
-    } else {
-        heard
-    }
-}
-
-// A line without the carriage return at its end, if it has one.
-fn trimmed(line: &[u8]) -> &[u8]
-    ensures { result.now ≡ without_return line.now }
-{
-    let len = line.len();
-    if len > 0 && line[len - 1] == b'\r' {
-        &line[..len - 1]
-    } else {
-        line
-    }
-}
-
-// Whether a line ends the conversation: `:quit`, maybe between blanks.
-fn is_quit(line: &[u8]) -> bool
-    ensures { (word : List ℕ) × IsWord line.now word × (IsTrue result ↔ (word ≡ codes ":quit")) }
-{
-    line.trim_ascii() == b":quit".as_slice()
 }

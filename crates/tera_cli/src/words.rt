@@ -1,17 +1,17 @@
 //! What the words of a command line ask for.
-ghost use Rattle.std.specs.Prelude.{◌≡◌, ◌≢◌, [], true, false};
+ghost use Rattle.std.specs.Prelude.{◌≡◌, ◌≢◌, [], Bool, true, false};
 ghost use Rattle.clap.specs.Values.{kind_of};
 ghost use Rattle.clap.specs.declared.error.kind.ErrorKind.TheVariants.{OutOfMemory};
-ghost use Rattle.tera_cli.specs.Choice.{AskForTalk, AskForNoTalk, IsShown, names_file};
-ghost use Rattle.tera_cli.specs.declared.words.Wanted.TheVariants.{Files, Input, NoMemory};
-ghost use Rattle.tera_cli.specs.declared.words.Wanted.TheVariants.{Refused, Talk, Told};
+ghost use Rattle.tera_cli.specs.Choice.{Asks, IsShown, names_file, reasons, talk};
+ghost use Rattle.tera_cli.specs.declared.words.Wanted.TheVariants.{Explained, Files, Input};
+ghost use Rattle.tera_cli.specs.declared.words.Wanted.TheVariants.{NoMemory, Refused, Talk, Told};
 
 use clap::error::ErrorKind;
 use clap::{Arg, ArgAction, ArgMatches, Command, Error};
 use std::alloc::{AllocError, Global};
 
 /// The version that `--version` tells, which is that of the file VERSION.
-const VERSION: &str = "0.1.0";
+const VERSION: &str = "0.2.0";
 
 /// What the words of a command line ask for.
 #[derive(Drop)]
@@ -20,8 +20,10 @@ pub(crate) enum Wanted<'a> {
     Input,
     /// A script of each value of `FILE` in turn.
     Files(ArgMatches<'a>),
-    /// A conversation.
-    Talk,
+    /// The same, or one from standard input, with what was expected of a bad line.
+    Explained(ArgMatches<'a>),
+    /// A conversation, with what was expected of bad lines or without.
+    Talk(bool),
     /// No script, but this text on standard output.
     Told(Error),
     /// Nothing, since the words are bad; this text says why.
@@ -54,14 +56,20 @@ pub(crate) fn wanted_by_no_text<'a>(alloc: Global) -> Wanted<'a> {
 
 // What is asked for by words that are understood.
 fn choice_of<'a>(matches: ArgMatches<'a>) -> Wanted<'a>
-    ensures talk { AskForTalk matches.entry → result ≡ Talk }
-    ensures files { AskForNoTalk matches.entry → names_file matches.entry ≡ true
-        → result ≡ Files matches.entry }
-    ensures input { AskForNoTalk matches.entry → names_file matches.entry ≡ false
-        → result ≡ Input }
+    ensures talk { (why : Bool) → Asks matches.entry talk true → Asks matches.entry reasons why
+        → result ≡ Talk why }
+    ensures explained { Asks matches.entry talk false → Asks matches.entry reasons true
+        → result ≡ Explained matches.entry }
+    ensures files { Asks matches.entry talk false → Asks matches.entry reasons false
+        → names_file matches.entry ≡ true → result ≡ Files matches.entry }
+    ensures input { Asks matches.entry talk false → Asks matches.entry reasons false
+        → names_file matches.entry ≡ false → result ≡ Input }
 {
+    let why = matches.get_flag("why");
     if matches.get_flag("interactive") {
-        Wanted::Talk
+        Wanted::Talk(why)
+    } else if why {
+        Wanted::Explained(matches)
     } else if matches.contains_id("FILE") {
         Wanted::Files(matches)
     } else {
@@ -110,11 +118,16 @@ fn command<'a>(alloc: Global) -> Result<Command<'a>, AllocError> {
         .short('i')
         .long("interactive")
         .action(ArgAction::SetTrue)
-        .help("Ask for lines, and go on behind a bad one; `:quit` ends");
+        .help("Ask for lines, and go on behind a bad one; `:help` shows more");
+    let why = Arg::new(alloc, "why")
+        .long("why")
+        .action(ArgAction::SetTrue)
+        .help("Tell of a bad line what was expected, and where");
     Command::new(alloc, "tera")
         .no_binary_name(true)
         .version(VERSION)
         .about("Replays scripts of calls on values of the template engine Tera.")
         .arg(files)?
-        .arg(interactive)
+        .arg(interactive)?
+        .arg(why)
 }
