@@ -1,4 +1,8 @@
+mod FrontLemmas
 mod LineLemmas
+mod MeasureLemmas
+mod NameLemmas
+mod SaveLemmas
 mod SessionSteps
-mod TalkLemmas
+mod StateLemmas
 mod TextLemmas

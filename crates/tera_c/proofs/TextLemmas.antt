@@ -12,10 +12,10 @@ use Rattle.tera_replies.specs.Replay.{Replays, Writes, AllAnswered, MemoryFailed
 use Rattle.tera_replies.specs.Source.{ReadsTo, ReadEnds, ReadFails, bytes_left, fails_at_end}
 use Rattle.tera_replies.specs.declared.source.InputPieces.{InputPieces}
 use Rattle.tera_replies.proofs.ReplayLaws.{replays_weaker}
-use Rattle.tera_c.specs.inner.Kept.{KeptTakes, KeptFails, kept_bytes}
+use Rattle.tera_c.specs.inner.FallibleText.{TextTakes, TextFails, text_bytes}
 use Rattle.tera_c.specs.Scripts.{Comes, GivesNext}
-use Rattle.tera_c.specs.declared.kept.Kept.{Kept}
-use Rattle.tera_c.specs.inner.KeptLaws.{kept_nothing, kept_joined}
+use Rattle.tera_c.specs.declared.fallible_text.FallibleText.{FallibleText}
+use Rattle.tera_c.specs.inner.FallibleTextLaws.{text_nothing, text_joined}
 
 abbrev Same : {S : Type 0} → S → S → Type 0
 Same old new = new ≡ old
@@ -38,22 +38,23 @@ took_is s bytes t empty p = p.grows ∙ ap (λ (front : List ℕ). front ++ byte
 pub sent_is : (s : Growing) (bytes : List ℕ) (t : Growing) → grown_bytes s ≡ [] → Sends GrowingTakes Same s bytes t → grown_bytes t ≡ bytes
 sent_is s bytes t empty p = took_is s bytes t empty (sent_taken GrowingTakes growing_nothing growing_joined s bytes t p)
 
-pub delivered_is : (s : Kept) (bytes : List ℕ) (t : Kept) → kept_bytes s ≡ [] → Delivers KeptTakes Same s bytes t → kept_bytes t ≡ bytes
+pub delivered_is : (s : FallibleText) (bytes : List ℕ) (t : FallibleText) → text_bytes s ≡ [] → Delivers TextTakes Same s bytes t → text_bytes t ≡ bytes
 delivered_is s bytes t empty (sent, p, q) =
-    ap kept_bytes q ∙ took_is s.text bytes sent.text empty (sent_taken KeptTakes kept_nothing kept_joined s bytes sent p).0
+    ap text_bytes q ∙ took_is s.text bytes sent.text empty (sent_taken TextTakes text_nothing text_joined s bytes sent p).0
 
 -- where no memory was refused, no text failed
-refused_both : (t : Kept) → t.refused ≡ false → t.refused ≡ true → ⊥
+refused_both : (t : FallibleText) → t.refused ≡ false → t.refused ≡ true → ⊥
 refused_both t none one = false≢true (sym none ∙ one)
 
-pub never_broke : (s : Kept) (bytes : List ℕ) (t : Kept) → t.refused ≡ false → BrokeOn KeptTakes KeptFails Same (λ (a b : Kept). ⊥) s bytes t → ⊥
+pub never_broke : (s : FallibleText) (bytes : List ℕ) (t : FallibleText) → t.refused ≡ false
+    → BrokeOn TextTakes TextFails Same (λ (a b : FallibleText). ⊥) s bytes t → ⊥
 never_broke s bytes t none h = elim h.fault [
   | inl (rest, is, failed) ↦ refused_both t none failed.1
   | inr (is, failed) ↦ absurd failed
 ]
 
-pub told_is : (s : Kept) (bytes : List ℕ) (t : Kept) → kept_bytes s ≡ [] → t.refused ≡ false → TakesOrFails KeptTakes KeptFails s bytes t
-    → kept_bytes t ≡ bytes
+pub told_is : (s : FallibleText) (bytes : List ℕ) (t : FallibleText) → text_bytes s ≡ [] → t.refused ≡ false → TakesOrFails TextTakes TextFails s bytes t
+    → text_bytes t ≡ bytes
 told_is s bytes t empty none (inl (p, same)) = took_is s.text bytes t.text empty p
 told_is s bytes t empty none (inr (p, refused)) = absurd (refused_both t none refused)
 

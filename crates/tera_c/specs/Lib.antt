@@ -1,8 +1,9 @@
 pub mod Status
 pub mod Version
 pub mod Rooms
-pub mod Held
+pub mod Pointer
 pub mod Lines
-pub mod Talks
+pub mod Sessions
+pub mod Values
 pub mod Scripts
 pub mod inner

@@ -31,3 +31,11 @@ closed = 6
 -- the session is open already
 abbrev pub is_open : ℕ
 is_open = 7
+
+-- the session holds no such name
+abbrev pub missing : ℕ
+missing = 8
+
+-- a value cannot be had so, and the reply says why
+abbrev pub refused : ℕ
+refused = 9

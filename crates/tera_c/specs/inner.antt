@@ -1,2 +1,4 @@
-pub mod Kept
-pub mod KeptLaws
+pub mod Front
+pub mod FrontLaws
+pub mod FallibleText
+pub mod FallibleTextLaws

@@ -8,35 +8,43 @@ ghost use Rattle.tera_report.specs.Escaping.{Spells};
 ghost use Rattle.tera_c.specs.Rooms.{IsDelivered};
 ghost use Rattle.tera_c.specs.Scripts.{FoundNoMemory, IsReplayed};
 ghost use Rattle.tera_c.specs.Status.{bad, closed, is_open, no_memory};
-ghost use Rattle.tera_c.specs.Talks.{Goes, Hears, Opens, reply_of};
+ghost use Rattle.tera_c.specs.Sessions.{Goes, Hears, Opens, reply_of};
 ghost use Rattle.tera_c.specs.Version.{version_number};
 
-mod kept;
+mod fallible_text;
+mod fill;
+mod front;
 mod line;
+mod measure;
+mod names;
 mod parts;
 mod rooms;
 mod script;
 mod session;
+mod session_state;
+mod session_values;
 mod status;
-mod talk;
+mod values;
 mod version;
 
+use front::Front;
+use measure::escaped_len_of;
 use rooms::deliver;
 use script::replay_into;
 use session::Session;
-use status::{BAD, CLOSED, DONE, NO_MEMORY, OPEN};
+use session_state::SessionState;
+use simdutf8::basic::from_utf8;
+use status::{BAD, CLOSED, DONE, NO_MEMORY, OPEN, SMALL};
 use std::alloc::Global;
 use std::mem;
-use std::str::from_utf8;
-use talk::Talk;
-use tera_report::escape_text;
+use tera_report::escape_to;
 use tera_values::HashState;
 use version::{MAJOR, MINOR, PATCH};
 
-/// The version of the library as one number: that of 0.1.0.
+/// The version of the library as one number: that of 0.2.0.
 #[unsafe(no_mangle)]
 pub extern "C" fn tera_version() -> u32
-    ensures { result ≡ version_number 0 1 0 }
+    ensures { result ≡ version_number 0 2 0 }
 {
     MAJOR * 65536 + MINOR * 256 + PATCH
 }
@@ -99,9 +107,9 @@ pub extern "C" fn tera_replay_seeded(
 /// Opens a session, hashed under the fixed state.
 #[unsafe(no_mangle)]
 pub extern "C" fn tera_open(alloc: Global, session: &mut Session) -> u8
-    ensures fresh { IfNone session.old.talk (Opens session.new.talk result) }
-    ensures opened { OnSome session.old.talk
-        ((result ≡ is_open) × (session.new.talk ≡ session.old.talk)) }
+    ensures fresh { IfNone session.old.inner (Opens session.new.inner result) }
+    ensures opened { OnSome session.old.inner
+        ((result ≡ is_open) × (session.new.inner ≡ session.old.inner)) }
 {
     open_session(alloc, HashState::fixed(), session)
 }
@@ -109,27 +117,27 @@ pub extern "C" fn tera_open(alloc: Global, session: &mut Session) -> u8
 /// Opens a session, hashed under a seed.
 #[unsafe(no_mangle)]
 pub extern "C" fn tera_open_seeded(alloc: Global, session: &mut Session, seed: &[u8; 16]) -> u8
-    ensures fresh { IfNone session.old.talk (Opens session.new.talk result) }
-    ensures opened { OnSome session.old.talk
-        ((result ≡ is_open) × (session.new.talk ≡ session.old.talk)) }
+    ensures fresh { IfNone session.old.inner (Opens session.new.inner result) }
+    ensures opened { OnSome session.old.inner
+        ((result ≡ is_open) × (session.new.inner ≡ session.old.inner)) }
 {
     open_session(alloc, HashState::from_bytes(seed), session)
 }
 
 // Opens a session that is closed.
 fn open_session(alloc: Global, state: HashState, session: &mut Session) -> u8
-    ensures fresh { IfNone session.old.talk (Opens session.new.talk result) }
-    ensures opened { OnSome session.old.talk
-        ((result ≡ is_open) × (session.new.talk ≡ session.old.talk)) }
+    ensures fresh { IfNone session.old.inner (Opens session.new.inner result) }
+    ensures opened { OnSome session.old.inner
+        ((result ≡ is_open) × (session.new.inner ≡ session.old.inner)) }
 {
     match mem::replace(session, Session::closed()).into_box(alloc) {
-        Some(talk) => {
-            *session = Session::of(talk);
+        Some(inner) => {
+            *session = Session::of(inner);
             OPEN
         }
-        None => match Box::new(alloc, Talk::new(alloc, state)) {
-            Ok(talk) => {
-                *session = Session::of(talk);
+        None => match Box::new(alloc, SessionState::new(alloc, state)) {
+            Ok(inner) => {
+                *session = Session::of(inner);
                 DONE
             }
             Err(_) => NO_MEMORY,
@@ -145,17 +153,17 @@ pub extern "C" fn tera_line(
     line: &[u8],
     reply_len: &mut usize,
 ) -> u8
-    ensures opened { Goes session.old.talk
+    ensures opened { Goes session.old.inner
         (λ old new. Hears old line.now new result × (reply_len.new ≡ length (reply_of new)))
-        session.new.talk }
-    ensures closed { IfNone session.old.talk
-        ((session.new.talk ≡ None) × (result ≡ closed) × (reply_len.new ≡ 0)) }
+        session.new.inner }
+    ensures closed { IfNone session.old.inner
+        ((session.new.inner ≡ None) × (result ≡ closed) × (reply_len.new ≡ 0)) }
 {
     match mem::replace(session, Session::closed()).into_box(alloc) {
-        Some(mut talk) => {
-            let status = talk.take(alloc, line);
-            *reply_len = talk.reply.len();
-            *session = Session::of(talk);
+        Some(mut inner) => {
+            let status = inner.take(alloc, line);
+            *reply_len = inner.reply.len();
+            *session = Session::of(inner);
             status
         }
         None => {
@@ -173,16 +181,16 @@ pub extern "C" fn tera_reply(
     reply: &mut [u8],
     reply_len: &mut usize,
 ) -> u8
-    ensures same { session.new.talk ≡ session.old.talk }
-    ensures opened { IfSome session.old.talk
-        (λ talk. IsDelivered (reply_of talk) reply.old reply.new reply_len.new result) }
-    ensures closed { IfNone session.old.talk
+    ensures same { session.new.inner ≡ session.old.inner }
+    ensures opened { IfSome session.old.inner
+        (λ inner. IsDelivered (reply_of inner) reply.old reply.new reply_len.new result) }
+    ensures closed { IfNone session.old.inner
         ((result ≡ closed) × (reply_len.new ≡ 0) × (reply.new ≡ reply.old)) }
 {
     match mem::replace(session, Session::closed()).into_box(alloc) {
-        Some(talk) => {
-            let status = deliver(talk.reply.as_str(), reply, reply_len);
-            *session = Session::of(talk);
+        Some(inner) => {
+            let status = deliver(inner.reply.as_str(), reply, reply_len);
+            *session = Session::of(inner);
             status
         }
         None => {
@@ -195,19 +203,14 @@ pub extern "C" fn tera_reply(
 /// Closes a session, if it is open.
 #[unsafe(no_mangle)]
 pub extern "C" fn tera_close(alloc: Global, session: &mut Session)
-    ensures { session.new.talk ≡ None }
+    ensures { session.new.inner ≡ None }
 {
     drop(mem::replace(session, Session::closed()).into_box(alloc));
 }
 
 /// Escapes a text for HTML.
 #[unsafe(no_mangle)]
-pub extern "C" fn tera_escape(
-    alloc: Global,
-    text: &[u8],
-    escaped: &mut [u8],
-    escaped_len: &mut usize,
-) -> u8
+pub extern "C" fn tera_escape(text: &[u8], escaped: &mut [u8], escaped_len: &mut usize) -> u8
     ensures { (IsUtf8 text.now × ((bytes : List ℕ) × Spells bytes text.now
         × IsDelivered bytes escaped.old escaped.new escaped_len.new result))
         ⊎ ((escaped.new ≡ escaped.old) × (escaped_len.new ≡ 0)
@@ -218,8 +221,16 @@ pub extern "C" fn tera_escape(
     let Ok(text) = from_utf8(text) else {
         return BAD;
     };
-    match escape_text(alloc, text) {
-        Ok(made) => deliver(made.as_str(), escaped, escaped_len),
-        Err(_) => NO_MEMORY,
+    let Some(len) = escaped_len_of(text) else {
+        return NO_MEMORY;
+    };
+    *escaped_len = len;
+    if escaped.len() < len {
+        return SMALL;
+    }
+    let mut front = Front::new(escaped);
+    match escape_to(text, &mut front) {
+        Ok(()) => DONE,
+        Err(_) => unreachable!(),
     }
 }

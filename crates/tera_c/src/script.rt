@@ -2,7 +2,7 @@
 ghost use Rattle.std.specs.Prelude.{◌⊎◌, ℕ, IfOk, List, string_bytes};
 ghost use Rattle.tera_c.specs.Scripts.{Comes, FoundNoMemory, IsReplayed};
 
-use crate::kept::Kept;
+use crate::fallible_text::FallibleText;
 use crate::status::{NO_MEMORY, SMALL};
 use std::alloc::{AllocError, Global};
 use tera_replies::{InputPieces, replay_from};
@@ -71,8 +71,8 @@ fn replay_text(alloc: Global, state: HashState, script: &[u8]) -> Result<Replaye
 {
     let pieces = [script];
     let mut input = InputPieces::new(&pieces, false);
-    let mut answers = Kept::new(alloc);
-    let mut report = Kept::new(alloc);
+    let mut answers = FallibleText::new(alloc);
+    let mut report = FallibleText::new(alloc);
     let status = replay_from(alloc, state, &mut input, &mut answers, &mut report);
     let answers = answers.whole()?;
     let report = report.whole()?;

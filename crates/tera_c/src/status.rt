@@ -16,3 +16,7 @@ pub(crate) const NO_REPLY: u8 = 5;
 pub(crate) const CLOSED: u8 = 6;
 /// The session is open already.
 pub(crate) const OPEN: u8 = 7;
+/// The session holds no such name.
+pub(crate) const MISSING: u8 = 8;
+/// A value cannot be had so, and the reply says why.
+pub(crate) const REFUSED: u8 = 9;

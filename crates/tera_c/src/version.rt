@@ -2,6 +2,6 @@
 
 pub(crate) const MAJOR: u32 = 0;
 
-pub(crate) const MINOR: u32 = 1;
+pub(crate) const MINOR: u32 = 2;
 
 pub(crate) const PATCH: u32 = 0;

@@ -29,5 +29,5 @@ closed_spec 𝓤 𝓛 𝓜 𝓡 wired =
     enter ! _ _ _ _ _ $ alloc_all ! (λ l. pass_all ! refl tt $
     sets ! (agg ! (and_then ! (lit ! tt) (no_more !))) refl (tt, (record { fits = lit< tt }, tt)) $
     returns ! (look_at ! 0 refl) $ free_all ! refl $
-    suffices ! _ (ends_at 𝓛 f.ended stayed c y (word vnull) (record { held = null_ptr; talk = None }) tt tt) $ says ! refl $
+    suffices ! _ (ends_at 𝓛 f.ended stayed c y (word vnull) (record { pointer = null_ptr; inner = None }) tt tt) $ says ! refl $
     feq_i ! Ptr null_ptr null_ptr refl $ session_in ! null_ptr None $ nothing ! $ join ! $ nothing ! $ join ! $ done !))

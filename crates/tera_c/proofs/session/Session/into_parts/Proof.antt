@@ -40,7 +40,7 @@ into_parts_spec 𝓤 𝓛 𝓜 𝓡 wired =
     proved_at 𝓛 f.ended stayed c 𝓜 𝓡 (Goes-dropped 𝓛 0 FromSession yes (λ κs x w. refl), (Goes-dropped 𝓛 0 FromGlobal yes (λ κs x w. refl), tt))
     f.Key.name fn (code.unfolded 𝓤 H 𝓜 𝓡 wired) (λ z are.
     let d = z.0.3.0 in let a = z.0.3.1.0 in let Out : RattleType = type_at f.ended.signature.result z.0.0 in let P : RattleType = FromParts.row z.0.0 in
-    let runs = λ (w hv : Val) (Γ : List (Item 𝓤)) (p : Ptr) (is : z.0.4.0 ≡ one_word (ptr_val d.held) ∷ []) (e : d.held ≡ p) (ea : z.0.4.1.0 ≡ hv ∷ [])
+    let runs = λ (w hv : Val) (Γ : List (Item 𝓤)) (p : Ptr) (is : z.0.4.0 ≡ one_word (ptr_val d.pointer) ∷ []) (e : d.pointer ≡ p) (ea : z.0.4.1.0 ≡ hv ∷ [])
     (enters : ent 𝓤 (⋆ 𝓛 Γ) (WpFn 𝓤 H 𝓣.C 𝓣.Λ fn (one_word (ptr_val p) ∷ hv ∷ []) (W.post z))).
     subst (λ (us : List Val). ent 𝓤 (⋆ 𝓛 Γ) (WpFn 𝓤 H 𝓣.C 𝓣.Λ fn (us ++ (z.0.4.1.0 ++ [])) (W.post z))) (sym (is ∙ ap
     (λ (q : Ptr). one_word (ptr_val q) ∷ []) e))
@@ -48,7 +48,7 @@ into_parts_spec 𝓤 𝓛 𝓜 𝓡 wired =
     qed 𝓛 ((‵ ftrue ⊛ ‵ (fsep (session.the_row.own_val d z.0.4.0) (fsep (E.al.row.own_val a z.0.4.1.0) ftrue))) ∷ ‵ ftrue ∷ []) ∵
     split ! $ drop ! $ fsplit ! $ session_out ! d z.0.4.0 (λ is.
     move ! (1 ∷ []) $ fsplit ! $ handle_tells E.al ! a z.0.4.1.0 (λ hv ea fa. move ! (2 ∷ []) $
-    either_held ! d.held d.talk
+    either_held ! d.pointer d.inner
     (λ shut e. use0 𝓛 (‵ (Out.own_val None (live 0 vnil ∷ []))) (none_of 𝓛 P) $ keep ! (0 ∷ []) $
     let out = live 0 vnil in let Γ : List (Item 𝓤) = ‵ (Out.own_val None (out ∷ [])) ∷ [] in
     by ! (runs out hv Γ null_ptr is e ea (qed 𝓛 Γ ∵ enter ! 𝓣.C 𝓣.Λ fn (one_word vnull ∷ hv ∷ []) _ $ alloc_all ! (λ l.

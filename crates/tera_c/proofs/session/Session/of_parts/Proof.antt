@@ -34,7 +34,7 @@ of_parts_spec 𝓤 𝓛 𝓜 𝓡 wired =
     let v : D E = record { ptr = z.0.3.0.ptr; alloc = z.0.3.0.alloc; value = z.0.3.0.value } in
     qed 𝓛 ((‵ ftrue ⊛ ‵ (fsep ((B E).own_val v z.0.4.0) ftrue)) ∷ ‵ ftrue ∷ []) ∵ split ! $ drop ! $ fsplit ! $
     box_out E ! v z.0.4.0 (λ b o hv e ws fa. fjoin ! $ session_in ! (block_ptr b o) (Some v.value) $ keep ! (0 ∷ []) $
-    let w = word E hv b o in let out = one_word (vptr b o) in let made : session.the_row.Denot = record { held = block_ptr b o; talk = Some v.value } in
+    let w = word E hv b o in let out = one_word (vptr b o) in let made : session.the_row.Denot = record { pointer = block_ptr b o; inner = Some v.value } in
     let Γ : List (Item 𝓤) = ‵ (session.the_row.own_val made (out ∷ [])) ∷ [] in
     by ! (subst (λ (us : List Val). ent 𝓤 (⋆ 𝓛 Γ) (WpFn 𝓤 H 𝓣.C 𝓣.Λ code.function (us ++ []) (W.post z))) (sym ws)
     (qed 𝓛 Γ ∵ enter ! 𝓣.C 𝓣.Λ code.function (w ∷ []) _ $ alloc_all ! (λ l. pass_all ! refl (box_typed E hv b o fa, tt) $
