@@ -1,7 +1,6 @@
-"""Escapes a title that a session holds."""
+"""Escapes the title of a page that a session holds."""
 import tera
 
-with tera.Session() as session:
-    session.line('set page {"title": "<b>A & B</b>"}')
-    session.line('path page "title" -> title')
-    print(session.line("escape title").removeprefix("text "), end="")
+with tera.Session() as names:
+    names["page"] = {"title": "<b>A & B</b>", "ports": [80, 443]}
+    print(tera.escape(names.path("page", "title")))
