@@ -1,10 +1,12 @@
-//! Escapes a title that a session holds.
+//! Escapes the title of a page that a session holds.
+use tera_values::{Session, Value};
 
-fn main() -> Result<(), tera_values::Error> {
-    let mut session = tera_values::Session::new()?;
-    session.line(r#"set page {"title": "<b>A & B</b>"}"#)?;
-    session.line(r#"path page "title" -> title"#)?;
-    let reply = session.line("escape title")?;
-    print!("{}", reply.trim_start_matches("text "));
+fn main() -> Result<(), Box<dyn std::error::Error>> {
+    let mut session = Session::new()?;
+    let (title, ports) = (Value::from("<b>A & B</b>"), Value::from([80, 443]));
+    session.set("page", Value::map([("title", title), ("ports", ports)]))?;
+    if let Some(title) = session.path("page", "title")? {
+        println!("{}", tera_values::escape(&String::try_from(title)?)?);
+    }
     Ok(())
 }
