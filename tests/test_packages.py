@@ -101,7 +101,7 @@ class Versions(unittest.TestCase):
     def test_the_sources_say_one_version(self):
         self.assertEqual(re.search(r"define TERA_VERSION (\d+)", read("include/tera.h"))[1], str(number_of(self.VERSION)))
         self.assertIn(f"this header, {self.VERSION}:", read("include/tera.h"))
-        self.assertIn(f'__version__ = "{self.VERSION}"', read("bindings/python/tera.py"))
+        self.assertIn(f'__version__ = "{self.VERSION}"', read("bindings/python/tera/_version.py"))
         self.assertEqual(tomllib.loads(read("bindings/rust/Cargo.toml"))["package"]["version"], self.VERSION)
         self.assertEqual(re.search(r"(?m)^## (\S+)$", read("CHANGELOG.md"))[1], self.VERSION)
         parts = re.findall(r": u32 = (\d+);", read("crates/tera_c/src/version.rt"))
@@ -151,7 +151,11 @@ class Symbols(unittest.TestCase):
 
 
 class Python(unittest.TestCase):
-    SHOWN = "import doctest, tera; told = doctest.testmod(tera); print(tera.__file__, tera.__version__, told.failed, told.attempted > 5)"
+    SHOWN = """import doctest, tera
+runner = doctest.DocTestRunner()
+for each in doctest.DocTestFinder().find(tera, "tera", False, vars(tera)):
+    runner.run(each)
+print(tera.__file__, tera.__version__, runner.failures, runner.tries > 5)"""
 
     @classmethod
     def setUpClass(cls):
@@ -197,7 +201,7 @@ class Rust(unittest.TestCase):
 
     def test_its_tests_and_those_of_its_pages_pass_without_an_index(self):
         told = said("cargo", "test", "--offline", folder=self.folder)
-        self.assertEqual(len(re.findall(r"test result: ok", told)), 2, told)
+        self.assertEqual(len(re.findall(r"test result: ok", told)), 3, told)
         self.assertIn("the_archive_is_of_this_version ... ok", told)
 
     def test_its_pages_are_made_without_a_warning(self):
@@ -285,7 +289,7 @@ class WithoutTheKit(unittest.TestCase):
     """README's examples, in a folder that has the packages and the files that they name alone: with an empty home and no `rt` on
     the path, and where `unshare` can, with no kit, no repository and no net."""
 
-    FILES = ("README.md", "bindings/c/escape.c", "bindings/rust/examples/page.rs", "examples/first.replay")
+    FILES = ("README.md", "bindings/c/value.c", "bindings/python/page.py", "bindings/rust/examples/page.rs", "examples/first.replay")
 
     @classmethod
     def setUpClass(cls):
@@ -312,7 +316,7 @@ class WithoutTheKit(unittest.TestCase):
         """Whether README's lines under that name print this."""
         for path in glob.glob(f"{packages(kind)}/*"):
             shutil.copy(path, f"{self.folder}/out/packages")
-        block = read("README.md").partition("\n## Without the kit\n")[2].partition("```sh\n")[2].partition("```")[0]
+        block = read("README.md").partition("\n## From Python, C and Rust\n")[2].partition("```sh\n")[2].partition("```")[0]
         lines = re.search(rf"(?m)^# {name}\b.*\n((?:[^#].*\n)*)", block)[1]
         home = f"{self.folder}/home"
         found = {"PATH": f"{home}/bin:/usr/bin:/bin", "HOME": home, "CARGO_NET_OFFLINE": "true", "PIP_NO_INDEX": "1"}
@@ -329,11 +333,11 @@ class WithoutTheKit(unittest.TestCase):
             raise unittest.SkipTest("there is no python3-setuptools with python3-wheel")
         if subprocess.run(["/usr/bin/env", "PATH=/usr/bin:/bin", "python3", "-c", "import ensurepip"], capture_output=True).returncode:
             raise unittest.SkipTest("there is no python3-venv")
-        self.follows("Python", "python", "a &lt; b\n")
+        self.follows("Python", "python", ESCAPED)
 
     def test_c(self):
         needs("dpkg-deb", "pkg-config", "cc")
-        self.follows("C", "debian", ESCAPED + read("examples/first.answers"))
+        self.follows("C", "debian", '"<b>A & B</b>"\n' + read("examples/first.answers"))
 
     def test_rust(self):
         needs("cargo")

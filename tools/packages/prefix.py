@@ -9,12 +9,13 @@ import runpy
 import shutil
 from typing import Iterator, List
 
+from tools.packages import python
 from tools.packages.given import TOP, Failed, Given, copy, filled, read, write
 
 LIB = "lib/x86_64-linux-gnu"
 MODULE = "lib/python3/dist-packages/tera"
 DOCUMENTS = ("README.md", "docs/SCRIPT.md", "docs/BORDER.md", "docs/PACKAGES.md")
-EXAMPLES = ("bindings/c/escape.c", "bindings/c/session.c", "bindings/python/page.py", "examples/first.replay", "examples/tour.replay")
+EXAMPLES = ("bindings/c/escape.c", "bindings/c/session.c", "bindings/c/value.c", "bindings/python/page.py", "examples/first.replay", "examples/tour.replay")
 # the manual pages
 MANUAL = ("tera.1", "libtera.3")
 
@@ -57,8 +58,7 @@ def lay_out(given: Given, prefix: str) -> None:
     lay_out_library(given, prefix)
     lay_out_documents(given, prefix)
     copy(given.program, f"{prefix}/bin/tera", 0o755)
-    copy(f"{TOP}/bindings/python/tera.py", f"{prefix}/{MODULE}/__init__.py")
-    write(f"{prefix}/{MODULE}/py.typed", "")
+    python.lay_out_module(f"{prefix}/{MODULE}")
     up = "/".join(".." for _ in MODULE.split("/"))
     os.symlink(f"{up}/{LIB}/{runpy.run_path(f'{TOP}/bindings/link.py')['SONAME']}", f"{prefix}/{MODULE}/libtera.so")
 

@@ -4,19 +4,27 @@ from __future__ import annotations
 import os
 from typing import List
 
-from tools.packages.given import TOP, Failed, Given, copy, python_with, write
+from tools.packages.given import TOP, Failed, Given, copy, python_with
 
 FILES = ("pyproject.toml", "setup.py", "MANIFEST.in", "README.md")
+# the module, a package of Python
+MODULE = f"{TOP}/bindings/python/tera"
 # how the build's own program makes one of the two, without an index
 MAKES = "import sys; from setuptools import build_meta; print(build_meta.build_{0}(sys.argv[1]))"
+
+
+def lay_out_module(folder: str) -> None:
+    """Lays out the module."""
+    for name in sorted(os.listdir(MODULE)):
+        if name.endswith((".py", ".typed")):
+            copy(f"{MODULE}/{name}", f"{folder}/{name}")
 
 
 def lay_out(given: Given, folder: str) -> None:
     """Lays out the source of the package: the module, the archive and what links it."""
     for name in FILES:
         copy(f"{TOP}/bindings/python/{name}", f"{folder}/{name}")
-    copy(f"{TOP}/bindings/python/tera.py", f"{folder}/tera/__init__.py")
-    write(f"{folder}/tera/py.typed", "")
+    lay_out_module(f"{folder}/tera")
     copy(f"{TOP}/bindings/link.py", f"{folder}/link.py")
     copy(f"{TOP}/LICENSE", f"{folder}/LICENSE")
     for name in ("libtera.a", "tera.h"):
