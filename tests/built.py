@@ -12,11 +12,13 @@ from __future__ import annotations
 import contextlib
 import fcntl
 import functools
+import importlib.util
 import os
 import shutil
 import subprocess
 import sys
 import tempfile
+import unittest
 from typing import Any, Iterator, Mapping, NamedTuple
 
 sys.dont_write_bytecode = True  # no folder beside the sources
@@ -43,6 +45,21 @@ class Ran(NamedTuple):
     out: bytes
     err: bytes
     status: int
+
+
+class WithFolder(unittest.TestCase):
+    """Files of a test, in a folder of its own."""
+
+    def setUp(self) -> None:
+        self.folder = tempfile.mkdtemp(prefix="test-")
+        self.addCleanup(shutil.rmtree, self.folder, ignore_errors=True)
+
+    def file(self, name: str, text: str) -> str:
+        """Makes a file, with its line ends as they are given, and gives its path."""
+        path = f"{self.folder}/{name}"
+        with open(path, "w", encoding="utf-8", newline="") as file:
+            file.write(text)
+        return path
 
 
 def ran(*words: str, **how: Any) -> subprocess.CompletedProcess[bytes]:
@@ -76,6 +93,16 @@ def install(*commands: str) -> bool:
             ran("apt-get", "update", "-q")
             ran("apt-get", "install", "-q", "-y", *lacking)
     return all(map(shutil.which, commands))
+
+
+def has_module(name: str, package: str) -> bool:
+    """Whether Python has a module; where it lacks it, Debian's package is installed first."""
+    if not importlib.util.find_spec(name) and shutil.which("apt-get"):
+        with alone():
+            ran("apt-get", "update", "-q")
+            ran("apt-get", "install", "-q", "-y", package)
+        importlib.invalidate_caches()
+    return importlib.util.find_spec(name) is not None
 
 
 def made(*words: str, env: Mapping[str, str] = {}) -> None:

@@ -18,6 +18,7 @@ sys.dont_write_bytecode = True  # no folder beside the sources
 TOP = os.path.dirname(os.path.dirname(os.path.abspath(__file__)))
 sys.path.insert(0, TOP)
 import built
+from built import WithFolder
 from tools import clauses, machine, prove, timing
 
 CRATES = "# a note\ntera_low: core\ntera_left: tera_low\ntera_right: tera_low\ntera_top: tera_left tera_right core\nhelper: core\n"
@@ -68,12 +69,6 @@ def read(path):
         return file.read()
 
 
-class WithFolder(unittest.TestCase):
-    def setUp(self):
-        self.folder = tempfile.mkdtemp(prefix="tools-")
-        self.addCleanup(shutil.rmtree, self.folder, ignore_errors=True)
-
-
 class Clauses(WithFolder):
     def repository(self, name="one", source=SOURCE, spec=SPEC, path="src/lib.rt"):
         top = f"{self.folder}/{name}"
@@ -84,16 +79,16 @@ class Clauses(WithFolder):
 
     def changes(self, **given):
         old, new = self.repository(), self.repository("two", **given)
-        return [*clauses.changed_functions(old, new), *clauses.changed_definitions(old, new)]
+        return list(clauses.changes(old.told(), new.told()))
 
     def test_public_functions_and_what_they_cite_are_listed(self):
-        lines = list(clauses.listed(self.repository()))
+        lines = list(clauses.listed(self.repository().told()))
         self.assertEqual([line for line in lines if "fn " in line], [
             "impl Low · pub fn own(&self) -> u8", "impl Told for Low · fn told(&self) -> u8", "pub fn shown(alloc: Global) -> u8"])
         self.assertIn("    ensures told { result = low 1 }", lines)
         self.assertIn("    ensures* { other }", lines)
-        cited = [line.partition(": ")[2] for line in lines if line.startswith("Rattle.")]
-        self.assertEqual(cited, ["deeper : Nat -> Nat deeper n = n", "abbrev low : Nat -> Nat low n = deeper n"])
+        self.assertEqual(lines[-4:], ["definition deeper", "    is { deeper : Nat -> Nat deeper n = n }",
+                                      "definition low", "    is { abbrev low : Nat -> Nat low n = deeper n }"])
 
     def test_what_only_moves_is_no_change(self):
         self.assertEqual(self.changes(path="src/inner/other.rt", source=SOURCE.replace("{ 1 }", "{ 5 }").replace("requires { fits", "requires  {\n  fits")), [])
@@ -103,7 +98,7 @@ class Clauses(WithFolder):
                          ["pub fn shown(alloc: Global) -> u8\n  - ensures told { result = low 1 }\n  + ensures told { result = low 2 }"])
         self.assertEqual(self.changes(source=SOURCE.replace("pub fn own", "fn own")), ["went: impl Low · pub fn own(&self) -> u8", "    ensures* { other }"])
         self.assertEqual(self.changes(spec=SPEC.replace("deeper n = n", "deeper n = 1")),
-                         ["definition deeper\n  - deeper : Nat -> Nat deeper n = n\n  + deeper : Nat -> Nat deeper n = 1"])
+                         ["definition deeper\n  - is { deeper : Nat -> Nat deeper n = n }\n  + is { deeper : Nat -> Nat deeper n = 1 }"])
         self.assertEqual(self.changes(spec=SPEC.replace("uncited = 0", "uncited = 1")), [])
 
 
@@ -144,19 +139,19 @@ class Timing(WithFolder):
         file = f"{self.folder}/times"
         prover = f"exec -a rattle {sys.executable} -c 'import time; time.sleep(2)' --crate-name tera_low --test"
         self.assertEqual(timing.run("a part", file, ["sh", "-c", 'bash -c "$1"; exit 3', "sh", f"({prover}); true"]), 3)
-        rows = list(timing.read_rows(file))
-        self.assertEqual([(row.part, *row.work) for row in rows], [("a part", "", "whole"), ("a part", "tera_low", "tests")])
+        rows = timing.read_rows(file)
+        self.assertEqual([row[:2] for row in rows], [("a part", ""), ("a part", "tera_low, its tests")])
         self.assertGreater(rows[0].last - rows[0].first, 1.5)
 
     def test_costs_are_added_and_the_dearest_is_first(self):
         file = f"{self.folder}/times"
-        written(self.folder, {"times": "low\t\twhole\t0\t60\t30\nhigh\t\twhole\t30\t120\t90\nlow\ttera_a\tproof\t1\t2\t10\nlow\ttera_a\tproof\t5\t9\t10\n"})
+        written(self.folder, {"times": "low\t\t0\t60\t30\nhigh\t\t30\t120\t90\nlow\ttera_a\t1\t2\t10\nlow\ttera_a\t5\t9\t10\n"})
         made = io.StringIO()
         with contextlib.redirect_stdout(made):
             timing.table(file)
         lines = [" ".join(line.split()) for line in made.getvalue().splitlines() if line]
-        self.assertEqual(lines, ["processor wall part", "90 s 90 s high", "30 s 60 s low", "processor wall crate, and what was done",
-                                 "20 s 8 s tera_a (proof; low)", "in all 2 processor minutes, 2 minutes of wall time"])
+        self.assertEqual(lines, ["processor wall part", "90 s 90 s high", "30 s 60 s low", "processor wall crate, and the part that it is of",
+                                 "20 s 8 s tera_a (low)", "in all 2 processor minutes, 2 minutes of wall time"])
 
 
 class Prove(WithFolder):
@@ -188,7 +183,6 @@ class Prove(WithFolder):
             0, ["tera_low", "lib"], [["tera_left", "lib"], ["tera_right", "lib"]], [["tera_top", "run"]]))
         self.assertIn("make: 4 crates to prove, each of one to five minutes on an idle core", err)
         self.assertIn("make: the proved program stands, after", err)
-        self.assertFalse(os.listdir(f"{self.top}/crates/tera_top/out/beside") if os.path.isdir(f"{self.top}/crates/tera_top/out/beside") else [])
         self.assertTrue(all(os.path.isdir(f"{self.top}/crates/{name}/out/rlib") for name in ("tera_low", "tera_left", "tera_right")))
         status, err, notes = self.proved()
         self.assertEqual((status, err, notes), (0, "make: the proved program stands\n", []))

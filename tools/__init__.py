@@ -1,3 +1,11 @@
 """Tools of the repository, each run by its path: `ending` ends all that a command began, `timing` tells what parts of a
-check cost, `prove` proves and builds a program, `clauses` lists what the libraries promise, `testing` runs parts of the
-tests by name. `machine` reads what the kernel tells of processes. tests/test_tools.py tries them on small made-up crates."""
+check cost, `prove` proves and builds a program, `unproved` runs one that is not proved, `clauses` lists what the libraries
+promise, `testing` runs parts of the tests by name. `machine` reads what the kernel tells of processes. tests/test_tools.py
+tries them on small made-up crates."""
+import argparse
+
+
+def parser(says: str) -> argparse.ArgumentParser:
+    """The parser of a command line, whose help begins with the words that a tool begins with."""
+    return argparse.ArgumentParser(description=says, formatter_class=argparse.RawDescriptionHelpFormatter)
+

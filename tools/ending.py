@@ -13,13 +13,13 @@ import signal
 import subprocess
 import sys
 import time
-from typing import List, Set
+from typing import Any, List
 
 sys.dont_write_bytecode = True  # no folder beside the sources
 sys.path.insert(0, os.path.dirname(os.path.dirname(os.path.abspath(__file__))))
 from tools.machine import below
 
-ADOPTS_ORPHANS = 36  # PR_SET_CHILD_SUBREAPER: what a process below began, and left, becomes a child of this one
+ADOPTS_ORPHANS = 36  # PR_SET_CHILD_SUBREAPER: what a process below left becomes a child of this one
 PATIENCE = 2  # seconds
 SIGNALS = signal.SIGINT, signal.SIGTERM, signal.SIGHUP
 
@@ -34,39 +34,49 @@ def ended(number: int, _: object) -> None:
 
 
 def end_all() -> None:
-    """Ends all below, politely first."""
+    """Ends all below, politely first, and heeds no signal any more."""
+    for number in SIGNALS:
+        signal.signal(number, signal.SIG_IGN)
     until = time.monotonic() + PATIENCE
-    told: Set[int] = set()
+    told: List[int] = []
     while living := below(os.getpid()):
         is_late = time.monotonic() > until
-        for pid in living if is_late else set(living) - told:
+        for pid in living if is_late else [it for it in living if it not in told]:
             with contextlib.suppress(ProcessLookupError):
                 os.kill(pid, signal.SIGKILL if is_late else signal.SIGTERM)
-        told.update(living)
+        told += living
         with contextlib.suppress(ChildProcessError):
             while os.waitpid(-1, os.WNOHANG)[0]:
                 pass
         time.sleep(0.05)
 
 
-def run(command: List[str]) -> int:
-    """Runs the command; returns its status, or that of the signal that came."""
+def heed() -> None:
+    """From now on a signal is raised as `Ended`."""
+    for number in SIGNALS:
+        signal.signal(number, ended)
+
+
+def run(command: List[str], **how: Any) -> int:
+    """Runs the command, with what `Popen` is told beside, and returns its status. A signal ends it with all that it began, and is
+    raised."""
+    ctypes.CDLL(None).prctl(ADOPTS_ORPHANS, 1, 0, 0, 0)
+    heed()
     try:
-        for number in SIGNALS:
-            signal.signal(number, ended)
         # in a group of its own, lest an interrupt at a terminal ends some of it alone
-        status = subprocess.Popen(command, process_group=0).wait()
-    except Ended as came:
-        return 128 + int(came.args[0])
+        status = subprocess.Popen(command, process_group=0, **how).wait()
+    except Ended:
+        end_all()
+        raise
     return status if status >= 0 else 128 - status
 
 
 def main() -> int:
     """Runs the command of the command line, and ends all that is left of it."""
-    ctypes.CDLL(None).prctl(ADOPTS_ORPHANS, 1, 0, 0, 0)
-    status = run(sys.argv[1:])
-    for number in SIGNALS:
-        signal.signal(number, signal.SIG_IGN)
+    try:
+        status = run(sys.argv[1:])
+    except Ended as came:
+        status = 128 + int(came.args[0])
     end_all()
     return status
 

@@ -12,11 +12,12 @@ import shutil
 import sys
 from typing import Any, Dict, List, Optional
 
-# The parts of `rt`, and of the module beside it that its commands share, which are taken here.
-OF_RT = "processors", "free", "rtlib"
-OF_SHARED = "crates_below", "guarded", "lock", "PARTS", "RATTLE"
+# What is taken here of `rt`, of the module beside it that its commands share, and of its crates.
+TAKEN = {
+    "rt": ("processors", "free", "rtlib"),
+    "rtlib": ("crates_below", "guarded", "lock", "PARTS", "RATTLE"),
+    "a crate": ("name", "folder", "rlib", "is_static", "below", "stamp", "words", "build_static")}
 ROOM = 4_000_000_000  # the free memory, in bytes, that a check begins with
-OF_CRATE = "name", "folder", "rlib", "is_static", "below", "stamp", "words", "build_rlib", "build_static"
 
 
 @functools.lru_cache(None)
@@ -24,17 +25,11 @@ def rt() -> Any:
     """The kit's `rt`, as a module."""
     path = os.path.realpath(shutil.which("rt") or "rt")
     sys.path.insert(0, os.path.dirname(path))
-    loader = importlib.machinery.SourceFileLoader("rt", path)
-    spec = importlib.util.spec_from_loader("rt", loader)
-    assert spec is not None
+    spec = importlib.util.spec_from_loader("rt", importlib.machinery.SourceFileLoader("rt", path))
+    assert spec and spec.loader
     module = importlib.util.module_from_spec(spec)
-    loader.exec_module(module)
+    spec.loader.exec_module(module)
     return module
-
-
-def parts() -> List[str]:
-    """The folders of a crate that a check reads: those that a copy of it needs."""
-    return list(rt().rtlib.PARTS)
 
 
 def processors() -> int:
@@ -57,7 +52,7 @@ class Crate:
     """A crate of the repository, as the kit knows it."""
 
     def __init__(self, own: Any) -> None:
-        # a static library is checked with the code of all libraries below it, by which no edit is refused
+        # a static library is checked with all code below it, by which no edit is refused
         self.own = own
         own.is_static = False
         self.name, self.folder, self.library = str(own.name), str(own.folder), str(own.rlib)
@@ -70,21 +65,22 @@ class Crate:
         """A sum of all that a verdict on it stands on, by which the gate tells whether one still holds."""
         return str(self.own.stamp())
 
+    def folders(self) -> List[str]:
+        """The folders that a check of it reads: those that a copy of it needs."""
+        return [part for part in rt().rtlib.PARTS if os.path.isdir(f"{self.folder}/{part}")]
+
     def check(self, flags: List[str], kept: Optional[str]) -> List[str]:
         """The words of a check of a copy of the crate, over the work that is kept in a folder: no command checks a copy."""
         words = [*rt().rtlib.guarded(), rt().rtlib.RATTLE, "check", *self.own.words(flags, keeps=False)]
+        # a copy declares a function of C's, which the crate does not
+        words = [f"{it}never" if it == f"{self.name}=" else it for it in words]
         return words + (["--incremental", kept] if kept else [])
 
     def is_current(self) -> bool:
         """Whether its library is there, and newer than what it is built from; no command asks that and proves nothing."""
-        folders = [f"{self.folder}/{part}" for part in parts()]
-        files = [f"{at}/{name}" for folder in folders for at, _, names in os.walk(folder) for name in names]
-        made_of = [*files, *(low.library for low in self.below())]
+        walks = [walk for part in self.folders() for walk in os.walk(f"{self.folder}/{part}")]
+        made_of = [*(f"{at}/{name}" for at, _, names in walks for name in names), *(low.library for low in self.below())]
         return os.path.isdir(self.library) and max(map(os.path.getmtime, made_of)) <= os.path.getmtime(self.library)
-
-    def build(self) -> bool:
-        """Builds its library over what the gate left, as the gate does; `rt lib` would ask for the crate's folder alone."""
-        return not self.own.build_rlib(["--jobs", "1"], anew=False)
 
     def archive(self) -> bool:
         """Makes the static library over the libraries that the gate left; `rt lib` would prove the crate again."""
@@ -97,13 +93,12 @@ class Crate:
 def crates(top: str) -> Dict[str, Crate]:
     """The crates of a repository by their names, lowest first."""
     rt().rtlib.guarded()
-    found = [Crate(own) for own in rt().rtlib.crates_below(top)]
-    return {crate.name: crate for crate in found}
+    return {str(own.name): Crate(own) for own in rt().rtlib.crates_below(top)}
 
 
 def changes() -> List[str]:
     """Each part of the kit that is taken here and is there no more."""
-    lost = [f"rt has no {name}" for name in OF_RT if not hasattr(rt(), name)]
-    lost += [f"rtlib has no {name}" for name in OF_SHARED if not hasattr(rt().rtlib, name)]
-    known = {*dir(rt().rtlib.Crate), *rt().rtlib.Crate.__init__.__code__.co_names}
-    return lost + [f"a crate has no {name}" for name in OF_CRATE if name not in known]
+    crate = rt().rtlib.Crate
+    own = [*dir(crate), *crate.__init__.__code__.co_names]
+    known = {"rt": dir(rt()), "rtlib": dir(rt().rtlib), "a crate": own}
+    return [f"{it} has no {name}" for it in TAKEN for name in TAKEN[it] if name not in known[it]]

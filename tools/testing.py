@@ -17,15 +17,17 @@ import tempfile
 import time
 import unittest
 from concurrent.futures import ThreadPoolExecutor, as_completed
-from typing import Any, Iterator, List, NamedTuple
+from typing import Any, List, NamedTuple
 from xml.etree import ElementTree
 
 sys.dont_write_bytecode = True  # no folder beside the sources
 TOP = os.path.dirname(os.path.dirname(os.path.abspath(__file__)))
+sys.path[:0] = [TOP, f"{TOP}/tests"]
+from tools import parser
+
 SCRIPTS = {"wrong": [sys.executable, f"{TOP}/tools/wrong_bodies.py"]}
-# Parts that begin first where several run side by side: those that take longest.
+# Parts that begin first where several run side by side, and the one that fills all processors.
 LONG = ["hostile", "border", "packages", "cli", "pages", "program", "refused", "fuzz", "replay"]
-# The part that begins last, as it fills all processors.
 LAST = ["interrupt"]
 
 
@@ -38,62 +40,43 @@ class Result(NamedTuple):
     failure: str = ""
     skipped: str = ""
 
+    def __str__(self) -> str:
+        how = "FAIL" if self.failure else "skip" if self.skipped else "pass"
+        return f"{how} {self.part}: {self.name}{f' ({self.skipped})' if self.skipped else ''}"
+
 
 class Told(unittest.TestResult):
     """Tells each test as it ends, and keeps the results."""
 
     def __init__(self, part: str) -> None:
         super().__init__()
-        self.part = part
+        self.part, self.began = part, time.monotonic()
         self.results: List[Result] = []
-        self.began = time.monotonic()
-        self.faults: List[str] = []
-        self.why = ""
 
     def startTest(self, test: unittest.TestCase) -> None:
         super().startTest(test)
-        self.began, self.faults, self.why = time.monotonic(), [], ""
-
-    def addFailure(self, test: unittest.TestCase, err: Any) -> None:
-        super().addFailure(test, err)
-        self.faults.append(self.failures[-1][1])
+        self.began = time.monotonic()
 
     def addError(self, test: unittest.TestCase, err: Any) -> None:
         super().addError(test, err)
-        is_test = isinstance(test, unittest.TestCase)
-        if not is_test:  # what stands before a class or a module has failed, and no test of it begins
-            self.startTest(test)
-        self.faults.append(self.errors[-1][1])
-        if not is_test:
+        if not isinstance(test, unittest.TestCase):  # no test of a class or a module begins
+            self.began = time.monotonic()
             self.stopTest(test)
-
-    def addSubTest(self, test: unittest.TestCase, subtest: unittest.TestCase, err: Any) -> None:
-        super().addSubTest(test, subtest, err)
-        if err is not None:
-            found = self.failures if issubclass(err[0], test.failureException) else self.errors
-            self.faults.append(f"{subtest}\n{found[-1][1]}")
-
-    def addSkip(self, test: unittest.TestCase, reason: str) -> None:
-        super().addSkip(test, reason)
-        self.why = reason
 
     def stopTest(self, test: unittest.TestCase) -> None:
         super().stopTest(test)
-        seconds = time.monotonic() - self.began
+        told_of = [*self.failures, *self.errors]
+        said = "\n".join(text if which is test else f"{which}\n{text}" for which, text in told_of)
         own = test.id().partition(".")[2] if isinstance(test, unittest.TestCase) else test.id()
-        result = Result(self.part, test.shortDescription() or own, seconds, "\n".join(self.faults), self.why)
-        self.results.append(told(result))
-
-
-def line_of(result: Result) -> str:
-    """The line of a result."""
-    how = "FAIL" if result.failure else "skip" if result.skipped else "pass"
-    return f"{how} {result.part}: {result.name}{f' ({result.skipped})' if result.skipped else ''}"
+        name, took = test.shortDescription() or own, time.monotonic() - self.began
+        why = "".join(reason for _, reason in self.skipped)
+        self.failures, self.errors, self.skipped = [], [], []
+        self.results.append(told(Result(self.part, name, took, said, why)))
 
 
 def told(result: Result) -> Result:
     """Prints the line of a result, and what a failed test says."""
-    print("\n     ".join([line_of(result), *result.failure.splitlines()]), flush=True)
+    print("\n     ".join([str(result), *result.failure.splitlines()]), flush=True)
     return result
 
 
@@ -103,8 +86,7 @@ def results_of(word: str) -> List[Result]:
     if part in SCRIPTS:
         status = subprocess.run(SCRIPTS[part], cwd=TOP).returncode
         return [told(Result(part, "all that it says passes", 0.0, f"its status is {status}" if status else ""))]
-    sys.path[:0] = [path for path in (TOP, f"{TOP}/tests") if path not in sys.path]
-    suite = unittest.defaultTestLoader.loadTestsFromName(".".join([f"test_{part}", *([inner] if inner else [])]))
+    suite = unittest.defaultTestLoader.loadTestsFromName(f"test_{part}.{inner}".strip("."))
     result = Told(part)
     suite.run(result)
     return result.results
@@ -114,26 +96,28 @@ def apart(word: str, room: str, times: str) -> List[Result]:
     """The results of a part that runs in a process of its own, which notes what it took."""
     into = f"{room}/{word}"
     words = [sys.executable, os.path.abspath(__file__), "--into", into, word]
-    noted = [sys.executable, f"{TOP}/tools/timing.py", "--part", word, "--in", times] if times else []
-    done = subprocess.run([*noted, *words], cwd=TOP, stdin=subprocess.DEVNULL, capture_output=True, text=True, errors="replace")
+    timing = [sys.executable, f"{TOP}/tools/timing.py", "--part", word, "--in", times]
+    none, pipe, both = subprocess.DEVNULL, subprocess.PIPE, subprocess.STDOUT
+    done = subprocess.run([*(timing if times else []), *words], cwd=TOP, stdin=none, stdout=pipe, stderr=both)
     if not os.path.isfile(into):
-        return [Result(word, "it comes to its end", 0.0, (done.stdout + done.stderr)[-4000:] or f"status {done.returncode}")]
+        said = done.stdout.decode(errors="replace")[-4000:] or f"status {done.returncode}"
+        return [Result(word, "it comes to its end", 0.0, said)]
     with open(into, encoding="utf-8") as file:
         return [Result(*row) for row in json.load(file)]
 
 
-def side_by_side(words: List[str], jobs: int, times: str) -> Iterator[Result]:
-    """The results of several parts, so many at once, each part's once it has ended."""
+def side_by_side(words: List[str], jobs: int, times: str) -> List[Result]:
+    """The results of several parts, so many at once, each part's told once it has ended."""
     with tempfile.TemporaryDirectory(prefix="testing-") as room, ThreadPoolExecutor(jobs) as pool:
-        for done in as_completed([pool.submit(apart, word, room, times) for word in words]):
-            yield from map(told, done.result())
+        runs = [pool.submit(apart, word, room, times) for word in words]
+        return [told(result) for done in as_completed(runs) for result in done.result()]
 
 
 def names() -> List[str]:
     """The parts that are unittests, in the order in which they begin."""
-    found = {os.path.basename(path)[len("test_"):-len(".py")] for path in glob.glob(f"{TOP}/tests/test_*.py")}
-    long = [name for name in LONG if name in found]
-    return [*long, *sorted(found.difference(long, LAST)), *(name for name in LAST if name in found)]
+    found = sorted(os.path.basename(path)[len("test_"):-len(".py")] for path in glob.glob(f"{TOP}/tests/test_*.py"))
+    order = [*LONG, *(name for name in found if name not in LONG + LAST), *LAST]
+    return [name for name in order if name in found]
 
 
 def junit(results: List[Result]) -> bytes:
@@ -151,20 +135,19 @@ def junit(results: List[Result]) -> bytes:
 
 def given() -> argparse.Namespace:
     """What the command line says."""
-    words = argparse.ArgumentParser(description=__doc__, formatter_class=argparse.RawDescriptionHelpFormatter)
+    words = parser(__doc__)
     words.add_argument("--all", action="store_true", help="runs all parts that are unittests")
-    words.add_argument("--but", metavar="PART", action="append", default=[], help="leaves a part of all out")
+    words.add_argument("--but", metavar="PART", action="append", default=[], help="leaves it out")
     words.add_argument("--jobs", type=int, default=1, help="so many parts side by side")
-    words.add_argument("--times", metavar="FILE", default="", help="a file to which what each part took is added")
+    words.add_argument("--times", metavar="FILE", default="", help="adds what each part took")
     words.add_argument("--junit", metavar="FILE", help="writes the results as CI reads them")
-    words.add_argument("--into", metavar="FILE", help="writes the results for the process that runs this part")
+    words.add_argument("--into", metavar="FILE", help="writes the results for who runs this part")
     words.add_argument("--list", action="store_true", help="prints the parts")
     words.add_argument("parts", nargs="*", metavar="PART[.TEST]")
-    said = words.parse_args()
-    known = [*names(), *SCRIPTS]
+    said, known = words.parse_args(), [*names(), *SCRIPTS]
     unknown = [word for word in [*said.parts, *said.but] if word.partition(".")[0] not in known]
     if unknown or not (said.parts or said.all or said.list):
-        words.error(f"the parts are {', '.join(known)}" + (f", and not {', '.join(unknown)}" if unknown else ""))
+        words.error(", ".join(["the parts are " + ", ".join(known), *(f"and not {it}" for it in unknown)]))
     said.parts = [name for name in names() if name not in said.but] if said.all else said.parts
     return said
 
@@ -174,7 +157,7 @@ def summed(results: List[Result]) -> int:
     failed = [result for result in results if result.failure]
     skipped = sum(bool(result.skipped) and not result.failure for result in results)
     if len({result.part for result in results}) > 1:
-        print("".join(f"{line_of(result)}\n" for result in failed), end="")
+        print("".join(f"{result}\n" for result in failed), end="")
     print(f"{len(results) - len(failed) - skipped} passed, {len(failed)} failed" + (f", {skipped} skipped" if skipped else ""))
     return 1 if failed or not results else 0
 
@@ -186,7 +169,7 @@ def main() -> int:
         print("\n".join([*names(), *SCRIPTS]))
         return 0
     if said.jobs > 1 or said.times:
-        results = list(side_by_side(said.parts, said.jobs, said.times))
+        results = side_by_side(said.parts, said.jobs, said.times)
     else:
         results = [result for word in said.parts for result in results_of(word)]
     for path, text in ((said.junit, junit(results)), (said.into, json.dumps(results).encode())):

@@ -1,22 +1,18 @@
 #!/usr/bin/env python3
-"""Counts the words of the documents that are written by hand, and tells their long sentences.
-
-    tools/words.py                the words of each document, and of all
-    tools/words.py --sentences    each sentence that has more than 30 words
+"""Counts the words of the documents that are written by hand, and finds their long sentences, which a rule of the house tells.
 
 A word has a letter or a digit. What a script writes does not count: the parts that `./docs/build --fill` writes, and the tables
 that `bench/suite.py` prints. The pages in APART are counted by themselves.
 """
 from __future__ import annotations
 
-import argparse
 import os
 import re
 from collections.abc import Iterator
 
 TOP = os.path.dirname(os.path.dirname(os.path.abspath(__file__)))
 MOST_WORDS, MOST_IN_SENTENCE = 13_000, 30
-APART = ("docs/CONFORM.md", "docs/PACKAGES.md")
+APART = ("docs/CONFORM.md", "docs/PACKAGES.md", "docs/PAGE.md")
 SCRIPTED = re.compile(r"(?ms)^<!-- (?:filled|printed): [^\n]* -->\n.*?^<!-- end -->$")
 BLOCK = re.compile(r"(?ms)^```.*?^```$|^(?:    [^\n]*\n)+")
 CODE = re.compile(r'``.+?``|`[^`]+`|"[^"\n]+"')
@@ -59,28 +55,12 @@ def paragraphs(text: str) -> Iterator[str]:
 
 def long_sentences(path: str) -> list[str]:
     """The sentences of a document that have too many words. A semicolon ends none."""
-    found = []
-    for block in paragraphs(by_hand(path)):
-        for sentence in re.split(r"(?<=[.?!])\)?\*{0,2} (?=[\[(*A-Z`\dc])", block):
-            if count(sentence) > MOST_IN_SENTENCE:
-                found.append(sentence)
-    return found
-
-
-def main() -> None:
-    """Prints the words, or the long sentences."""
-    words = argparse.ArgumentParser(description=__doc__, formatter_class=argparse.RawDescriptionHelpFormatter)
-    words.add_argument("--sentences", action="store_true", help=f"tell each sentence of more than {MOST_IN_SENTENCE} words")
-    if words.parse_args().sentences:
-        for path in documents():
-            for it in long_sentences(path):
-                print(f"{path}: {count(it)} words: {it}")
-        return
-    counted = counts()
-    for path, number in counted.items():
-        print(f"{number:7,} {path}{' (apart)' if path in APART else ''}")
-    print(f"{total(counted):7,} in all, of {MOST_WORDS:,} at most")
+    ends = r"(?<=[.?!])\)?\*{0,2} (?=[\[(*A-Z`\dc])"
+    said = [sentence for block in paragraphs(by_hand(path)) for sentence in re.split(ends, block)]
+    return [it for it in said if count(it) > MOST_IN_SENTENCE]
 
 
 if __name__ == "__main__":
-    main()
+    for name, number in counts().items():
+        print(f"{number:7,} {name}{' (apart)' if name in APART else ''}")
+    print(f"{total(counts()):7,} in all, of {MOST_WORDS:,} at most")
