@@ -37,6 +37,11 @@ def items(count):
     return tuple(map(item, range(count)))
 
 
+def literal(value):
+    """The literal of such an item."""
+    return f"{value.number}{value.kind}" if isinstance(value, Number) else f"s{quoted(value.text)}"
+
+
 def debug(value):
     """A value that is no map, and holds none, by Debug."""
     if isinstance(value, second.Plain):
@@ -242,6 +247,9 @@ def contexts(count, text, names):
     yield Row("Context::insert", f"ok, held {context({**held, 'new': Text(text, False)})}", context(held))
     one = {"k1000": item(0)}
     yield Row("Context::insert of a name that is there", f"ok, held {context({'k1000': Text(text, False)})}", context(one))
+    yield Row("Context::entries", ok(f"[{', '.join(f'({quoted(name)}, {debug(value)})' for name, value in sorted(held.items()))}]"), takes=bool(held))
+    script = "".join(f"set {name} {literal(value)}\n" for name, value in sorted(held.items()))
+    yield Row("script_text", ok(quoted(script)), takes=bool(held))
     said = f'Says(Command {{ request: Set {{ name: "a", value: {debug((Text(text, False),))} }}, into: None }})'
     yield Row("read_line", ok(said))
     yield Row("take_text", ok(f"Some(({quoted(text)}, {len(text.encode()) + 1}))"))
@@ -278,7 +286,7 @@ ELSEWHERE = {
     "insert_entry!": "context!",
     "Value::of_pairs": "Kwargs::from_pairs",
     "Value::no_array": "Vec::from_value",
-    "Context::insert_value": RUNS,
+    **dict.fromkeys(("Context::insert_value", "Context::insert_owned"), RUNS),
     "Context::extend": "an extend of two names with each request for memory refused in turn",
     **dict.fromkeys((f"Value::{name}" for name in "copy to_text available_fields walk get_item slice reverse contains read_as".split()), RUNS),
     **dict.fromkeys("number::calculate number::negate not_a_number operand_outside_i128 no_result negated_no_number".split(), RUNS),

@@ -7,6 +7,7 @@ one shows what the model (tests/second.py) says:
 - The program itself found no memory: standard error says so, the status is 1, and whole answers from the first on are out.
 - Else a step did: its answer is want of memory, the status is 1, and all other answers are those of the script without
   that step. An `extend` too has taken over nothing: more than its clauses say, which let some first names be taken over.
+- Or an `extend` asked for less then, and found it: all answers are those of the script.
 
 Behind each script come lines that ask for every name, its kind and its mark, so that what a refused step left is seen.
 Of the script of every call, with and without a name for what is found, each line that may want memory has to meet a
@@ -69,6 +70,11 @@ def answers(lines, refused=None):
     return [WANT if number == refused else second.step(names, line) for number, line in enumerate(lines)]
 
 
+def asks_again(lines):
+    """Whether a line may ask for less where its first request is refused: an `extend` does, for as many names as are new."""
+    return any(line.startswith("extend ") for line in lines)
+
+
 class Runs:
     """The runs of one script, and which of its steps were seen to want memory."""
 
@@ -80,6 +86,7 @@ class Runs:
         self.given = "".join(f"{line}\n" for line in lines).encode()
         self.whole = answers(lines)
         self.wanting = set()
+        self.asks_again = asks_again(lines)
 
     def run(self, number, told):
         if os.path.exists(told):
@@ -93,6 +100,8 @@ class Runs:
         out, err, status, is_refused = self.run(number, told)
         if not is_refused:
             return False if (out, err, status) == (self.whole, "", 0) else "the answers with ample memory are not the model's"
+        if self.asks_again and (out, err, status) == (self.whole, "", 0):
+            return None
         if status != 1:
             return f"status {status} where memory was refused"
         if err:

@@ -74,6 +74,25 @@ static void *in_a_script(void *unused) {
     return NULL;
 }
 
+/* The exports for values, by the literal and the JSON of so many levels that stand in the text. */
+static void *in_values(void *unused) {
+    tera_session *session = NULL;
+    const uint8_t *name = (const uint8_t *)"a", *value = (const uint8_t *)text;
+    size_t told = 0, len = strlen(text);
+    (void)unused;
+    faults += tera_open(&session) != TERA_DONE;
+    faults += tera_set(&session, name, 1, value, len) != TERA_DONE;
+    faults += tera_get(&session, name, 1, answers, sizeof answers, &told) != TERA_DONE || told != len;
+    faults += tera_get_json(&session, name, 1, answers, sizeof answers, &told) != TERA_DONE;
+    faults += tera_set_json(&session, name, 1, answers, told) != TERA_DONE;
+    faults += tera_save(&session, answers, sizeof answers, &told) != TERA_DONE || told != len + strlen("set a \n");
+    nested(text, 'm', 2 * LEVELS);
+    faults += tera_set_json(&session, name, 1, value, strlen(text)) != TERA_REFUSED;
+    faults += tera_set_text(&session, name, 1, value, len, 1) != TERA_DONE || tera_remove(&session, name, 1) != TERA_DONE;
+    tera_close(&session);
+    return NULL;
+}
+
 static void on_a_small_stack(void *(*run)(void *)) {
     pthread_t thread;
     pthread_attr_t how;
@@ -89,6 +108,8 @@ int main(void) {
         script_of(*kind);
         on_a_small_stack(in_a_session);
         on_a_small_stack(in_a_script);
+        nested(text, *kind, LEVELS);
+        on_a_small_stack(in_values);
     }
     return faults != 0;
 }

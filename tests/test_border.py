@@ -3,7 +3,6 @@
 What a session answers is that of the reference, line by line; what it holds is counted by tests/counted.c and by valgrind.
 """
 import ctypes
-import doctest
 import os
 import random
 import re
@@ -188,12 +187,6 @@ def in_a_session(library, last):
     return None if None in counts or not session.closes() else sum(counts)
 
 
-def escapes(library):
-    status, escaped = call(library, "tera_escape", b"<b>", 3)
-    wanted = (tera.DONE, b"&lt;b&gt;") if status == tera.DONE else (tera.NO_MEMORY, b"")
-    return (status, escaped) == wanted and library.blocks() == 0
-
-
 def replays(library):
     """A script whose answers are all there; or an answer wants memory; or some answers are there, and the report says that the
     script found no memory; or none was found for the answers or the report, and nothing is told."""
@@ -293,12 +286,20 @@ class Want(unittest.TestCase):
                 self.assertTrue(in_a_session(counted(), last))
 
     def test_script(self):
-        """a script and an escaped text with requests for memory refused: no block is lost"""
+        """a script with requests for memory refused: no block is lost"""
         library = counted()
         for what, last in self.LASTS.items():
-            for run in (replays, escapes):
-                with self.subTest(f"{run.__name__}, {what}"):
-                    self.assertTrue(in_turn(library, lambda run=run: run(library), last))
+            with self.subTest(what):
+                self.assertTrue(in_turn(library, lambda: replays(library), last))
+
+    def test_escape(self):
+        """a text is escaped where all memory is refused"""
+        library = counted()
+        for text in (b"", b"<b>", b"<b> & more, " * 100):
+            library.refuse(1, EVERY)
+            escaped = text.replace(b"&", b"&amp;").replace(b"<", b"&lt;").replace(b">", b"&gt;")
+            self.assertEqual(call(library, "tera_escape", text, len(text)), (tera.DONE, escaped))
+            self.assertEqual(library.requests(), 0)
 
 
 class InPython(unittest.TestCase):
@@ -316,11 +317,6 @@ class InPython(unittest.TestCase):
         """a session goes by its thread, not by a number that a later thread has"""
         self.assertTrue(on_a_later_thread())
 
-    def test_examples(self):
-        """the examples of the Python module"""
-        done = doctest.testmod(tera)
-        self.assertTrue(done.attempted and not done.failed, done)
-
 
 def shown():
     """The examples of docs/USE.md: of each its language, its command, and its lines."""
@@ -335,15 +331,9 @@ def bare(text):
 
 
 class Shown(unittest.TestCase):
-    """The Rust crate, and the examples of docs/USE.md by the commands that stand there."""
+    """The examples of docs/USE.md, by the commands that stand there."""
 
     CARGO = {"CARGO_TARGET_DIR": f"{built.ROOM.name}/cargo", "CARGO_NET_OFFLINE": "true"}
-
-    @unittest.skipUnless(shutil.which("cargo"), "there is no `cargo`")
-    def test_rust(self):
-        """the tests of the Rust crate"""
-        words = ["cargo", "test", "-q", "--offline", "--manifest-path", f"{TOP}/bindings/rust/Cargo.toml"]
-        built.made(*words, env=self.CARGO)
 
     def test_examples(self):
         """the examples of docs/USE.md in C, in Python and in Rust"""

@@ -297,6 +297,7 @@ class ListRuns(refused.Runs):
         self.whole = refused.answers(self.lines)
         self.starts = [sum(map(len, lists[:at])) for at in range(len(lists))]
         self.wanting, self.unreserved = set(), set()
+        self.asks_again = refused.asks_again(self.lines)
 
     def without(self, number):
         """What is answered where this list found no memory for its answers."""
@@ -311,6 +312,8 @@ class ListRuns(refused.Runs):
             return None if out == self.whole[: len(out)] and len(out) in ends else f"{len(out)} answers before a list that was not made"
         if (status, err) != (0, ""):
             return f"status {status}, {err!r}"
+        if self.asks_again and out == self.whole:
+            return None
         for number in range(len(self.lists)):
             if out == self.without(number):
                 self.unreserved.add(number)
@@ -348,7 +351,7 @@ class Lists(unittest.TestCase):
     def test_row_of_extend(self):
         """an extend of two names with each request for memory refused in turn"""
         # The two names that are taken over, refused at each request: none of them, or both with
-        # success.
+        # success, where room for one more was found.
         runs = ListRuns([ROWS_OF_EXTEND])
         for number, heard, is_refused in refusals(CALLER, runs.given):
             out = lines_of(heard[0])
