@@ -52,9 +52,28 @@ impl Counts for Week {
 pub fn doubles_are_sums()
     ensures { (n : ℕ) → double n ≡ n + n }
 {}
+
+pub fn sums_are_doubles()
+    ensures sums { (n : ℕ) → n + n ≡ double n }
+    ensures none { double 0 ≡ 0 }
+{}
 """,
     # it names what is not there, as where an edit takes that away
     "crates/low/proofs/twice/Answers.antt": "use Rattle.low.proofs.twice.Goals as goal\n\npub returns : goal.returns\nreturns c = c.nowhere\n",
+    # it stands on a lemma with a hyphen in its name
+    "crates/low/proofs/sums_are_doubles/Answers.antt": """use Rattle.low.proofs.Sums.{double-sum}
+use Rattle.low.proofs.sums_are_doubles.Goals as goal
+
+pub returns : goal.returns
+returns c = record { sums = double-sum; none = double-sum 0 }
+""",
+    "crates/low/proofs/Lib.antt": "pub mod Sums\n",
+    "crates/low/proofs/Sums.antt": """use Rattle.std.specs.Prelude.{◌≡◌, ◌+◌, ℕ, refl}
+use Rattle.low.specs.Double.{double}
+
+pub double-sum : (n : ℕ) → n + n ≡ double n
+double-sum n = refl
+""",
     "crates/low/specs/Lib.antt": "pub mod Double\n",
     "crates/low/specs/Double.antt": """-- Twice a number.
 use Rattle.std.specs.Prelude.{ℕ, ◌+◌}
@@ -77,7 +96,8 @@ EDITS = {
     "lib/twice/in-the-wrong-folder": f"{ANSWER}new: let answer = 7;\n",
     "lib/WeekCounts.count/has-six-days": "file: src/lib.rt\nold: let days = 7;\nnew: let days = 6;\n",
     "lib/WeekCounts.count/has-eight-days": "file: src/lib.rt\nold: let days = 7;\nnew: let days = 8;\n",
-    "specs/Double/doubles_are_sums/is-the-number": "file: specs/Double.antt\nonly: doubles_are_sums\nold: double n = n + n\nnew: double n = n\n"}
+    "specs/Double/doubles_are_sums/is-the-number": "file: specs/Double.antt\nonly: doubles_are_sums\nold: double n = n + n\nnew: double n = n\n",
+    "specs/Double/sums_are_doubles/is-the-number": "file: specs/Double.antt\nonly: sums_are_doubles\nold: double n = n + n\nnew: double n = n\n"}
 
 
 class Changes(unittest.TestCase):
@@ -116,18 +136,20 @@ class WrongBodies(unittest.TestCase):
         """an edit is refused by its own function's contract, and what is not refused or cannot be tried is told"""
         status, lines = self.tried(EDITS)
         told = {line.split(":")[0].split(" is refused")[0]: line for line in lines}
-        self.assertEqual((status, "6 passed, 8 failed" in lines), (1, True), lines)
+        self.assertEqual((status, "7 passed, 8 failed" in lines), (1, True), lines)
         refused = ("lib/echo/gives-seven", "lib/echo/gives-eight", "lib/twice/gives-nine", "lib/WeekCounts.count/has-six-days",
                    "lib/WeekCounts.count/has-eight-days", "specs/Double/doubles_are_sums/is-the-number")
         for name in refused:
             self.assertRegex(told[f"pass low/{name}"], "is refused by returns")
+        by_lemma = "specs/Double/sums_are_doubles/is-the-number"
+        self.assertRegex(told[f"pass low/{by_lemma}"], "is refused by the lemma double-sum")
         for name, why in {"lib/echo/says-it-otherwise": "no goal of its contract is open", "lib/echo/does-not-compile": "it does not compile",
                           "lib/echo/is-nowhere": "this stands 0 times",
                           "lib/echo/has-two-new-texts": "not read: new: 7;", "lib/echo/has-no-new-text": "not read: old: answer",
                           "lib/echo/has-two-files": "not read: file: src/main.rt", "lib/echo/has-another-line": "not read: goal: returns by force",
                           "lib/twice/in-the-wrong-folder": "this stands in echo"}.items():
             self.assertIn(why, told[f"FAIL low/{name}"])
-        self.assertEqual(self.again.count("as an earlier run on this machine saw"), len(refused))
+        self.assertEqual(self.again.count("as an earlier run on this machine saw"), len(refused) + 1)
 
     def test_right_bodies(self) -> None:
         """right bodies that are tried as wrong ones leave no goal open"""
