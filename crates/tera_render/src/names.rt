@@ -1,11 +1,11 @@
 //! The names that a document gives.
 ghost use Rattle.std.specs.Prelude.{◌≡◌, IfOk, IfErr, OnOk};
-ghost use Rattle.std.specs.FinMap.{empty};
 ghost use Rattle.tera.specs.Errors.{IsOutOfMemory};
 ghost use Rattle.tera.specs.Key.{key_form, text_in_key};
-ghost use Rattle.tera_render.specs.Names.{AreNames, RefusesNames, keep, kept};
+ghost use Rattle.tera_render.specs.Names.{AreNames, NameMembers, RefusesNames, keep};
 
 use std::alloc::Global;
+use tera::laws::held_keys::keys_that_tie_find_the_same;
 use tera::value::HashState;
 use tera::{Context, Error, Key, Map, TeraResult, Value};
 use tera_json::from_json;
@@ -28,9 +28,10 @@ pub(crate) fn names_of(alloc: Global, state: HashState, text: &str) -> TeraResul
 
 // The names that the pairs of a map give.
 fn names_in(alloc: Global, state: HashState, all: Map) -> TeraResult<Context>
-    ensures ok { IfOk result (λ names. names ≡ kept empty all) }
+    ensures ok { IfOk result (NameMembers all) }
     ensures err { IfErr result IsOutOfMemory }
 {
+    keys_that_tie_find_the_same();
     let mut names = Context::with_hasher(alloc, state);
     for (key, value) in all {
         keep_pair(&mut names, &key, value)?;

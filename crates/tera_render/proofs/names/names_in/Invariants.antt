@@ -1,8 +1,5 @@
-use Rattle.std.proofs.Common.{◌≡◌}
-use Rattle.std.specs.FinMap.{empty}
+use Rattle.tera_render.proofs.NameLemmas.{NameRest}
 use Rattle.tera_render.proofs.names.names_in.Given as goal
-use Rattle.tera_render.specs.Names.{kept}
 
--- with the pairs that are left, those so far give the names of all
 abbrev pub invariant-loop-key : goal.invariant-loop-key
-invariant-loop-key l = kept l.names l.key-iterator ≡ kept empty l.fn.all
+invariant-loop-key l = NameRest l.fn.all l.key-iterator l.names
