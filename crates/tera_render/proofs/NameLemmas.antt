@@ -1,5 +1,5 @@
 -- Names that are kept one after another, each with what the pairs have at it.
-use Rattle.std.proofs.Common.{◌≡◌, ◌∙◌, Bool, true, false, List, [], ◌∷◌, ℕ, ap, sym, refl, subst, cond, IsTrue}
+use Rattle.std.proofs.Common.{◌≡◌, ◌∙◌, Bool, true, false, List, [], ◌∷◌, ℕ, ap, sym, refl, subst, cond, IsTrue, rules}
 use Rattle.std.proofs.Common.{Option, Some, None}
 use Rattle.std.proofs.lemmas.Map.Keys.{IsDistinct-head, IsDistinct-tail}
 use Rattle.std.specs.Cmp.Lexicographic.{nat_list_cmp_total, slice_cmp}
@@ -51,18 +51,15 @@ step alike (text_key t) v rest names distinct name =
     (λ tie. alike rest (text_key (owned name)) (text_key t) tie
     ∙ apart rest (text_key t) (IsDistinct-head (eq_by_cmp key_form_order) (text_key t) (keys_of rest) distinct))
 
-or_none : (o : Option Form) → option_or o None ≡ o
-or_none None = refl
-or_none (Some v) = refl
-
 -- before the first pair there are no names
 pub named_none : (all left : List (KeyForm × Form)) (names : State) → HasDistinctKeys key_form_order all → left ≡ all → names ≡ empty
     → NameRest all left names
-named_none all left names distinct same none = (
-  subst (λ ps. HasDistinctKeys key_form_order ps) (sym same) distinct,
-  λ name. ap (λ s. option_or (at_name left name) (get s name)) none
-      ∙ ap (option_or (at_name left name)) (get-empty (slice_cmp nat_cmp) name) ∙ or_none (at_name left name) ∙ ap (λ ps. at_name ps name) same,
-)
+named_none all left names distinct same none =
+    let stays : (name : List ℕ) → option_or (at_name left name) None ≡ at_name left name = search rules in (
+      subst (λ ps. HasDistinctKeys key_form_order ps) (sym same) distinct,
+      λ name. ap (λ s. option_or (at_name left name) (get s name)) none
+          ∙ ap (option_or (at_name left name)) (get-empty (slice_cmp nat_cmp) name) ∙ stays name ∙ ap (λ ps. at_name ps name) same,
+    )
 
 -- one pair more
 pub named_on : FindAlike → (all left rest : List (KeyForm × Form)) (names after : State) (k : KeyForm) (v : Form) → left ≡ (k, v) ∷ rest

@@ -1,5 +1,5 @@
 -- A name and a line that are put in turn are put as one.
-use Rattle.std.proofs.Common.{◌≡◌, ℕ, List, ◌++◌, ap, codes, refl, rules, subst}
+use Rattle.std.proofs.Common.{◌≡◌, ℕ, List, ◌++◌, ap, codes, refl, rules}
 use Rattle.std.proofs.lemmas.List.{append_assoc}
 use Rattle.tera.proofs.PutBytesLaws.{Leads, leads_last}
 use Rattle.tera.proofs.TellLaws.{some_telling}
