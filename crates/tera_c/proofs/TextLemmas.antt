@@ -7,11 +7,12 @@ use Rattle.tera_report.specs.Growing.{GrowingTakes, grown_bytes}
 use Rattle.tera_report.specs.Sink.{Use, put, flush, bytes_put, Uses, Sends, Delivers}
 use Rattle.tera_report.specs.declared.growing.Growing.{Growing}
 use Rattle.tera_report.specs.inner.SinkLaws.{growing_nothing, growing_joined}
-use Rattle.tera_replies.specs.Output.{BrokeOn, TakesOrFails, Gave, Ended, Failed}
+use Rattle.tera_replies.specs.Output.{BrokeOn, TakesOrFails}
 use Rattle.tera_replies.specs.Replay.{Replays, Writes, AllAnswered, MemoryFailed}
-use Rattle.tera_replies.specs.Source.{ReadsTo, ReadEnds, ReadFails, bytes_left, fails_at_end}
+use Rattle.tera_replies.specs.Source.{bytes_left, fails_at_end}
+use Rattle.tera_replies.specs.Streams.{Input, Streams, reads, reads_dropped}
 use Rattle.tera_replies.specs.declared.source.InputPieces.{InputPieces}
-use Rattle.tera_replies.proofs.ReplayLaws.{replays_weaker}
+use Rattle.tera_replies.proofs.ReplayLaws.{replay_weaker}
 use Rattle.tera_c.specs.inner.FallibleText.{TextTakes, TextFails, text_bytes}
 use Rattle.tera_c.specs.Scripts.{Comes, GivesNext}
 use Rattle.tera_c.specs.declared.fallible_text.FallibleText.{FallibleText}
@@ -59,43 +60,49 @@ told_is s bytes t empty none (inl (p, same)) = took_is s.text bytes t.text empty
 told_is s bytes t empty none (inr (p, refused)) = absurd (refused_both t none refused)
 
 -- where no write fails and the script ends, each line was answered, or no memory was found
-never_fails : (script : List ℕ) (InGave : List ℕ → List ℕ → Type 0) (InEnded InFailed : List ℕ → Type 0) (out err : List ℕ) (status : ℕ)
-    → length script < 2 ^ 64 - 1 → Writes script (Some false) InGave InEnded InFailed out err status
-    → AllAnswered script (Some false) InGave InEnded out err status ⊎ MemoryFailed script InGave InEnded out err status
-never_fails script InGave InEnded InFailed out err status short (inl h) = inl h
-never_fails script InGave InEnded InFailed out err status short (inr (inr h)) = inr h
-never_fails script InGave InEnded InFailed out err status short (inr (inl h)) = elim h.cause [
+never_fails : (script : List ℕ) (input : Input) (out err : List ℕ) (status : ℕ) → length script < 2 ^ 64 - 1
+    → Writes script (Some false) input out err status
+    → AllAnswered script (Some false) input out err status ⊎ MemoryFailed script input out err status
+never_fails script input out err status short (inl h) = inl h
+never_fails script input out err status short (inr (inr h)) = inr h
+never_fails script input out err status short (inr (inl h)) = elim h.cause [
   | inl (may, failed) ↦ absurd may
   | inr (long, gave) ↦ absurd (omega (arith, long, short, ap length h.front, length-append h.given h.rest))
 ]
 
-came_where : (script answers report : List ℕ) (InGave : List ℕ → List ℕ → Type 0) (InEnded InFailed : List ℕ → Type 0) (status : ℕ)
-    → length script < 2 ^ 64 - 1
-    → Replays script (Some false) InGave InEnded InFailed (λ text. answers ≡ text) (λ text. ⊥) (λ text. report ≡ text) status
-    → AllAnswered script (Some false) InGave InEnded answers report status ⊎ MemoryFailed script InGave InEnded answers report status
-came_where script answers report InGave InEnded InFailed status short (inl (out, err, writes, is, told)) =
-    rw (is, told) (never_fails script InGave InEnded InFailed out err status short writes)
-came_where script answers report InGave InEnded InFailed status short (inr (out, failed, broke, is, told)) = absurd broke
+-- two texts that hold these, of which the first never broke
+abbrev whole_texts : List ℕ → List ℕ → Streams
+whole_texts answers report =
+    record {
+      out_gets = λ text. answers ≡ text;
+      out_broke = λ text. ⊥;
+      err_gets = λ text. report ≡ text;
+    }
+
+came_where : (script answers report : List ℕ) (input : Input) (status : ℕ) → length script < 2 ^ 64 - 1
+    → Replays script (Some false) input (whole_texts answers report) status
+    → AllAnswered script (Some false) input answers report status ⊎ MemoryFailed script input answers report status
+came_where script answers report input status short (inl (out, err, writes, is, told)) =
+    rw (is, told) (never_fails script input out err status short writes)
+came_where script answers report input status short (inr (out, failed, broke, is, told)) = absurd broke
 
 -- what a replay to two texts says, in words of what they hold
 pub comes_where : (script answers report : List ℕ) (status : ℕ) (source new : InputPieces) (OutGets OutBroke ErrGets : List ℕ → Type 0)
     → length script < 2 ^ 64 - 1 → bytes_left source ≡ script → fails_at_end source ≡ false
     → ((text : List ℕ) → OutGets text → answers ≡ text) → ((text : List ℕ) → OutBroke text → ⊥)
     → ((text : List ℕ) → ErrGets text → report ≡ text)
-    → Replays (bytes_left source) (Some (fails_at_end source)) (λ before last. ReadsTo GivesNext source before last new)
-    (λ given. ReadEnds GivesNext source given new) (λ given. ReadFails GivesNext source given new) OutGets OutBroke ErrGets status
+    → Replays (bytes_left source) (Some (fails_at_end source)) (reads GivesNext source new)
+    (record { out_gets = OutGets; out_broke = OutBroke; err_gets = ErrGets }) status
     → Comes script answers report status
 comes_where script answers report status source new OutGets OutBroke ErrGets short is ends out broke err h =
-    let Replayed : List ℕ → Bool → Type 0 = λ bytes fails. Replays bytes (Some fails) (Gave GivesNext source) (Ended GivesNext source)
-    (Failed GivesNext source) (λ text. answers ≡ text) (λ text. ⊥) (λ text. report ≡ text) status in
+    let Replayed : List ℕ → Bool → Type 0 = λ bytes fails. Replays bytes (Some fails) (reads_dropped GivesNext source) (whole_texts answers report) status in
     let weaker : Replayed (bytes_left source) (fails_at_end source) =
-    replays_weaker (Some (bytes_left source)) (Some (fails_at_end source)) _ (Gave GivesNext source) _ _ (Ended GivesNext source)
-    (Failed GivesNext source) OutGets (λ text. answers ≡ text) OutBroke (λ text. ⊥) ErrGets (λ text. report ≡ text) status
-    (λ before last reads. (new, reads)) (λ given end. (new, end)) (λ given failed. (new, failed)) out broke err h in
+    replay_weaker {first = record { out_gets = OutGets; out_broke = OutBroke; err_gets = ErrGets }} {second = whole_texts answers report} out broke err {input = reads GivesNext source new}
+    {other = reads_dropped GivesNext source} (λ before last steps. (new, steps)) (λ given end. (new, end)) (λ given failed. (new, failed)) h in
     record {
       source = source;
       bytes = is;
       ends = ends;
-      came = came_where script answers report (Gave GivesNext source) (Ended GivesNext source) (Failed GivesNext source) status short
+      came = came_where script answers report (reads_dropped GivesNext source) status short
           (subst (λ (f : Bool). Replayed script f) ends (subst (λ (b : List ℕ). Replayed b (fails_at_end source)) is weaker));
     }

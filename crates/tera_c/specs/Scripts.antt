@@ -1,9 +1,9 @@
 -- What a whole script answers.
 use Rattle.std.specs.Prelude.{◌≡◌, ℕ, ◌<◌, ◌≤◌, ◌⊎◌, false, List, Some, Result, length}
 use Rattle.std.specs.Io.KnownBytes.{ReadConsumes}
-use Rattle.tera_replies.specs.Output.{Gave, Ended}
 use Rattle.tera_replies.specs.Replay.{AllAnswered, MemoryFailed}
 use Rattle.tera_replies.specs.Source.{bytes_left, fails_at_end}
+use Rattle.tera_replies.specs.Streams.{reads_dropped}
 use Rattle.tera_replies.specs.declared.source.InputPieces.{InputPieces}
 use Rattle.tera_replies.specs.declared.source.ReadError.{ReadError}
 use Rattle.tera_c.specs.Rooms.{Holds}
@@ -20,9 +20,8 @@ pub record Comes (script answers report : List ℕ) (status : ℕ) : Type 0 wher
   pub source : InputPieces
   pub bytes : bytes_left source ≡ script
   pub ends : fails_at_end source ≡ false
-  pub came : AllAnswered script (Some false) (Gave GivesNext source) (Ended GivesNext source)
-      answers report status
-      ⊎ MemoryFailed script (Gave GivesNext source) (Ended GivesNext source) answers report status
+  pub came : AllAnswered script (Some false) (reads_dropped GivesNext source) answers report status
+      ⊎ MemoryFailed script (reads_dropped GivesNext source) answers report status
 
 -- it came to these, and they stand in the rooms with that status; or one room is too small for its
 -- own, and nothing is written. The lengths are told either way

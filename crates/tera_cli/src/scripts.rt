@@ -27,9 +27,8 @@ pub(crate) fn replay_each<F: Files, W: Sink, E: Sink>(
     err: &mut E,
 ) -> u8
     ensures each { UpToAFault (ReplaysNamed (F.opened files.now)
-        (ReplaysScript F.Script.left F.Script.fails F.Script.gave W.takes W.fails W.flushes
-        W.flush_fails E.takes E.fails) E.takes E.fails) (map (λ name. name.now) names.now)
-        (out.old, err.old) result (out.new, err.new) }
+        (ReplaysScript F.Script.Source W.Sink E.Sink) E.takes E.fails)
+        (map (λ name. name.now) names.now) (out.old, err.old) result (out.new, err.new) }
     ensures status { result ≤ 2 }
 {
     for name in names {
@@ -74,9 +73,8 @@ fn replay_named<F: Files, W: Sink, E: Sink>(
     err: &mut E,
 ) -> u8
     ensures named { ReplaysNamed (F.opened files.now)
-        (ReplaysScript F.Script.left F.Script.fails F.Script.gave W.takes W.fails W.flushes
-        W.flush_fails E.takes E.fails) E.takes E.fails name.now (out.old, err.old) result
-        (out.new, err.new) }
+        (ReplaysScript F.Script.Source W.Sink E.Sink) E.takes E.fails name.now
+        (out.old, err.old) result (out.new, err.new) }
     ensures status { result ≤ 2 }
 {
     match files.open(name) {
@@ -93,8 +91,8 @@ fn replay_open<S: Source + Drop, W: Sink, E: Sink>(
     out: &mut W,
     err: &mut E,
 ) -> u8
-    ensures replays { ReplaysScript S.left S.fails S.gave W.takes W.fails W.flushes W.flush_fails
-        E.takes E.fails script (out.old, err.old) result (out.new, err.new) }
+    ensures replays { ReplaysScript S.Source W.Sink E.Sink script (out.old, err.old) result
+        (out.new, err.new) }
     ensures status { result ≤ 2 }
 {
     replay_from(alloc, state, &mut script, out, err)

@@ -9,16 +9,18 @@ use Rattle.tera_report.specs.Watch.{WatchedTakes, WatchedFails, watched_writer}
 use Rattle.tera_replies.specs.Output.{TakesOrFails, WriterTakesOrFails}
 use Rattle.tera_replies.proofs.ReplayLaws.{told_writer}
 use Rattle.tera_replies.specs.Replay.{Replays, ReplaysGiven}
+use Rattle.tera_replies.specs.Source.{ReadsTo}
+use Rattle.tera_replies.specs.Streams.{Input, Streams, reads}
+use Rattle.tera_replies.specs.declared.source.Source.{Ghosts}
 use Rattle.tera_replies.specs.Script.{HasNoLineFeed, Splits, line_feed}
 
 no_lines : Splits [] [] []
 no_lines = record { whole = refl; each = All-nil HasNoLineFeed; rest = All-nil (λ byte. byte ≢ line_feed) }
 
 -- the first of no lines are answered, and this is told
-none_answered : (bytes : List ℕ) (fails : Option Bool) (InGave : List ℕ → List ℕ → Type 0)
-    (InEnded InFailed OutGets OutBroke ErrGets : List ℕ → Type 0) → InGave [] [] → OutGets [] → ErrGets (codes "error: Out of memory\n")
-    → Replays bytes fails InGave InEnded InFailed OutGets OutBroke ErrGets 1
-none_answered bytes fails InGave InEnded InFailed OutGets OutBroke ErrGets gave none told = inl (
+none_answered : (bytes : List ℕ) (fails : Option Bool) (input : Input) (streams : Streams) → input.gave [] [] → streams.out_gets []
+    → streams.err_gets (codes "error: Out of memory\n") → Replays bytes fails input streams 1
+none_answered bytes fails input streams gave none told = inl (
   [],
   codes "error: Out of memory\n",
   inr (inr (record {
@@ -44,27 +46,25 @@ none_answered bytes fails InGave InEnded InFailed OutGets OutBroke ErrGets gave 
   told,
 )
 
-pub nothing_read : (first : Option (List ℕ)) (fails : Option Bool) (InGave : List ℕ → List ℕ → Type 0)
-    (InEnded InFailed OutGets OutBroke ErrGets : List ℕ → Type 0) → InGave [] [] → OutGets [] → ErrGets (codes "error: Out of memory\n")
-    → IfSome first (λ bytes. Replays bytes fails InGave InEnded InFailed OutGets OutBroke ErrGets 1)
-nothing_read None fails InGave InEnded InFailed OutGets OutBroke ErrGets gave none told = tt
-nothing_read (Some bytes) fails InGave InEnded InFailed OutGets OutBroke ErrGets gave none told =
-    none_answered bytes fails InGave InEnded InFailed OutGets OutBroke ErrGets gave none told
+pub nothing_read : (first : Option (List ℕ)) (fails : Option Bool) (input : Input) (streams : Streams) → input.gave [] [] → streams.out_gets []
+    → streams.err_gets (codes "error: Out of memory\n") → IfSome first (λ bytes. Replays bytes fails input streams 1)
+nothing_read None fails input streams gave none told = tt
+nothing_read (Some bytes) fails input streams gave none told = none_answered bytes fails input streams gave none told
 
 -- what is left stays
 left_stays : (left : Option (List ℕ)) → Consumes left left []
 left_stays None = tt
 left_stays (Some bytes) = refl
 
-pub nothing_given : (left : Option (List ℕ)) (fails : Option Bool) (InGave : List ℕ → List ℕ → Type 0)
-    (InEnded InFailed OutGets OutBroke ErrGets : List ℕ → Type 0) → InGave [] [] → OutGets [] → ErrGets (codes "error: Out of memory\n")
-    → ReplaysGiven left left fails InGave InEnded InFailed OutGets OutBroke ErrGets 1
-nothing_given left fails InGave InEnded InFailed OutGets OutBroke ErrGets gave none told = (
-  [],
-  left_stays left,
-  inl ([], [], refl, gave),
-  none_answered [] fails InGave InEnded InFailed OutGets OutBroke ErrGets gave none told,
-)
+pub nothing_given : {S : Type 0} (source : Ghosts S) (old : S) (streams : Streams) → streams.out_gets []
+    → streams.err_gets (codes "error: Out of memory\n") → ReplaysGiven source old old streams 1
+nothing_given source old streams none told =
+    let gave : ReadsTo source.gave old [] [] old = inl (refl, refl, refl) in (
+      [],
+      left_stays (source.left old),
+      inl ([], [], refl, gave),
+      none_answered [] (source.fails old) (reads source.gave old old) streams gave none told,
+    )
 
 -- a watched writer took the text, or failed on it
 pub took_or_failed : {W : Type 0} (contents : W → Option (List ℕ)) (wrote : W → List ℕ → Result ℕ Error → W → Type 0) (put : Result (Unit {0}) Error)

@@ -1,12 +1,11 @@
 //! The program: reads a script from standard input, and writes what each of its calls answers.
 #![tactic(auto)]
 
-ghost use Rattle.std.specs.Prelude.{◌≡◌, ◌≤◌, IfSome, IfNone, codes};
-ghost use Rattle.tera_replay.specs.Buffered.{BufferBroke, BufferGets};
-ghost use Rattle.tera_replies.specs.Output.{Ended, Failed, Gave, WriterBroke, WriterGets};
+ghost use Rattle.std.specs.Prelude.{◌≡◌, ◌≤◌, IfNone, codes};
+ghost use Rattle.tera_replay.specs.Buffered.{buffer_streams};
 ghost use Rattle.tera_replies.specs.Output.{WriterTakesOrFails};
-ghost use Rattle.tera_replies.specs.Replay.{Replays, ReplaysGiven};
-ghost use Rattle.tera_replies.specs.Source.{ReadEnds, ReadFails, ReadsTo};
+ghost use Rattle.tera_replies.specs.Replay.{ReplaysGiven, ReplaysKnown};
+ghost use Rattle.tera_replies.specs.Streams.{reads_dropped, writer_streams};
 
 use std::alloc::Global;
 use std::io::{BufWriter, Write};
@@ -34,18 +33,10 @@ fn replay_buffered<S: Source + Drop, B: Writer + Drop, E: Writer>(
     out: Option<B>,
     err: &mut E,
 ) -> (u8, Option<B>)
-    ensures known { IfSome (S.left input) (λ bytes. Replays bytes (S.fails input)
-        (Gave S.gave input) (Ended S.gave input) (Failed S.gave input)
-        (BufferGets B.contents B.wrote B.flushed out result.1)
-        (BufferBroke B.wrote B.flushed out result.1)
-        (λ text. WriterTakesOrFails E.contents E.wrote err.old text err.new) result.0) }
-    ensures given { (last : S) × ReplaysGiven (S.left input) (S.left last) (S.fails input)
-        (λ before piece. ReadsTo S.gave input before piece last)
-        (λ given. ReadEnds S.gave input given last)
-        (λ given. ReadFails S.gave input given last)
-        (BufferGets B.contents B.wrote B.flushed out result.1)
-        (BufferBroke B.wrote B.flushed out result.1)
-        (λ text. WriterTakesOrFails E.contents E.wrote err.old text err.new) result.0 }
+    ensures known { ReplaysKnown S.Source input (reads_dropped S.gave input)
+        (buffer_streams B.Writer out result.1 E.Writer err.old err.new) result.0 }
+    ensures given { (last : S) × ReplaysGiven S.Source input last
+        (buffer_streams B.Writer out result.1 E.Writer err.old err.new) result.0 }
     ensures none { IfNone out ((result.0 ≡ 1) × WriterTakesOrFails E.contents E.wrote
         err.old (codes "error: Out of memory\n") err.new) }
     ensures status { result.0 ≤ 2 }
@@ -72,18 +63,10 @@ fn replay_to<S: Source + Drop, B: Writer, E: Writer>(
     buffer: B,
     err: &mut E,
 ) -> (u8, B)
-    ensures known { IfSome (S.left input) (λ bytes. Replays bytes (S.fails input)
-        (Gave S.gave input) (Ended S.gave input) (Failed S.gave input)
-        (λ text. WriterGets B.contents B.wrote B.flushed buffer text result.1)
-        (λ text. WriterBroke B.wrote B.flushed buffer text result.1)
-        (λ text. WriterTakesOrFails E.contents E.wrote err.old text err.new) result.0) }
-    ensures given { (last : S) × ReplaysGiven (S.left input) (S.left last) (S.fails input)
-        (λ before piece. ReadsTo S.gave input before piece last)
-        (λ given. ReadEnds S.gave input given last)
-        (λ given. ReadFails S.gave input given last)
-        (λ text. WriterGets B.contents B.wrote B.flushed buffer text result.1)
-        (λ text. WriterBroke B.wrote B.flushed buffer text result.1)
-        (λ text. WriterTakesOrFails E.contents E.wrote err.old text err.new) result.0 }
+    ensures known { ReplaysKnown S.Source input (reads_dropped S.gave input)
+        (writer_streams B.Writer buffer result.1 E.Writer err.old err.new) result.0 }
+    ensures given { (last : S) × ReplaysGiven S.Source input last
+        (writer_streams B.Writer buffer result.1 E.Writer err.old err.new) result.0 }
     ensures status { result.0 ≤ 2 }
     ensures silent { result.0 ≡ 0 → err.new ≡ err.old }
 {

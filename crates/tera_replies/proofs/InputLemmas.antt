@@ -16,7 +16,7 @@ use Rattle.tera_replies.specs.Replay.{lines_given, AllAnswered, HoldFewer, IsBeh
 use Rattle.tera_replies.specs.Replay.{WritingFailed, AreAnswered, report}
 use Rattle.tera_replies.specs.{Script.BadLine as Bad, Script.Script, Script.Splits, Script.without_return, Script.last_line, Script.ended}
 use Rattle.tera_replies.specs.{Script.line_feed, Reply.AreReplies, Source.EndIsTold}
-use Rattle.tera_replies.specs.{Source.MayErr, declared.fault.Fault.Fault, Output.BrokeOn}
+use Rattle.tera_replies.specs.{Source.MayErr, declared.fault.Fault.Fault, Output.BrokeOn, Streams.Input}
 use Rattle.tera_replies.proofs.StretchLemmas.{Runs-append, Script-append, Script-front, Begins-later, stops_later, Halts, Went, sent_still, Splits-more}
 use Rattle.tera_replies.proofs.StretchLemmas.{Splits-same, splits, split_line}
 use Rattle.tera_replies.proofs.ReplyLemmas.{broke_on_later}
@@ -50,17 +50,17 @@ whole_given (Some false) lines part =
     omega (arith, length-map lines without_return, length-append (map without_return lines) (last_line part))
 whole_given None lines part = omega (arith, length-map lines without_return, length-append (map without_return lines) (last_line part))
 
-abbrev WasRead : Option Bool → (List ℕ → List ℕ → Type 0) → (List ℕ → Type 0) → (List ℕ → Type 0) → List ℕ → List ℕ → List ℕ → Type 0
-WasRead fails InGave InEnded InFailed before last rest =
-    InGave before last ⊎ ((last ≡ []) × (((rest ≡ []) × InEnded before) ⊎ (MayErr fails (Some rest) × InFailed before)))
+abbrev WasRead : Option Bool → Input → List ℕ → List ℕ → List ℕ → Type 0
+WasRead fails input before last rest =
+    input.gave before last ⊎ ((last ≡ []) × (((rest ≡ []) × input.ended before) ⊎ (MayErr fails (Some rest) × input.failed before)))
 
-module _ {InGave : List ℕ → List ℕ → Type 0} {InEnded InFailed : List ℕ → Type 0} where
+module _ {input : Input} where
   -- replies to the first lines of a beginning of the bytes
   among_given : (bytes given rest out : List ℕ) (fails : Option Bool) (lines first later : List (List ℕ)) (part : List ℕ) (outcomes : List Outcome)
-      (before last : List ℕ) → bytes ≡ given ++ rest → given ≡ before ++ last → WasRead fails InGave InEnded InFailed before last rest
+      (before last : List ℕ) → bytes ≡ given ++ rest → given ≡ before ++ last → WasRead fails input before last rest
       → HoldFewer before (1 + length first) → Splits given lines part → map without_return lines ≡ first ++ later
       → AreAnswered first None outcomes → AreReplies outcomes out
-      → WritingFailed bytes fails InGave InEnded InFailed out
+      → WritingFailed bytes fails input out
   among_given bytes given rest out fails lines first later part outcomes before last front are_read read prompt split are answers replied = record {
     before = before;
     last = last;
@@ -83,9 +83,9 @@ module _ {InGave : List ℕ → List ℕ → Type 0} {InEnded InFailed : List �
 
   -- replies to all lines up to a bad one that was given whole
   broke_in_given : (bytes out : List ℕ) (fails : Option Bool) (lines : List (List ℕ)) (part : List ℕ) (bad : Option Bad) (outcomes : List Outcome)
-      (before last rest : List ℕ) → bytes ≡ (before ++ last) ++ rest → InGave before last → IsBehind before bad → IsWholeIn (before ++ last) bad
+      (before last rest : List ℕ) → bytes ≡ (before ++ last) ++ rest → input.gave before last → IsBehind before bad → IsWholeIn (before ++ last) bad
       → Splits bytes lines part → AreAnswered (lines_given fails lines part) bad outcomes → AreReplies outcomes out
-      → WritingFailed bytes fails InGave InEnded InFailed out
+      → WritingFailed bytes fails input out
   broke_in_given bytes out fails lines part None outcomes before last rest front gave behind whole all answers replied = absurd whole
   broke_in_given bytes out fails lines part (Some bad) outcomes before last rest front gave behind (whole, end, split, within) all answers replied =
       let (others, beyond, s) = splits (end ++ rest) in
@@ -124,8 +124,8 @@ module _ {InGave : List ℕ → List ℕ → Type 0} {InEnded InFailed : List �
       }
 
   -- the replies that were due are, however the input ended, those to the first of the lines
-  pub broke_at_end : {bytes out err : List ℕ} {fails : Option Bool} {status : ℕ} → AllAnswered bytes fails InGave InEnded out err status
-      → WritingFailed bytes fails InGave InEnded InFailed out
+  pub broke_at_end : {bytes out err : List ℕ} {fails : Option Bool} {status : ℕ} → AllAnswered bytes fails input out err status
+      → WritingFailed bytes fails input out
   broke_at_end {bytes} {out} {err} {fails} h = elim h.read [
     | inl (end, behind) ↦ record {
       before = bytes;
@@ -150,12 +150,12 @@ module _ {InGave : List ℕ → List ℕ → Type 0} {InEnded InFailed : List �
         broke_in_given bytes out fails h.lines h.part h.bad h.outcomes before last rest front gave behind whole h.split h.answers h.replied
   ]
 
-  pub broke_at_failure : {bytes out err : List ℕ} {fails : Option Bool} {status : ℕ} → ReadingFailed bytes fails InGave InFailed out err status
-      → WritingFailed bytes fails InGave InEnded InFailed out
+  pub broke_at_failure : {bytes out err : List ℕ} {fails : Option Bool} {status : ℕ} → ReadingFailed bytes fails input out err status
+      → WritingFailed bytes fails input out
   broke_at_failure {bytes} {out} {err} {fails} h =
       let all = map without_return h.lines in
       let many = length-map h.lines without_return in
-      let broke = λ (before last : List ℕ) (are : h.given ≡ before ++ last) (read : WasRead fails InGave InEnded InFailed before last h.rest).
+      let broke = λ (before last : List ℕ) (are : h.given ≡ before ++ last) (read : WasRead fails input before last h.rest).
       among_given bytes h.given h.rest out fails h.lines all [] h.part h.outcomes before last h.front are read
       (fewer_yet (omega (arith, many)) (fewer_in_front last h.split are)) h.split (sym (append-nil all)) h.answers h.replied in
       elim h.cause [
@@ -163,8 +163,8 @@ module _ {InGave : List ℕ → List ℕ → Type 0} {InEnded InFailed : List �
         | inr (long, (before, last, are, gave)) ↦ broke before last are (inl gave)
       ]
 
-  pub broke_at_memory : {bytes out err : List ℕ} {status : ℕ} (fails : Option Bool) → MemoryFailed bytes InGave InEnded out err status
-      → WritingFailed bytes fails InGave InEnded InFailed out
+  pub broke_at_memory : {bytes out err : List ℕ} {status : ℕ} (fails : Option Bool) → MemoryFailed bytes input out err status
+      → WritingFailed bytes fails input out
   broke_at_memory {bytes} {out} fails h =
       among_given bytes (h.before ++ h.last) h.rest out fails h.lines h.first h.later h.part h.outcomes h.before h.last h.front refl
       (elim h.read [ inl gave ↦ inl gave | inr (none, all, end) ↦ inr (none, inl (all, end)) ]) h.prompt h.split h.lines_are h.answers h.replied
@@ -195,10 +195,9 @@ ahead : {before read text : List ℕ} {p : Place} (more : List ℕ) (g : Goes st
 ahead more g e = fewer_yet (omega (arith, length-map g.lines without_return)) (fewer_in_front more (whole_lines g) e)
 
 -- the input ended
-pub at_end : {bytes text more : List ℕ} {p : Place} {v : Bool} {new : State} (fails : Option Bool) (InGave : List ℕ → List ℕ → Type 0)
-    (InEnded : List ℕ → Type 0) → InEnded bytes → EndIsTold fails → Goes start bytes text p → Runs p.number p.state (last_line p.part) more v new
-    → AllAnswered bytes fails InGave InEnded (text ++ more) [] (cond (p.wanted || v) 1 0)
-at_end {p} {v} {new} fails InGave InEnded end told g h =
+pub at_end : {bytes text more : List ℕ} {p : Place} {v : Bool} {new : State} (fails : Option Bool) (input : Input) → input.ended bytes → EndIsTold fails → Goes start bytes text p → Runs p.number p.state (last_line p.part) more v new
+    → AllAnswered bytes fails input (text ++ more) [] (cond (p.wanted || v) 1 0)
+at_end {p} {v} {new} fails input end told g h =
     let all = Runs-append g.runs (counted g) h in
     record {
       lines = g.lines;
@@ -215,12 +214,12 @@ at_end {p} {v} {new} fails InGave InEnded end told g h =
     }
 
 -- a line behind the whole ones is bad
-bad_answered : {bytes read text : List ℕ} {p : Place} (fails : Option Bool) (InGave : List ℕ → List ℕ → Type 0) (InEnded : List ℕ → Type 0)
+bad_answered : {bytes read text : List ℕ} {p : Place} (fails : Option Bool) (input : Input)
     (g : Goes start read text p) (line : List ℕ) (lines more : List (List ℕ)) (part : List ℕ) → Splits bytes lines part
     → lines_given fails lines part ≡ map without_return g.lines ++ line ∷ more → IsBad line
-    → ReadEnough bytes (Some (bad_at p.number line)) InGave InEnded
-    → AllAnswered bytes fails InGave InEnded text (report (Some (bad_at p.number line))) 2
-bad_answered {p} fails InGave InEnded g line lines more part split given bad enough =
+    → ReadEnough bytes (Some (bad_at p.number line)) input
+    → AllAnswered bytes fails input text (report (Some (bad_at p.number line))) 2
+bad_answered {p} fails input g line lines more part split given bad enough =
     let script = rw (append-nil g.runs.commands) at (Script-append 1 (map without_return g.lines) (line ∷ more) g.runs.commands []
     (Some (bad_at p.number line)) g.runs.script p.number (counted g) (inr (inr (bad, refl, refl)))) in
     record {
@@ -251,33 +250,32 @@ whole_in s =
     )
 
 -- a line that ends with a line feed is bad
-pub at_bad : {bytes before last text : List ℕ} {r : Report} (rest beyond : List ℕ) (fails : Option Bool) (InGave : List ℕ → List ℕ → Type 0)
-    (InEnded : List ℕ → Type 0) → InGave before last → bytes ≡ (before ++ last) ++ rest → (s : StopsAtBad start (before ++ last) r text)
-    → s.read ≡ before ++ beyond → AllAnswered bytes fails InGave InEnded text (ended (report_text r)) 2
-at_bad {bytes} {before} {last} rest beyond fails InGave InEnded gave e s front =
+pub at_bad : {bytes before last text : List ℕ} {r : Report} (rest beyond : List ℕ) (fails : Option Bool) (input : Input) → input.gave before last → bytes ≡ (before ++ last) ++ rest → (s : StopsAtBad start (before ++ last) r text)
+    → s.read ≡ before ++ beyond → AllAnswered bytes fails input text (ended (report_text r)) 2
+at_bad {bytes} {before} {last} rest beyond fails input gave e s front =
     let part = s.place.part in
     let (later, end, split) = split_line part (s.unread ++ rest) s.goes.rest in
     let (more, among) = first_given fails s.goes.lines (part ∷ later) end in
     let whole : bytes ≡ s.read ++ line_feed ∷ (s.unread ++ rest) =
     e ∙ ap (λ (zs : List ℕ). zs ++ rest) s.bytes_are ∙ append_assoc s.read (line_feed ∷ s.unread) rest in
-    rw s.report_is (bad_answered fails InGave InEnded s.goes (without_return part) (s.goes.lines ++ part ∷ later) (map without_return later ++ more) end
+    rw s.report_is (bad_answered fails input s.goes (without_return part) (s.goes.lines ++ part ∷ later) (map without_return later ++ more) end
     (Splits-more s.goes.lines (part ∷ later) s.goes.each split (regrouped (line_feed ∷ s.unread ++ rest) s.goes whole)) among s.bad
     (inr (before, last, rest, e, gave, fewer_yet (omega (arith, counted s.goes)) (ahead beyond s.goes front), whole_in s)))
 
 -- what follows the last line feed is bad
-pub at_bad_end : {bytes text : List ℕ} {p : Place} (fails : Option Bool) (InGave : List ℕ → List ℕ → Type 0) (InEnded : List ℕ → Type 0)
-    → InEnded bytes → EndIsTold fails → Goes start bytes text p → last_line p.part ≡ p.part ∷ [] → IsBad p.part
-    → AllAnswered bytes fails InGave InEnded text (report (Some (bad_at p.number p.part))) 2
-at_bad_end {p} fails InGave InEnded end told g whole bad =
-    bad_answered fails InGave InEnded g p.part g.lines [] p.part (whole_lines g)
+pub at_bad_end : {bytes text : List ℕ} {p : Place} (fails : Option Bool) (input : Input)
+    → input.ended bytes → EndIsTold fails → Goes start bytes text p → last_line p.part ≡ p.part ∷ [] → IsBad p.part
+    → AllAnswered bytes fails input text (report (Some (bad_at p.number p.part))) 2
+at_bad_end {p} fails input end told g whole bad =
+    bad_answered fails input g p.part g.lines [] p.part (whole_lines g)
     (all_given fails g.lines p.part told ∙ ap (λ (zs : List (List ℕ)). map without_return g.lines ++ zs) whole) bad
     (inl (end, (g.lines, p.part, whole_lines g, omega (arith, counted g, length-map g.lines without_return))))
 
 -- no memory was found
-at_memory : {bytes before last text : List ℕ} (rest more : List ℕ) (InGave : List ℕ → List ℕ → Type 0) (InEnded : List ℕ → Type 0)
-    → bytes ≡ (before ++ last) ++ rest → InGave before last ⊎ ((last ≡ []) × (rest ≡ []) × InEnded before) → (s : Begins start (before ++ last) text)
-    → s.read ≡ before ++ more → MemoryFailed bytes InGave InEnded text (codes "error: Out of memory\n") 1
-at_memory {bytes} {before} {last} rest more InGave InEnded e read s begins =
+at_memory : {bytes before last text : List ℕ} (rest more : List ℕ) (input : Input)
+    → bytes ≡ (before ++ last) ++ rest → input.gave before last ⊎ ((last ≡ []) × (rest ≡ []) × input.ended before) → (s : Begins start (before ++ last) text)
+    → s.read ≡ before ++ more → MemoryFailed bytes input text (codes "error: Out of memory\n") 1
+at_memory {bytes} {before} {last} rest more input e read s begins =
     let g = s.goes in
     let (later, end, split) = splits (s.place.part ++ s.unread) in
     record {
@@ -301,17 +299,16 @@ at_memory {bytes} {before} {last} rest more InGave InEnded e read s begins =
     }
 
 -- a write of a reply to the first lines failed
-pub at_write : {bytes before last text : List ℕ} (rest more : List ℕ) (fails : Option Bool) (InGave : List ℕ → List ℕ → Type 0)
-    (InEnded InFailed : List ℕ → Type 0) → bytes ≡ (before ++ last) ++ rest → InGave before last → (s : Begins start (before ++ last) text)
-    → s.read ≡ before ++ more → WritingFailed bytes fails InGave InEnded InFailed text
-at_write rest more fails InGave InEnded InFailed e gave s begins = broke_at_memory fails (at_memory rest more InGave InEnded e (inl gave) s begins)
+pub at_write : {bytes before last text : List ℕ} (rest more : List ℕ) (fails : Option Bool) (input : Input) → bytes ≡ (before ++ last) ++ rest → input.gave before last → (s : Begins start (before ++ last) text)
+    → s.read ≡ before ++ more → WritingFailed bytes fails input text
+at_write rest more fails input e gave s begins = broke_at_memory fails (at_memory rest more input e (inl gave) s begins)
 
 -- reading failed
-pub at_failure : {bytes given text : List ℕ} {fails : Option Bool} {InGave : List ℕ → List ℕ → Type 0} {InFailed : List ℕ → Type 0} {p : Place}
+pub at_failure : {bytes given text : List ℕ} {fails : Option Bool} {input : Input} {p : Place}
     (rest : List ℕ) → bytes ≡ given ++ rest
-    → (MayErr fails (Some rest) × InFailed given)
-    ⊎ ((2 ^ 64 - 1 ≤ length given) × ((before : List ℕ) × (last : List ℕ) × (given ≡ before ++ last) × InGave before last)) → Goes start given text p
-    → ReadingFailed bytes fails InGave InFailed text (codes "error: reading failed\n") 1
+    → (MayErr fails (Some rest) × input.failed given)
+    ⊎ ((2 ^ 64 - 1 ≤ length given) × ((before : List ℕ) × (last : List ℕ) × (given ≡ before ++ last) × input.gave before last)) → Goes start given text p
+    → ReadingFailed bytes fails input text (codes "error: reading failed\n") 1
 at_failure {given} {p} rest e cause g = record {
   given = given;
   rest = rest;
@@ -330,47 +327,46 @@ at_failure {given} {p} rest e cause g = record {
 module _ {S : Type 0} (takes fails_on : S → List ℕ → S → Type 0) (flushes flush_fails : S → S → Type 0) where
   -- a fault in what the last read gave ended the whole
   pub Ends-stops : {bytes given : List ℕ} {now : Place} {before mid : S} (last rest : List ℕ) (fails : Option Bool)
-      (InGave : List ℕ → List ℕ → Type 0) (InEnded InFailed : List ℕ → Type 0) (after : S) (fault : Fault) → bytes ≡ (given ++ last) ++ rest
-      → InGave given last → Went takes flushes start given now before mid → Halts takes fails_on flushes flush_fails now last mid after fault
-      → Ends bytes fails InGave InEnded InFailed (λ text. Sends takes flushes before text after)
+      (input : Input) (after : S) (fault : Fault) → bytes ≡ (given ++ last) ++ rest
+      → input.gave given last → Went takes flushes start given now before mid → Halts takes fails_on flushes flush_fails now last mid after fault
+      → Ends bytes fails input (λ text. Sends takes flushes before text after)
       (λ text. BrokeOn takes fails_on flushes flush_fails before text after) (Err fault)
-  Ends-stops last rest fails InGave InEnded InFailed after (BadLine r) e gave (front, goes, passed) (text, s, sent) = (
+  Ends-stops last rest fails input after (BadLine r) e gave (front, goes, passed) (text, s, sent) = (
     front ++ text,
-    at_bad rest s.read fails InGave InEnded gave e (stops_later goes s) refl,
+    at_bad rest s.read fails input gave e (stops_later goes s) refl,
     sends_joined takes flushes _ _ _ _ _ passed sent,
   )
-  Ends-stops last rest fails InGave InEnded InFailed after ReadFailed e gave went stops = absurd stops
-  Ends-stops last rest fails InGave InEnded InFailed after WriteFailed e gave (front, goes, passed) (text, s, broke) = (
+  Ends-stops last rest fails input after ReadFailed e gave went stops = absurd stops
+  Ends-stops last rest fails input after WriteFailed e gave (front, goes, passed) (text, s, broke) = (
     front ++ text,
-    at_write rest s.read fails InGave InEnded InFailed e gave (Begins-later goes s) refl,
+    at_write rest s.read fails input e gave (Begins-later goes s) refl,
     broke_on_later passed broke,
   )
-  Ends-stops last rest fails InGave InEnded InFailed after OutOfMemory e gave (front, goes, passed) (text, s, sent) = (
+  Ends-stops last rest fails input after OutOfMemory e gave (front, goes, passed) (text, s, sent) = (
     front ++ text,
-    at_memory rest s.read InGave InEnded e (inl gave) (Begins-later goes s) refl,
+    at_memory rest s.read input e (inl gave) (Begins-later goes s) refl,
     sends_joined takes flushes _ _ _ _ _ passed sent,
   )
 
   -- all of the input was read, and what follows the last line feed was answered, or a fault ended it
-  pub Ends-all : {bytes : List ℕ} {now : Place} {before mid : S} (fails : Option Bool) (InGave : List ℕ → List ℕ → Type 0)
-      (InEnded InFailed : List ℕ → Type 0) (new : State) (after : S) (result : Result Bool Fault) → Went takes flushes start bytes now before mid
-      → InEnded bytes → EndIsTold fails
+  pub Ends-all : {bytes : List ℕ} {now : Place} {before mid : S} (fails : Option Bool) (input : Input) (new : State) (after : S) (result : Result Bool Fault) → Went takes flushes start bytes now before mid
+      → input.ended bytes → EndIsTold fails
       → IfOk result (λ wanted. (text : List ℕ) × (last : Bool) × Runs now.number now.state (last_line now.part) text last new
       × (wanted ≡ (now.wanted || last)) × Sends takes flushes mid text after)
       → IfErr result (λ fault. (last_line now.part ≡ now.part ∷ []) × LineStops now.number now.state now.part new (Sends takes flushes mid [] after)
       (λ text. BrokeOn takes fails_on flushes flush_fails mid text after) fault)
-      → Ends bytes fails InGave InEnded InFailed (λ text. Sends takes flushes before text after)
+      → Ends bytes fails input (λ text. Sends takes flushes before text after)
       (λ text. BrokeOn takes fails_on flushes flush_fails before text after) result
-  Ends-all fails InGave InEnded InFailed new after (Ok wanted) (front, goes, passed) end told (text, last, runs, is, sent) err =
-      (front ++ text, rw is (at_end fails InGave InEnded end told goes runs), sends_joined takes flushes _ _ _ _ _ passed sent)
-  Ends-all {bytes} fails InGave InEnded InFailed new after (Err (BadLine r)) (front, goes, passed) end told ok (whole, (is, bad, sent)) =
-      let P : Report → Type 0 = λ said. AllAnswered bytes fails InGave InEnded front (ended (report_text said)) 2 in
-      (front, subst P (sym is) (at_bad_end fails InGave InEnded end told goes whole bad), sent_still passed sent)
-  Ends-all fails InGave InEnded InFailed new after (Err ReadFailed) p end told ok (whole, stops) = absurd stops
-  Ends-all fails InGave InEnded InFailed new after (Err WriteFailed) (front, goes, passed) end told ok (whole, (text, wanted, runs, broke)) =
-      (front ++ text, broke_at_end (at_end {v = wanted} {new = new} fails InGave InEnded end told goes (rw whole runs)), broke_on_later passed broke)
-  Ends-all {bytes} {now} fails InGave InEnded InFailed new after (Err OutOfMemory) (front, goes, passed) end told ok (whole, sent) =
+  Ends-all fails input new after (Ok wanted) (front, goes, passed) end told (text, last, runs, is, sent) err =
+      (front ++ text, rw is (at_end fails input end told goes runs), sends_joined takes flushes _ _ _ _ _ passed sent)
+  Ends-all {bytes} fails input new after (Err (BadLine r)) (front, goes, passed) end told ok (whole, (is, bad, sent)) =
+      let P : Report → Type 0 = λ said. AllAnswered bytes fails input front (ended (report_text said)) 2 in
+      (front, subst P (sym is) (at_bad_end fails input end told goes whole bad), sent_still passed sent)
+  Ends-all fails input new after (Err ReadFailed) p end told ok (whole, stops) = absurd stops
+  Ends-all fails input new after (Err WriteFailed) (front, goes, passed) end told ok (whole, (text, wanted, runs, broke)) =
+      (front ++ text, broke_at_end (at_end {v = wanted} {new = new} fails input end told goes (rw whole runs)), broke_on_later passed broke)
+  Ends-all {bytes} {now} fails input new after (Err OutOfMemory) (front, goes, passed) end told ok (whole, sent) =
       let all : bytes ≡ (bytes ++ []) ++ [] = sym (append-nil (bytes ++ []) ∙ append-nil bytes) in
       let begins : Begins start (bytes ++ []) front =
       record { read = bytes; unread = []; place = now; bytes_are = refl; goes = goes } in
-      (front, at_memory [] [] InGave InEnded all (inr (refl, refl, end)) begins (sym (append-nil bytes)), sent_still passed sent)
+      (front, at_memory [] [] input all (inr (refl, refl, end)) begins (sym (append-nil bytes)), sent_still passed sent)

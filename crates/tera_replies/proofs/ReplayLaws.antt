@@ -1,15 +1,19 @@
 -- From how answering ended to the theorem, and from watched writers to the writers.
 use Rattle.std.proofs.Common.{◌≡◌, ◌≢◌, ℕ, Bool, inl, inr, List, [], ◌∷◌, ◌++◌, map, Option, None, Some, Result, Ok, Err, IfSome, sym, ◌∙◌, ap, refl}
 use Rattle.std.proofs.Common.{subst, append_assoc, append-nil}
+use Rattle.std.proofs.lemmas.Option.{IfSome_then}
 use Rattle.std.specs.{declared.io.Error.Error, List.FoldsTo, List.flat_map}
 use Rattle.tera_report.specs.Watch.{watched_writer, writer_loan, SameWriter, WatchedTakes, WatchedFails, WatchedFlushes, WatchedFlushFails}
-use Rattle.tera_report.specs.{Sink.Use, Sink.put, Sink.flush, Sink.Uses, Sink.Sends, Sink.Delivers, Sink.PutsThese, declared.watch.Watched.Watched}
+use Rattle.tera_report.specs.{Sink.Use, Sink.put, Sink.flush, Sink.Uses, Sink.Delivers, Sink.PutsThese, declared.watch.Watched.Watched}
 use Rattle.tera_report.proofs.SentLaws.{watched_sends}
 use Rattle.tera_replies.specs.declared.fault.Fault.TheVariants.{BadLine, ReadFailed, WriteFailed, OutOfMemory}
-use Rattle.tera_replies.specs.{Output.BrokeOn, Output.TakesOrFails, Output.WriterBroke, Output.WriterTakesOrFails}
+use Rattle.tera_report.specs.declared.sink.Sink as Sink
+use Rattle.tera_replies.specs.declared.source.Source as Source
+use Rattle.tera_replies.specs.{Output.Broke, Output.BrokeOn, Output.Sent, Output.TakesOrFails, Output.WriterBroke, Output.WriterTakesOrFails}
+use Rattle.tera_replies.specs.Streams.{Input, Streams, streams_beside}
 use Rattle.tera_replies.specs.{declared.fault.Fault.Fault, inner.Endings.Ends}
 use Rattle.tera_replies.specs.{inner.Endings.EndsFlushed, inner.Endings.told, inner.Endings.status_at, Replay.Replays, Replay.ReadEnough, Replay.Writes}
-use Rattle.tera_replies.specs.{Replay.ReplaysGiven, Replay.WritingFailed, Script.BadLine as Bad}
+use Rattle.tera_replies.specs.{Replay.ReplaysGiven, Replay.ReplaysKnown, Replay.WritingFailed, Script.BadLine as Bad}
 use Rattle.tera_replies.specs.{Replay.lines_given, Script.Splits, Script.ended, Script.without_return}
 use Rattle.tera_replies.proofs.{InputLemmas.broke_at_end, InputLemmas.broke_at_failure, InputLemmas.broke_at_memory, InputLemmas.first_given}
 use Rattle.tera_replies.proofs.{ReplyLemmas.broke_on_flush, StretchLemmas.splits, StretchLemmas.Splits-more}
@@ -20,51 +24,47 @@ pub told_comes : {S E : Type 0} (takes fails : S → List ℕ → S → Type 0) 
 told_comes takes fails (Ok done) text old new h = inl h
 told_comes takes fails (Err fault) text old new h = inr h
 
-module _ (bytes : List ℕ) (fails : Option Bool) (InGave : List ℕ → List ℕ → Type 0) (InEnded InFailed : List ℕ → Type 0) where
+module _ (bytes : List ℕ) (fails : Option Bool) (input : Input) where
   -- what is due where no write failed
   ends_write : (OutGets OutBroke : List ℕ → Type 0) (ending : Result Bool Fault) → ending ≢ Err WriteFailed
-      → Ends bytes fails InGave InEnded InFailed OutGets OutBroke ending
-      → (out : List ℕ) × Writes bytes fails InGave InEnded InFailed out (told ending) (status_at ending) × OutGets out
+      → Ends bytes fails input OutGets OutBroke ending
+      → (out : List ℕ) × Writes bytes fails input out (told ending) (status_at ending) × OutGets out
   ends_write OutGets OutBroke (Ok wanted) other (out, h, gets) = (out, inl h, gets)
   ends_write OutGets OutBroke (Err (BadLine report)) other (out, h, gets) = (out, inl h, gets)
   ends_write OutGets OutBroke (Err ReadFailed) other (out, h, gets) = (out, inr (inl h), gets)
   ends_write OutGets OutBroke (Err WriteFailed) other h = absurd (other refl)
   ends_write OutGets OutBroke (Err OutOfMemory) other (out, h, gets) = (out, inr (inr h), gets)
 
-  due : (out err : List ℕ) (status : ℕ) → Writes bytes fails InGave InEnded InFailed out err status
-      → WritingFailed bytes fails InGave InEnded InFailed out
+  due : (out err : List ℕ) (status : ℕ) → Writes bytes fails input out err status → WritingFailed bytes fails input out
   due out err status (inl h) = broke_at_end h
   due out err status (inr (inl h)) = broke_at_failure h
   due out err status (inr (inr h)) = broke_at_memory fails h
 
   -- what was answered and what a last flush made of it is the theorem, where it is told
-  pub ends_replay : {S : Type 0} (takes fails_on : S → List ℕ → S → Type 0) (flushes flush_fails : S → S → Type 0) (ErrGets : List ℕ → Type 0)
-      (old mid new : S) (ending result : Result Bool Fault) → EndsFlushed flushes flush_fails ending result mid new → ErrGets (told result)
-      → Ends bytes fails InGave InEnded InFailed (λ text. Sends takes flushes old text mid)
-      (λ text. BrokeOn takes fails_on flushes flush_fails old text mid) ending
-      → Replays bytes fails InGave InEnded InFailed (λ text. Delivers takes flushes old text new)
-      (λ text. BrokeOn takes fails_on flushes flush_fails old text new) ErrGets (status_at result)
-  ends_replay takes fails_on flushes flush_fails ErrGets old mid new ending result (inl (is, was, same)) tells h =
+  pub ends_replay : {S F : Type 0} (sink : Sink.Ghosts S F) (ErrGets : List ℕ → Type 0) (old mid new : S) (ending result : Result Bool Fault)
+      → EndsFlushed sink.flushes sink.flush_fails ending result mid new → ErrGets (told result)
+      → Ends bytes fails input (Sent sink old mid) (Broke sink old mid) ending
+      → Replays bytes fails input (streams_beside sink old new ErrGets) (status_at result)
+  ends_replay sink ErrGets old mid new ending result (inl (is, was, same)) tells h =
       let (out, failed, broke) = rw was at h in
       rw (is, same) (inr (out, failed, broke, refl, rw is at tells))
-  ends_replay takes fails_on flushes flush_fails ErrGets old mid new ending result (inr (inl (is, other, passed))) tells h =
+  ends_replay sink ErrGets old mid new ending result (inr (inl (is, other, passed))) tells h =
       let (out, writes, sent) = ends_write _ _ ending other h in
       rw is (inl (out, told ending, writes, (mid, sent, passed), rw is at tells))
-  ends_replay takes fails_on flushes flush_fails ErrGets old mid new ending result (inr (inr (is, other, failed))) tells h =
+  ends_replay sink ErrGets old mid new ending result (inr (inr (is, other, failed))) tells h =
       let (out, writes, sent) = ends_write _ _ ending other h in
       rw is (inr (out, due out (told ending) (status_at ending) writes, broke_on_flush sent failed, refl, rw is at tells))
 
 -- what stands behind others
-module _ {InGave InHad : List ℕ → List ℕ → Type 0} {InEnded InFailed InDone InFaulty : List ℕ → Type 0}
-    (had : (before last : List ℕ) → InGave before last → InHad before last) (done : (given : List ℕ) → InEnded given → InDone given)
-    (faulty : (given : List ℕ) → InFailed given → InFaulty given) where
-  read_weaker : (bytes : List ℕ) (bad : Option Bad) → ReadEnough bytes bad InGave InEnded → ReadEnough bytes bad InHad InDone
+module _ {input other : Input} (had : (before last : List ℕ) → input.gave before last → other.gave before last)
+    (done : (given : List ℕ) → input.ended given → other.ended given) (faulty : (given : List ℕ) → input.failed given → other.failed given) where
+  read_weaker : (bytes : List ℕ) (bad : Option Bad) → ReadEnough bytes bad input → ReadEnough bytes bad other
   read_weaker bytes bad (inl (end, behind)) = inl (done bytes end, behind)
   read_weaker bytes bad (inr (before, last, rest, front, gave, behind, whole)) =
       inr (before, last, rest, front, had before last gave, behind, whole)
 
-  pub writes_weaker : {bytes : List ℕ} {fails : Option Bool} {out err : List ℕ} {status : ℕ} → Writes bytes fails InGave InEnded InFailed out err status
-      → Writes bytes fails InHad InDone InFaulty out err status
+  pub writes_weaker : {bytes : List ℕ} {fails : Option Bool} {out err : List ℕ} {status : ℕ} → Writes bytes fails input out err status
+      → Writes bytes fails other out err status
   writes_weaker {bytes} (inl h) = inl (record {
     lines = h.lines;
     part = h.part;
@@ -115,8 +115,8 @@ module _ {InGave InHad : List ℕ → List ℕ → Type 0} {InEnded InFailed InD
     status_is = h.status_is;
   }))
 
-  pub broke_weaker : {bytes : List ℕ} {fails : Option Bool} {out : List ℕ} → WritingFailed bytes fails InGave InEnded InFailed out
-      → WritingFailed bytes fails InHad InDone InFaulty out
+  pub broke_weaker : {bytes : List ℕ} {fails : Option Bool} {out : List ℕ} → WritingFailed bytes fails input out
+      → WritingFailed bytes fails other out
   broke_weaker h = record {
     before = h.before;
     last = h.last;
@@ -142,43 +142,33 @@ module _ {InGave InHad : List ℕ → List ℕ → Type 0} {InEnded InFailed InD
   }
 
 -- the theorem of what stands behind others
-pub replay_weaker : {bytes : List ℕ} {fails : Option Bool} {InGave InHad : List ℕ → List ℕ → Type 0}
-    {InEnded InFailed InDone InFaulty OutGets OutHas OutBroke OutFaulty ErrGets ErrHas : List ℕ → Type 0} {status : ℕ}
-    → ((before last : List ℕ) → InGave before last → InHad before last) → ((given : List ℕ) → InEnded given → InDone given)
-    → ((given : List ℕ) → InFailed given → InFaulty given)
-    → ((text : List ℕ) → OutGets text → OutHas text) → ((text : List ℕ) → OutBroke text → OutFaulty text) → ((text : List ℕ) → ErrGets text → ErrHas text)
-    → Replays bytes fails InGave InEnded InFailed OutGets OutBroke ErrGets status
-    → Replays bytes fails InHad InDone InFaulty OutHas OutFaulty ErrHas status
-replay_weaker had done faulty out broke err (inl (answers, report, writes, gets, told)) =
-    inl (answers, report, writes_weaker had done faulty writes, out answers gets, err report told)
-replay_weaker had done faulty out broke err (inr (due, failed, is_broken, is, told)) =
-    inr (due, broke_weaker had done faulty failed, broke due is_broken, is, err _ told)
+module _ {first second : Streams} (out : (text : List ℕ) → first.out_gets text → second.out_gets text)
+    (broke : (text : List ℕ) → first.out_broke text → second.out_broke text) (err : (text : List ℕ) → first.err_gets text → second.err_gets text) where
+  pub replay_weaker : {bytes : List ℕ} {fails : Option Bool} {input other : Input} {status : ℕ}
+      → ((before last : List ℕ) → input.gave before last → other.gave before last) → ((given : List ℕ) → input.ended given → other.ended given)
+      → ((given : List ℕ) → input.failed given → other.failed given) → Replays bytes fails input first status → Replays bytes fails other second status
+  replay_weaker had done faulty (inl (answers, report, writes, gets, told)) =
+      inl (answers, report, writes_weaker had done faulty writes, out answers gets, err report told)
+  replay_weaker had done faulty (inr (due, failed, is_broken, is, told)) =
+      inr (due, broke_weaker had done faulty failed, broke due is_broken, is, err _ told)
 
--- the same where the bytes are known
-pub replays_weaker : (first : Option (List ℕ)) (fails : Option Bool) (InGave InHad : List ℕ → List ℕ → Type 0)
-    (InEnded InFailed InDone InFaulty OutGets OutHas OutBroke OutFaulty ErrGets ErrHas : List ℕ → Type 0) (status : ℕ)
-    → ((before last : List ℕ) → InGave before last → InHad before last) → ((given : List ℕ) → InEnded given → InDone given)
-    → ((given : List ℕ) → InFailed given → InFaulty given)
-    → ((text : List ℕ) → OutGets text → OutHas text) → ((text : List ℕ) → OutBroke text → OutFaulty text) → ((text : List ℕ) → ErrGets text → ErrHas text)
-    → IfSome first (λ bytes. Replays bytes fails InGave InEnded InFailed OutGets OutBroke ErrGets status)
-    → IfSome first (λ bytes. Replays bytes fails InHad InDone InFaulty OutHas OutFaulty ErrHas status)
-replays_weaker None fails InGave InHad InEnded InFailed InDone InFaulty OutGets OutHas OutBroke OutFaulty ErrGets ErrHas status had done faulty out broke err
-    h = tt
-replays_weaker (Some bytes) fails InGave InHad InEnded InFailed InDone InFaulty OutGets OutHas OutBroke OutFaulty ErrGets ErrHas status had done faulty out
-    broke err h = replay_weaker had done faulty out broke err h
+  -- the same where the bytes are known
+  pub known_weaker : {S : Type 0} (source : Source.Ghosts S) (old : S) (input other : Input) (status : ℕ)
+      → ((before last : List ℕ) → input.gave before last → other.gave before last) → ((given : List ℕ) → input.ended given → other.ended given)
+      → ((given : List ℕ) → input.failed given → other.failed given) → ReplaysKnown source old input first status
+      → ReplaysKnown source old other second status
+  known_weaker source old input other status had done faulty h =
+      IfSome_then (source.left old) h (λ bytes replay. replay_weaker had done faulty replay)
 
--- and where reads gave them
-pub given_weaker : (left later : Option (List ℕ)) (fails : Option Bool) (InGave : List ℕ → List ℕ → Type 0) (InEnded InFailed : List ℕ → Type 0)
-    (OutGets OutHas OutBroke OutFaulty ErrGets ErrHas : List ℕ → Type 0) (status : ℕ)
-    → ((text : List ℕ) → OutGets text → OutHas text) → ((text : List ℕ) → OutBroke text → OutFaulty text) → ((text : List ℕ) → ErrGets text → ErrHas text)
-    → ReplaysGiven left later fails InGave InEnded InFailed OutGets OutBroke ErrGets status
-    → ReplaysGiven left later fails InGave InEnded InFailed OutHas OutFaulty ErrHas status
-given_weaker left later fails InGave InEnded InFailed OutGets OutHas OutBroke OutFaulty ErrGets ErrHas status out broke err (given, consumed, were, replay) =
-    (given, consumed, were, replay_weaker (λ _ _ h. h) (λ _ h. h) (λ _ h. h) out broke err replay)
+  -- and where reads gave them
+  pub given_weaker : {S : Type 0} (source : Source.Ghosts S) (old new : S) (status : ℕ) → ReplaysGiven source old new first status
+      → ReplaysGiven source old new second status
+  given_weaker source old new status (given, consumed, were, replay) =
+      (given, consumed, were, replay_weaker (λ _ _ h. h) (λ _ h. h) (λ _ h. h) replay)
 
 -- the lines of which the first were to be answered are the first of all lines
-pub first_of_all : {bytes out : List ℕ} {fails : Option Bool} {InGave : List ℕ → List ℕ → Type 0} {InEnded InFailed : List ℕ → Type 0}
-    (h : WritingFailed bytes fails InGave InEnded InFailed out) → (lines : List (List ℕ)) × (part : List ℕ) × (later : List (List ℕ))
+pub first_of_all : {bytes out : List ℕ} {fails : Option Bool} {input : Input}
+    (h : WritingFailed bytes fails input out) → (lines : List (List ℕ)) × (part : List ℕ) × (later : List (List ℕ))
     × Splits bytes lines part × (lines_given fails lines part ≡ h.first ++ later)
 first_of_all {bytes} {out} {fails} h = elim h.lines_are [
   | inl are ↦

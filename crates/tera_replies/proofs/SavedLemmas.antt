@@ -30,6 +30,7 @@ use Rattle.tera_replies.specs.Reply.{AreReplies, IsReply}
 use Rattle.tera_replies.specs.Saved.{made_again, oks}
 use Rattle.tera_replies.specs.Script.{ended, line_feed, without_return, HasNoLineFeed, Script, Splits}
 use Rattle.tera_replies.specs.Script.{BadLine as Bad}
+use Rattle.tera_replies.specs.Streams.{Input, just_these, untold}
 use Rattle.tera_replies.specs.Stretch.{start, Goes, Place, Runs}
 use Rattle.tera_replies.proofs.StretchLemmas.{one_script, Splits-same}
 
@@ -262,8 +263,8 @@ module _ (one : (line : List ℕ) (first second : Command) → Says line first �
   }
 
   -- where all of the script was answered
-  all_alone : {fails : Option Bool} {InGave : List ℕ → List ℕ → Type 0} {InEnded : List ℕ → Type 0} {out err : List ℕ} {status : ℕ}
-      → AllAnswered (script_of ascii es) fails InGave InEnded out err status
+  all_alone : {fails : Option Bool} {input : Input} {out err : List ℕ} {status : ℕ}
+      → AllAnswered (script_of ascii es) fails input out err status
       → (status ≤ 1) × (status ≡ 0 → (out ≡ oks es) × (err ≡ []))
   all_alone {fails} {out = out} {status = status} h =
       let same = Splits-same (script_of ascii es) h.part [] h.lines lines h.split (split_of ascii es prints) in
@@ -280,7 +281,7 @@ module _ (one : (line : List ℕ) (first second : Command) → Says line first �
       )
 
   pub replayed_alone : (fails : Option Bool) (out err : List ℕ) (status : ℕ)
-      → Replays (script_of ascii es) fails (λ before last. ⊤) (λ given. ⊤) (λ given. ⊤) (λ put. put ≡ out) (λ put. put ≡ out) (λ put. put ≡ err) status
+      → Replays (script_of ascii es) fails untold (just_these out out err) status
       → (status ≤ 1) × (status ≡ 0 → (out ≡ oks es) × (err ≡ []))
   replayed_alone fails out err status (inl (put, told, inl h, gets, tells)) =
       let all = all_alone h in

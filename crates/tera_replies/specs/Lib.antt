@@ -3,6 +3,7 @@ pub mod Reply
 pub mod Replay
 pub mod Output
 pub mod Source
+pub mod Streams
 pub mod Log
 pub mod Stretch
 pub mod Saved

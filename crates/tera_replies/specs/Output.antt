@@ -1,27 +1,10 @@
--- What an input gave to a replay, and what an output got from it.
+-- What an output got, and how it broke.
 use Rattle.std.specs.Prelude.{◌≡◌, ℕ, ◌⊎◌, List, ◌++◌, Option, Result}
 use Rattle.std.specs.declared.io.Error.{Error}
 use Rattle.std.specs.Io.KnownBytes.{Appends}
 use Rattle.tera_report.specs.Sink.{Delivers, Sends}
 use Rattle.tera_report.specs.Writer.{Passes, Breaks, Flushes, FlushFails}
-use Rattle.tera_replies.specs.declared.source.ReadError.{ReadError}
-use Rattle.tera_replies.specs.Source.{ReadsTo, ReadEnds, ReadFails}
-
--- some reads of a source, which is then dropped, gave just these bytes, and one more read the last
--- ones; or none was made
-abbrev pub Gave : {S : Type 0} → (S → List ℕ → Result ℕ ReadError → S → Type 0)
-    → S → List ℕ → List ℕ → Type 0
-Gave {S} gave old before last = (new : S) × ReadsTo gave old before last new
-
--- reads of it gave just these bytes, and then one told the end
-abbrev pub Ended : {S : Type 0} → (S → List ℕ → Result ℕ ReadError → S → Type 0)
-    → S → List ℕ → Type 0
-Ended {S} gave old bytes = (new : S) × ReadEnds gave old bytes new
-
--- or answered an error
-abbrev pub Failed : {S : Type 0} → (S → List ℕ → Result ℕ ReadError → S → Type 0)
-    → S → List ℕ → Type 0
-Failed {S} gave old bytes = (new : S) × ReadFails gave old bytes new
+use Rattle.tera_report.specs.declared.sink.Sink.{Ghosts}
 
 -- the text was put, or putting it failed
 abbrev pub TakesOrFails : {S : Type 0} → (S → List ℕ → S → Type 0) → (S → List ℕ → S → Type 0)
@@ -45,6 +28,13 @@ pub record BrokeOn {S : Type 0} (takes fails : S → List ℕ → S → Type 0)
   pub sends : Sends takes flushes old front sent
   pub fault : ((rest : List ℕ) × (front ++ rest ≡ bytes) × fails sent rest new)
       ⊎ ((front ≡ bytes) × flush_fails sent new)
+
+-- the sink went from old to new by this text, which was sent; and by this, on which it broke
+abbrev pub Sent : {S F : Type 0} → Ghosts S F → S → S → List ℕ → Type 0
+Sent sink old new text = Sends sink.takes sink.flushes old text new
+
+abbrev pub Broke : {S F : Type 0} → Ghosts S F → S → S → List ℕ → Type 0
+Broke sink old new text = BrokeOn sink.takes sink.fails sink.flushes sink.flush_fails old text new
 
 -- a writer was to be given just these bytes, and a write of it was a fault, or a flush of it failed
 abbrev pub WriterBroke : {W : Type 0} → (W → List ℕ → Result ℕ Error → W → Type 0)

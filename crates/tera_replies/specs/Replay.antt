@@ -1,7 +1,7 @@
 -- What a replay writes, and the status with which it ends.
 use Rattle.std.specs.Prelude.{◌≡◌, ℕ, ◌+◌, ◌-◌, ◌^◌, ◌≤◌, ◌<◌, ◌⊎◌, Bool, true, false, List, []}
 use Rattle.std.specs.Prelude.{◌++◌, map, length, codes, decimal, Option, None, Some, IsSome}
-use Rattle.std.specs.Prelude.{if◌then◌else◌, ⊤}
+use Rattle.std.specs.Prelude.{if◌then◌else◌, IfSome}
 use Rattle.std.specs.List.{list_any}
 use Rattle.std.specs.FinMap.{empty}
 use Rattle.std.specs.Str.{chars, is_utf8}
@@ -15,6 +15,8 @@ use Rattle.tera_report.specs.Report.{Report, report_text}
 use Rattle.tera_replies.specs.Script.{BadLine, Splits, Script, without_return, last_line, ended}
 use Rattle.tera_replies.specs.Reply.{AreReplies}
 use Rattle.tera_replies.specs.Source.{MayErr}
+use Rattle.tera_replies.specs.Streams.{Input, Streams, reads, untold}
+use Rattle.tera_replies.specs.declared.source.Source.{Ghosts}
 
 -- some answer was want of memory. No other refusal counts
 abbrev pub wants_memory : List Outcome → Bool
@@ -89,16 +91,15 @@ IsBehind given (Some bad) = HoldFewer given bad.number
 
 -- Reads gave all of the bytes and then the end, and no line that has a line feed is bad; or they
 -- gave some, and the last of them made the bad line whole. No other read was made.
-abbrev pub ReadEnough : List ℕ → Option BadLine → (List ℕ → List ℕ → Type 0)
-    → (List ℕ → Type 0) → Type 0
-ReadEnough bytes bad InGave InEnded =
-    (InEnded bytes × IsBehind bytes bad)
+abbrev pub ReadEnough : List ℕ → Option BadLine → Input → Type 0
+ReadEnough bytes bad input =
+    (input.ended bytes × IsBehind bytes bad)
     ⊎ ((before : List ℕ) × (last : List ℕ) × (rest : List ℕ) × (bytes ≡ (before ++ last) ++ rest)
-    × InGave before last × IsBehind before bad × IsWholeIn (before ++ last) bad)
+    × input.gave before last × IsBehind before bad × IsWholeIn (before ++ last) bad)
 
 -- The input ended, or a line that was given whole is bad: each line up to there is answered.
-pub record AllAnswered (bytes : List ℕ) (fails : Option Bool) (InGave : List ℕ → List ℕ → Type 0)
-    (InEnded : List ℕ → Type 0) (out err : List ℕ) (status : ℕ) : Type 0 where
+pub record AllAnswered (bytes : List ℕ) (fails : Option Bool) (input : Input) (out err : List ℕ)
+    (status : ℕ) : Type 0 where
   pub lines : List (List ℕ)
   pub part : List ℕ
   pub bad : Option BadLine
@@ -106,25 +107,24 @@ pub record AllAnswered (bytes : List ℕ) (fails : Option Bool) (InGave : List �
   pub split : Splits bytes lines part
   pub answers : AreAnswered (lines_given fails lines part) bad outcomes
   pub ended : fails ≡ Some true → IsSome bad
-  pub read : ReadEnough bytes bad InGave InEnded
+  pub read : ReadEnough bytes bad input
   pub replied : AreReplies outcomes out
   pub err_is : err ≡ report bad
   pub status_is : status ≡ status_of bad outcomes
 
 -- Reads gave some of the bytes, and then one failed, or they went on past their bound: each line
 -- that was given whole is answered.
-pub record ReadingFailed (bytes : List ℕ) (fails : Option Bool)
-    (InGave : List ℕ → List ℕ → Type 0) (InFailed : List ℕ → Type 0) (out err : List ℕ)
-    (status : ℕ) : Type 0 where
+pub record ReadingFailed (bytes : List ℕ) (fails : Option Bool) (input : Input)
+    (out err : List ℕ) (status : ℕ) : Type 0 where
   pub given : List ℕ
   pub rest : List ℕ
   pub lines : List (List ℕ)
   pub part : List ℕ
   pub outcomes : List Outcome
   pub front : bytes ≡ given ++ rest
-  pub cause : (MayErr fails (Some rest) × InFailed given)
+  pub cause : (MayErr fails (Some rest) × input.failed given)
       ⊎ ((2 ^ 64 - 1 ≤ length given)
-      × ((before : List ℕ) × (last : List ℕ) × (given ≡ before ++ last) × InGave before last))
+      × ((before : List ℕ) × (last : List ℕ) × (given ≡ before ++ last) × input.gave before last))
   pub split : Splits given lines part
   pub answers : AreAnswered (map without_return lines) None outcomes
   pub replied : AreReplies outcomes out
@@ -134,8 +134,8 @@ pub record ReadingFailed (bytes : List ℕ) (fails : Option Bool)
 -- Reads gave some of the bytes, or all and the end, and the program itself found no memory: the
 -- first of the lines that were given whole are answered, among them each that was whole before the
 -- last read.
-pub record MemoryFailed (bytes : List ℕ) (InGave : List ℕ → List ℕ → Type 0)
-    (InEnded : List ℕ → Type 0) (out err : List ℕ) (status : ℕ) : Type 0 where
+pub record MemoryFailed (bytes : List ℕ) (input : Input) (out err : List ℕ) (status : ℕ)
+    : Type 0 where
   pub before : List ℕ
   pub last : List ℕ
   pub rest : List ℕ
@@ -145,7 +145,7 @@ pub record MemoryFailed (bytes : List ℕ) (InGave : List ℕ → List ℕ → T
   pub later : List (List ℕ)
   pub outcomes : List Outcome
   pub front : bytes ≡ (before ++ last) ++ rest
-  pub read : InGave before last ⊎ ((last ≡ []) × (rest ≡ []) × InEnded before)
+  pub read : input.gave before last ⊎ ((last ≡ []) × (rest ≡ []) × input.ended before)
   pub split : Splits (before ++ last) lines part
   pub lines_are : map without_return lines ≡ first ++ later
   pub prompt : HoldFewer before (1 + length first)
@@ -157,8 +157,7 @@ pub record MemoryFailed (bytes : List ℕ) (InGave : List ℕ → List ℕ → T
 -- The output was to get these replies, and broke. They are to the first of the lines that were
 -- given whole or, where the end was told, of all lines. Each line that was whole before the last
 -- read is among these, and was not bad.
-pub record WritingFailed (bytes : List ℕ) (fails : Option Bool)
-    (InGave : List ℕ → List ℕ → Type 0) (InEnded InFailed : List ℕ → Type 0) (out : List ℕ)
+pub record WritingFailed (bytes : List ℕ) (fails : Option Bool) (input : Input) (out : List ℕ)
     : Type 0 where
   pub before : List ℕ
   pub last : List ℕ
@@ -170,54 +169,53 @@ pub record WritingFailed (bytes : List ℕ) (fails : Option Bool)
   pub bad : Option BadLine
   pub outcomes : List Outcome
   pub front : bytes ≡ (before ++ last) ++ rest
-  pub read : InGave before last
+  pub read : input.gave before last
       ⊎ ((last ≡ [])
-      × (((rest ≡ []) × InEnded before) ⊎ (MayErr fails (Some rest) × InFailed before)))
+      × (((rest ≡ []) × input.ended before) ⊎ (MayErr fails (Some rest) × input.failed before)))
   pub split : Splits (before ++ last) lines part
   pub lines_are : (map without_return lines ≡ first ++ later)
-      ⊎ ((last ≡ []) × (rest ≡ []) × InEnded before
+      ⊎ ((last ≡ []) × (rest ≡ []) × input.ended before
       × (lines_given fails lines part ≡ first ++ later))
   pub prompt : HoldFewer before (1 + length first)
   pub fresh : IsBehind before bad
   pub answers : AreAnswered first bad outcomes
   pub replied : AreReplies outcomes out
 
--- Of a source with these bytes: the program writes out and err, and ends with this status. InGave,
--- InEnded and InFailed say what its reads gave, that one told the end, that one failed.
-abbrev pub Writes : List ℕ → Option Bool → (List ℕ → List ℕ → Type 0) → (List ℕ → Type 0)
-    → (List ℕ → Type 0) → List ℕ → List ℕ → ℕ → Type 0
-Writes bytes fails InGave InEnded InFailed out err status =
-    AllAnswered bytes fails InGave InEnded out err status
-    ⊎ (ReadingFailed bytes fails InGave InFailed out err status
-    ⊎ MemoryFailed bytes InGave InEnded out err status)
+-- Of a source with these bytes: the program writes out and err, and ends with this status.
+abbrev pub Writes : List ℕ → Option Bool → Input → List ℕ → List ℕ → ℕ → Type 0
+Writes bytes fails input out err status =
+    AllAnswered bytes fails input out err status
+    ⊎ (ReadingFailed bytes fails input out err status ⊎ MemoryFailed bytes input out err status)
 
 -- The program is done with such a source: `out` got what it writes there and `err` its own; or
 -- `out` broke on what it was to get, and `err` got the text for that.
-abbrev pub Replays : List ℕ → Option Bool → (List ℕ → List ℕ → Type 0) → (List ℕ → Type 0)
-    → (List ℕ → Type 0) → (List ℕ → Type 0) → (List ℕ → Type 0) → (List ℕ → Type 0) → ℕ → Type 0
-Replays bytes fails InGave InEnded InFailed OutGets OutBroke ErrGets status =
-    ((out : List ℕ) × (err : List ℕ) × Writes bytes fails InGave InEnded InFailed out err status
-    × OutGets out × ErrGets err)
-    ⊎ ((out : List ℕ) × WritingFailed bytes fails InGave InEnded InFailed out × OutBroke out
-    × (status ≡ 1) × ErrGets (codes "error: writing failed\n"))
+abbrev pub Replays : List ℕ → Option Bool → Input → Streams → ℕ → Type 0
+Replays bytes fails input streams status =
+    ((out : List ℕ) × (err : List ℕ) × Writes bytes fails input out err status
+    × streams.out_gets out × streams.err_gets err)
+    ⊎ ((out : List ℕ) × WritingFailed bytes fails input out × streams.out_broke out
+    × (status ≡ 1) × streams.err_gets (codes "error: writing failed\n"))
 
 -- A script of these bytes is answered by out and err, with this status. Of reads nothing is said.
 abbrev pub IsAnswered : List ℕ → List ℕ → List ℕ → ℕ → Type 0
-IsAnswered bytes out err status =
-    AllAnswered bytes None (λ before last. ⊤) (λ given. ⊤) out err status
+IsAnswered bytes out err status = AllAnswered bytes None untold out err status
+
+-- Where the bytes of a source are known: the program is done with them.
+abbrev pub ReplaysKnown : {S : Type 0} → Ghosts S → S → Input → Streams → ℕ → Type 0
+ReplaysKnown source old input streams status =
+    IfSome (source.left old) (λ bytes. Replays bytes (source.fails old) input streams status)
 
 -- reads gave just these bytes, or these and then an end or an error, and no other read was made
-abbrev pub WereGiven : (List ℕ → List ℕ → Type 0) → (List ℕ → Type 0) → (List ℕ → Type 0)
-    → List ℕ → Type 0
-WereGiven InGave InEnded InFailed given =
-    ((before : List ℕ) × (last : List ℕ) × (given ≡ before ++ last) × InGave before last)
-    ⊎ (InEnded given ⊎ InFailed given)
+abbrev pub WereGiven : Input → List ℕ → Type 0
+WereGiven input given =
+    ((before : List ℕ) × (last : List ℕ) × (given ≡ before ++ last) × input.gave before last)
+    ⊎ (input.ended given ⊎ input.failed given)
 
--- Of any source: reads gave just these bytes, which are the first of what it had, where that is
--- known, and the program is done with them. Nothing is supposed of the source.
-abbrev pub ReplaysGiven : Option (List ℕ) → Option (List ℕ) → Option Bool
-    → (List ℕ → List ℕ → Type 0) → (List ℕ → Type 0) → (List ℕ → Type 0) → (List ℕ → Type 0)
-    → (List ℕ → Type 0) → (List ℕ → Type 0) → ℕ → Type 0
-ReplaysGiven left later fails InGave InEnded InFailed OutGets OutBroke ErrGets status =
-    (given : List ℕ) × Consumes left later given × WereGiven InGave InEnded InFailed given
-    × Replays given fails InGave InEnded InFailed OutGets OutBroke ErrGets status
+-- Of any source: the reads that led it from old to new gave just these bytes, which are the first
+-- of what it had, where that is known, and the program is done with them. Nothing is supposed of
+-- the source.
+abbrev pub ReplaysGiven : {S : Type 0} → Ghosts S → S → S → Streams → ℕ → Type 0
+ReplaysGiven source old new streams status =
+    (given : List ℕ) × Consumes (source.left old) (source.left new) given
+    × WereGiven (reads source.gave old new) given
+    × Replays given (source.fails old) (reads source.gave old new) streams status

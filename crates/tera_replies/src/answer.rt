@@ -5,7 +5,7 @@ ghost use Rattle.std.specs.String.{string_bytes};
 ghost use Rattle.tera_report.specs.Errors.{kind_of, refusal_of};
 ghost use Rattle.tera_report.specs.Quoted.{QuotesList};
 ghost use Rattle.tera_report.specs.Refusal.{Tells};
-ghost use Rattle.tera_report.specs.Sink.{Puts, PutsThese, Sends};
+ghost use Rattle.tera_report.specs.Sink.{Puts, PutsThese};
 ghost use Rattle.tera_meaning.specs.Answer.{found};
 ghost use Rattle.tera_meaning.specs.Arithmetic.{as_i128};
 ghost use Rattle.tera_meaning.specs.Meaning.{layout};
@@ -14,7 +14,7 @@ ghost use Rattle.tera_meaning.specs.Quoted.{Prints};
 ghost use Rattle.tera_context.specs.Call.{answer_of};
 ghost use Rattle.tera_context.specs.Known.{known_form};
 ghost use Rattle.tera_context.specs.Lent.{lent_form, printed};
-ghost use Rattle.tera_replies.specs.Output.{BrokeOn};
+ghost use Rattle.tera_replies.specs.Output.{Broke, Sent};
 ghost use Rattle.tera_replies.specs.Reply.{IsFormOf, IsLentLine, IsListedLine};
 ghost use Rattle.tera_replies.specs.Reply.{IsReplyLine, order_name};
 ghost use Rattle.tera_replies.specs.Script.{ended};
@@ -36,10 +36,10 @@ use tera_values::Value;
 pub(crate) fn write_answer<W: Sink>(answer: &TeraResult<Answer>, out: &mut W) -> Result<bool, Fault>
     ensures ok { IfOk result (λ wanted. (line : List ℕ)
         × IsReplyLine (outcome_stated answer.now) line
-        × Sends W.takes W.flushes out.old line out.new
+        × Sent W.Sink out.old out.new line
         × (wanted ≡ is_want (outcome_stated answer.now))) }
     ensures err { IfErr result (ReplyStops (IsReplyLine (outcome_stated answer.now))
-        (λ text. BrokeOn W.takes W.fails W.flushes W.flush_fails out.old text out.new)) }
+        (Broke W.Sink out.old out.new)) }
 {
     match answer {
         Ok(answer) => {
@@ -58,10 +58,10 @@ pub(crate) fn write_answer<W: Sink>(answer: &TeraResult<Answer>, out: &mut W) ->
 pub(crate) fn write_lent<W: Sink>(lent: Lent<'_>, out: &mut W) -> Result<bool, Fault>
     ensures ok { IfOk result (λ wanted. (line : List ℕ)
         × IsLentLine (lent_form lent.entry) line
-        × Sends W.takes W.flushes out.old line out.new
+        × Sent W.Sink out.old out.new line
         × (wanted ≡ false)) }
     ensures err { IfErr result (ReplyStops (IsLentLine (lent_form lent.entry))
-        (λ text. BrokeOn W.takes W.fails W.flushes W.flush_fails out.old text out.new)) }
+        (Broke W.Sink out.old out.new)) }
 {
     written(put_lent(lent, out))?;
     Ok(false)

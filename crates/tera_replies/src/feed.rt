@@ -3,14 +3,13 @@ ghost use Rattle.std.specs.Prelude.{◌≡◌, ◌≢◌, ◌+◌, ◌^◌, ◌<
 ghost use Rattle.std.specs.Prelude.{◌++◌};
 ghost use Rattle.std.specs.Prelude.{IfOk, OnOk, IfErr, IfSome, IfNone, IsOk, IsSome, length};
 ghost use Rattle.std.specs.Prelude.{IsTrue, MatchResult, codes, decimal, false, string_bytes};
-ghost use Rattle.tera_report.specs.Sink.{Sends};
 ghost use Rattle.tera_report.specs.Errors.{report_of};
 ghost use Rattle.tera_meaning.specs.Request.{Command as CommandOf};
 ghost use Rattle.tera_context.specs.Lent.{lent_at};
 ghost use Rattle.tera_context.specs.Request.{command_form};
 ghost use Rattle.tera_script.specs.Line.{HasNoEscape, IsSkipped, Says};
 ghost use Rattle.tera_replies.specs.declared.fault.Fault.TheVariants.{OutOfMemory, WriteFailed};
-ghost use Rattle.tera_replies.specs.Output.{BrokeOn};
+ghost use Rattle.tera_replies.specs.Output.{Broke, Sent};
 ghost use Rattle.tera_replies.specs.Replay.{line_report, source_of, whole_line};
 ghost use Rattle.tera_replies.specs.Script.{HasNoLineFeed, without_return, last_line, ended};
 ghost use Rattle.tera_replies.specs.Stretch.{bad_at, Runs, LineStops};
@@ -90,12 +89,11 @@ impl Feed {
         requires part { HasNoLineFeed self.old.part.items }
         ensures ok { OnOk result ((text : List ℕ)
             × Goes (place_of self.old) piece.now text (place_of self.new)
-            × Sends W.takes W.flushes out.old text out.new) }
+            × Sent W.Sink out.old out.new text) }
         ensures part { HasNoLineFeed self.new.part.items }
         ensures err { IfErr result
             (Stops (place_of self.old) piece.now
-            (λ text. Sends W.takes W.flushes out.old text out.new)
-            (λ text. BrokeOn W.takes W.fails W.flushes W.flush_fails out.old text out.new)) }
+            (Sent W.Sink out.old out.new) (Broke W.Sink out.old out.new)) }
         ensures empty { piece.now ≡ [] → IsOk result }
     {
         if piece.is_empty() {
@@ -117,14 +115,13 @@ impl Feed {
         requires rest { HasNoLineFeed rest.now }
         ensures ok { OnOk result ((text : List ℕ)
             × Goes (place_of self.old) (ended rest.now) text (place_of self.new)
-            × Sends W.takes W.flushes out.old text out.new) }
+            × Sent W.Sink out.old out.new text) }
         ensures number { OnOk result (self.new.number ≡ self.old.number + 1) }
         ensures part { HasNoLineFeed self.new.part.items }
         ensures err { IfErr result
             (LineStops self.old.number self.old.context
             (without_return (self.old.part.items ++ rest.now)) self.new.context
-            (Sends W.takes W.flushes out.old [] out.new)
-            (λ text. BrokeOn W.takes W.fails W.flushes W.flush_fails out.old text out.new)) }
+            (Sent W.Sink out.old out.new []) (Broke W.Sink out.old out.new)) }
     {
         let wanted = self.answer_at_hand(alloc, rest, out)?;
         self.part.clear();
@@ -145,12 +142,11 @@ impl Feed {
         ensures ok { IfOk result (λ wanted. (text : List ℕ)
             × Runs self.old.number self.old.context
             (without_return (self.old.part.items ++ rest.now) ∷ []) text wanted self.new.context
-            × Sends W.takes W.flushes out.old text out.new) }
+            × Sent W.Sink out.old out.new text) }
         ensures err { IfErr result
             (LineStops self.old.number self.old.context
             (without_return (self.old.part.items ++ rest.now)) self.new.context
-            (Sends W.takes W.flushes out.old [] out.new)
-            (λ text. BrokeOn W.takes W.fails W.flushes W.flush_fails out.old text out.new)) }
+            (Sent W.Sink out.old out.new []) (Broke W.Sink out.old out.new)) }
         ensures number { self.new.number ≡ self.old.number }
         ensures wanted { self.new.wanted_memory ≡ self.old.wanted_memory }
         ensures part { HasNoLineFeed self.new.part.items }
@@ -171,12 +167,11 @@ impl Feed {
             × Runs self.old.number self.old.context (last_line self.old.part.items)
             text last self.new.context
             × (wanted ≡ (self.old.wanted_memory || last))
-            × Sends W.takes W.flushes out.old text out.new) }
+            × Sent W.Sink out.old out.new text) }
         ensures err { IfErr result
             (λ fault. (last_line self.old.part.items ≡ self.old.part.items ∷ [])
             × LineStops self.old.number self.old.context self.old.part.items self.new.context
-            (Sends W.takes W.flushes out.old [] out.new)
-            (λ text. BrokeOn W.takes W.fails W.flushes W.flush_fails out.old text out.new) fault) }
+            (Sent W.Sink out.old out.new []) (Broke W.Sink out.old out.new) fault) }
         ensures number { self.new.number ≡ self.old.number }
         ensures wanted { self.new.wanted_memory ≡ self.old.wanted_memory }
         ensures part { self.new.part.items ≡ self.old.part.items }
@@ -208,10 +203,9 @@ pub fn answer_line<W: Sink>(
 ) -> Result<bool, Fault>
     ensures ok { IfOk result (λ wanted. (text : List ℕ)
         × Runs number context.old (line.now ∷ []) text wanted context.new
-        × Sends W.takes W.flushes out.old text out.new) }
+        × Sent W.Sink out.old out.new text) }
     ensures err { IfErr result (LineStops number context.old line.now context.new
-        (Sends W.takes W.flushes out.old [] out.new)
-        (λ text. BrokeOn W.takes W.fails W.flushes W.flush_fails out.old text out.new)) }
+        (Sent W.Sink out.old out.new []) (Broke W.Sink out.old out.new)) }
     ensures skipped { IsSkipped line.now → IsOk result }
     ensures lent { (command : CommandOf) → Says line.now command → HasNoEscape line.now
         → IsSome (lent_at context.old command)
@@ -234,11 +228,11 @@ fn answer_command<W: Sink>(
 ) -> Result<bool, Fault>
     ensures ok { IfOk result (λ wanted. (reply : List ℕ)
         × AnswersCall (command_form command.entry) context.old context.new reply wanted
-        × Sends W.takes W.flushes out.old reply out.new) }
+        × Sent W.Sink out.old out.new reply) }
     ensures err { IfErr result (ReplyStops
         (λ reply. (wanted : Bool)
         × AnswersCall (command_form command.entry) context.old context.new reply wanted)
-        (λ text. BrokeOn W.takes W.fails W.flushes W.flush_fails out.old text out.new)) }
+        (Broke W.Sink out.old out.new)) }
     ensures lent { IsSome (lent_at context.old (command_form command.entry))
         → MatchResult result (λ wanted. wanted ≡ false) (λ fault. fault ≡ WriteFailed) }
 {
@@ -261,11 +255,11 @@ fn answer_and_write<W: Sink>(
 ) -> Result<bool, Fault>
     ensures ok { IfOk result (λ wanted. (reply : List ℕ)
         × AnswersCall (command_form command.entry) context.old context.new reply wanted
-        × Sends W.takes W.flushes out.old reply out.new) }
+        × Sent W.Sink out.old out.new reply) }
     ensures err { IfErr result (ReplyStops
         (λ reply. (wanted : Bool)
         × AnswersCall (command_form command.entry) context.old context.new reply wanted)
-        (λ text. BrokeOn W.takes W.fails W.flushes W.flush_fails out.old text out.new)) }
+        (Broke W.Sink out.old out.new)) }
 {
     let answer = answer(context, command);
     let answered = write_answer(&answer, out);

@@ -1,8 +1,7 @@
 //! The replay of a script that comes in pieces, for a loop of a caller's own.
 ghost use Rattle.std.specs.Prelude.{◌≡◌, ◌||◌, ℕ, Bool, List, [], ◌∷◌, IfErr, IfOk, IsOk};
 ghost use Rattle.std.specs.Prelude.{OnOk};
-ghost use Rattle.tera_report.specs.Sink.{Sends};
-ghost use Rattle.tera_replies.specs.Output.{BrokeOn};
+ghost use Rattle.tera_replies.specs.Output.{Broke, Sent};
 ghost use Rattle.tera_replies.specs.Script.{HasNoLineFeed, last_line};
 ghost use Rattle.tera_replies.specs.Stretch.{Goes, LineStops, Place, Runs, Stops, start};
 ghost use Rattle.tera_replies.specs.inner.Place.{coded_place, place_of};
@@ -56,10 +55,9 @@ impl Replayer {
     /// Takes memory as `answer_line` does, and for the line at hand where it comes in parts.
     pub fn take<W: Sink>(&mut self, alloc: Global, piece: &[u8], out: &mut W) -> Result<(), Fault>
         ensures ok { OnOk result ((text : List ℕ) × Goes self.old piece.now text self.new
-            × Sends W.takes W.flushes out.old text out.new) }
+            × Sent W.Sink out.old out.new text) }
         ensures err { IfErr result (Stops self.old piece.now
-            (λ text. Sends W.takes W.flushes out.old text out.new)
-            (λ text. BrokeOn W.takes W.fails W.flushes W.flush_fails out.old text out.new)) }
+            (Sent W.Sink out.old out.new) (Broke W.Sink out.old out.new)) }
         ensures empty { piece.now ≡ [] → IsOk result }
     {
         if self.feed.has_numbers_for(piece) {
@@ -78,12 +76,11 @@ impl Replayer {
             × Runs self.old.number self.old.state (last_line self.old.part)
             text last self.new.state
             × (wanted ≡ (self.old.wanted || last))
-            × Sends W.takes W.flushes out.old text out.new) }
+            × Sent W.Sink out.old out.new text) }
         ensures err { IfErr result
             (λ fault. (last_line self.old.part ≡ self.old.part ∷ [])
             × LineStops self.old.number self.old.state self.old.part self.new.state
-            (Sends W.takes W.flushes out.old [] out.new)
-            (λ text. BrokeOn W.takes W.fails W.flushes W.flush_fails out.old text out.new) fault) }
+            (Sent W.Sink out.old out.new []) (Broke W.Sink out.old out.new) fault) }
     {
         self.feed.finish(alloc, out)
     }

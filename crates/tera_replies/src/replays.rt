@@ -1,16 +1,17 @@
 //! From a script's bytes to the bytes of its answers.
-ghost use Rattle.std.specs.Prelude.{◌≡◌, ◌≤◌, IfSome, IfErr, IsOk, OnOk};
-ghost use Rattle.tera_report.specs.Sink.{Delivers, PutsThese, Sends};
+ghost use Rattle.std.specs.Prelude.{◌≡◌, ◌≤◌, IfErr, IsOk, OnOk};
+ghost use Rattle.tera_report.specs.Sink.{PutsThese};
 ghost use Rattle.tera_replies.specs.declared.fault.Fault.TheVariants.{WriteFailed};
-ghost use Rattle.tera_replies.specs.Output.{BrokeOn, Ended, Failed, Gave, TakesOrFails};
-ghost use Rattle.tera_replies.specs.Output.{WriterBroke, WriterGets, WriterTakesOrFails};
+ghost use Rattle.tera_replies.specs.Output.{Broke, Sent, TakesOrFails};
 ghost use Rattle.tera_report.specs.Errors.{report_of};
 ghost use Rattle.tera_report.specs.Report.{report_text};
-ghost use Rattle.tera_replies.specs.Replay.{Replays, ReplaysGiven};
+ghost use Rattle.tera_replies.specs.Replay.{ReplaysGiven, ReplaysKnown};
 ghost use Rattle.tera_replies.specs.Script.{ended};
-ghost use Rattle.tera_replies.specs.Source.{ReadEnds, ReadFails, ReadsTo};
+ghost use Rattle.tera_replies.specs.Streams.{reads, reads_dropped, streams, streams_beside};
+ghost use Rattle.tera_replies.specs.Streams.{writer_streams};
 ghost use Rattle.tera_replies.specs.Stretch.{start};
-ghost use Rattle.tera_replies.specs.inner.Endings.{Ends, EndsFlushed, EndsGiven, status_at, told};
+ghost use Rattle.tera_replies.specs.inner.Endings.{EndsFlushed, EndsGiven, EndsKnown, status_at};
+ghost use Rattle.tera_replies.specs.inner.Endings.{told};
 
 use crate::error_sink::ErrorSink;
 use crate::fault::{Fault, WriteError, put, written};
@@ -49,18 +50,10 @@ pub fn replay<S: Source + Drop, W: Writer, E: Writer>(
     out: &mut W,
     err: &mut E,
 ) -> u8
-    ensures known { IfSome (S.left input) (λ bytes. Replays bytes (S.fails input)
-        (Gave S.gave input) (Ended S.gave input) (Failed S.gave input)
-        (λ text. WriterGets W.contents W.wrote W.flushed out.old text out.new)
-        (λ text. WriterBroke W.wrote W.flushed out.old text out.new)
-        (λ text. WriterTakesOrFails E.contents E.wrote err.old text err.new) result) }
-    ensures given { (last : S) × ReplaysGiven (S.left input) (S.left last) (S.fails input)
-        (λ before piece. ReadsTo S.gave input before piece last)
-        (λ given. ReadEnds S.gave input given last)
-        (λ given. ReadFails S.gave input given last)
-        (λ text. WriterGets W.contents W.wrote W.flushed out.old text out.new)
-        (λ text. WriterBroke W.wrote W.flushed out.old text out.new)
-        (λ text. WriterTakesOrFails E.contents E.wrote err.old text err.new) result }
+    ensures known { ReplaysKnown S.Source input (reads_dropped S.gave input)
+        (writer_streams W.Writer out.old out.new E.Writer err.old err.new) result }
+    ensures given { (last : S) × ReplaysGiven S.Source input last
+        (writer_streams W.Writer out.old out.new E.Writer err.old err.new) result }
     ensures status { result ≤ 2 }
     ensures silent { result ≡ 0 → err.new ≡ err.old }
 {
@@ -78,20 +71,10 @@ pub fn replay_from<S: Source, W: Sink, E: Sink>(
     out: &mut W,
     err: &mut E,
 ) -> u8
-    ensures known { IfSome (S.left input.old) (λ bytes. Replays bytes (S.fails input.old)
-        (λ before last. ReadsTo S.gave input.old before last input.new)
-        (λ given. ReadEnds S.gave input.old given input.new)
-        (λ given. ReadFails S.gave input.old given input.new)
-        (λ text. Delivers W.takes W.flushes out.old text out.new)
-        (λ text. BrokeOn W.takes W.fails W.flushes W.flush_fails out.old text out.new)
-        (λ text. TakesOrFails E.takes E.fails err.old text err.new) result) }
-    ensures given { ReplaysGiven (S.left input.old) (S.left input.new) (S.fails input.old)
-        (λ before last. ReadsTo S.gave input.old before last input.new)
-        (λ given. ReadEnds S.gave input.old given input.new)
-        (λ given. ReadFails S.gave input.old given input.new)
-        (λ text. Delivers W.takes W.flushes out.old text out.new)
-        (λ text. BrokeOn W.takes W.fails W.flushes W.flush_fails out.old text out.new)
-        (λ text. TakesOrFails E.takes E.fails err.old text err.new) result }
+    ensures known { ReplaysKnown S.Source input.old (reads S.gave input.old input.new)
+        (streams W.Sink out.old out.new E.Sink err.old err.new) result }
+    ensures given { ReplaysGiven S.Source input.old input.new
+        (streams W.Sink out.old out.new E.Sink err.old err.new) result }
     ensures status { result ≤ 2 }
     ensures silent { result ≡ 0 → err.new ≡ err.old }
 {
@@ -107,20 +90,10 @@ fn answer_to_end<S: Source, W: Sink>(
     input: &mut S,
     out: &mut W,
 ) -> Result<bool, Fault>
-    ensures known { IfSome (S.left input.old) (λ bytes. Replays bytes (S.fails input.old)
-        (λ before last. ReadsTo S.gave input.old before last input.new)
-        (λ given. ReadEnds S.gave input.old given input.new)
-        (λ given. ReadFails S.gave input.old given input.new)
-        (λ text. Delivers W.takes W.flushes out.old text out.new)
-        (λ text. BrokeOn W.takes W.fails W.flushes W.flush_fails out.old text out.new)
-        (λ text. text ≡ told result) (status_at result)) }
-    ensures given { ReplaysGiven (S.left input.old) (S.left input.new) (S.fails input.old)
-        (λ before last. ReadsTo S.gave input.old before last input.new)
-        (λ given. ReadEnds S.gave input.old given input.new)
-        (λ given. ReadFails S.gave input.old given input.new)
-        (λ text. Delivers W.takes W.flushes out.old text out.new)
-        (λ text. BrokeOn W.takes W.fails W.flushes W.flush_fails out.old text out.new)
-        (λ text. text ≡ told result) (status_at result) }
+    ensures known { ReplaysKnown S.Source input.old (reads S.gave input.old input.new)
+        (streams_beside W.Sink out.old out.new (λ text. text ≡ told result)) (status_at result) }
+    ensures given { ReplaysGiven S.Source input.old input.new
+        (streams_beside W.Sink out.old out.new (λ text. text ≡ told result)) (status_at result) }
 {
     let answered = answer_all(alloc, state, input, out);
     flush_last(answered, out)
@@ -145,18 +118,10 @@ fn answer_all<S: Source, W: Sink>(
     input: &mut S,
     out: &mut W,
 ) -> Result<bool, Fault>
-    ensures known { IfSome (S.left input.old) (λ bytes. Ends bytes (S.fails input.old)
-        (λ before last. ReadsTo S.gave input.old before last input.new)
-        (λ given. ReadEnds S.gave input.old given input.new)
-        (λ given. ReadFails S.gave input.old given input.new)
-        (λ text. Sends W.takes W.flushes out.old text out.new)
-        (λ text. BrokeOn W.takes W.fails W.flushes W.flush_fails out.old text out.new) result) }
-    ensures given { EndsGiven (S.left input.old) (S.left input.new) (S.fails input.old)
-        (λ before last. ReadsTo S.gave input.old before last input.new)
-        (λ given. ReadEnds S.gave input.old given input.new)
-        (λ given. ReadFails S.gave input.old given input.new)
-        (λ text. Sends W.takes W.flushes out.old text out.new)
-        (λ text. BrokeOn W.takes W.fails W.flushes W.flush_fails out.old text out.new) result }
+    ensures known { EndsKnown S.Source input.old input.new (Sent W.Sink out.old out.new)
+        (Broke W.Sink out.old out.new) result }
+    ensures given { EndsGiven S.Source input.old input.new (Sent W.Sink out.old out.new)
+        (Broke W.Sink out.old out.new) result }
 {
     let mut replayer = Replayer::new(alloc, state);
     answer_pieces(alloc, &mut replayer, input, out)
@@ -171,18 +136,10 @@ fn answer_pieces<S: Source, W: Sink>(
     out: &mut W,
 ) -> Result<bool, Fault>
     requires { replayer.old ≡ start }
-    ensures known { IfSome (S.left input.old) (λ bytes. Ends bytes (S.fails input.old)
-        (λ before last. ReadsTo S.gave input.old before last input.new)
-        (λ given. ReadEnds S.gave input.old given input.new)
-        (λ given. ReadFails S.gave input.old given input.new)
-        (λ text. Sends W.takes W.flushes out.old text out.new)
-        (λ text. BrokeOn W.takes W.fails W.flushes W.flush_fails out.old text out.new) result) }
-    ensures given { EndsGiven (S.left input.old) (S.left input.new) (S.fails input.old)
-        (λ before last. ReadsTo S.gave input.old before last input.new)
-        (λ given. ReadEnds S.gave input.old given input.new)
-        (λ given. ReadFails S.gave input.old given input.new)
-        (λ text. Sends W.takes W.flushes out.old text out.new)
-        (λ text. BrokeOn W.takes W.fails W.flushes W.flush_fails out.old text out.new) result }
+    ensures known { EndsKnown S.Source input.old input.new (Sent W.Sink out.old out.new)
+        (Broke W.Sink out.old out.new) result }
+    ensures given { EndsGiven S.Source input.old input.new (Sent W.Sink out.old out.new)
+        (Broke W.Sink out.old out.new) result }
 {
     let mut piece = [0; PIECE];
     'pieces: for _turn in 0..u64::MAX {

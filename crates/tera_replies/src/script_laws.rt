@@ -1,5 +1,5 @@
 //! The law of a context that is written as a script and replayed.
-ghost use Rattle.std.specs.Prelude.{◌≡◌, ◌≤◌, ℕ, Bool, false, List, [], Option, ⊤};
+ghost use Rattle.std.specs.Prelude.{◌≡◌, ◌≤◌, ℕ, Bool, false, List, [], Option};
 ghost use Rattle.std.specs.FinMap.{entries, get};
 ghost use Rattle.std.specs.Option.{option_map};
 ghost use Rattle.tera_meaning.specs.Alike.{MeanTheSame};
@@ -9,6 +9,7 @@ ghost use Rattle.tera_script.specs.Saved.{script_of, HaveLines};
 ghost use Rattle.tera_script.specs.Written.{owned_form};
 ghost use Rattle.tera_replies.specs.Replay.{IsAnswered, Replays};
 ghost use Rattle.tera_replies.specs.Saved.{made_again, oks};
+ghost use Rattle.tera_replies.specs.Streams.{just_these, untold};
 ghost use Rattle.tera_replies.specs.Stretch.{Goes, Place, start};
 
 use crate::laws::want_of_memory_alone_makes_status_one;
@@ -42,8 +43,7 @@ pub fn scripts_are_replayed()
         → IsAnswered (script_of ascii (entries state)) (oks (entries state)) [] 0 }
     ensures status { (ascii : Bool) (state : State) (fails : Option Bool) (out err : List ℕ)
         (status : ℕ) → IsWellMadeState state → HaveLines (entries state)
-        → Replays (script_of ascii (entries state)) fails (λ before last. ⊤) (λ given. ⊤)
-        (λ given. ⊤) (λ text. text ≡ out) (λ text. text ≡ out) (λ text. text ≡ err) status
+        → Replays (script_of ascii (entries state)) fails untold (just_these out out err) status
         → (status ≤ 1) × (status ≡ 0 → (out ≡ oks (entries state)) × (err ≡ [])) }
 {
     script_lines_are_said();

@@ -12,6 +12,7 @@ use Rattle.tera.specs.types.Room.{Room}
 use Rattle.tera_replies.proofs.ReplayLaws.{first_of_all}
 use Rattle.tera_replies.specs.Output.{TakesOrFails}
 use Rattle.tera_replies.specs.Replay.{AllAnswered, Replays, WritingFailed}
+use Rattle.tera_replies.specs.Streams.{Input, Streams}
 use Rattle.tera_replies.specs.Reply.{IsReply}
 use Rattle.tera_replies.specs.Script.{BadLine, Script, Splits, ended, last_line, line_feed, without_return}
 use Rattle.tera_script.specs.Line.{Says}
@@ -58,8 +59,8 @@ OneSplit = (bytes part other : List ℕ) (lines others : List (List ℕ)) → Sp
 
 -- what a broken output was to get is no longer than these at most
 pub due_is_short : OneSplit → (bytes : List ℕ) (lines : List (List ℕ)) → Splits bytes lines [] → map without_return lines ≡ lines → HaveShortReplies lines
-    → {InGave : List ℕ → List ℕ → Type 0} {InEnded InFailed : List ℕ → Type 0} (out : List ℕ)
-    → WritingFailed bytes (Some false) InGave InEnded InFailed out → length out ≤ 21 * length lines
+    → {input : Input} (out : List ℕ)
+    → WritingFailed bytes (Some false) input out → length out ≤ 21 * length lines
 due_is_short split bytes lines is same short out h =
     let (all, part, later, splits, are) = first_of_all h in
     let one = split bytes part [] all lines splits is in
@@ -72,19 +73,22 @@ due_is_short split bytes lines is same short out h =
     omega (arith, bound, ap length is_text, ap length whole, length-append h.first later)
 
 -- of a short script that is read to its end, over an output that does not break: all is answered, or no memory was found
-pub ample : (bytes : List ℕ) (InGave : List ℕ → List ℕ → Type 0) (InEnded InFailed OutGets OutBroke ErrGets : List ℕ → Type 0) (status : ℕ)
-    → length bytes ≤ 1000 → ((out : List ℕ) → WritingFailed bytes (Some false) InGave InEnded InFailed out → OutBroke out → ⊥)
-    → Replays bytes (Some false) InGave InEnded InFailed OutGets OutBroke ErrGets status
-    → ((out err : List ℕ) × AllAnswered bytes (Some false) InGave InEnded out err status × OutGets out × ErrGets err)
+abbrev pub these : (OutGets OutBroke ErrGets : List ℕ → Type 0) → Streams
+these OutGets OutBroke ErrGets = record { out_gets = OutGets; out_broke = OutBroke; err_gets = ErrGets }
+
+pub ample : (bytes : List ℕ) (input : Input) (OutGets OutBroke ErrGets : List ℕ → Type 0) (status : ℕ)
+    → length bytes ≤ 1000 → ((out : List ℕ) → WritingFailed bytes (Some false) input out → OutBroke out → ⊥)
+    → Replays bytes (Some false) input (these OutGets OutBroke ErrGets) status
+    → ((out err : List ℕ) × AllAnswered bytes (Some false) input out err status × OutGets out × ErrGets err)
     ⊎ ((status ≡ 1) × ErrGets (codes "error: Out of memory\n"))
-ample bytes InGave InEnded InFailed OutGets OutBroke ErrGets status small whole (inl (out, err, inl all, gets, told)) = inl (out, err, all, gets, told)
-ample bytes InGave InEnded InFailed OutGets OutBroke ErrGets status small whole (inl (out, err, inr (inl failed), gets, told)) = elim failed.cause [
+ample bytes input OutGets OutBroke ErrGets status small whole (inl (out, err, inl all, gets, told)) = inl (out, err, all, gets, told)
+ample bytes input OutGets OutBroke ErrGets status small whole (inl (out, err, inr (inl failed), gets, told)) = elim failed.cause [
   | inl (may, read) ↦ absurd may
   | inr (long, read) ↦ absurd (omega (arith, small, long, ap length failed.front, length-append failed.given failed.rest))
 ]
-ample bytes InGave InEnded InFailed OutGets OutBroke ErrGets status small whole (inl (out, err, inr (inr failed), gets, told)) =
+ample bytes input OutGets OutBroke ErrGets status small whole (inl (out, err, inr (inr failed), gets, told)) =
     inr (failed.status_is, subst ErrGets failed.err_is told)
-ample bytes InGave InEnded InFailed OutGets OutBroke ErrGets status small whole (inr (out, failed, broke, is, told)) = absurd (whole out failed broke)
+ample bytes input OutGets OutBroke ErrGets status small whole (inr (out, failed, broke, is, told)) = absurd (whole out failed broke)
 
 -- what a room with place for it was told stands in it
 pub room_told : (old : Room) (text : List ℕ) (new : Room) → HasRoomFor old (length text) → TakesOrFails RoomTakes RoomFails old text new

@@ -18,9 +18,10 @@ use Rattle.tera.specs.Step.{IsStep}
 use Rattle.tera.specs.Weighing
 use Rattle.tera_replies.specs.Replay.{AllAnswered, Replays, report, status_of}
 use Rattle.tera_replies.specs.Reply.{IsReply, AreReplies, order_name}
+use Rattle.tera_replies.specs.Streams.{Input}
 use Rattle.tera_replies.specs.Script.{BadLine, Script, Splits, ended, last_line, without_return}
 use Rattle.tera_script.specs.Line.{Says, IsBad}
-use Rattle.uses.proofs.Ample.{OneSplit, HasShortReply, ample, due_is_short}
+use Rattle.uses.proofs.Ample.{OneSplit, HasShortReply, ample, due_is_short, these}
 
 abbrev pub compared : Command
 compared = asking (weigh Weighing.compare (codes "a") (codes "b"))
@@ -73,9 +74,9 @@ two_split : Splits (codes "cmp a b\neq a b\n") two_lines []
 two_split = record { whole = refl; each = search rules; rest = search rules }
 
 -- of two calls that are all answered these are the answers
-pub both_answered : {InGave : List ℕ → List ℕ → Type 0} {InEnded : List ℕ → Type 0} → Ties → Alike → OneSplit → OneScript → Says (codes "cmp a b") compared
+pub both_answered : {input : Input} → Ties → Alike → OneSplit → OneScript → Says (codes "cmp a b") compared
     → Says (codes "eq a b") equated → (out err : List ℕ) (status : ℕ)
-    → AllAnswered (codes "cmp a b\neq a b\n") (Some false) InGave InEnded out err status → (out ≡ codes "equal\ntrue\n") × (status ≡ 0)
+    → AllAnswered (codes "cmp a b\neq a b\n") (Some false) input out err status → (out ≡ codes "equal\ntrue\n") × (status ≡ 0)
 both_answered ties alike split script first second out err status h =
     let lines = split _ h.part [] h.lines two_lines h.split two_split in
     let said : Script 1 two_lines (compared ∷ equated ∷ []) None =
@@ -123,18 +124,18 @@ equated_is_short one says command said old new outcome step reply is =
 bad_is_short : (line : List ℕ) → IsBad line → HasShortReply line
 bad_is_short line bad command said old new outcome step reply is = absurd (bad.1 command said)
 
-module _ (InGave : List ℕ → List ℕ → Type 0) (InEnded InFailed OutGets OutBroke ErrGets : List ℕ → Type 0) where
+module _ (input : Input) (OutGets OutBroke ErrGets : List ℕ → Type 0) where
   -- of two calls: the status is 0 or 1, at 0 the output got their answers; and where the output does not break on so few bytes, it is 0 or no memory was found
   pub both_status : Ties → Alike → OneSplit → OneScript → OneCommand → Says (codes "cmp a b") compared → Says (codes "eq a b") equated
       → (bytes : List ℕ) (fails : Option Bool) (status : ℕ) → bytes ≡ codes "cmp a b\neq a b\n" → fails ≡ Some false
-      → Replays bytes fails InGave InEnded InFailed OutGets OutBroke ErrGets status → (status ≤ 1) × (status ≡ 0 → OutGets (codes "equal\ntrue\n"))
+      → Replays bytes fails input (these OutGets OutBroke ErrGets) status → (status ≤ 1) × (status ≡ 0 → OutGets (codes "equal\ntrue\n"))
       × (((out : List ℕ) → length out ≤ 42 → OutBroke out → ⊥) → (status ≡ 0) ⊎ ((status ≡ 1) × ErrGets (codes "error: Out of memory\n")))
   both_status ties alike split script one first second bytes fails status is ends h =
-      let known = subst (λ f. Replays (codes "cmp a b\neq a b\n") f InGave InEnded InFailed OutGets OutBroke ErrGets status) ends
-      (subst (λ bs. Replays bs fails InGave InEnded InFailed OutGets OutBroke ErrGets status) is h) in (
+      let known = subst (λ f. Replays (codes "cmp a b\neq a b\n") f input (these OutGets OutBroke ErrGets) status) ends
+      (subst (λ bs. Replays bs fails input (these OutGets OutBroke ErrGets) status) is h) in (
         fst_of known,
         snd_of known,
-        λ whole. elim (ample _ InGave InEnded InFailed OutGets OutBroke ErrGets status (omega arith)
+        λ whole. elim (ample _ input OutGets OutBroke ErrGets status (omega arith)
             (λ out failed broke. whole out (due_is_short split _ two_lines two_split refl
             (compared_is_short one first, (equated_is_short one second, tt)) out failed) broke) known) [
               | inl (out, err, all, gets, told) ↦ inl (both_answered ties alike split script first second out err status all).1
@@ -142,13 +143,13 @@ module _ (InGave : List ℕ → List ℕ → Type 0) (InEnded InFailed OutGets O
             ],
       )
     where
-      fst_of : Replays (codes "cmp a b\neq a b\n") (Some false) InGave InEnded InFailed OutGets OutBroke ErrGets status → status ≤ 1
+      fst_of : Replays (codes "cmp a b\neq a b\n") (Some false) input (these OutGets OutBroke ErrGets) status → status ≤ 1
       fst_of (inl (out, err, inl all, gets, told)) = omega (arith, (both_answered ties alike split script first second out err status all).1)
       fst_of (inl (out, err, inr (inl failed), gets, told)) = omega (arith, failed.status_is)
       fst_of (inl (out, err, inr (inr failed), gets, told)) = omega (arith, failed.status_is)
       fst_of (inr (out, failed, broke, is_one, told)) = omega (arith, is_one)
 
-      snd_of : Replays (codes "cmp a b\neq a b\n") (Some false) InGave InEnded InFailed OutGets OutBroke ErrGets status → status ≡ 0
+      snd_of : Replays (codes "cmp a b\neq a b\n") (Some false) input (these OutGets OutBroke ErrGets) status → status ≡ 0
           → OutGets (codes "equal\ntrue\n")
       snd_of (inl (out, err, inl all, gets, told)) zero = subst OutGets (both_answered ties alike split script first second out err status all).0 gets
       snd_of (inl (out, err, inr (inl failed), gets, told)) zero = absurd (omega (arith, zero, failed.status_is))
@@ -177,9 +178,9 @@ unfolding digits chars is_utf8 lib.Utf8.encode
 reported = refl
 
 -- of a script with a bad line this is what is written
-bad_answered : {InGave : List ℕ → List ℕ → Type 0} {InEnded : List ℕ → Type 0} → Alike → OneSplit → OneScript → Says (codes "eq a b") equated
+bad_answered : {input : Input} → Alike → OneSplit → OneScript → Says (codes "eq a b") equated
     → IsBad (codes "frob") → (out err : List ℕ) (status : ℕ)
-    → AllAnswered (codes "eq a b\nfrob\neq a b\n") (Some false) InGave InEnded out err status
+    → AllAnswered (codes "eq a b\nfrob\neq a b\n") (Some false) input out err status
     → (out ≡ codes "true\n") × (err ≡ codes "error: bad line\n --> line 2:1:1\n  |\n1 | frob\n  | ^^^^\n") × (status ≡ 2)
 bad_answered alike split script says bad out err status h =
     let lines = split _ h.part [] h.lines bad_lines h.split bad_split in
@@ -194,17 +195,17 @@ bad_answered alike split script says bad out err status h =
       h.status_is ∙ (λ i. status_of (same.1 i) (ran i)),
     )
 
-module _ (InGave : List ℕ → List ℕ → Type 0) (InEnded InFailed OutGets OutBroke ErrGets : List ℕ → Type 0) where
+module _ (input : Input) (OutGets OutBroke ErrGets : List ℕ → Type 0) where
   -- of a script with a bad line: it is reported, or no memory was found, where the output does not break on so few bytes
   pub bad_status : Alike → OneSplit → OneScript → OneCommand → Says (codes "eq a b") equated → IsBad (codes "frob")
       → (bytes : List ℕ) (fails : Option Bool) (status : ℕ) → bytes ≡ codes "eq a b\nfrob\neq a b\n" → fails ≡ Some false
-      → Replays bytes fails InGave InEnded InFailed OutGets OutBroke ErrGets status → ((out : List ℕ) → length out ≤ 63 → OutBroke out → ⊥)
+      → Replays bytes fails input (these OutGets OutBroke ErrGets) status → ((out : List ℕ) → length out ≤ 63 → OutBroke out → ⊥)
       → ((status ≡ 2) × OutGets (codes "true\n") × ErrGets (codes "error: bad line\n --> line 2:1:1\n  |\n1 | frob\n  | ^^^^\n"))
       ⊎ ((status ≡ 1) × ErrGets (codes "error: Out of memory\n"))
   bad_status alike split script one says bad bytes fails status is ends h whole =
-      let known = subst (λ f. Replays (codes "eq a b\nfrob\neq a b\n") f InGave InEnded InFailed OutGets OutBroke ErrGets status) ends
-      (subst (λ bs. Replays bs fails InGave InEnded InFailed OutGets OutBroke ErrGets status) is h) in
-      elim (ample _ InGave InEnded InFailed OutGets OutBroke ErrGets status (omega arith)
+      let known = subst (λ f. Replays (codes "eq a b\nfrob\neq a b\n") f input (these OutGets OutBroke ErrGets) status) ends
+      (subst (λ bs. Replays bs fails input (these OutGets OutBroke ErrGets) status) is h) in
+      elim (ample _ input OutGets OutBroke ErrGets status (omega arith)
       (λ out failed broke. whole out (due_is_short split _ bad_lines bad_split refl
       (equated_is_short one says, (bad_is_short _ bad, (equated_is_short one says, tt))) out failed) broke) known) [
         | inl (out, err, all, gets, told) ↦

@@ -1,6 +1,6 @@
 -- How answering ended, and what is told of it.
 use Rattle.std.specs.Prelude.{◌≡◌, ◌≢◌, ℕ, ◌⊎◌, Bool, List, [], codes, Option, Result, Ok, Err}
-use Rattle.std.specs.Prelude.{if◌then◌else◌, ⊤}
+use Rattle.std.specs.Prelude.{if◌then◌else◌, IfSome, ⊤}
 use Rattle.std.specs.Io.KnownBytes.{Consumes}
 use Rattle.tera_meaning.specs.Outcome.{Outcome, is_want}
 use Rattle.tera_meaning.specs.Request.{Command}
@@ -15,7 +15,9 @@ use Rattle.tera_replies.specs.Replay.{AllAnswered, ReadingFailed, MemoryFailed, 
 use Rattle.tera_replies.specs.Replay.{WereGiven, line_report}
 use Rattle.tera_replies.specs.Reply.{IsReplyLine}
 use Rattle.tera_replies.specs.Script.{ended}
+use Rattle.tera_replies.specs.Streams.{Input, reads}
 use Rattle.tera_replies.specs.Stretch.{bad_at}
+use Rattle.tera_replies.specs.declared.source.Source.{Ghosts}
 
 -- what stands where a fault ended the writing of a reply: a failed write alone does
 abbrev pub ReplyStops : (List ℕ → Type 0) → (List ℕ → Type 0) → Fault → Type 0
@@ -38,32 +40,36 @@ IsBadLineFault n line WriteFailed = ⊥
 IsBadLineFault n line OutOfMemory = ⊤
 
 -- how answering all of the input went: whether memory was wanted by an answer, or a fault
-abbrev pub Ends : List ℕ → Option Bool → (List ℕ → List ℕ → Type 0) → (List ℕ → Type 0)
-    → (List ℕ → Type 0) → (List ℕ → Type 0) → (List ℕ → Type 0) → Result Bool Fault → Type 0
-Ends bytes fails InGave InEnded InFailed OutGets OutBroke (Ok wanted) =
-    (out : List ℕ) × AllAnswered bytes fails InGave InEnded out [] (if wanted then 1 else 0)
-    × OutGets out
-Ends bytes fails InGave InEnded InFailed OutGets OutBroke (Err (BadLine report)) =
+abbrev pub Ends : List ℕ → Option Bool → Input → (List ℕ → Type 0) → (List ℕ → Type 0)
+    → Result Bool Fault → Type 0
+Ends bytes fails input OutGets OutBroke (Ok wanted) =
+    (out : List ℕ) × AllAnswered bytes fails input out [] (if wanted then 1 else 0) × OutGets out
+Ends bytes fails input OutGets OutBroke (Err (BadLine report)) =
     (out : List ℕ)
-    × AllAnswered bytes fails InGave InEnded out (ended (report_text (report_of report.value))) 2
+    × AllAnswered bytes fails input out (ended (report_text (report_of report.value))) 2
     × OutGets out
-Ends bytes fails InGave InEnded InFailed OutGets OutBroke (Err ReadFailed) =
+Ends bytes fails input OutGets OutBroke (Err ReadFailed) =
     (out : List ℕ)
-    × ReadingFailed bytes fails InGave InFailed out (codes "error: reading failed\n") 1
-    × OutGets out
-Ends bytes fails InGave InEnded InFailed OutGets OutBroke (Err WriteFailed) =
-    (out : List ℕ) × WritingFailed bytes fails InGave InEnded InFailed out × OutBroke out
-Ends bytes fails InGave InEnded InFailed OutGets OutBroke (Err OutOfMemory) =
-    (out : List ℕ) × MemoryFailed bytes InGave InEnded out (codes "error: Out of memory\n") 1
-    × OutGets out
+    × ReadingFailed bytes fails input out (codes "error: reading failed\n") 1 × OutGets out
+Ends bytes fails input OutGets OutBroke (Err WriteFailed) =
+    (out : List ℕ) × WritingFailed bytes fails input out × OutBroke out
+Ends bytes fails input OutGets OutBroke (Err OutOfMemory) =
+    (out : List ℕ) × MemoryFailed bytes input out (codes "error: Out of memory\n") 1 × OutGets out
 
--- the same of any source, whose reads gave the bytes
-abbrev pub EndsGiven : Option (List ℕ) → Option (List ℕ) → Option Bool
-    → (List ℕ → List ℕ → Type 0) → (List ℕ → Type 0) → (List ℕ → Type 0) → (List ℕ → Type 0)
-    → (List ℕ → Type 0) → Result Bool Fault → Type 0
-EndsGiven left later fails InGave InEnded InFailed OutGets OutBroke result =
-    (given : List ℕ) × Consumes left later given × WereGiven InGave InEnded InFailed given
-    × Ends given fails InGave InEnded InFailed OutGets OutBroke result
+-- the same where the bytes of a source are known
+abbrev pub EndsKnown : {S : Type 0} → Ghosts S → S → S → (List ℕ → Type 0) → (List ℕ → Type 0)
+    → Result Bool Fault → Type 0
+EndsKnown source old new OutGets OutBroke result =
+    IfSome (source.left old)
+    (λ bytes. Ends bytes (source.fails old) (reads source.gave old new) OutGets OutBroke result)
+
+-- and of any source, whose reads gave the bytes
+abbrev pub EndsGiven : {S : Type 0} → Ghosts S → S → S → (List ℕ → Type 0) → (List ℕ → Type 0)
+    → Result Bool Fault → Type 0
+EndsGiven source old new OutGets OutBroke result =
+    (given : List ℕ) × Consumes (source.left old) (source.left new) given
+    × WereGiven (reads source.gave old new) given
+    × Ends given (source.fails old) (reads source.gave old new) OutGets OutBroke result
 
 -- a last flush went well and left the ending as it was, or it failed; there is none where writing
 -- has failed

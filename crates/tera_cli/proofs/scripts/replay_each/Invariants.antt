@@ -7,6 +7,5 @@ use Rattle.tera_cli.proofs.scripts.replay_each.Given as goal
 abbrev pub invariant-loop-name : goal.invariant-loop-name
 invariant-loop-name g l =
     Rest (ReplaysNamed (g.F.Files.opened l.fn.files)
-    (ReplaysScript g.F.Script.Source.left g.F.Script.Source.fails g.F.Script.Source.gave g.W.Sink.takes g.W.Sink.fails g.W.Sink.flushes g.W.Sink.flush_fails
-    g.E.Sink.takes g.E.Sink.fails) g.E.Sink.takes g.E.Sink.fails)
+    (ReplaysScript g.F.Script.Source g.W.Sink g.E.Sink) g.E.Sink.takes g.E.Sink.fails)
     (map (λ name. name.now) l.fn.names) (l.fn.out, l.fn.err) (map (λ name. name.now) (drop l.name-index l.names)) (l.out, l.err)

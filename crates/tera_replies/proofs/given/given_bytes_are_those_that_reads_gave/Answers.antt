@@ -3,7 +3,8 @@ use Rattle.std.proofs.Common.{◌≡◌, ℕ, List, [], ◌∷◌, ◌++◌, Ok,
 use Rattle.std.specs.List.{FoldsTo, flat_map}
 use Rattle.tera_replies.specs.Log.{logs}
 use Rattle.tera_replies.specs.Replay.{Replays, WereGiven}
-use Rattle.tera_replies.specs.Source.{Giving, given_by, Reads, ReadsTo, ReadEnds, ReadFails}
+use Rattle.tera_replies.specs.Source.{Giving, given_by, Reads}
+use Rattle.tera_replies.specs.Streams.{just_these, reads}
 use Rattle.tera_replies.proofs.given.given_bytes_are_those_that_reads_gave.Goals as goal
 
 logged : (attempts : List Giving) (old new : List ℕ) → FoldsTo (λ s a t. logs s a.piece (Ok a.count) t) old attempts new
@@ -15,19 +16,17 @@ logged (a ∷ more) old new (mid, one, later) =
 reads_logged : (old bytes new : List ℕ) → Reads logs old bytes new → new ≡ old ++ bytes
 reads_logged old bytes new r = logged r.attempts old new r.calls ∙ ap (λ (bs : List ℕ). old ++ bs) r.whole
 
-grown : (old given new : List ℕ) → WereGiven (λ before last. ReadsTo logs old before last new) (λ bytes. ReadEnds logs old bytes new)
-    (λ bytes. ReadFails logs old bytes new) given → new ≡ old ++ given
+grown : (old given new : List ℕ) → WereGiven (reads logs old new) given → new ≡ old ++ given
 grown old given new (inl (before, last, is, inl (none, also, same))) =
     same ∙ sym (append-nil old) ∙ ap (λ (bs : List ℕ). old ++ bs) (sym (is ∙ (λ i. none i ++ also i)))
-grown old given new (inl (before, last, is, inr (mid, one, reads, told, ends))) =
-    told ∙ (λ i. reads_logged old before mid reads i ++ sym ends i) ∙ append_assoc old before last ∙ ap (λ (bs : List ℕ). old ++ bs) (sym is)
-grown old given new (inr (inl (mid, piece, room, reads, told))) = told ∙ append-nil mid ∙ reads_logged old given mid reads
-grown old given new (inr (inr (mid, piece, fault, reads, told))) = told ∙ reads_logged old given mid reads
+grown old given new (inl (before, last, is, inr (mid, one, steps, told, ends))) =
+    told ∙ (λ i. reads_logged old before mid steps i ++ sym ends i) ∙ append_assoc old before last ∙ ap (λ (bs : List ℕ). old ++ bs) (sym is)
+grown old given new (inr (inl (mid, piece, room, steps, told))) = told ∙ append-nil mid ∙ reads_logged old given mid steps
+grown old given new (inr (inr (mid, piece, fault, steps, told))) = told ∙ reads_logged old given mid steps
 
 pub returns : goal.returns
 returns c = record {
   grows = grown;
   replays = λ new out broken err status (given, consumed, were, replays).
-      subst (λ (bytes : List ℕ). Replays bytes None (λ before last. ReadsTo logs [] before last new) (λ zs. ReadEnds logs [] zs new)
-      (λ zs. ReadFails logs [] zs new) (λ text. text ≡ out) (λ text. text ≡ broken) (λ text. text ≡ err) status) (sym (grown [] given new were)) replays;
+      subst (λ (bytes : List ℕ). Replays bytes None (reads logs [] new) (just_these out broken err) status) (sym (grown [] given new were)) replays;
 }

@@ -31,12 +31,12 @@ returns-in_err-flush g c =
     let broke = broke_on_flush sent failed in
     rw (p.1, p.2, is) (record {
       known = where_known _ _ _ _ before.consumed (λ bytes rest left e.
-          (text, at_write rest before.last _ _ _ _ e before.reads (Begins-all goes) refl, broke));
+          (text, at_write rest before.last _ _ e before.reads (Begins-all goes) refl, broke));
       given = (
         given,
         before.consumed,
         inl (before.before, before.last, refl, before.reads),
-        (text, at_write [] before.last _ _ _ _ (sym (append-nil given)) before.reads (Begins-all goes) refl, broke),
+        (text, at_write [] before.last _ _ (sym (append-nil given)) before.reads (Begins-all goes) refl, broke),
       );
     })
 
@@ -77,7 +77,7 @@ returns-then-count-eq0 g c =
     (c.pieces.input, piece, room, reads_all g.S.Source.gave before.reads, rw none at c.in_ok-count.ensures.told) in
     let consumed = rw (append-nil given) at (Consumes-append _ _ (g.S.Source.left c.read_piece.new.self) given [] before.consumed
     (rw none at c.in_ok-count.ensures.bytes.0)) in
-    let all = Ends-all sink.takes sink.fails sink.flushes sink.flush_fails _ _ _ _ c.finish.new.self.state c.finish.new.out c.finish.result went ends told
+    let all = Ends-all sink.takes sink.fails sink.flushes sink.flush_fails _ _ c.finish.new.self.state c.finish.new.out c.finish.result went ends told
     c.finish.ensures.ok c.finish.ensures.err in
     record {
       known = where_known _ _ _ _ consumed (λ bytes rest left e.
@@ -101,13 +101,13 @@ returns-in_err-take g c =
     let reads : ReadsTo g.S.Source.gave c.args.input.now given (given_by one) c.read_piece.new.self =
     inr (c.pieces.input, one, reads_all g.S.Source.gave before.reads, c.in_ok-count.ensures.told, refl) in
     rw (p.1, p.2) (record {
-      known = where_known _ _ _ _ consumed (λ bytes rest left e. Ends-stops sink.takes sink.fails sink.flushes sink.flush_fails _ rest _ _ _ _ _
+      known = where_known _ _ _ _ consumed (λ bytes rest left e. Ends-stops sink.takes sink.fails sink.flushes sink.flush_fails _ rest _ _ _
           c.in_err-take.field-0.0 e reads went c.in_err-take.ensures.err);
       given = (
         whole,
         consumed,
         inl (given, given_by one, refl, reads),
-        Ends-stops sink.takes sink.fails sink.flushes sink.flush_fails _ [] _ _ _ _ _ c.in_err-take.field-0.0 (sym (append-nil whole)) reads went
+        Ends-stops sink.takes sink.fails sink.flushes sink.flush_fails _ [] _ _ _ c.in_err-take.field-0.0 (sym (append-nil whole)) reads went
             c.in_err-take.ensures.err,
       );
     })

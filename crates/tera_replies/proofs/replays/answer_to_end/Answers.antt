@@ -7,18 +7,16 @@ use Rattle.tera_replies.proofs.replays.answer_to_end.Goals as goal
 
 pub returns-clause-known : goal.returns-clause-known
 returns-clause-known g c =
-    let out = g.W.Sink in
-    IfSome_then (g.S.Source.left c.args.input.now) c.answer_all-answered.ensures.known (λ bytes ends. ends_replay bytes _ _ _ _
-    out.takes out.fails out.flushes out.flush_fails (λ text. text ≡ told c.flush_last.result) c.args.out.now _ c.flush_last.new.out
-    c.answer_all-answered.result c.flush_last.result c.flush_last.ensures refl ends)
+    IfSome_then (g.S.Source.left c.args.input.now) c.answer_all-answered.ensures.known (λ bytes ends. ends_replay bytes _ _ g.W.Sink
+    (λ text. text ≡ told c.flush_last.result) c.args.out.now _ c.flush_last.new.out c.answer_all-answered.result c.flush_last.result
+    c.flush_last.ensures refl ends)
 
 pub returns-clause-given : goal.returns-clause-given
 returns-clause-given g c =
-    let out = g.W.Sink in
     let (given, consumed, were, ends) = c.answer_all-answered.ensures.given in (
       given,
       consumed,
       were,
-      ends_replay given _ _ _ _ out.takes out.fails out.flushes out.flush_fails (λ text. text ≡ told c.flush_last.result) c.args.out.now _
-          c.flush_last.new.out c.answer_all-answered.result c.flush_last.result c.flush_last.ensures refl ends,
+      ends_replay given _ _ g.W.Sink (λ text. text ≡ told c.flush_last.result) c.args.out.now _ c.flush_last.new.out
+          c.answer_all-answered.result c.flush_last.result c.flush_last.ensures refl ends,
     )

@@ -7,7 +7,7 @@ use Rattle.uses.proofs.replays.replay_calls.Goals as goal
 pub returns : goal.returns
 returns c =
     let rooms = c.rooms_break_where_they_are_full.ensures in
-    let both = both_status _ _ _ _ _ _ c.meanings_tie_themselves.ensures c.equality_is_identity.ensures.identity c.lines_are_split_one_way.ensures
+    let both = both_status _ _ _ _ c.meanings_tie_themselves.ensures c.equality_is_identity.ensures.identity c.lines_are_split_one_way.ensures
     c.scripts_say_one_thing.ensures c.one_command.ensures c.worked_calls.ensures.cmp c.worked_calls.ensures.eq
     _ _ _ c.new-input.ensures.bytes (ap (λ b. Some b) c.new-input.ensures.end) c.replay_from.ensures.known in
     record {
