@@ -145,7 +145,7 @@ class Drawn:
     def place(self, scope: Scope, missing: int = 60) -> Tuple[str, Shape]:
         """A place, and what is there. Once in so many times there is nothing."""
         if self.once_in(missing):
-            name = self.chance.choice([*scope, f"z{self.number}"])
+            name = self.chance.choice([*(name for name in scope if name not in loop_names()), f"z{self.number}"])
             return name + self.chance.choice(["", ".none_such", ".0.k", ".items", ".99"]), "any"
         name = self.chance.choice([*scope])
         place, shape = name, scope[name]
@@ -159,7 +159,7 @@ class Drawn:
 
 def loop_names() -> Scope:
     """The names that a loop brings beside its own."""
-    return {}
+    return {"loop.index": "number", "loop.index0": "number", "loop.first": "truth", "loop.last": "truth"}
 
 
 # The parts of templates: how often each is drawn, whether it holds others, and how it is drawn.

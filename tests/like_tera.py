@@ -13,6 +13,7 @@ from typing import AbstractSet, Any, Callable, Dict, List, NamedTuple, Optional,
 import jinja2
 import second
 from jinja2 import Undefined, nodes
+from jinja2.runtime import LoopContext
 from jinja2.visitor import NodeTransformer
 from markupsafe import Markup, escape
 
@@ -129,7 +130,7 @@ def no_array(value: Any) -> Any:
 @reason("Python's own members", "looks")
 def members(value: Any, part: Any, found: Any) -> Any:
     """There are none: a map has its keys alone, and what is no map has no member."""
-    if isinstance(value, (Undefined, NoneAtFront)) or not isinstance(part, str):
+    if isinstance(value, (Undefined, NoneAtFront, LoopContext)) or not isinstance(part, str):
         return found
     return value[part] if isinstance(value, dict) and part in value else jinja2.Undefined()
 

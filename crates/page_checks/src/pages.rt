@@ -107,6 +107,59 @@ fn parts_are_chosen_and_repeated(rt: HostRuntime) {
 }
 
 #[test]
+fn turns_are_counted(rt: HostRuntime) {
+    let alloc = rt.alloc();
+    hold!(
+        &rt,
+        [
+            shows(
+                alloc,
+                "{% for w in words %}{{ loop.index }}{{ loop.index0 }}{{ w }} {% endfor %}",
+                "10x 21y ",
+            ),
+            shows(
+                alloc,
+                "{% for w in words %}{{ loop.first }} {{ loop.last }};{% endfor %}",
+                "true false;false true;",
+            ),
+            shows(
+                alloc,
+                "{% for w in words %}{{ w }}{% if loop.last %}.{% else %}, {% endif %}{% endfor %}",
+                "x, y.",
+            ),
+            shows(
+                alloc,
+                "{% for v in words %}{{ loop.index }}{% for w in words %}{% for w in words %}\
+                {{ loop.index }}{% endfor %}{% endfor %}{{ loop.index }} {% endfor %}",
+                "112121 212122 ",
+            ),
+            shows(
+                alloc,
+                "{% for v in words %}{% for w in empty %}{% else %}{{ loop.index }}{% endfor %}\
+                {% endfor %}",
+                "12",
+            ),
+            shows(alloc, "{% if loop.first %}a{% else %}b{% endif %}", "b"),
+            refused(
+                alloc,
+                "{{ loop.index }}",
+                "Nothing is found at `loop.index`"
+            ),
+            refused(
+                alloc,
+                "{% for w in words %}{% endfor %}{{ loop.last }}",
+                "Nothing is found at `loop.last`",
+            ),
+            refused(
+                alloc,
+                "{% for w in empty %}{% else %}{{ loop.first }}{% endfor %}",
+                "Nothing is found at `loop.first`",
+            ),
+        ],
+    );
+}
+
+#[test]
 fn blanks_are_left_out(rt: HostRuntime) {
     let alloc = rt.alloc();
     hold!(
@@ -174,6 +227,14 @@ fn what_is_no_template_is_refused(rt: HostRuntime) {
             refused(alloc, "{{ true }}", "This is not read"),
             refused(alloc, "{{ a..b }}", "This is not read"),
             refused(alloc, "{{ a. }}", "This is not read"),
+            refused(alloc, "{{ loop }}", "This is not read"),
+            refused(alloc, "{{ loop.length }}", "This is not read"),
+            refused(alloc, "{{ loop.index.a }}", "This is not read"),
+            refused(
+                alloc,
+                "{% for loop.index in a %}{% endfor %}",
+                "This is not read"
+            ),
             refused(alloc, "{{ a b }}", "This is not read"),
             refused(alloc, "{{ a | upper }}", "This is not read"),
             refused(alloc, "{{ a | safe | safe }}", "This is not read"),

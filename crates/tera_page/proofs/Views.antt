@@ -1,20 +1,23 @@
 -- What nodes and scopes stand for, variant by variant.
-use Rattle.std.specs.Prelude.{◌≡◌, ℕ, nat_eq, length, false, cond, List, [], ◌∷◌, Some, Ok, Vec, refl}
+use Rattle.std.specs.Prelude.{◌≡◌, ℕ, nat_eq, length, Bool, true, false, cond, List, [], ◌∷◌, Option, Some, Ok, Vec, refl}
 use Rattle.std.proofs.Common.{ap, rules, ◌∙◌}
 use Rattle.std.specs.Borrow.{Bor}
 use Rattle.std.specs.Cmp.{eq_by_cmp_equiv}
 use Rattle.std.specs.Cmp.Lexicographic.{nat_list_cmp_total}
 use Rattle.std.specs.FinMap.{get, insert, get-insert}
+use Rattle.std.specs.Option.{option_or}
 use Rattle.std.specs.Str.{bytes_eq}
 use Rattle.std.specs.declared.alloc.Global.{Global}
 use Rattle.std.proofs.lemmas.Map.Text.{is_eq-slice_cmp}
 use Rattle.tera.specs.Form.{Form}
 use Rattle.tera.specs.State.{State}
 use Rattle.tera.specs.Arithmetic.{and_then}
-use Rattle.tera_page.specs.Rendering.{Pieces, all_pieces, each, found, found_items, joined, pieces, repeated}
+use Rattle.tera_page.specs.Rendering.{Names, Pieces, all_pieces, each, found, found_items, joined, named_items, pieces, repeated, stands_for}
+use Rattle.tera_page.specs.Rendering.{turn_names, turns, under}
 use Rattle.tera_page.specs.Template as tree
-use Rattle.tera_page.specs.View.{part_of, parts_of, place_of, showing_of, state_of}
+use Rattle.tera_page.specs.View.{names_of, part_of, parts_of, place_of, showing_of, state_of}
 use Rattle.tera_page.specs.declared.scope.Scope as scope
+use Rattle.tera_page.specs.declared.scope.Turn.{Turn}
 use Rattle.tera_page.specs.declared.tree.Node as node
 use Rattle.tera_page.specs.declared.tree.Place.{Place}
 use Rattle.tera_page.specs.declared.tree.Showing.{Showing}
@@ -22,6 +25,17 @@ use Rattle.tera_page.specs.declared.tree.Showing.{Showing}
 pub state-Item : (name : Bor (List ℕ)) (value : Bor Form) (outer : Bor scope.Scope)
     → state_of (scope.Item name value outer) ≡ insert (state_of outer.now) name.now value.now
 state-Item name value outer = search (rules, scope.the_lemmas)
+
+pub state-Turn : (turn : Bor Turn) (outer : Bor scope.Scope) → state_of (scope.Turn turn outer) ≡ under (state_of outer.now) (names_of turn.now)
+state-Turn turn outer = search (rules, scope.the_lemmas)
+
+-- an item, in its turn
+pub state-turned : (name : Bor (List ℕ)) (value : Bor Form) (turn : Bor Turn) (outer around : Bor scope.Scope) (before all : ℕ)
+    → around.now ≡ scope.Turn turn outer → names_of turn.now ≡ turn_names before all
+    → state_of (scope.Item name value around) ≡ under (state_of outer.now) ((name.now, value.now) ∷ turn_names before all)
+state-turned name value turn outer around before all is same =
+    state-Item name value around
+    ∙ ap (λ s. insert s name.now value.now) (ap state_of is ∙ state-Turn turn outer ∙ ap (under (state_of outer.now)) same)
 
 pub part-Text : (shown : Bor (List ℕ)) → part_of (node.Text shown) ≡ tree.text shown.now
 part-Text shown = search (rules, node.the_lemmas)
@@ -35,6 +49,19 @@ part-Show at how = search (rules, node.the_lemmas)
 pub part-For : (name : Bor (List ℕ)) (over : Place) (body otherwise : Vec node.Node Global)
     → part_of (node.For name over body otherwise) ≡ tree.loop name.now (place_of over) (parts_of body.items) (parts_of otherwise.items)
 part-For name over body otherwise = search (rules, node.the_lemmas)
+
+kept : (b : Bool) (v : Form) (o p : Option Form) → cond b (Some v) (option_or o p) ≡ option_or (cond b (Some v) o) p
+kept true v o p = refl
+kept false v o p = refl
+
+-- the value of a name under some names more
+pub get_names : (state : State) (names : Names) (word : List ℕ) → get (under state names) word ≡ option_or (stands_for names word) (get state word)
+get_names state [] word = refl
+get_names state (name ∷ names) word =
+    get-insert nat_list_cmp_total (under state names) name.0 name.1 word
+    ∙ ap (λ b. cond b (Some name.1) (get (under state names) word)) (is_eq-slice_cmp word name.0)
+    ∙ ap (λ o. cond (bytes_eq word name.0) (Some name.1) o) (get_names state names word)
+    ∙ kept (bytes_eq word name.0) name.1 (stands_for names word) (get state word)
 
 -- the value of a name under one name more
 pub get_under : (state : State) (name : List ℕ) (value : Form) (other : List ℕ)
@@ -50,14 +77,15 @@ all_each (n ∷ nodes) state = ap (joined (pieces (part_of n) state)) (all_each 
 
 -- a loop over items that there are
 repeated_some : (body otherwise : State → Pieces) (state : State) (name : List ℕ) (xs : List Form) → nat_eq (length xs) 0 ≡ false
-    → repeated body otherwise state name xs ≡ each (λ v. body (insert state name v)) xs
+    → repeated body otherwise state (named_items name xs) ≡ each body (turns state (named_items name xs))
 repeated_some body otherwise state name [] is = absurd (cc)
 repeated_some body otherwise state name (x ∷ xs) is = refl
 
 pub loop_items : (held : node.Node) (name : Bor (List ℕ)) (over : Place) (body otherwise : Vec node.Node Global) (state : State) (xs : List Form)
     → held ≡ node.For name over body otherwise → found_items (place_of over) (found state (place_of over)) ≡ Ok xs → nat_eq (length xs) 0 ≡ false
-    → pieces (part_of held) state ≡ each (λ v. all_pieces (parts_of body.items) (insert state name.now v)) xs
+    → pieces (part_of held) state ≡ each (all_pieces (parts_of body.items)) (turns state (named_items name.now xs))
 loop_items held name over body otherwise state xs is items some =
     ap (λ p. pieces p state) (ap part_of is ∙ part-For name over body otherwise)
-    ∙ ap (λ r. and_then r (repeated (all_pieces (parts_of body.items)) (all_pieces (parts_of otherwise.items)) state name.now)) items
+    ∙ ap (λ r. and_then r (λ ys. repeated (all_pieces (parts_of body.items)) (all_pieces (parts_of otherwise.items)) state
+    (named_items name.now ys))) items
     ∙ repeated_some (all_pieces (parts_of body.items)) (all_pieces (parts_of otherwise.items)) state name.now xs some

@@ -63,8 +63,16 @@ abbrev pub IsPath : Option (List ℕ) → Type 0
 IsPath None = ⊤
 IsPath (Some to) = IsTrue (are_elements false to)
 
+-- the names that each turn of a loop brings
+abbrev pub is_loop_name : List ℕ → Bool
+is_loop_name word =
+    list_any (bytes_eq word) (codes "loop.first" ∷ codes "loop.index" ∷ codes "loop.index0"
+    ∷ codes "loop.last" ∷ [])
+
+-- a name and maybe a path, or a name of a loop's turn without one
 abbrev pub IsPlace : Place → Type 0
-IsPlace at = IsTrue (is_name at.name) × IsPath at.to
+IsPlace at =
+    (IsTrue (is_name at.name) × IsPath at.to) ⊎ (IsTrue (is_loop_name at.name) × (at.to ≡ None))
 
 -- ---- marks
 

@@ -1,12 +1,15 @@
 -- What a template shows of a state.
-use Rattle.std.specs.Prelude.{◌≡◌, ℕ, Bool, false, List, [], ◌∷◌, ◌++◌, codes, Option, None, Some}
-use Rattle.std.specs.Prelude.{Result, Ok, Err, if◌then◌else◌}
+use Rattle.std.specs.Prelude.{◌≡◌, ◌+◌, ◌==◌, ◌++◌, ℕ, suc, pos, Bool, false, List, [], ◌∷◌}
+use Rattle.std.specs.Prelude.{codes, length, map, Option, None, Some, Result, Ok, Err}
+use Rattle.std.specs.Prelude.{if◌then◌else◌}
 use Rattle.std.specs.FinMap.{get, insert}
 use Rattle.std.specs.Option.{option_map, option_and_then, ok_or}
+use Rattle.std.specs.Str.{bytes_eq}
 use Rattle.tera.specs.Arithmetic.{and_then}
 use Rattle.tera.specs.Form.{Form}
 use Rattle.tera.specs.InPage.{ShowsInPage}
 use Rattle.tera.specs.InTurn.{ShownInTurn}
+use Rattle.tera.specs.Integer.{u64}
 use Rattle.tera.specs.Meaning.{layout, meaning}
 use Rattle.tera.specs.Path.{path}
 use Rattle.tera.specs.Quoted.{Prints}
@@ -80,11 +83,45 @@ is_true (Some v) = truthy_in (meaning v)
 abbrev pub found_items : Place → Option Form → Result (List Form) Refusal
 found_items at o = and_then (ok_or o (nothing_at at)) (λ v. ok_or (items_in v) (no_array_at at))
 
--- what is repeated for each item, under a name that hides an outer one; or what is taken where
--- there is none
-abbrev pub repeated : (State → Pieces) → (State → Pieces) → State → List ℕ → List Form → Pieces
-repeated body otherwise state name [] = otherwise state
-repeated body otherwise state name (x ∷ xs) = each (λ v. body (insert state name v)) (x ∷ xs)
+-- names, and what they stand for
+abbrev pub Names : Type 0
+Names = List (List ℕ × Form)
+
+-- what a name stands for: the first that is the same
+abbrev pub stands_for : Names → List ℕ → Option Form
+stands_for [] word = None
+stands_for (name ∷ names) word =
+    if bytes_eq word name.0 then Some name.1 else stands_for names word
+
+-- the state with these names, each of which hides one like it of those behind it and of the state
+abbrev pub under : State → Names → State
+under state [] = state
+under state (name ∷ names) = insert (under state names) name.0 name.1
+
+-- the names of the turn of a loop that stands behind i others, where there are n in all
+abbrev pub turn_names : ℕ → ℕ → Names
+turn_names i n =
+    (codes "loop.index", number (record { kind = u64; value = pos (i + 1) }))
+    ∷ (codes "loop.index0", number (record { kind = u64; value = pos i }))
+    ∷ (codes "loop.first", truth (i == 0)) ∷ (codes "loop.last", truth (i + 1 == n)) ∷ []
+
+-- the state in each turn from the one behind i others on, each with names of its own
+abbrev pub turns_from : State → ℕ → ℕ → List Names → List State
+turns_from state i n [] = []
+turns_from state i n (own ∷ owns) =
+    under state (own ++ turn_names i n) ∷ turns_from state (suc i) n owns
+
+abbrev pub turns : State → List Names → List State
+turns state owns = turns_from state 0 (length owns) owns
+
+-- each item under a name
+abbrev pub named_items : List ℕ → List Form → List Names
+named_items name xs = map (λ x. (name, x) ∷ []) xs
+
+-- what is repeated in each turn; or what is taken where there is none
+abbrev pub repeated : (State → Pieces) → (State → Pieces) → State → List Names → Pieces
+repeated body otherwise state [] = otherwise state
+repeated body otherwise state (own ∷ owns) = each body (turns state (own ∷ owns))
 
 -- the pieces of a part, and of parts one behind the other
 abbrev mutual
@@ -96,7 +133,7 @@ abbrev mutual
       if is_true (found state at) then all_pieces chosen state else all_pieces otherwise state
   pieces (tree.loop name over body otherwise) state =
       and_then (found_items over (found state over))
-      (repeated (all_pieces body) (all_pieces otherwise) state name)
+      (λ xs. repeated (all_pieces body) (all_pieces otherwise) state (named_items name xs))
 
   pub all_pieces : Parts → State → Pieces
   all_pieces tree.no_parts state = Ok []

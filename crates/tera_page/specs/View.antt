@@ -1,11 +1,13 @@
 -- The tree of `specs/Template.antt` that a node stands for, and the state that a scope reads.
-use Rattle.std.specs.Prelude.{List, map}
+use Rattle.std.specs.Prelude.{List, [], ◌∷◌, map, codes}
 use Rattle.std.specs.FinMap.{insert}
 use Rattle.std.specs.Option.{option_copied}
 use Rattle.tera.specs.State.{State}
+use Rattle.tera_page.specs.Rendering.{Names, under}
 use Rattle.tera_page.specs.Template as tree
 use Rattle.tera_page.specs.declared.scope.Scope.{Scope, fold-Scope}
 use Rattle.tera_page.specs.declared.scope.Scope.TheOpen.{Scope-F}
+use Rattle.tera_page.specs.declared.scope.Turn.{Turn}
 use Rattle.tera_page.specs.declared.tree.Node.{Node, fold-Node}
 use Rattle.tera_page.specs.declared.tree.Node.TheOpen.{Node-F}
 use Rattle.tera_page.specs.declared.tree.Place.{Place}
@@ -38,9 +40,15 @@ parts_of nodes = tree.parts (map part_of nodes)
 abbrev pub tree_of : Template → tree.Parts
 tree_of template = parts_of template.nodes.items
 
+abbrev pub names_of : Turn → Names
+names_of turn =
+    (codes "loop.index", turn.index) ∷ (codes "loop.index0", turn.index0)
+    ∷ (codes "loop.first", turn.first) ∷ (codes "loop.last", turn.last) ∷ []
+
 -- the names of a context, and those of the loops around
 abbrev pub scope_step : Scope-F State → State
 scope_step (Scope-F.Context context) = context.now
+scope_step (Scope-F.Turn turn outer) = under outer.now (names_of turn.now)
 scope_step (Scope-F.Item name value outer) = insert outer.now name.now value.now
 
 abbrev pub state_of : Scope → State

@@ -1,27 +1,27 @@
 //! The page of a template.
 ghost use Rattle.std.specs.Prelude.{◌≡◌, ◌++◌, ℕ, List, IfOk, IfErr, OnOk, IsTrue};
-ghost use Rattle.std.specs.FinMap.{insert};
 ghost use Rattle.std.specs.String.{string_bytes};
 ghost use Rattle.tera.specs.Errors.{IsOutOfMemory, Refuses};
 ghost use Rattle.tera.specs.Form.{Form};
 ghost use Rattle.tera.specs.Growing.{grown_bytes};
 ghost use Rattle.tera_page.specs.Headline.{BringsNoTag};
 ghost use Rattle.tera_page.specs.Rendering.{IsPageOf, all_pieces, each, found, found_items};
-ghost use Rattle.tera_page.specs.Rendering.{ShowsPiece, found_shown, is_true, pieces};
+ghost use Rattle.tera_page.specs.Rendering.{ShowsPiece, found_shown, is_true, named_items, pieces};
+ghost use Rattle.tera_page.specs.Rendering.{turns};
 ghost use Rattle.tera_page.specs.Rendering;
 ghost use Rattle.tera_page.specs.View.{part_of, parts_of, place_of, showing_of, state_of, tree_of};
 
 use crate::laws::values_bring_no_tag;
 use crate::refused::{no_array_at, nothing_at};
-use crate::scope::{Scope, found};
+use crate::scope::{Scope, Turn, found};
 use crate::tree::{Node, Place, Showing, Template};
 use std::alloc::Global;
 use tera::sink::{Growing, Sink};
 use tera::{Context, TeraResult, Value, show_in_page};
 
 /// The page of a template, whose names stand for what the context holds, and inside a loop for its
-/// items. A value is shown as it prints, escaped unless it is safe: what is not marked safe brings
-/// no tag, and ends no quoted attribute.
+/// items and turns. A value is shown as it prints, escaped unless it is safe: what is not marked
+/// safe brings no tag, and ends no quoted attribute.
 ///
 /// Refuses the first place that is shown or looped over where nothing, or undefined, is found, with
 /// ``Nothing is found at `P` ``, without the last blank, and the first one that is looped over
@@ -107,7 +107,7 @@ fn put_node<'a, 't>(
     }
 }
 
-// Puts parts for each item, under a name.
+// Puts parts for each item, under a name, and with the names of its turn.
 #[cycle(put)]
 fn put_each<'a, 't>(
     alloc: Global,
@@ -118,17 +118,22 @@ fn put_each<'a, 't>(
     page: &mut Growing,
 ) -> TeraResult<()>
     ensures ok { OnOk result ((shown : List ℕ)
-        × IsPageOf (each (λ v. all_pieces (parts_of body.now)
-        (insert (state_of scope.now) name.now v)) items.now) shown
+        × IsPageOf (each (all_pieces (parts_of body.now))
+        (turns (state_of scope.now) (named_items name.now items.now))) shown
         × (grown_bytes page.new ≡ grown_bytes page.old ++ shown)) }
-    ensures err { IfErr result (Refuses (each (λ v. all_pieces (parts_of body.now)
-        (insert (state_of scope.now) name.now v)) items.now)) }
+    ensures err { IfErr result (Refuses (each (all_pieces (parts_of body.now))
+        (turns (state_of scope.now) (named_items name.now items.now)))) }
 {
-    for value in items {
+    for (at, value) in items.iter().enumerate() {
+        let turn = Turn::new(at, items.len());
+        let around = Scope::Turn {
+            turn: &turn,
+            outer: &*scope,
+        };
         let inner = Scope::Item {
             name: &*name,
             value: &*value,
-            outer: &*scope,
+            outer: &around,
         };
         put_nodes(alloc, &*body, &inner, page)?;
     }

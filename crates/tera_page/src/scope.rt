@@ -1,9 +1,9 @@
 //! What names stand for in a part of a template.
-ghost use Rattle.std.specs.Prelude.{◌≡◌};
+ghost use Rattle.std.specs.Prelude.{◌≡◌, ◌<◌};
 ghost use Rattle.std.specs.FinMap.{get};
 ghost use Rattle.std.specs.Option.{option_copied};
-ghost use Rattle.tera_page.specs.Rendering.{defined, found, led};
-ghost use Rattle.tera_page.specs.View.{place_of, state_of};
+ghost use Rattle.tera_page.specs.Rendering.{defined, found, led, stands_for, turn_names};
+ghost use Rattle.tera_page.specs.View.{names_of, place_of, state_of};
 
 use crate::tree::Place;
 use tera::{Context, Value};
@@ -13,12 +13,58 @@ use tera::{Context, Value};
 pub(crate) enum Scope<'a> {
     /// The names of a context.
     Context(&'a Context),
+    /// The names of a turn of a loop, which hide those of a loop around.
+    Turn {
+        turn: &'a Turn,
+        outer: &'a Scope<'a>,
+    },
     /// One name more, which hides an outer one.
     Item {
         name: &'a str,
         value: &'a Value,
         outer: &'a Scope<'a>,
     },
+}
+
+/// What the names of a turn of a loop stand for.
+#[derive(Drop)]
+pub(crate) struct Turn {
+    index: Value,
+    index0: Value,
+    first: Value,
+    last: Value,
+}
+
+impl Turn {
+    /// The turn behind so many others, where there are so many in all. Takes no memory.
+    pub(crate) fn new(before: usize, all: usize) -> Turn
+        ensures { before < all → names_of result ≡ turn_names before all }
+    {
+        let index = before.saturating_add(1);
+        Turn {
+            index: Value::from(index),
+            index0: Value::from(before),
+            first: Value::from(before == 0),
+            last: Value::from(index == all),
+        }
+    }
+
+    // What a name stands for.
+    fn named(&self, name: &str) -> Option<&Value>
+        ensures { option_copied result ≡ stands_for (names_of self.now) name.now }
+    {
+        if name == "loop.index" {
+            Some(&self.index)
+        } else if name == "loop.index0" {
+            Some(&self.index0)
+        } else if name == "loop.first" {
+            Some(&self.first)
+        } else if name == "loop.last" {
+            Some(&self.last)
+        } else {
+            None
+        }
+    }
 }
 
 /// What is found at a place. Undefined is nothing.
@@ -39,6 +85,10 @@ fn named<'a>(scope: &'a Scope<'a>, name: &str) -> Option<&'a Value>
 {
     match scope {
         Scope::Context(context) => context.get(name),
+        Scope::Turn { turn, outer } => match turn.named(name) {
+            Some(value) => Some(value),
+            None => named(*outer, name),
+        },
         Scope::Item {
             name: bound,
             value,

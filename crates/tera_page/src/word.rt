@@ -4,7 +4,8 @@ ghost use Rattle.std.specs.Prelude.{slice_index, true, false};
 ghost use Rattle.std.specs.List.{list_all};
 ghost use Rattle.tera_page.specs.Grammar.{AreBlanks, IsNext, IsPlace, Words, are_elements};
 ghost use Rattle.tera_page.specs.Grammar.{begins_blank};
-ghost use Rattle.tera_page.specs.Grammar.{is_blank, is_name, is_name_byte, is_name_start};
+ghost use Rattle.tera_page.specs.Grammar.{is_blank, is_loop_name, is_name, is_name_byte};
+ghost use Rattle.tera_page.specs.Grammar.{is_name_start};
 ghost use Rattle.tera_page.specs.Grammar.{is_word_of_language};
 ghost use Rattle.tera_page.specs.Rendering.{place_and};
 ghost use Rattle.tera_page.specs.View.{place_of};
@@ -109,11 +110,17 @@ pub(crate) fn only_word(text: &str) -> Option<&str>
     }
 }
 
-/// The place that a word writes: a name, and maybe a path behind a dot.
+/// The place that a word writes: a name, and maybe a path behind a dot; or a name of a loop's turn.
 pub(crate) fn place_in(word: &str) -> Option<Place<'_>>
     ensures written { IfSome result (λ at. word.now ≡ place_and (place_of at) []) }
     ensures proper { IfSome result (λ at. IsPlace (place_of at)) }
 {
+    if is_loop_name(word) {
+        return Some(Place {
+            name: word,
+            to: None,
+        });
+    }
     match cut_at(word, ".") {
         Some((name, to)) => {
             if is_name(name) && are_elements(to.as_bytes()) {
@@ -133,6 +140,13 @@ pub(crate) fn place_in(word: &str) -> Option<Place<'_>>
             }
         }
     }
+}
+
+// Whether a word is a name of a loop's turn.
+fn is_loop_name(word: &str) -> bool
+    ensures { result ≡ is_loop_name word.now }
+{
+    word == "loop.first" || word == "loop.index" || word == "loop.index0" || word == "loop.last"
 }
 
 /// Whether a word is a name: letters, digits and `_`, with no digit first, and no word of the

@@ -1,9 +1,8 @@
 use Rattle.std.proofs.Common.{◌+◌, ◌*◌}
 use Rattle.tera.specs.Growing.{grown_bytes}
-use Rattle.std.specs.FinMap.{insert}
 use Rattle.tera_page.proofs.Turns.{Goes}
 use Rattle.tera_page.proofs.page.+put.Given as goal
-use Rattle.tera_page.specs.Rendering.{all_pieces, pieces}
+use Rattle.tera_page.specs.Rendering.{all_pieces, named_items, pieces, turns}
 use Rattle.tera_page.specs.View.{part_of, parts_of, state_of}
 
 -- the parts so far are put
@@ -12,9 +11,9 @@ invariant-put_nodes-loop-node l =
     Goes (λ n. pieces (part_of n) (state_of l.scope)) l.nodes l.node-index (grown_bytes l.initial.page) (grown_bytes l.page)
 
 -- the body is put for the items so far
-abbrev pub invariant-put_each-loop-value : goal.invariant-put_each-loop-value
-invariant-put_each-loop-value l =
-    Goes (λ v. all_pieces (parts_of l.body) (insert (state_of l.scope) l.name v)) l.items l.value-index (grown_bytes l.initial.page)
+abbrev pub invariant-put_each-loop-at : goal.invariant-put_each-loop-at
+invariant-put_each-loop-at l =
+    Goes (all_pieces (parts_of l.body)) (turns (state_of l.scope) (named_items l.name l.items)) l.at (grown_bytes l.initial.page)
     (grown_bytes l.page)
 
 abbrev pub decreases-put_node : goal.decreases-put_node

@@ -1,9 +1,29 @@
 -- The innermost of two names hides the other.
 use Rattle.std.proofs.Common.{Some, cond, ap, sym, ◌∙◌}
 use Rattle.std.specs.FinMap.{get}
-use Rattle.tera_page.proofs.Views.{get_under, state-Item}
+use Rattle.std.specs.Option.{option_copied, option_or}
+use Rattle.tera_page.proofs.Views.{get_names, get_under, state-Item, state-Turn}
 use Rattle.tera_page.proofs.scope.+named.Goals as goal
-use Rattle.tera_page.specs.View.{state_of}
+use Rattle.tera_page.specs.View.{names_of, state_of}
+
+pub returns-in-Some : goal.returns-in-Some
+returns-in-Some t c =
+    let name = c.args.name.now in
+    let outer = get (state_of c.in-Turn.outer.now) name in
+    sym (ap (λ s. get (state_of s) name) c.in-Turn.is
+    ∙ ap (λ s. get s name) (state-Turn c.in-Turn.turn c.in-Turn.outer)
+    ∙ get_names (state_of c.in-Turn.outer.now) (names_of c.in-Turn.turn.now) name
+    ∙ ap (λ o. option_or o outer) (sym c.named.ensures ∙ ap option_copied c.in-Some.is))
+
+pub returns-in-None : goal.returns-in-None
+returns-in-None t c =
+    let name = c.args.name.now in
+    let outer = get (state_of c.in-Turn.outer.now) name in
+    c.named-in-None.ensures
+    ∙ sym (ap (λ s. get (state_of s) name) c.in-Turn.is
+    ∙ ap (λ s. get s name) (state-Turn c.in-Turn.turn c.in-Turn.outer)
+    ∙ get_names (state_of c.in-Turn.outer.now) (names_of c.in-Turn.turn.now) name
+    ∙ ap (λ o. option_or o outer) (sym c.named.ensures ∙ ap option_copied c.in-None.is))
 
 pub returns-then-eq : goal.returns-then-eq
 returns-then-eq t c =
@@ -16,7 +36,7 @@ returns-then-eq t c =
 pub returns-else-eq : goal.returns-else-eq
 returns-else-eq t c =
     let name = c.args.name.now in
-    c.named.ensures
+    c.named-else-eq.ensures
     ∙ sym (ap (λ s. get (state_of s) name) c.in-Item.is
     ∙ ap (λ s. get s name) (state-Item c.in-Item.bound c.in-Item.value c.in-Item.outer)
     ∙ get_under (state_of c.in-Item.outer.now) c.in-Item.bound.now c.in-Item.value.now name
