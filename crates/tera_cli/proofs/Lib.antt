@@ -1,5 +1,5 @@
 mod NameLemmas
 mod OrderLemmas
 mod SavedLemmas
-mod TalkLemmas
+mod ConversationLemmas
 mod TurnLemmas

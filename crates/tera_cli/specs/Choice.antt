@@ -6,8 +6,8 @@ use Rattle.clap.specs.declared.error.kind.ErrorKind.TheVariants.{DisplayHelp, Di
 use Rattle.clap.specs.declared.parser.matches.ArgMatches.{ArgMatches}
 
 -- what may be asked for: a conversation, and what was expected of bad lines
-abbrev pub talk : List ℕ
-talk = codes "interactive"
+abbrev pub interactive : List ℕ
+interactive = codes "interactive"
 
 abbrev pub reasons : List ℕ
 reasons = codes "why"

@@ -5,6 +5,6 @@ pub mod Obeyed
 pub mod Order
 pub mod Saved
 pub mod Scripts
-pub mod Talk
+pub mod Conversation
 pub mod Turns
 pub mod Why

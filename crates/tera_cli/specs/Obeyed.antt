@@ -5,7 +5,7 @@ use Rattle.tera_cli.specs.Faults.{no_file, no_such_word}
 use Rattle.tera_cli.specs.Names.{Lists}
 use Rattle.tera_cli.specs.Order.{IsOrder}
 use Rattle.tera_cli.specs.Saved.{SavesNamed}
-use Rattle.tera_cli.specs.Talk.{IsLine, IsTold, Leaves, Replies}
+use Rattle.tera_cli.specs.Conversation.{IsLine, IsTold, Leaves, Replies}
 use Rattle.tera_cli.specs.declared.order.Order.{Order}
 use Rattle.tera_cli.specs.declared.order.Order.TheVariants.{Answer, Help, Load, LoadNone}
 use Rattle.tera_cli.specs.declared.order.Order.TheVariants.{Names, Quit, Save, SaveNone, Unknown}

@@ -2,9 +2,9 @@
 ghost use Rattle.std.specs.Prelude.{◌≡◌, IfErr};
 ghost use Rattle.tera_replies.specs.declared.fault.Fault.TheVariants.{WriteFailed};
 
+use crate::diagnostics::{NO_TEXT, put_fault, tell, tell_bad_line, tell_cannot};
 use crate::files::Files;
 use crate::lines::{answer_lines, line_of};
-use crate::told::{NO_TEXT, put_fault, tell, tell_bad_line, tell_cannot};
 use std::alloc::Global;
 use std::io::BufRead;
 use std::str;

@@ -3,6 +3,8 @@
 
 ghost use Rattle.std.specs.Prelude.{⊤};
 
+mod conversation;
+mod diagnostics;
 mod files;
 mod lines;
 mod load;
@@ -11,11 +13,10 @@ mod obey;
 mod order;
 mod saved;
 mod scripts;
-mod talk;
-mod told;
 mod words;
 
 use clap::ArgMatches;
+use conversation::{Manner, converse};
 use files::Files;
 use scripts::{explain_each, replay_each};
 use std::env::{Env, FillError};
@@ -23,7 +24,6 @@ use std::fs::{File, OpenFile};
 use std::io::{BufReader, BufWriter, ErrorKind, IsTerminal, Read, Stdin, Stdout, Write};
 use std::process::ExitCode;
 use std::{env, fs, io};
-use talk::{Manner, converse};
 use tera_replies::replay;
 use tera_report::sink::Sink;
 use tera_report::watch::Watched;
@@ -62,7 +62,7 @@ fn run(rt: &HostRuntime, state: HashState, wanted: Wanted<'_>) -> u8 {
         Wanted::Input => run_input(rt, state),
         Wanted::Files(matches) => run_files(rt, state, false, &matches),
         Wanted::Explained(matches) => run_files(rt, state, true, &matches),
-        Wanted::Talk(why) => run_talk(rt, state, why),
+        Wanted::Conversation(why) => run_conversation(rt, state, why),
         Wanted::Told(text) => match rt.print(&text) {
             Ok(()) => 0,
             Err(_) => tell(rt, "error: writing failed\n", 1),
@@ -102,7 +102,7 @@ fn run_files(rt: &HostRuntime, state: HashState, why: bool, matches: &ArgMatches
 }
 
 // Holds a conversation with standard input.
-fn run_talk(rt: &HostRuntime, state: HashState, why: bool) -> u8 {
+fn run_conversation(rt: &HostRuntime, state: HashState, why: bool) -> u8 {
     let prompt = if rt.stdin().is_terminal() {
         "tera> "
     } else {

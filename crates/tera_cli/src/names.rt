@@ -9,8 +9,8 @@ ghost use Rattle.tera_replies.specs.declared.fault.Fault.TheVariants.{WriteFaile
 ghost use Rattle.tera_report.specs.Sink.{Delivers, Puts};
 ghost use Rattle.tera_script.specs.Word.{IsName, is_name_byte, is_name_start};
 
+use crate::diagnostics::tell_no_memory;
 use crate::lines::pass_on;
-use crate::told::tell_no_memory;
 use tera_context::Context;
 use tera_replies::Fault;
 use tera_report::quote::put_quoted;

@@ -1,18 +1,18 @@
 //! What a line of a conversation asks for is done.
 ghost use Rattle.std.specs.Prelude.{◌≡◌, ◌⊎◌, IfErr, Ok, OnOk};
 ghost use Rattle.tera_cli.specs.Obeyed.{Obeys};
-ghost use Rattle.tera_cli.specs.Talk.{IsTold, Replies};
+ghost use Rattle.tera_cli.specs.Conversation.{IsTold, Replies};
 ghost use Rattle.tera_replies.specs.Output.{BrokeOn, TakesOrFails};
 ghost use Rattle.tera_replies.specs.declared.fault.Fault.TheVariants.{WriteFailed};
 ghost use Rattle.tera_report.specs.Sink.{Delivers, Sends};
 
+use crate::diagnostics::{tell, tell_bad_line, tell_no_memory};
 use crate::files::Files;
 use crate::lines::pass_on;
 use crate::load::load;
 use crate::names::show_names;
 use crate::order::Order;
 use crate::saved::save;
-use crate::told::{tell, tell_bad_line, tell_no_memory};
 use std::alloc::Global;
 use tera_context::Context;
 use tera_replies::{Fault, answer_line};

@@ -4,8 +4,8 @@ ghost use Rattle.tera_replies.specs.Output.{TakesOrFails};
 ghost use Rattle.tera_report.specs.Errors.{kind_of, refusal_of};
 ghost use Rattle.tera_report.specs.Sink.{OfSome, Puts};
 
+use crate::diagnostics::{NO_TEXT, tell, tell_cannot};
 use crate::files::Files;
-use crate::told::{NO_TEXT, tell, tell_cannot};
 use std::alloc::Global;
 use std::str;
 use tera_context::Context;

@@ -5,9 +5,9 @@ ghost use Rattle.tera_cli.specs.Scripts.{ReplaysNamed, ReplaysScript};
 ghost use Rattle.tera_cli.specs.Turns.{UpToAFault};
 ghost use Rattle.tera_replies.specs.Output.{TakesOrFails};
 
+use crate::diagnostics::{put_fault, tell_bad_line, tell_cannot};
 use crate::files::Files;
 use crate::lines::{answer_lines, line_of};
-use crate::told::{put_fault, tell_bad_line, tell_cannot};
 use std::alloc::Global;
 use std::io::BufRead;
 use tera_context::Context;

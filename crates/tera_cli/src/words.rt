@@ -2,9 +2,9 @@
 ghost use Rattle.std.specs.Prelude.{◌≡◌, ◌≢◌, [], Bool, true, false};
 ghost use Rattle.clap.specs.Values.{kind_of};
 ghost use Rattle.clap.specs.declared.error.kind.ErrorKind.TheVariants.{OutOfMemory};
-ghost use Rattle.tera_cli.specs.Choice.{Asks, IsShown, names_file, reasons, talk};
+ghost use Rattle.tera_cli.specs.Choice.{Asks, IsShown, names_file, reasons, interactive};
 ghost use Rattle.tera_cli.specs.declared.words.Wanted.TheVariants.{Explained, Files, Input};
-ghost use Rattle.tera_cli.specs.declared.words.Wanted.TheVariants.{NoMemory, Refused, Talk, Told};
+ghost use Rattle.tera_cli.specs.declared.words.Wanted.TheVariants.{NoMemory, Refused, Conversation, Told};
 
 use clap::error::ErrorKind;
 use clap::{Arg, ArgAction, ArgMatches, Command, Error};
@@ -23,7 +23,7 @@ pub(crate) enum Wanted<'a> {
     /// The same, or one from standard input, with what was expected of a bad line.
     Explained(ArgMatches<'a>),
     /// A conversation, with what was expected of bad lines or without.
-    Talk(bool),
+    Conversation(bool),
     /// No script, but this text on standard output.
     Told(Error),
     /// Nothing, since the words are bad; this text says why.
@@ -56,18 +56,18 @@ pub(crate) fn wanted_by_no_text<'a>(alloc: Global) -> Wanted<'a> {
 
 // What is asked for by words that are understood.
 fn choice_of<'a>(matches: ArgMatches<'a>) -> Wanted<'a>
-    ensures talk { (why : Bool) → Asks matches.entry talk true → Asks matches.entry reasons why
-        → result ≡ Talk why }
-    ensures explained { Asks matches.entry talk false → Asks matches.entry reasons true
+    ensures conversation { (why : Bool) → Asks matches.entry interactive true → Asks matches.entry reasons why
+        → result ≡ Conversation why }
+    ensures explained { Asks matches.entry interactive false → Asks matches.entry reasons true
         → result ≡ Explained matches.entry }
-    ensures files { Asks matches.entry talk false → Asks matches.entry reasons false
+    ensures files { Asks matches.entry interactive false → Asks matches.entry reasons false
         → names_file matches.entry ≡ true → result ≡ Files matches.entry }
-    ensures input { Asks matches.entry talk false → Asks matches.entry reasons false
+    ensures input { Asks matches.entry interactive false → Asks matches.entry reasons false
         → names_file matches.entry ≡ false → result ≡ Input }
 {
     let why = matches.get_flag("why");
     if matches.get_flag("interactive") {
-        Wanted::Talk(why)
+        Wanted::Conversation(why)
     } else if why {
         Wanted::Explained(matches)
     } else if matches.contains_id("FILE") {

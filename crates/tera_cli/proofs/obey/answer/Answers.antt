@@ -8,7 +8,7 @@ use Rattle.tera_replies.specs.Output.{TakesOrFails}
 use Rattle.tera_replies.specs.Script.{ended}
 use Rattle.tera_replies.specs.declared.fault.Fault.TheVariants.{WriteFailed}
 use Rattle.tera_cli.specs.Why.{TellsWhy}
-use Rattle.tera_cli.proofs.TalkLemmas.{none_answered}
+use Rattle.tera_cli.proofs.ConversationLemmas.{none_answered}
 use Rattle.tera_cli.proofs.obey.answer.Goals as goal
 
 pub returns-in-Ok-clause-err : goal.returns-in-Ok-clause-err

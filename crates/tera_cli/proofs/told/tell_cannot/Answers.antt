@@ -1,6 +1,0 @@
--- What was told was put, or putting it failed.
-use Rattle.tera_replies.proofs.ReplayLaws.{told_comes}
-use Rattle.tera_cli.proofs.told.tell_cannot.Goals as goal
-
-pub returns : goal.returns
-returns g c = told_comes g.E.Sink.takes g.E.Sink.fails c.put_cannot.result _ _ _ c.put_cannot.ensures
