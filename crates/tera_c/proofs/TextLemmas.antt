@@ -97,7 +97,8 @@ pub comes_where : (script answers report : List ℕ) (status : ℕ) (source new 
 comes_where script answers report status source new OutGets OutBroke ErrGets short is ends out broke err h =
     let Replayed : List ℕ → Bool → Type 0 = λ bytes fails. Replays bytes (Some fails) (reads_dropped GivesNext source) (whole_texts answers report) status in
     let weaker : Replayed (bytes_left source) (fails_at_end source) =
-    replay_weaker {first = record { out_gets = OutGets; out_broke = OutBroke; err_gets = ErrGets }} {second = whole_texts answers report} out broke err {input = reads GivesNext source new}
+    replay_weaker {first = record { out_gets = OutGets; out_broke = OutBroke; err_gets = ErrGets }}
+    {second = whole_texts answers report} out broke err {input = reads GivesNext source new}
     {other = reads_dropped GivesNext source} (λ before last steps. (new, steps)) (λ given end. (new, end)) (λ given failed. (new, failed)) h in
     record {
       source = source;

@@ -2,9 +2,9 @@
 ghost use Rattle.std.specs.Prelude.{◌≡◌, ◌≢◌, [], Bool, true, false};
 ghost use Rattle.clap.specs.Values.{kind_of};
 ghost use Rattle.clap.specs.declared.error.kind.ErrorKind.TheVariants.{OutOfMemory};
-ghost use Rattle.tera_cli.specs.Choice.{Asks, IsShown, names_file, reasons, interactive};
-ghost use Rattle.tera_cli.specs.declared.words.Wanted.TheVariants.{Explained, Files, Input};
-ghost use Rattle.tera_cli.specs.declared.words.Wanted.TheVariants.{NoMemory, Refused, Conversation, Told};
+ghost use Rattle.tera_cli.specs.Choice.{Asks, IsShown, interactive, names_file, reasons};
+ghost use Rattle.tera_cli.specs.declared.words.Wanted.TheVariants.{Conversation, Explained, Files};
+ghost use Rattle.tera_cli.specs.declared.words.Wanted.TheVariants.{Input, NoMemory, Refused, Told};
 
 use clap::error::ErrorKind;
 use clap::{Arg, ArgAction, ArgMatches, Command, Error};
@@ -56,8 +56,8 @@ pub(crate) fn wanted_by_no_text<'a>(alloc: Global) -> Wanted<'a> {
 
 // What is asked for by words that are understood.
 fn choice_of<'a>(matches: ArgMatches<'a>) -> Wanted<'a>
-    ensures conversation { (why : Bool) → Asks matches.entry interactive true → Asks matches.entry reasons why
-        → result ≡ Conversation why }
+    ensures conversation { (why : Bool) → Asks matches.entry interactive true
+        → Asks matches.entry reasons why → result ≡ Conversation why }
     ensures explained { Asks matches.entry interactive false → Asks matches.entry reasons true
         → result ≡ Explained matches.entry }
     ensures files { Asks matches.entry interactive false → Asks matches.entry reasons false

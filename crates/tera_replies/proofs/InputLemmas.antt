@@ -195,7 +195,8 @@ ahead : {before read text : List ℕ} {p : Place} (more : List ℕ) (g : Goes st
 ahead more g e = fewer_yet (omega (arith, length-map g.lines without_return)) (fewer_in_front more (whole_lines g) e)
 
 -- the input ended
-pub at_end : {bytes text more : List ℕ} {p : Place} {v : Bool} {new : State} (fails : Option Bool) (input : Input) → input.ended bytes → EndIsTold fails → Goes start bytes text p → Runs p.number p.state (last_line p.part) more v new
+pub at_end : {bytes text more : List ℕ} {p : Place} {v : Bool} {new : State} (fails : Option Bool) (input : Input)
+    → input.ended bytes → EndIsTold fails → Goes start bytes text p → Runs p.number p.state (last_line p.part) more v new
     → AllAnswered bytes fails input (text ++ more) [] (cond (p.wanted || v) 1 0)
 at_end {p} {v} {new} fails input end told g h =
     let all = Runs-append g.runs (counted g) h in
@@ -250,7 +251,8 @@ whole_in s =
     )
 
 -- a line that ends with a line feed is bad
-pub at_bad : {bytes before last text : List ℕ} {r : Report} (rest beyond : List ℕ) (fails : Option Bool) (input : Input) → input.gave before last → bytes ≡ (before ++ last) ++ rest → (s : StopsAtBad start (before ++ last) r text)
+pub at_bad : {bytes before last text : List ℕ} {r : Report} (rest beyond : List ℕ) (fails : Option Bool) (input : Input)
+    → input.gave before last → bytes ≡ (before ++ last) ++ rest → (s : StopsAtBad start (before ++ last) r text)
     → s.read ≡ before ++ beyond → AllAnswered bytes fails input text (ended (report_text r)) 2
 at_bad {bytes} {before} {last} rest beyond fails input gave e s front =
     let part = s.place.part in
@@ -299,7 +301,8 @@ at_memory {bytes} {before} {last} rest more input e read s begins =
     }
 
 -- a write of a reply to the first lines failed
-pub at_write : {bytes before last text : List ℕ} (rest more : List ℕ) (fails : Option Bool) (input : Input) → bytes ≡ (before ++ last) ++ rest → input.gave before last → (s : Begins start (before ++ last) text)
+pub at_write : {bytes before last text : List ℕ} (rest more : List ℕ) (fails : Option Bool) (input : Input)
+    → bytes ≡ (before ++ last) ++ rest → input.gave before last → (s : Begins start (before ++ last) text)
     → s.read ≡ before ++ more → WritingFailed bytes fails input text
 at_write rest more fails input e gave s begins = broke_at_memory fails (at_memory rest more input e (inl gave) s begins)
 
@@ -349,8 +352,8 @@ module _ {S : Type 0} (takes fails_on : S → List ℕ → S → Type 0) (flushe
   )
 
   -- all of the input was read, and what follows the last line feed was answered, or a fault ended it
-  pub Ends-all : {bytes : List ℕ} {now : Place} {before mid : S} (fails : Option Bool) (input : Input) (new : State) (after : S) (result : Result Bool Fault) → Went takes flushes start bytes now before mid
-      → input.ended bytes → EndIsTold fails
+  pub Ends-all : {bytes : List ℕ} {now : Place} {before mid : S} (fails : Option Bool) (input : Input) (new : State) (after : S) (result : Result Bool Fault)
+      → Went takes flushes start bytes now before mid → input.ended bytes → EndIsTold fails
       → IfOk result (λ wanted. (text : List ℕ) × (last : Bool) × Runs now.number now.state (last_line now.part) text last new
       × (wanted ≡ (now.wanted || last)) × Sends takes flushes mid text after)
       → IfErr result (λ fault. (last_line now.part ≡ now.part ∷ []) × LineStops now.number now.state now.part new (Sends takes flushes mid [] after)

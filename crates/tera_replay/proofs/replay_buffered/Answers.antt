@@ -15,7 +15,8 @@ pub returns-in-None-clause-known : goal.returns-in-None-clause-known
 returns-in-None-clause-known g c =
     rw (c.in-None.is, c.tell_no_memory-status.ensures.status)
     (nothing_read _ _ (reads_dropped g.S.Source.gave c.args.input)
-    (buffer_streams g.B.Writer None None g.E.Writer c.args.err.now c.tell_no_memory-status.new.err) (c.args.input, inl (refl, refl, refl)) (refl, refl) c.tell_no_memory-status.ensures.told)
+    (buffer_streams g.B.Writer None None g.E.Writer c.args.err.now c.tell_no_memory-status.new.err)
+    (c.args.input, inl (refl, refl, refl)) (refl, refl) c.tell_no_memory-status.ensures.told)
 
 pub returns-in-None-clause-given : goal.returns-in-None-clause-given
 returns-in-None-clause-given g c =
