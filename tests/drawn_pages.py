@@ -132,14 +132,18 @@ class Drawn:
         return self.tag("else") + self.parts(scope, depth - 1) if self.once_in(2) else ""
 
     def loop(self, scope: Scope, depth: int) -> str:
-        """A loop, nearly always over an array."""
-        arrays = [(place, shape) for place, shape in (self.place(scope, 40) for _ in range(12)) if isinstance(shape, tuple)]
-        if not arrays and not self.once_in(12):
+        """A loop, nearly always over an array, or by two names over a map."""
+        is_by_two = self.once_in(4)
+        kind = dict if is_by_two else tuple
+        found = [(place, shape) for place, shape in (self.place(scope, 40) for _ in range(12)) if isinstance(shape, kind)]
+        if not found and not self.once_in(12):
             return self.plain(scope, depth)
-        place, shape = arrays[0] if arrays else self.place(scope)
-        name = self.chance.choice([*LOOSE, *(name for name in scope if name not in loop_names())])
-        inner = {**scope, name: shape[1] if isinstance(shape, tuple) else "any", **loop_names()}
-        said = [self.tag(f"for {name} in {place}"), self.parts(inner, depth - 1), self.otherwise(scope, depth), self.tag("endfor")]
+        place, shape = found[0] if found else self.place(scope)
+        names = [self.chance.choice([*LOOSE, *(name for name in scope if name not in loop_names())]) for _ in range(1 + is_by_two)]
+        parts: List[Shape] = [shape[1]] if isinstance(shape, tuple) else [*shape.values()] if isinstance(shape, dict) else ["any"]
+        inner: Scope = {**scope, names[0]: "text", names[-1]: self.chance.choice(parts), **loop_names()}
+        bound = f"{self.blank()},{self.blank()}".join(names)
+        said = [self.tag(f"for {bound} in {place}"), self.parts(inner, depth - 1), self.otherwise(scope, depth), self.tag("endfor")]
         return "".join(said)
 
     def place(self, scope: Scope, missing: int = 60) -> Tuple[str, Shape]:

@@ -2,8 +2,8 @@
 there, and any of them can be turned on alone: `answer(template, names, ALL)` is what our program has to answer.
 
 A function changes one step of jinja2: `template` the text and the names before they are read, `settings` the environment,
-`prints` a value before it is shown, `escapes` an escaped text, `looks` what a path leads to, `loops` what a loop goes over,
-and `page` the page at its end.
+`prints` a value before it is shown, `escapes` an escaped text, `looks` what a path leads to, `repeats` what any loop goes over,
+`loops` what one by one name does, `pairs` what one by two does, and `page` the page at its end.
 """
 from __future__ import annotations
 
@@ -102,7 +102,7 @@ def quote(text: str) -> str:
 
 
 @reason("nothing, shown", "prints")
-@reason("nothing, looped over", "loops")
+@reason("nothing, looped over", "repeats")
 def nothing(value: Any) -> Any:
     """It is refused."""
     if isinstance(value, Undefined):
@@ -122,6 +122,14 @@ def no_array(value: Any) -> Any:
     if isinstance(value, (str, dict)):
         raise Refused
     return value
+
+
+@reason("two names, looped over", "pairs")
+def pairs(value: Any) -> Any:
+    """They are the key and the value of each pair of a map. All else is refused."""
+    if not isinstance(value, (dict, Undefined)):
+        raise Refused
+    return list(value.items()) if isinstance(value, dict) else value
 
 
 # What a path leads to.
@@ -213,7 +221,7 @@ class Hooks(NodeTransformer):
 
     def visit_For(self, node: nodes.For) -> nodes.Node:
         self.generic_visit(node)
-        node.iter = called(node.iter, "looped")
+        node.iter = called(node.iter, "paired" if isinstance(node.target, nodes.Tuple) else "looped")
         return node
 
     def visit_Getattr(self, node: nodes.Getattr) -> nodes.Node:
@@ -241,7 +249,7 @@ class Changed(jinja2.Environment):
     def __init__(self, reasons: AbstractSet[str]) -> None:
         super().__init__(autoescape=True, finalize=self.shown)
         self.reasons, self.met = reasons, set[str]()
-        self.filters.update(escape=self.shown, safe=self.as_printed, looped=self.looped, front=self.front)
+        self.filters.update(escape=self.shown, safe=self.as_printed, looped=self.looped, paired=self.paired, front=self.front)
         for name, change in self.of_step("settings"):
             change(self)
 
@@ -275,8 +283,12 @@ class Changed(jinja2.Environment):
         return value if isinstance(value, Markup) else Markup(self.changed("escapes", str(escape(self.printed(value)))))
 
     def looped(self, value: Any) -> Any:
-        """What a loop goes over."""
-        return self.changed("loops", value)
+        """What a loop by one name goes over."""
+        return self.changed("loops", self.changed("repeats", value))
+
+    def paired(self, value: Any) -> Any:
+        """What a loop by two names goes over."""
+        return self.changed("pairs", self.changed("repeats", value))
 
     def front(self, value: Any) -> Any:
         """The front of a path."""
@@ -315,7 +327,7 @@ def plain_answer(template: str, names: Names) -> Optional[str]:
     """The page that jinja2 itself shows; None where it shows none."""
     try:
         return PLAIN.from_string(template).render(names)
-    except (jinja2.TemplateError, TypeError, SyntaxError, RecursionError):
+    except (jinja2.TemplateError, TypeError, ValueError, SyntaxError, RecursionError):
         return None
 
 
@@ -337,5 +349,5 @@ def answer(template: str, names: Names, reasons: AbstractSet[str] = ALL) -> Tupl
         if environment.keep_trailing_newline and template.endswith("\n"):
             met.add("a line end at the end")
         return page.replace(CARRIAGE, "\r").translate(OF_SOLID), met
-    except (Refused, jinja2.TemplateError, TypeError, SyntaxError, RecursionError):
+    except (Refused, jinja2.TemplateError, TypeError, ValueError, SyntaxError, RecursionError):
         return None, met

@@ -18,7 +18,18 @@ fn shop(alloc: Global) -> TeraResult<Context> {
     context.insert_value("a", Value::of_map(inner))?;
     context.insert_value("words", words(alloc)?)?;
     context.insert_value("empty", Value::of_array(Vec::new(alloc)))?;
+    context.insert_value("prices", prices(alloc)?)?;
+    context.insert_value("no_prices", Value::of_map(Map::new(alloc)))?;
     Ok(context)
+}
+
+// A map with keys of each kind.
+fn prices(alloc: Global) -> TeraResult<Value> {
+    let mut pairs = Map::new(alloc);
+    pairs.insert(Key::Str("<tea>"), Value::from(2u64))?;
+    pairs.insert(Key::I64(-7), Value::normal_string(alloc, "&")?)?;
+    pairs.insert(Key::Bool(true), Value::none())?;
+    Ok(Value::of_map(pairs))
 }
 
 fn words(alloc: Global) -> TeraResult<Value> {
@@ -101,6 +112,67 @@ fn parts_are_chosen_and_repeated(rt: HostRuntime) {
                 "{% for w in words %}{% for count in a.b %}{{ w }}{{ count }} {% endfor %}\
                 {{ count }}{% endfor %}",
                 "xx xy 3yx yy 3",
+            ),
+        ],
+    );
+}
+
+#[test]
+fn pairs_are_repeated(rt: HostRuntime) {
+    let alloc = rt.alloc();
+    hold!(
+        &rt,
+        [
+            shows(
+                alloc,
+                "{% for k, v in prices %}{{ k }}={{ v }};{% endfor %}",
+                "&lt;tea&gt;=2;-7=&amp;;true=;",
+            ),
+            shows(
+                alloc,
+                "{%for k,v in prices%}{{loop.index}}{{k|safe}} {%endfor%}",
+                "1<tea> 2-7 3true "
+            ),
+            shows(
+                alloc,
+                "{% for k\n,\tv in a %}{{ k }}{{ v.1 }}{{ loop.last }}{% endfor %}",
+                "bytrue"
+            ),
+            shows(alloc, "{% for v, v in a %}{{ v.0 }}{% endfor %}", "x"),
+            shows(
+                alloc,
+                "{% for k, v in no_prices %}a{% else %}none{% endfor %}",
+                "none"
+            ),
+            shows(
+                alloc,
+                "{% for title, count in a %}{{ title }}{% endfor %}{{ count }}",
+                "b3"
+            ),
+            refused(
+                alloc,
+                "{% for k, v in words %}{% endfor %}",
+                "What is found at `words` is no map"
+            ),
+            refused(
+                alloc,
+                "{% for k, v in a.b %}{% endfor %}",
+                "What is found at `a.b` is no map"
+            ),
+            refused(
+                alloc,
+                "{% for k, v in missing %}{% endfor %}",
+                "Nothing is found at `missing`"
+            ),
+            refused(
+                alloc,
+                "{% for k in prices %}{% endfor %}",
+                "What is found at `prices` is no array"
+            ),
+            refused(
+                alloc,
+                "{% for k, v in prices %}{% endfor %}{{ k }}",
+                "Nothing is found at `k`"
             ),
         ],
     );

@@ -1,5 +1,5 @@
 -- What templates are spelled by, one thing behind the other.
-use Rattle.std.specs.Prelude.{◌≡◌, ◌⊎◌, ℕ, true, List, [], ◌∷◌, ◌++◌, Option, None, Some, refl}
+use Rattle.std.specs.Prelude.{◌≡◌, ◌⊎◌, ℕ, true, List, [], ◌∷◌, ◌++◌, codes, Option, None, Some, refl}
 use Rattle.std.proofs.Common.{inl, inr, ap, sym, subst, arith, rules}
 use Rattle.std.proofs.lemmas.Slice.Eq.{bytes_eq-Decides}
 use Rattle.std.specs.Str.{bytes_eq}
@@ -7,17 +7,22 @@ use Rattle.std.specs.Borrow.{Bor}
 use Rattle.std.specs.Option.{option_map, unwrap_or}
 use Rattle.tera_page.proofs.Views.{part-Comment, part-Show, part-Text}
 use Rattle.tera_page.specs.Grammar as grammar
-use Rattle.tera_page.specs.Grammar.{IsPlace, IsPlain, IsRun, Marked, Shows, SpellsElse, SpellsPart, SpellsTag, SpellsUpTo}
+use Rattle.tera_page.specs.Grammar.{InTag, IsNext, IsPlace, IsPlain, IsRun, Marked, Shows, SpellsElse, SpellsPart, SpellsTag, SpellsUpTo}
 use Rattle.tera_page.specs.Grammar.{Tag, if_tag, for_tag, elif_tag, comment_mark, value_mark}
 use Rattle.tera_page.specs.Reading.{IsChoice, IsLoop, StopsAt}
 use Rattle.tera_page.specs.Template as tree
 use Rattle.tera_page.specs.Template.{Part, Parts}
-use Rattle.tera_page.specs.Tokens.{tag_of}
+use Rattle.tera_page.specs.Tokens.{IsForTag, tag_of}
 use Rattle.tera_page.specs.View.{part_of, parts_of, place_of, showing_of}
 use Rattle.tera_page.specs.declared.token.Tag as code
 use Rattle.tera_page.specs.declared.tree.Node as node
 use Rattle.tera_page.specs.declared.tree.Place as code_place
 use Rattle.tera_page.specs.declared.tree.Showing as code_showing
+
+-- what a tag of a loop says, behind its first word
+pub for_said : (tag : Tag) (said word rest : List ℕ) → word ≡ codes "for" → IsNext said word rest → IsForTag tag rest → InTag tag said
+for_said (for_tag bound over) said word rest is next (proper, loops) = (proper, (rest, subst (λ w. IsNext said w rest) is next, loops))
+for_said tag said word rest is next none = absurd none
 
 some_same : (x y : Tag) → Some x ≡ Some y → x ≡ y
 some_same x y is = ap (λ o. unwrap_or o x) is
@@ -69,10 +74,10 @@ module _ (text rest : List ℕ) where
   next_choice at n body tag (chosen, otherwise, tail, view, inside, end) =
       subst (λ p. SpellsPart p text rest) (sym view) (grammar.choice at chosen otherwise text body tail rest tag inside end)
 
-  pub next_loop : (name : List ℕ) (over : tree.Place) (n : node.Node) (body : List ℕ) → SpellsTag (for_tag name over) text body
-      → IsLoop name over n body rest → NextIs n
-  next_loop name over n body tag (repeated, otherwise, tail, view, inside, end) =
-      subst (λ p. SpellsPart p text rest) (sym view) (grammar.loop name over repeated otherwise text body tail rest tag inside end)
+  pub next_loop : (bound : tree.Bound) (over : tree.Place) (n : node.Node) (body : List ℕ) → SpellsTag (for_tag bound over) text body
+      → IsLoop bound over n body rest → NextIs n
+  next_loop bound over n body tag (repeated, otherwise, tail, view, inside, end) =
+      subst (λ p. SpellsPart p text rest) (sym view) (grammar.loop bound over repeated otherwise text body tail rest tag inside end)
 
 -- an `elif` and what it begins
 pub else_elif : (at : tree.Place) (n : node.Node) (left text rest : List ℕ) → SpellsTag (elif_tag at) left text → IsChoice at n text rest

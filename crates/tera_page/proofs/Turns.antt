@@ -6,11 +6,10 @@ use Rattle.tera.proofs.InTurnLaws.{shown_joined}
 use Rattle.tera.proofs.RefusalLaws.{refuses_on}
 use Rattle.tera.specs.Arithmetic.{and_then}
 use Rattle.tera.specs.Errors.{Refuses}
-use Rattle.tera.specs.Form.{Form}
 use Rattle.tera.specs.InTurn.{ShownInTurn}
 use Rattle.tera.specs.State.{State}
 use Rattle.tera.specs.types.Error.{Error}
-use Rattle.tera_page.specs.Rendering.{IsPageOf, Names, Piece, Pieces, ShowsPiece, each, joined, named_items, turn_names, turns, turns_from, under}
+use Rattle.tera_page.specs.Rendering.{IsPageOf, Names, Piece, Pieces, ShowsPiece, each, joined, turn_names, turns, turns_from, under}
 
 -- behind some pieces, others
 abbrev pub behind : List Piece → Pieces → Pieces
@@ -23,6 +22,24 @@ regrouped (Err refusal) ps qs = refl
 given : (p : Pieces) (shown : List ℕ) → IsPageOf p shown → (qs : List Piece) × (p ≡ Ok qs) × ShownInTurn ShowsPiece qs shown
 given (Ok qs) shown is = (qs, refl, is)
 given (Err refusal) shown is = absurd is
+
+-- a place behind which something is left, or nothing
+pub left_within : {X : Type 0} (i : ℕ) (xs : List X) (x : X) (rest : List X) → drop i xs ≡ x ∷ rest → i < length xs
+left_within zero [] x rest is = absurd (cc is)
+left_within zero (y ∷ ys) x rest is = omega arith
+left_within (suc i) [] x rest is = absurd (cc is)
+left_within (suc i) (y ∷ ys) x rest is = omega (arith, left_within i ys x rest is)
+
+pub none_left : {X : Type 0} (i : ℕ) (xs : List X) → drop i xs ≡ [] → length xs ≤ i
+none_left i [] is = omega arith
+none_left zero (y ∷ ys) is = absurd (cc is)
+none_left (suc i) (y ∷ ys) is = omega (arith, none_left i ys is)
+
+-- what is left of a list behind one more
+pub tail_left : {X : Type 0} (i : ℕ) (xs : List X) (x : X) (rest : List X) → drop i xs ≡ x ∷ rest → drop (i + 1) xs ≡ rest
+tail_left zero xs x rest is = ap (drop 1) is
+tail_left (suc i) [] x rest is = absurd (cc is)
+tail_left (suc i) (y ∷ ys) x rest is = let more : suc i + 1 ≡ suc (i + 1) = omega arith in ap (λ n. drop n (y ∷ ys)) more ∙ tail_left i ys x rest is
 
 -- the next of a list behind some
 pub next_left : {X : Type 0} (xs : List X) (i : ℕ) (x : X) → i < length xs → x ≡ get_or xs i x → drop i xs ≡ x ∷ drop (i + 1) xs
@@ -38,26 +55,27 @@ turns_many : (state : State) (owns : List Names) (i n : ℕ) → length (turns_f
 turns_many state [] i n = refl
 turns_many state (own ∷ owns) i n = ap suc (turns_many state owns (suc i) n)
 
--- there are as many turns as items
-pub turns_count : (state : State) (name : List ℕ) (xs : List Form) → length (turns state (named_items name xs)) ≡ length xs
-turns_count state name xs =
-    let bind : Form → Names = λ x. (name, x) ∷ [] in
-    turns_many state (named_items name xs) 0 (length (named_items name xs)) ∙ length-map xs bind
-
 -- the state of the turn behind some others
-pub next_turn : (state : State) (name : List ℕ) (xs : List Form) (x : Form) (i : ℕ) → drop i xs ≡ x ∷ drop (i + 1) xs
-    → drop i (turns state (named_items name xs))
-    ≡ under state ((name, x) ∷ turn_names i (length xs)) ∷ drop (i + 1) (turns state (named_items name xs))
-next_turn state name xs x i is =
-    let bind : Form → Names = λ y. (name, y) ∷ [] in
-    let owns = named_items name xs in
+pub next_turn : (state : State) (owns : List Names) (own : Names) (i : ℕ) → drop i owns ≡ own ∷ drop (i + 1) owns
+    → drop i (turns state owns) ≡ under state (own ++ turn_names i (length owns)) ∷ drop (i + 1) (turns state owns)
+next_turn state owns own i is =
     let n = length owns in
-    let behind : drop (i + 1) (turns state owns) ≡ turns_from state (suc i) n (map bind (drop (i + 1) xs)) =
-    turns_left state owns 0 n (i + 1) (suc i) (omega arith) ∙ ap (turns_from state (suc i) n) (drop-map bind (i + 1) xs) in
-    let first : drop i (turns state owns) ≡ under state ((name, x) ∷ turn_names i n) ∷ drop (i + 1) (turns state owns) =
-    turns_left state owns 0 n i i (omega arith) ∙ ap (turns_from state i n) (drop-map bind i xs ∙ ap (map bind) is)
-    ∙ ap (λ l. under state ((name, x) ∷ turn_names i n) ∷ l) (sym behind) in
-    subst (λ m. drop i (turns state owns) ≡ under state ((name, x) ∷ turn_names i m) ∷ drop (i + 1) (turns state owns)) (length-map xs bind) first
+    let behind : drop (i + 1) (turns state owns) ≡ turns_from state (suc i) n (drop (i + 1) owns) =
+    turns_left state owns 0 n (i + 1) (suc i) (omega arith) in
+    turns_left state owns 0 n i i (omega arith) ∙ ap (turns_from state i n) is
+    ∙ ap (λ l. under state (own ++ turn_names i n) ∷ l) (sym behind)
+
+-- there are as many turns as parts
+pub made_count : {X : Type 0} (make : X → Names) (state : State) (xs : List X) → length (turns state (map make xs)) ≡ length xs
+made_count make state xs = turns_many state (map make xs) 0 (length (map make xs)) ∙ length-map xs make
+
+-- the same where the names are those of a list's parts
+pub next_made : {X : Type 0} (make : X → Names) (state : State) (xs : List X) (x : X) (i : ℕ) → drop i xs ≡ x ∷ drop (i + 1) xs
+    → drop i (turns state (map make xs)) ≡ under state (make x ++ turn_names i (length xs)) ∷ drop (i + 1) (turns state (map make xs))
+next_made make state xs x i is =
+    subst (λ n. drop i (turns state (map make xs)) ≡ under state (make x ++ turn_names i n) ∷ drop (i + 1) (turns state (map make xs)))
+    (length-map xs make)
+    (next_turn state (map make xs) (make x) i (drop-map make i xs ∙ ap (map make) is ∙ ap (λ l. make x ∷ l) (sym (drop-map make (i + 1) xs))))
 
 module _ {X : Type 0} (f : X → Pieces) (xs : List X) where
   -- the pieces up to a place were put, and with those of the rest they are all

@@ -1,5 +1,5 @@
 -- What nodes and scopes stand for, variant by variant.
-use Rattle.std.specs.Prelude.{◌≡◌, ℕ, nat_eq, length, Bool, true, false, cond, List, [], ◌∷◌, Option, Some, Ok, Vec, refl}
+use Rattle.std.specs.Prelude.{◌≡◌, ℕ, nat_eq, length, not, Bool, true, false, cond, List, [], ◌∷◌, Option, Some, Ok, Vec, refl}
 use Rattle.std.proofs.Common.{ap, rules, ◌∙◌}
 use Rattle.std.specs.Borrow.{Bor}
 use Rattle.std.specs.Cmp.{eq_by_cmp_equiv}
@@ -12,12 +12,13 @@ use Rattle.std.proofs.lemmas.Map.Text.{is_eq-slice_cmp}
 use Rattle.tera.specs.Form.{Form}
 use Rattle.tera.specs.State.{State}
 use Rattle.tera.specs.Arithmetic.{and_then}
-use Rattle.tera_page.specs.Rendering.{Names, Pieces, all_pieces, each, found, found_items, joined, named_items, pieces, repeated, stands_for}
+use Rattle.tera_page.specs.Rendering.{IsPageOf, Names, all_pieces, each, found, joined, looped, owns, pieces, repeated, stands_for}
 use Rattle.tera_page.specs.Rendering.{turn_names, turns, under}
 use Rattle.tera_page.specs.Template as tree
-use Rattle.tera_page.specs.View.{names_of, part_of, parts_of, place_of, showing_of, state_of}
+use Rattle.tera_page.specs.View.{bound_of, names_of, part_of, parts_of, place_of, showing_of, state_of}
 use Rattle.tera_page.specs.declared.scope.Scope as scope
 use Rattle.tera_page.specs.declared.scope.Turn.{Turn}
+use Rattle.tera_page.specs.declared.tree.Bound.{Bound}
 use Rattle.tera_page.specs.declared.tree.Node as node
 use Rattle.tera_page.specs.declared.tree.Place.{Place}
 use Rattle.tera_page.specs.declared.tree.Showing.{Showing}
@@ -37,6 +38,15 @@ state-turned name value turn outer around before all is same =
     state-Item name value around
     ∙ ap (λ s. insert s name.now value.now) (ap state_of is ∙ state-Turn turn outer ∙ ap (under (state_of outer.now)) same)
 
+-- a pair, in its turn
+pub state-paired : (key_name name : Bor (List ℕ)) (key value : Bor Form) (turn : Bor Turn) (outer around keyed : Bor scope.Scope) (before all : ℕ)
+    → keyed.now ≡ scope.Item key_name key around → around.now ≡ scope.Turn turn outer → names_of turn.now ≡ turn_names before all
+    → state_of (scope.Item name value keyed)
+    ≡ under (state_of outer.now) ((name.now, value.now) ∷ (key_name.now, key.now) ∷ turn_names before all)
+state-paired key_name name key value turn outer around keyed before all named is same =
+    state-Item name value keyed
+    ∙ ap (λ s. insert s name.now value.now) (ap state_of named ∙ state-turned key_name key turn outer around before all is same)
+
 pub part-Text : (shown : Bor (List ℕ)) → part_of (node.Text shown) ≡ tree.text shown.now
 part-Text shown = search (rules, node.the_lemmas)
 
@@ -46,9 +56,9 @@ part-Comment said = search (rules, node.the_lemmas)
 pub part-Show : (at : Place) (how : Showing) → part_of (node.Show at how) ≡ tree.show (place_of at) (showing_of how)
 part-Show at how = search (rules, node.the_lemmas)
 
-pub part-For : (name : Bor (List ℕ)) (over : Place) (body otherwise : Vec node.Node Global)
-    → part_of (node.For name over body otherwise) ≡ tree.loop name.now (place_of over) (parts_of body.items) (parts_of otherwise.items)
-part-For name over body otherwise = search (rules, node.the_lemmas)
+pub part-For : (bound : Bound) (over : Place) (body otherwise : Vec node.Node Global)
+    → part_of (node.For bound over body otherwise) ≡ tree.loop (bound_of bound) (place_of over) (parts_of body.items) (parts_of otherwise.items)
+part-For bound over body otherwise = search (rules, node.the_lemmas)
 
 kept : (b : Bool) (v : Form) (o p : Option Form) → cond b (Some v) (option_or o p) ≡ option_or (cond b (Some v) o) p
 kept true v o p = refl
@@ -75,17 +85,28 @@ pub all_each : (nodes : List node.Node) (state : State) → all_pieces (parts_of
 all_each [] state = refl
 all_each (n ∷ nodes) state = ap (joined (pieces (part_of n) state)) (all_each nodes state)
 
--- a loop over items that there are
-repeated_some : (body otherwise : State → Pieces) (state : State) (name : List ℕ) (xs : List Form) → nat_eq (length xs) 0 ≡ false
-    → repeated body otherwise state (named_items name xs) ≡ each body (turns state (named_items name xs))
-repeated_some body otherwise state name [] is = absurd (cc)
-repeated_some body otherwise state name (x ∷ xs) is = refl
+module _ (held : node.Node) (bound : Bound) (over : Place) (body otherwise : Vec node.Node Global) (state : State)
+    (is : held ≡ node.For bound over body otherwise) where
+  -- what a loop shows
+  pub shows_loop : pieces (part_of held) state
+      ≡ looped (bound_of bound) (place_of over) (all_pieces (parts_of body.items)) (all_pieces (parts_of otherwise.items)) state
+  shows_loop = ap (λ p. pieces p state) (ap part_of is ∙ part-For bound over body otherwise)
 
-pub loop_items : (held : node.Node) (name : Bor (List ℕ)) (over : Place) (body otherwise : Vec node.Node Global) (state : State) (xs : List Form)
-    → held ≡ node.For name over body otherwise → found_items (place_of over) (found state (place_of over)) ≡ Ok xs → nat_eq (length xs) 0 ≡ false
-    → pieces (part_of held) state ≡ each (all_pieces (parts_of body.items)) (turns state (named_items name.now xs))
-loop_items held name over body otherwise state xs is items some =
-    ap (λ p. pieces p state) (ap part_of is ∙ part-For name over body otherwise)
-    ∙ ap (λ r. and_then r (λ ys. repeated (all_pieces (parts_of body.items)) (all_pieces (parts_of otherwise.items)) state
-    (named_items name.now ys))) items
-    ∙ repeated_some (all_pieces (parts_of body.items)) (all_pieces (parts_of otherwise.items)) state name.now xs some
+  -- whose turns have these names
+  pub shows_turns : (all : List Names) → owns (bound_of bound) (place_of over) (found state (place_of over)) ≡ Ok all
+      → pieces (part_of held) state ≡ repeated (all_pieces (parts_of body.items)) (all_pieces (parts_of otherwise.items)) state all
+  shows_turns all given =
+      shows_loop ∙ ap (λ r. and_then r (repeated (all_pieces (parts_of body.items)) (all_pieces (parts_of otherwise.items)) state)) given
+
+  -- in each turn the body, where there is one
+  pub shows_each : (all : List Names) → owns (bound_of bound) (place_of over) (found state (place_of over)) ≡ Ok all
+      → true ≡ not (nat_eq (length all) 0) → pieces (part_of held) state ≡ each (all_pieces (parts_of body.items)) (turns state all)
+  shows_each [] given some = absurd (cc)
+  shows_each (own ∷ all) given some = shows_turns (own ∷ all) given
+
+  -- and else the other parts, where in no turn something was shown
+  pub shows_otherwise : (all : List Names) (shown : List ℕ) → owns (bound_of bound) (place_of over) (found state (place_of over)) ≡ Ok all
+      → false ≡ not (nat_eq (length all) 0) → IsPageOf (each (all_pieces (parts_of body.items)) (turns state all)) shown
+      → (pieces (part_of held) state ≡ all_pieces (parts_of otherwise.items) state) × (shown ≡ [])
+  shows_otherwise [] shown given none page = (shows_turns [] given, page)
+  shows_otherwise (own ∷ all) shown given none page = absurd (search (rules, none))

@@ -7,7 +7,8 @@ use Rattle.std.specs.List.{list_all, list_any}
 use Rattle.std.specs.Str.{bytes_eq}
 use Rattle.tera_page.specs.Rendering.{place_and}
 use Rattle.tera_page.specs.Template as tree
-use Rattle.tera_page.specs.Template.{Place, Showing, Part, Parts, in_page, as_printed}
+use Rattle.tera_page.specs.Template.{Bound, Place, Showing, Part, Parts, in_page, as_printed, item}
+use Rattle.tera_page.specs.Template.{pair}
 
 -- ---- words
 
@@ -168,27 +169,48 @@ pub data Tag : Type 0 where
   elif_tag : Place → Tag
   else_tag : Tag
   endif_tag : Tag
-  for_tag : List ℕ → Place → Tag
+  for_tag : Bound → Place → Tag
   endfor_tag : Tag
 
-abbrev pub words_of : Tag → List (List ℕ)
-words_of (if_tag at) = codes "if" ∷ place_and at [] ∷ []
-words_of (elif_tag at) = codes "elif" ∷ place_and at [] ∷ []
-words_of else_tag = codes "else" ∷ []
-words_of endif_tag = codes "endif" ∷ []
-words_of (for_tag name over) = codes "for" ∷ name ∷ codes "in" ∷ place_and over [] ∷ []
-words_of endfor_tag = codes "endfor" ∷ []
+-- behind blanks stands what is bound, and then the rest; a comma, maybe in blanks, parts two names
+abbrev pub Binds : Bound → List ℕ → List ℕ → Type 0
+Binds (item name) text rest = IsNext text name rest
+Binds (pair key value) text rest =
+    (left right : List ℕ) × (text ≡ left ++ (codes "," ++ right)) × Words (key ∷ []) left
+    × IsNext right value rest
+
+-- the text is a word, and behind it what is said more
+abbrev pub Begins : List ℕ → (List ℕ → Type 0) → List ℕ → Type 0
+Begins word More text = (rest : List ℕ) × IsNext text word rest × More rest
+
+-- what stands behind the first word of a loop
+abbrev pub Loops : Bound → Place → List ℕ → Type 0
+Loops bound over text =
+    (rest : List ℕ) × Binds bound text rest × Words (codes "in" ∷ place_and over [] ∷ []) rest
+
+-- what a tag says between its marks
+abbrev pub Says : Tag → List ℕ → Type 0
+Says (if_tag at) said = Words (codes "if" ∷ place_and at [] ∷ []) said
+Says (elif_tag at) said = Words (codes "elif" ∷ place_and at [] ∷ []) said
+Says else_tag said = Words (codes "else" ∷ []) said
+Says endif_tag said = Words (codes "endif" ∷ []) said
+Says (for_tag bound over) said = Begins (codes "for") (Loops bound over) said
+Says endfor_tag said = Words (codes "endfor" ∷ []) said
+
+abbrev pub IsBound : Bound → Type 0
+IsBound (item name) = IsTrue (is_name name)
+IsBound (pair key value) = IsTrue (is_name key) × IsTrue (is_name value)
 
 abbrev pub IsProper : Tag → Type 0
 IsProper (if_tag at) = IsPlace at
 IsProper (elif_tag at) = IsPlace at
 IsProper else_tag = ⊤
 IsProper endif_tag = ⊤
-IsProper (for_tag name over) = IsTrue (is_name name) × IsPlace over
+IsProper (for_tag bound over) = IsBound bound × IsPlace over
 IsProper endfor_tag = ⊤
 
 abbrev pub InTag : Tag → List ℕ → Type 0
-InTag tag said = IsProper tag × Words (words_of tag) said
+InTag tag said = IsProper tag × Says tag said
 
 -- the text is a tag, and then the rest
 abbrev pub SpellsTag : Tag → List ℕ → List ℕ → Type 0
@@ -230,11 +252,11 @@ mutual
         → SpellsTag (if_tag at) whole body → SpellsUpTo chosen body tail
         → SpellsElse otherwise tail rest
         → SpellsPart (tree.choice at chosen otherwise) whole rest
-    loop : (name : List ℕ) (over : Place) (repeated otherwise : Parts)
+    loop : (bound : Bound) (over : Place) (repeated otherwise : Parts)
         (whole body tail rest : List ℕ)
-        → SpellsTag (for_tag name over) whole body → SpellsUpTo repeated body tail
+        → SpellsTag (for_tag bound over) whole body → SpellsUpTo repeated body tail
         → SpellsEnd endfor_tag otherwise tail rest
-        → SpellsPart (tree.loop name over repeated otherwise) whole rest
+        → SpellsPart (tree.loop bound over repeated otherwise) whole rest
 
   -- the end of what is opened, maybe behind what is taken otherwise
   pub data SpellsEnd : Tag → Parts → List ℕ → List ℕ → Type 0 where

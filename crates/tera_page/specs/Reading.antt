@@ -7,7 +7,7 @@ use Rattle.tera.specs.types.Span.{Span}
 use Rattle.tera_page.specs.Grammar as grammar
 use Rattle.tera_page.specs.Grammar.{SpellsUpTo, SpellsElse, SpellsEnd, SpellsPart, SpellsTag}
 use Rattle.tera_page.specs.Template as tree
-use Rattle.tera_page.specs.Template.{Parts, Place}
+use Rattle.tera_page.specs.Template.{Bound, Parts, Place}
 use Rattle.tera_page.specs.Tokens.{tag_of}
 use Rattle.tera_page.specs.View.{part_of, parts_of}
 use Rattle.tera_page.specs.declared.syntax.End.{End}
@@ -71,10 +71,10 @@ IsChoice at node text rest =
     × (part_of node ≡ tree.choice at chosen otherwise) × SpellsUpTo chosen text tail
     × SpellsElse otherwise tail rest
 
-abbrev pub IsLoop : List ℕ → Place → Node → List ℕ → List ℕ → Type 0
-IsLoop name over node text rest =
+abbrev pub IsLoop : Bound → Place → Node → List ℕ → List ℕ → Type 0
+IsLoop bound over node text rest =
     (repeated otherwise : Parts) × (tail : List ℕ)
-    × (part_of node ≡ tree.loop name over repeated otherwise) × SpellsUpTo repeated text tail
+    × (part_of node ≡ tree.loop bound over repeated otherwise) × SpellsUpTo repeated text tail
     × SpellsEnd grammar.endfor_tag otherwise tail rest
 
 abbrev pub end_tag : End → grammar.Tag

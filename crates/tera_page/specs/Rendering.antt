@@ -10,15 +10,17 @@ use Rattle.tera.specs.Form.{Form}
 use Rattle.tera.specs.InPage.{ShowsInPage}
 use Rattle.tera.specs.InTurn.{ShownInTurn}
 use Rattle.tera.specs.Integer.{u64}
+use Rattle.tera.specs.Key.{key_value}
+use Rattle.tera.specs.KeyMeaning.{KeyForm}
 use Rattle.tera.specs.Meaning.{layout, meaning}
 use Rattle.tera.specs.Path.{path}
 use Rattle.tera.specs.Quoted.{Prints}
-use Rattle.tera.specs.Read.{items_in, truthy_in}
+use Rattle.tera.specs.Read.{items_in, members_in, truthy_in}
 use Rattle.tera.specs.Refusal.{Refusal, message}
 use Rattle.tera.specs.State.{State}
 use Rattle.tera.specs.Tree.{undefined, none, truth, number, text, bytes, array, object}
 use Rattle.tera_page.specs.Template as tree
-use Rattle.tera_page.specs.Template.{Place, Showing, Part, Parts}
+use Rattle.tera_page.specs.Template.{Bound, Place, Showing, Part, Parts, item, pair}
 
 -- what a path leads to; no path leads to the value itself
 abbrev pub led : Option (List ℕ) → Form → Option Form
@@ -54,6 +56,9 @@ nothing_at at = message (codes "Nothing is found at `" ++ place_and at (codes "`
 abbrev pub no_array_at : Place → Refusal
 no_array_at at = message (codes "What is found at `" ++ place_and at (codes "` is no array"))
 
+abbrev pub no_map_at : Place → Refusal
+no_map_at at = message (codes "What is found at `" ++ place_and at (codes "` is no map"))
+
 -- one piece of a page: a text of the template, or a value
 pub data Piece : Type 0 where
   verbatim : List ℕ → Piece
@@ -82,6 +87,10 @@ is_true (Some v) = truthy_in (meaning v)
 -- the items of the array that is found
 abbrev pub found_items : Place → Option Form → Result (List Form) Refusal
 found_items at o = and_then (ok_or o (nothing_at at)) (λ v. ok_or (items_in v) (no_array_at at))
+
+-- the pairs of the map that is found
+abbrev pub found_pairs : Place → Option Form → Result (List (KeyForm × Form)) Refusal
+found_pairs at o = and_then (ok_or o (nothing_at at)) (λ v. ok_or (members_in v) (no_map_at at))
 
 -- names, and what they stand for
 abbrev pub Names : Type 0
@@ -118,10 +127,24 @@ turns state owns = turns_from state 0 (length owns) owns
 abbrev pub named_items : List ℕ → List Form → List Names
 named_items name xs = map (λ x. (name, x) ∷ []) xs
 
+-- each key and each value under a name, of which the value's hides the key's
+abbrev pub named_pairs : List ℕ → List ℕ → List (KeyForm × Form) → List Names
+named_pairs k v ps = map (λ p. (v, p.1) ∷ (k, key_value p.0) ∷ []) ps
+
+-- the names of each turn of a loop
+abbrev pub owns : Bound → Place → Option Form → Result (List Names) Refusal
+owns (item name) at o = and_then (found_items at o) (λ xs. Ok (named_items name xs))
+owns (pair k v) at o = and_then (found_pairs at o) (λ ps. Ok (named_pairs k v ps))
+
 -- what is repeated in each turn; or what is taken where there is none
 abbrev pub repeated : (State → Pieces) → (State → Pieces) → State → List Names → Pieces
 repeated body otherwise state [] = otherwise state
 repeated body otherwise state (own ∷ owns) = each body (turns state (own ∷ owns))
+
+-- what a loop shows
+abbrev pub looped : Bound → Place → (State → Pieces) → (State → Pieces) → State → Pieces
+looped bound over body otherwise state =
+    and_then (owns bound over (found state over)) (repeated body otherwise state)
 
 -- the pieces of a part, and of parts one behind the other
 abbrev mutual
@@ -131,9 +154,8 @@ abbrev mutual
   pieces (tree.show at how) state = found_shown how at (found state at)
   pieces (tree.choice at chosen otherwise) state =
       if is_true (found state at) then all_pieces chosen state else all_pieces otherwise state
-  pieces (tree.loop name over body otherwise) state =
-      and_then (found_items over (found state over))
-      (λ xs. repeated (all_pieces body) (all_pieces otherwise) state (named_items name xs))
+  pieces (tree.loop bound over body otherwise) state =
+      looped bound over (all_pieces body) (all_pieces otherwise) state
 
   pub all_pieces : Parts → State → Pieces
   all_pieces tree.no_parts state = Ok []

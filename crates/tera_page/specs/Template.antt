@@ -11,15 +11,20 @@ pub data Showing : Type 0 where
   in_page : Showing
   as_printed : Showing
 
+-- what a loop binds: a name for each item of an array, or two for each pair of a map
+pub data Bound : Type 0 where
+  item : List ℕ → Bound
+  pair : List ℕ → List ℕ → Bound
+
 -- a text; a comment; a value that is shown; what is taken where a value is true, and where not;
--- what is repeated with a name for each item of an array, and what is taken of one without items
+-- what is repeated in each turn of a loop, and what is taken where it has none
 mutual
   pub data Part : Type 0 where
     text : List ℕ → Part
     comment : List ℕ → Part
     show : Place → Showing → Part
     choice : Place → Parts → Parts → Part
-    loop : List ℕ → Place → Parts → Parts → Part
+    loop : Bound → Place → Parts → Parts → Part
 
   pub data Parts : Type 0 where
     no_parts : Parts

@@ -1,9 +1,9 @@
 -- What the clauses of the reader's private functions cite.
-use Rattle.std.specs.Prelude.{◌≡◌, ◌||◌, ℕ, Bool, List, [], ◌∷◌, codes}
+use Rattle.std.specs.Prelude.{◌≡◌, ◌||◌, ℕ, Bool, List, [], codes}
 use Rattle.tera_page.specs.Grammar as grammar
-use Rattle.tera_page.specs.Grammar.{IsPlace, IsProper, IsRun, Marked, Shows, SpellsTag, Words}
-use Rattle.tera_page.specs.Grammar.{comment_mark, leaves_out, opens, value_mark, words_of}
-use Rattle.tera_page.specs.View.{place_of, showing_of}
+use Rattle.tera_page.specs.Grammar.{IsPlace, IsRun, Marked, Shows, SpellsTag, comment_mark}
+use Rattle.tera_page.specs.Grammar.{leaves_out, opens, value_mark}
+use Rattle.tera_page.specs.View.{bound_of, place_of, showing_of}
 use Rattle.tera_page.specs.declared.token.Mark.{Mark}
 use Rattle.tera_page.specs.declared.token.Mark.TheVariants as mark
 use Rattle.tera_page.specs.declared.token.Tag.{Tag}
@@ -16,7 +16,7 @@ tag_of (If at) = grammar.if_tag (place_of at)
 tag_of (Elif at) = grammar.elif_tag (place_of at)
 tag_of Else = grammar.else_tag
 tag_of EndIf = grammar.endif_tag
-tag_of (For name over) = grammar.for_tag name.now (place_of over)
+tag_of (For bound over) = grammar.for_tag (bound_of bound) (place_of over)
 tag_of EndFor = grammar.endfor_tag
 
 -- the text is the token, and then the rest
@@ -44,11 +44,15 @@ mark_of mark.Value = grammar.value_mark
 mark_of mark.Tag = grammar.tag_mark
 mark_of mark.Comment = grammar.comment_mark
 
--- the words of the tag behind the first, which is `for`, make up the text
-abbrev pub IsForTag : grammar.Tag → List ℕ → Type 0
-IsForTag tag text =
-    (words : List (List ℕ)) × IsProper tag × (words_of tag ≡ codes "for" ∷ words) × Words words text
-
--- the word is the only one of the tag
+-- a tag of one word is that
 abbrev pub IsBareTag : grammar.Tag → List ℕ → Type 0
-IsBareTag tag word = IsProper tag × (words_of tag ≡ word ∷ [])
+IsBareTag grammar.else_tag word = word ≡ codes "else"
+IsBareTag grammar.endif_tag word = word ≡ codes "endif"
+IsBareTag grammar.endfor_tag word = word ≡ codes "endfor"
+IsBareTag _ word = ⊥
+
+-- what stands behind `for` is that of the tag
+abbrev pub IsForTag : grammar.Tag → List ℕ → Type 0
+IsForTag (grammar.for_tag bound over) text =
+    grammar.IsProper (grammar.for_tag bound over) × grammar.Loops bound over text
+IsForTag _ text = ⊥

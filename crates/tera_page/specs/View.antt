@@ -5,6 +5,8 @@ use Rattle.std.specs.Option.{option_copied}
 use Rattle.tera.specs.State.{State}
 use Rattle.tera_page.specs.Rendering.{Names, under}
 use Rattle.tera_page.specs.Template as tree
+use Rattle.tera_page.specs.declared.tree.Bound.{Bound}
+use Rattle.tera_page.specs.declared.tree.Bound.TheVariants.{Item, Pair}
 use Rattle.tera_page.specs.declared.scope.Scope.{Scope, fold-Scope}
 use Rattle.tera_page.specs.declared.scope.Scope.TheOpen.{Scope-F}
 use Rattle.tera_page.specs.declared.scope.Turn.{Turn}
@@ -22,14 +24,18 @@ abbrev pub showing_of : Showing → tree.Showing
 showing_of InPage = tree.in_page
 showing_of AsPrinted = tree.as_printed
 
+abbrev pub bound_of : Bound → tree.Bound
+bound_of (Item name) = tree.item name.now
+bound_of (Pair key value) = tree.pair key.now value.now
+
 abbrev pub node_step : Node-F tree.Part → tree.Part
 node_step (Node-F.Text shown) = tree.text shown.now
 node_step (Node-F.Comment said) = tree.comment said.now
 node_step (Node-F.Show at how) = tree.show (place_of at) (showing_of how)
 node_step (Node-F.If at chosen otherwise) =
     tree.choice (place_of at) (tree.parts chosen.items) (tree.parts otherwise.items)
-node_step (Node-F.For name over body otherwise) =
-    tree.loop name.now (place_of over) (tree.parts body.items) (tree.parts otherwise.items)
+node_step (Node-F.For bound over body otherwise) =
+    tree.loop (bound_of bound) (place_of over) (tree.parts body.items) (tree.parts otherwise.items)
 
 abbrev pub part_of : Node → tree.Part
 part_of = fold-Node tree.Part node_step

@@ -16,4 +16,4 @@ mod word;
 
 pub use page::render;
 pub use syntax::{parse, parse_named};
-pub use tree::{Node, Place, Showing, Template};
+pub use tree::{Bound, Node, Place, Showing, Template};

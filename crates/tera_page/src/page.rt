@@ -1,32 +1,39 @@
 //! The page of a template.
-ghost use Rattle.std.specs.Prelude.{◌≡◌, ◌++◌, ℕ, List, IfOk, IfErr, OnOk, IsTrue};
+ghost use Rattle.std.specs.Prelude.{◌≡◌, ◌++◌, ℕ, List, IfOk, IfErr, Ok, OnOk, IsTrue, length};
+ghost use Rattle.std.specs.Prelude.{nat_eq, not};
 ghost use Rattle.std.specs.String.{string_bytes};
 ghost use Rattle.tera.specs.Errors.{IsOutOfMemory, Refuses};
 ghost use Rattle.tera.specs.Form.{Form};
 ghost use Rattle.tera.specs.Growing.{grown_bytes};
+ghost use Rattle.tera.specs.State.{State};
 ghost use Rattle.tera_page.specs.Headline.{BringsNoTag};
 ghost use Rattle.tera_page.specs.Rendering.{IsPageOf, all_pieces, each, found, found_items};
 ghost use Rattle.tera_page.specs.Rendering.{ShowsPiece, found_shown, is_true, named_items, pieces};
+ghost use Rattle.tera_page.specs.Rendering.{Names, Pieces, found_pairs, looped, named_pairs, owns};
 ghost use Rattle.tera_page.specs.Rendering.{turns};
 ghost use Rattle.tera_page.specs.Rendering;
-ghost use Rattle.tera_page.specs.View.{part_of, parts_of, place_of, showing_of, state_of, tree_of};
+ghost use Rattle.tera_page.specs.View.{bound_of, part_of, parts_of, place_of, showing_of};
+ghost use Rattle.tera_page.specs.View.{state_of, tree_of};
 
 use crate::laws::values_bring_no_tag;
-use crate::refused::{no_array_at, nothing_at};
+use crate::refused::{no_array_at, no_map_at, nothing_at};
 use crate::scope::{Scope, Turn, found};
-use crate::tree::{Node, Place, Showing, Template};
+use crate::tree::{Bound, Node, Place, Showing, Template};
 use std::alloc::Global;
 use tera::sink::{Growing, Sink};
-use tera::{Context, TeraResult, Value, show_in_page};
+use tera::{Context, Map, TeraResult, Value, show_in_page};
 
 /// The page of a template, whose names stand for what the context holds, and inside a loop for its
 /// items and turns. A value is shown as it prints, escaped unless it is safe: what is not marked
 /// safe brings no tag, and ends no quoted attribute.
 ///
 /// Refuses the first place that is shown or looped over where nothing, or undefined, is found, with
-/// ``Nothing is found at `P` ``, without the last blank, and the first one that is looped over
-/// where no array is, with ``What is found at `P` is no array``. In a condition, what is not found
-/// is false. Takes memory for the page; want of it, `Out of memory`, is answered in its place.
+/// ``Nothing is found at `P` ``, without the last blank. Refuses the first loop by one name where
+/// no array is found, with ``What is found at `P` is no array``, and by two where no map is, with
+/// ``What is found at `P` is no map``. In a condition, what is not found is false.
+///
+/// Takes memory for the page, and for a key that is a text; want of it is answered by `Out of
+/// memory`.
 pub fn render<'a>(
     alloc: Global,
     template: &'a Template<'_>,
@@ -92,17 +99,50 @@ fn put_node<'a, 't>(
             }
         }
         Node::For {
-            name,
+            bound,
             over,
             body,
             otherwise,
         } => {
-            let items = found_items(alloc, *over, scope)?;
-            if items.is_empty() {
-                put_nodes(alloc, otherwise.as_slice(), scope, page)
+            if put_turns(alloc, *bound, *over, body.as_slice(), scope, page)? {
+                Ok(())
             } else {
-                put_each(alloc, body.as_slice(), *name, items, scope, page)
+                put_nodes(alloc, otherwise.as_slice(), scope, page)
             }
+        }
+    }
+}
+
+// Puts parts in each turn of a loop, and says whether it has one.
+#[cycle(put)]
+fn put_turns<'a, 't>(
+    alloc: Global,
+    bound: Bound<'a>,
+    over: Place<'a>,
+    body: &'a [Node<'t>],
+    scope: &'a Scope<'a>,
+    page: &mut Growing,
+) -> TeraResult<bool>
+    ensures ok { IfOk result (λ turned. (all : List Names) × (shown : List ℕ)
+        × (owns (bound_of bound.entry) (place_of over.entry)
+        (found (state_of scope.now) (place_of over.entry)) ≡ Ok all)
+        × IsPageOf (each (all_pieces (parts_of body.now)) (turns (state_of scope.now) all)) shown
+        × (grown_bytes page.new ≡ grown_bytes page.old ++ shown)
+        × (turned ≡ not (nat_eq (length all) 0))) }
+    ensures err { IfErr result (λ e. (otherwise : State → Pieces)
+        → Refuses (looped (bound_of bound.entry) (place_of over.entry)
+        (all_pieces (parts_of body.now)) otherwise (state_of scope.now)) e) }
+{
+    match bound {
+        Bound::Item(name) => {
+            let items = found_items(alloc, over, scope)?;
+            put_each(alloc, body, name, items, scope, page)?;
+            Ok(!items.is_empty())
+        }
+        Bound::Pair(key_name, name) => {
+            let pairs = found_pairs(alloc, over, scope)?;
+            put_pairs(alloc, body, key_name, name, pairs, scope, page)?;
+            Ok(!pairs.is_empty())
         }
     }
 }
@@ -136,6 +176,49 @@ fn put_each<'a, 't>(
             outer: &around,
         };
         put_nodes(alloc, &*body, &inner, page)?;
+    }
+    Ok(())
+}
+
+// Puts parts for each pair, its key and its value each under a name, and with the names of its
+// turn.
+#[cycle(put)]
+fn put_pairs<'a, 't>(
+    alloc: Global,
+    body: &'a [Node<'t>],
+    key_name: &'a str,
+    name: &'a str,
+    pairs: &'a Map,
+    scope: &'a Scope<'a>,
+    page: &mut Growing,
+) -> TeraResult<()>
+    ensures ok { OnOk result ((shown : List ℕ)
+        × IsPageOf (each (all_pieces (parts_of body.now))
+        (turns (state_of scope.now) (named_pairs key_name.now name.now pairs.now))) shown
+        × (grown_bytes page.new ≡ grown_bytes page.old ++ shown)) }
+    ensures err { IfErr result (Refuses (each (all_pieces (parts_of body.now))
+        (turns (state_of scope.now) (named_pairs key_name.now name.now pairs.now)))) }
+{
+    let mut at = 0usize;
+    for (key, value) in pairs.iter() {
+        let key = key.as_value(alloc)?;
+        let turn = Turn::new(at, pairs.len());
+        let around = Scope::Turn {
+            turn: &turn,
+            outer: &*scope,
+        };
+        let outer = Scope::Item {
+            name: &*key_name,
+            value: &key,
+            outer: &around,
+        };
+        let inner = Scope::Item {
+            name: &*name,
+            value: &*value,
+            outer: &outer,
+        };
+        put_nodes(alloc, &*body, &inner, page)?;
+        at = at.saturating_add(1);
     }
     Ok(())
 }
@@ -198,5 +281,21 @@ fn found_items<'a>(alloc: Global, at: Place<'a>, scope: &'a Scope<'a>) -> TeraRe
     match value.as_array() {
         Some(items) => Ok(items),
         None => Err(no_array_at(alloc, at)),
+    }
+}
+
+// The pairs of the map that is found at a place.
+fn found_pairs<'a>(alloc: Global, at: Place<'a>, scope: &'a Scope<'a>) -> TeraResult<&'a Map>
+    ensures ok { IfOk result (λ pairs. found_pairs (place_of at.entry)
+        (found (state_of scope.now) (place_of at.entry)) ≡ Ok pairs.now) }
+    ensures err { IfErr result (Refuses (found_pairs (place_of at.entry)
+        (found (state_of scope.now) (place_of at.entry)))) }
+{
+    let Some(value) = found(scope, at) else {
+        return Err(nothing_at(alloc, at));
+    };
+    match value.as_map() {
+        Some(pairs) => Ok(pairs),
+        None => Err(no_map_at(alloc, at)),
     }
 }

@@ -1,7 +1,7 @@
 //! Why a page is refused.
 ghost use Rattle.std.specs.Prelude.{◌++◌};
 ghost use Rattle.tera.specs.Errors.{Raises};
-ghost use Rattle.tera_page.specs.Rendering.{nothing_at, no_array_at};
+ghost use Rattle.tera_page.specs.Rendering.{nothing_at, no_array_at, no_map_at};
 ghost use Rattle.tera_page.specs.View.{place_of};
 
 use crate::tree::Place;
@@ -27,6 +27,19 @@ pub(crate) fn no_array_at(alloc: Global, at: Place<'_>) -> Error
         Some(to) => Error::message_of(
             alloc,
             &["What is found at `", at.name, ".", to, "` is no array"],
+        ),
+    }
+}
+
+/// What is found at a place is no map.
+pub(crate) fn no_map_at(alloc: Global, at: Place<'_>) -> Error
+    ensures { Raises (no_map_at (place_of at.entry)) result }
+{
+    match at.to {
+        None => Error::message_of(alloc, &["What is found at `", at.name, "` is no map"]),
+        Some(to) => Error::message_of(
+            alloc,
+            &["What is found at `", at.name, ".", to, "` is no map"],
         ),
     }
 }

@@ -10,11 +10,11 @@ ghost use Rattle.tera_page.specs.Reading.{IsChoice, IsLastStep, IsLoop, IsSectio
 ghost use Rattle.tera_page.specs.Reading.{IsSyntaxError, StopsAt, end_tag, rest_of};
 ghost use Rattle.tera_page.specs.declared.fault.Fault.TheVariants.{Memory};
 ghost use Rattle.tera_page.specs.Tokens.{tag_of};
-ghost use Rattle.tera_page.specs.View.{parts_of, place_of, tree_of};
+ghost use Rattle.tera_page.specs.View.{bound_of, parts_of, place_of, tree_of};
 
 use crate::fault::Fault;
 use crate::token::{Tag, Token, take_token};
-use crate::tree::{Node, Place, Template};
+use crate::tree::{Bound, Node, Place, Template};
 use std::alloc::Global;
 use tera::TeraResult;
 
@@ -147,8 +147,8 @@ fn read_tag<'a>(
             let (node, rest) = read_if(alloc, at, from, rest, levels)?;
             Ok(Step::Node(node, rest))
         }
-        Tag::For(name, over) => {
-            let (node, rest) = read_for(alloc, name, over, from, rest, levels)?;
+        Tag::For(bound, over) => {
+            let (node, rest) = read_for(alloc, bound, over, from, rest, levels)?;
             Ok(Step::Node(node, rest))
         }
         other => Ok(Step::Stop(other, rest)),
@@ -193,14 +193,14 @@ fn read_if<'a>(
 #[cycle(read)]
 fn read_for<'a>(
     alloc: Global,
-    name: &'a str,
+    bound: Bound<'a>,
     over: Place<'a>,
     from: &'a str,
     text: &'a str,
     levels: usize,
 ) -> Result<(Node<'a>, &'a str), Fault<'a>>
     ensures read { IfOk result
-        (λ read. IsLoop name.now (place_of over.entry) read.0 text.now read.1.now) }
+        (λ read. IsLoop (bound_of bound.entry) (place_of over.entry) read.0 text.now read.1.now) }
     ensures within { IfOk result (λ read. length read.1.now ≤ length text.now) }
 {
     if levels == 0 {
@@ -215,7 +215,7 @@ fn read_for<'a>(
     let (otherwise, rest) = read_end(alloc, End::For, stop, at, rest, levels - 1)?;
     Ok((
         Node::For {
-            name,
+            bound,
             over,
             body: nodes,
             otherwise,

@@ -2,14 +2,15 @@
 ghost use Rattle.std.specs.Prelude.{◌≡◌, ◌++◌, ◌-◌, ◌≤◌, ◌<◌, ◌∷◌, [], ℕ, List, IfSome, IfNone};
 ghost use Rattle.std.specs.Prelude.{true, false, cond, take, drop, codes, length, slice_index};
 ghost use Rattle.std.specs.Option.{IsSomeAnd};
-ghost use Rattle.tera_page.specs.Grammar.{AreBlanks, DashFirst, DashLast, InTag, IsPlace, IsPlain};
+ghost use Rattle.tera_page.specs.Grammar.{AreBlanks, Binds, DashFirst, DashLast, InTag, IsBound};
+ghost use Rattle.tera_page.specs.Grammar.{IsPlace, IsPlain};
 ghost use Rattle.tera_page.specs.Grammar.{Marked, NoneOpens, Shows, closing, filter_of, is_blank};
 ghost use Rattle.tera_page.specs.Grammar.{leaves_out, opening, opens, opens_dashed};
 ghost use Rattle.tera_page.specs.Tokens.{IsBareTag, IsForTag, IsLastRun, SpellsToken, begins};
 ghost use Rattle.tera_page.specs.Tokens.{mark_of, tag_of};
-ghost use Rattle.tera_page.specs.View.{place_of, showing_of};
+ghost use Rattle.tera_page.specs.View.{bound_of, place_of, showing_of};
 
-use crate::tree::{Place, Showing};
+use crate::tree::{Bound, Place, Showing};
 use crate::word::{
     are_blanks, behind, cut_at, is_blank, is_name, next_word, only_word, past_blanks, place_in,
 };
@@ -21,7 +22,7 @@ pub(crate) enum Tag<'a> {
     Elif(Place<'a>),
     Else,
     EndIf,
-    For(&'a str, Place<'a>),
+    For(Bound<'a>, Place<'a>),
     EndFor,
 }
 
@@ -236,12 +237,38 @@ fn tag_in(inner: &str) -> Option<Tag<'_>>
 fn for_in(text: &str) -> Option<Tag<'_>>
     ensures { IfSome result (λ tag. IsForTag (tag_of tag) text.now) }
 {
-    let (name, rest) = next_word(text);
+    let (bound, rest) = bound_in(text)?;
     let (between, rest) = next_word(rest);
-    if between == "in" && is_name(name) {
-        Some(Tag::For(name, place_in(only_word(rest)?)?))
+    if between == "in" {
+        Some(Tag::For(bound, place_in(only_word(rest)?)?))
     } else {
         None
+    }
+}
+
+// What a loop binds, and what stands behind it.
+fn bound_in(text: &str) -> Option<(Bound<'_>, &str)>
+    ensures proper { IfSome result (λ bound. IsBound (bound_of bound.0)) }
+    ensures binds { IfSome result (λ bound. Binds (bound_of bound.0) text.now bound.1.now) }
+{
+    match cut_at(text, ",") {
+        None => {
+            let (name, rest) = next_word(text);
+            if is_name(name) {
+                Some((Bound::Item(name), rest))
+            } else {
+                None
+            }
+        }
+        Some((left, right)) => {
+            let key = only_word(left)?;
+            let (value, rest) = next_word(right);
+            if is_name(key) && is_name(value) {
+                Some((Bound::Pair(key, value), rest))
+            } else {
+                None
+            }
+        }
     }
 }
 

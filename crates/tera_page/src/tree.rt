@@ -18,6 +18,15 @@ pub enum Showing {
     AsPrinted,
 }
 
+/// What a loop binds.
+#[derive(Clone, Copy, Debug, PartialEq, Eq)]
+pub enum Bound<'a> {
+    /// A name for each item of an array.
+    Item(&'a str),
+    /// Two names for each pair of a map: its key's, and its value's, which hides a key's.
+    Pair(&'a str, &'a str),
+}
+
 /// A part of a template.
 #[derive(Debug, Drop)]
 pub enum Node<'a> {
@@ -36,10 +45,9 @@ pub enum Node<'a> {
         then: Vec<Node<'a>>,
         otherwise: Vec<Node<'a>>,
     },
-    /// What is repeated for each item of an array, under a name, and what is taken of an array
-    /// without items.
+    /// What is repeated for each item or pair, and what is taken where there is none.
     For {
-        name: &'a str,
+        bound: Bound<'a>,
         over: Place<'a>,
         body: Vec<Node<'a>>,
         otherwise: Vec<Node<'a>>,

@@ -7,7 +7,7 @@ use Rattle.tera_page.specs.Grammar as grammar
 use Rattle.tera_page.specs.Grammar.{SpellsEnd, SpellsElse, SpellsTag, SpellsUpTo, else_tag, elif_tag}
 use Rattle.tera_page.specs.Reading.{IsLastStep, IsStep, end_tag, rest_of}
 use Rattle.tera_page.specs.Tokens.{IsLastRun, SpellsToken, tag_of}
-use Rattle.tera_page.specs.View.{parts_of, place_of}
+use Rattle.tera_page.specs.View.{bound_of, parts_of, place_of}
 
 pub read_else-returns-clause-spells : goal.read_else-returns-clause-spells
 read_else-returns-clause-spells t c left stops =
@@ -81,7 +81,7 @@ read_tag-returns-in_ok-node-in-If-clause-step t c spells =
 
 pub read_tag-returns-in_ok-node-in-For-clause-step : goal.read_tag-returns-in_ok-node-in-For-clause-step
 read_tag-returns-in_ok-node-in-For-clause-step t c spells =
-    next_loop c.args.from.now c.in_ok-node-in-For.rest.now c.in-For.name.now (place_of c.in-For.over) c.in_ok-node-in-For.node c.args.rest.now
+    next_loop c.args.from.now c.in_ok-node-in-For.rest.now (bound_of c.in-For.bound) (place_of c.in-For.over) c.in_ok-node-in-For.node c.args.rest.now
     (subst (λ t. SpellsTag (tag_of t) c.args.from.now c.args.rest.now) c.in-For.is spells) c.in_ok-node-in-For.ensures.read
 
 pub read_nodes-parts-init : goal.read_nodes-parts-init

@@ -1,5 +1,5 @@
 -- The parts of the text.
-use Rattle.std.proofs.Common.{◌∙◌, ◌++◌, [], true, refl, ap, sym, subst}
+use Rattle.std.proofs.Common.{◌∙◌, ◌++◌, [], refl, ap, sym, subst}
 use Rattle.tera_page.proofs.Fronts.{behind_marks, marked_there, never, none_out}
 use Rattle.tera_page.proofs.token.marked.Goals as goal
 use Rattle.tera_page.specs.Grammar.{LeftOut, closing, opening}
