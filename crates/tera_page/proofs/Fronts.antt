@@ -8,7 +8,8 @@ use Rattle.std.proofs.lemmas.List.{length-append}
 use Rattle.std.proofs.lemmas.Str.{IsCharBoundary-start, IsCharBoundary-after_ascii}
 use Rattle.std.specs.Str.{IsUtf8, IsCharBoundary}
 use Rattle.std.specs.List.{list_all}
-use Rattle.tera_page.specs.Grammar.{AreBlanks, DashFirst, DashLast, LeftOut, Mark, Marked, NoneOpens, begins_blank, closing, is_blank}
+use Rattle.tera_page.specs.Grammar.{DashFirst, DashLast, LeftOut, Mark, Marked, NoneOpens, begins_blank, closing}
+use Rattle.tera_page.specs.Words.{AreBlanks, is_blank}
 use Rattle.tera_page.specs.Grammar.{leaves_out, opening, opens, opens_dashed, value_mark, tag_mark, comment_mark}
 use Rattle.tera_page.specs.Tokens.{begins}
 
@@ -107,19 +108,27 @@ pub begins_left_out : (bs : List ℕ) (n at : ℕ) → n ≡ 0 → ((i : ℕ) �
 begins_left_out bs n at none all is =
     or_true (opens bs) (leaves_out bs) (blanks_left_out bs at (λ i below. all i (omega (arith, none)) below) is)
 
-pub blanks_before : (bs : List ℕ) (k : ℕ) → k ≤ length bs → ((i : ℕ) → i < k → is_blank (slice_index bs i) ≡ true) → AreBlanks (take k bs)
-blanks_before [] zero within all = refl
-blanks_before [] (suc k) within all = refl
-blanks_before (b ∷ bs) zero within all = refl
-blanks_before (b ∷ bs) (suc k) within all =
-    ap (λ t. t && list_all is_blank (take k bs)) (all 0 (omega arith)) ∙ blanks_before bs k (omega arith) (λ i below. all (suc i) (omega arith))
+-- what holds of each byte at the front holds of all of them
+pub all_before : (f : ℕ → Bool) (bs : List ℕ) (k : ℕ) → k ≤ length bs → ((i : ℕ) → i < k → f (slice_index bs i) ≡ true)
+    → list_all f (take k bs) ≡ true
+all_before f [] zero within all = refl
+all_before f [] (suc k) within all = refl
+all_before f (b ∷ bs) zero within all = refl
+all_before f (b ∷ bs) (suc k) within all =
+    ap (λ t. t && list_all f (take k bs)) (all 0 (omega arith)) ∙ all_before f bs k (omega arith) (λ i below. all (suc i) (omega arith))
 
--- a text may be cut behind blanks
-pub cut_behind_blanks : (bs : List ℕ) (k : ℕ) → IsUtf8 bs → k ≤ length bs → ((i : ℕ) → i < k → is_blank (slice_index bs i) ≡ true) → IsCharBoundary bs k
-cut_behind_blanks bs zero u within all = IsCharBoundary-start bs u
-cut_behind_blanks bs (suc k) u within all =
+pub blanks_before : (bs : List ℕ) (k : ℕ) → k ≤ length bs → ((i : ℕ) → i < k → is_blank (slice_index bs i) ≡ true) → AreBlanks (take k bs)
+blanks_before = all_before is_blank
+
+-- a text may be cut behind ASCII
+pub cut_behind_ascii : (bs : List ℕ) (k : ℕ) → IsUtf8 bs → k ≤ length bs → ((i : ℕ) → i < k → slice_index bs i < 128) → IsCharBoundary bs k
+cut_behind_ascii bs zero u within all = IsCharBoundary-start bs u
+cut_behind_ascii bs (suc k) u within all =
     let next : k + 1 ≡ suc k = omega arith in
-    subst (IsCharBoundary bs) next (IsCharBoundary-after_ascii bs k u (omega arith) (blank_is_ascii _ (all k (omega arith))))
+    subst (IsCharBoundary bs) next (IsCharBoundary-after_ascii bs k u (omega arith) (all k (omega arith)))
+
+pub cut_behind_blanks : (bs : List ℕ) (k : ℕ) → IsUtf8 bs → k ≤ length bs → ((i : ℕ) → i < k → is_blank (slice_index bs i) ≡ true) → IsCharBoundary bs k
+cut_behind_blanks bs k u within all = cut_behind_ascii bs k u within (λ i below. blank_is_ascii _ (all i below))
 
 -- ---- marks
 
@@ -143,7 +152,7 @@ dash_there tag_mark (d ∷ ds) behind is = dash_first_is d ds is
 dash_there comment_mark [] behind is = absurd (cc)
 dash_there comment_mark (d ∷ ds) behind is = dash_first_is d ds is
 
-both : (t u : Bool) → t && u ≡ true → (t ≡ true) × (u ≡ true)
+pub both : (t u : Bool) → t && u ≡ true → (t ≡ true) × (u ≡ true)
 both true u is = (refl, is)
 both false u is = absurd (cc)
 

@@ -6,18 +6,20 @@ use Rattle.std.specs.Str.{bytes_eq}
 use Rattle.std.specs.Borrow.{Bor}
 use Rattle.std.specs.Option.{option_map, unwrap_or}
 use Rattle.tera_page.proofs.Views.{part-Comment, part-Show, part-Text}
+use Rattle.tera_page.specs.Expressions.{Writes}
 use Rattle.tera_page.specs.Grammar as grammar
-use Rattle.tera_page.specs.Grammar.{InTag, IsNext, IsPlace, IsPlain, IsRun, Marked, Shows, SpellsElse, SpellsPart, SpellsTag, SpellsUpTo}
+use Rattle.tera_page.specs.Grammar.{InTag, IsPlain, IsRun, Marked, Shows, SpellsElse, SpellsPart, SpellsTag, SpellsUpTo}
+use Rattle.tera_page.specs.Words.{IsNext, IsPlace}
 use Rattle.tera_page.specs.Grammar.{Tag, if_tag, for_tag, elif_tag, comment_mark, value_mark}
 use Rattle.tera_page.specs.Reading.{IsChoice, IsLoop, StopsAt}
 use Rattle.tera_page.specs.Template as tree
 use Rattle.tera_page.specs.Template.{Part, Parts}
 use Rattle.tera_page.specs.Tokens.{IsForTag, tag_of}
-use Rattle.tera_page.specs.View.{part_of, parts_of, place_of, showing_of}
+use Rattle.tera_page.specs.View.{part_of, parts_of, showing_of, written_of}
 use Rattle.tera_page.specs.declared.token.Tag as code
 use Rattle.tera_page.specs.declared.tree.Node as node
-use Rattle.tera_page.specs.declared.tree.Place as code_place
 use Rattle.tera_page.specs.declared.tree.Showing as code_showing
+use Rattle.tera_page.specs.declared.tree.Written as code_written
 
 -- what a tag of a loop says, behind its first word
 pub for_said : (tag : Tag) (said word rest : List ℕ) → word ≡ codes "for" → IsNext said word rest → IsForTag tag rest → InTag tag said
@@ -63,28 +65,27 @@ module _ (text rest : List ℕ) where
   pub next_comment : (said : Bor (List ℕ)) → Marked comment_mark said.now text rest → NextIs (node.Comment said)
   next_comment said is = subst (λ p. SpellsPart p text rest) (sym (part-Comment said)) (grammar.comment said.now text rest is)
 
-  pub next_show : (at : code_place.Place) (how : code_showing.Showing)
-      → (said : List ℕ) × IsPlace (place_of at) × Shows (place_of at) (showing_of how) said × Marked value_mark said text rest
-      → NextIs (node.Show at how)
-  next_show at how (said, proper, shows, is) =
-      subst (λ p. SpellsPart p text rest) (sym (part-Show at how))
-      (grammar.show (place_of at) (showing_of how) said text rest proper shows is)
+  pub next_show : (written : code_written.Written) (how : code_showing.Showing) (said : List ℕ) → Writes (written_of written) said
+      → Shows said (showing_of how) text rest → NextIs (node.Show written how)
+  next_show written how said writes shows =
+      subst (λ p. SpellsPart p text rest) (sym (part-Show written how))
+      (grammar.show (written_of written) (showing_of how) said text rest writes shows)
 
-  pub next_choice : (at : tree.Place) (n : node.Node) (body : List ℕ) → SpellsTag (if_tag at) text body → IsChoice at n body rest → NextIs n
-  next_choice at n body tag (chosen, otherwise, tail, view, inside, end) =
-      subst (λ p. SpellsPart p text rest) (sym view) (grammar.choice at chosen otherwise text body tail rest tag inside end)
+  pub next_choice : (said : List ℕ) (n : node.Node) (body : List ℕ) → SpellsTag (if_tag said) text body → IsChoice said n body rest → NextIs n
+  next_choice said n body tag (test, chosen, otherwise, tail, writes, view, inside, end) =
+      subst (λ p. SpellsPart p text rest) (sym view) (grammar.choice test chosen otherwise said text body tail rest writes tag inside end)
 
-  pub next_loop : (bound : tree.Bound) (over : tree.Place) (n : node.Node) (body : List ℕ) → SpellsTag (for_tag bound over) text body
-      → IsLoop bound over n body rest → NextIs n
-  next_loop bound over n body tag (repeated, otherwise, tail, view, inside, end) =
-      subst (λ p. SpellsPart p text rest) (sym view) (grammar.loop bound over repeated otherwise text body tail rest tag inside end)
+  pub next_loop : (bound : tree.Bound) (said : List ℕ) (n : node.Node) (body : List ℕ) → SpellsTag (for_tag bound said) text body
+      → IsLoop bound said n body rest → NextIs n
+  next_loop bound said n body tag (over, repeated, otherwise, tail, writes, view, inside, end) =
+      subst (λ p. SpellsPart p text rest) (sym view) (grammar.loop bound over repeated otherwise said text body tail rest writes tag inside end)
 
 -- an `elif` and what it begins
-pub else_elif : (at : tree.Place) (n : node.Node) (left text rest : List ℕ) → SpellsTag (elif_tag at) left text → IsChoice at n text rest
+pub else_elif : (said : List ℕ) (n : node.Node) (left text rest : List ℕ) → SpellsTag (elif_tag said) left text → IsChoice said n text rest
     → SpellsElse (parts_of (n ∷ [])) left rest
-else_elif at n left text rest tag (chosen, otherwise, tail, view, inside, end) =
+else_elif said n left text rest tag (test, chosen, otherwise, tail, writes, view, inside, end) =
     subst (λ p. SpellsElse (tree.part p tree.no_parts) left rest) (sym view)
-    (grammar.elif at chosen otherwise left text tail rest tag inside end)
+    (grammar.elif test chosen otherwise said left text tail rest writes tag inside end)
 
 -- the tag at which parts stop
 pub ends_at : (stop : Option code.Tag) (end : Tag) (left rest : List ℕ) → option_map tag_of stop ≡ Some end → StopsAt stop left rest

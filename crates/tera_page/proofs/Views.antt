@@ -1,5 +1,5 @@
 -- What nodes and scopes stand for, variant by variant.
-use Rattle.std.specs.Prelude.{◌≡◌, ℕ, nat_eq, length, not, Bool, true, false, cond, List, [], ◌∷◌, Option, Some, Ok, Vec, refl}
+use Rattle.std.specs.Prelude.{◌≡◌, ℕ, nat_eq, length, not, Bool, true, false, cond, List, [], ◌∷◌, Option, Some, Result, Ok, Err, Vec, refl}
 use Rattle.std.proofs.Common.{ap, rules, ◌∙◌}
 use Rattle.std.specs.Borrow.{Bor}
 use Rattle.std.specs.Cmp.{eq_by_cmp_equiv}
@@ -10,18 +10,20 @@ use Rattle.std.specs.Str.{bytes_eq}
 use Rattle.std.specs.declared.alloc.Global.{Global}
 use Rattle.std.proofs.lemmas.Map.Text.{is_eq-slice_cmp}
 use Rattle.tera.specs.Form.{Form}
+use Rattle.tera.specs.Refusal.{Refusal}
 use Rattle.tera.specs.State.{State}
 use Rattle.tera.specs.Arithmetic.{and_then}
-use Rattle.tera_page.specs.Rendering.{IsPageOf, Names, all_pieces, each, found, joined, looped, owns, pieces, repeated, stands_for}
+use Rattle.tera_page.specs.Rendering.{IsPageOf, Names, all_pieces, each, joined, looped, owns, pieces, repeated, stands_for}
 use Rattle.tera_page.specs.Rendering.{turn_names, turns, under}
 use Rattle.tera_page.specs.Template as tree
-use Rattle.tera_page.specs.View.{bound_of, names_of, part_of, parts_of, place_of, showing_of, state_of}
+use Rattle.tera_page.specs.Values.{is_true, value_of}
+use Rattle.tera_page.specs.View.{bound_of, expression_of, names_of, part_of, parts_of, showing_of, state_of, written_of}
 use Rattle.tera_page.specs.declared.scope.Scope as scope
 use Rattle.tera_page.specs.declared.scope.Turn.{Turn}
 use Rattle.tera_page.specs.declared.tree.Bound.{Bound}
 use Rattle.tera_page.specs.declared.tree.Node as node
-use Rattle.tera_page.specs.declared.tree.Place.{Place}
 use Rattle.tera_page.specs.declared.tree.Showing.{Showing}
+use Rattle.tera_page.specs.declared.tree.Written.{Written}
 
 pub state-Item : (name : Bor (List ℕ)) (value : Bor Form) (outer : Bor scope.Scope)
     → state_of (scope.Item name value outer) ≡ insert (state_of outer.now) name.now value.now
@@ -53,11 +55,15 @@ part-Text shown = search (rules, node.the_lemmas)
 pub part-Comment : (said : Bor (List ℕ)) → part_of (node.Comment said) ≡ tree.comment said.now
 part-Comment said = search (rules, node.the_lemmas)
 
-pub part-Show : (at : Place) (how : Showing) → part_of (node.Show at how) ≡ tree.show (place_of at) (showing_of how)
-part-Show at how = search (rules, node.the_lemmas)
+pub part-Show : (written : Written) (how : Showing) → part_of (node.Show written how) ≡ tree.show (written_of written) (showing_of how)
+part-Show written how = search (rules, node.the_lemmas)
 
-pub part-For : (bound : Bound) (over : Place) (body otherwise : Vec node.Node Global)
-    → part_of (node.For bound over body otherwise) ≡ tree.loop (bound_of bound) (place_of over) (parts_of body.items) (parts_of otherwise.items)
+pub part-If : (test : Written) (chosen otherwise : Vec node.Node Global)
+    → part_of (node.If test chosen otherwise) ≡ tree.choice (written_of test) (parts_of chosen.items) (parts_of otherwise.items)
+part-If test chosen otherwise = search (rules, node.the_lemmas)
+
+pub part-For : (bound : Bound) (over : Written) (body otherwise : Vec node.Node Global)
+    → part_of (node.For bound over body otherwise) ≡ tree.loop (bound_of bound) (written_of over) (parts_of body.items) (parts_of otherwise.items)
 part-For bound over body otherwise = search (rules, node.the_lemmas)
 
 kept : (b : Bool) (v : Form) (o p : Option Form) → cond b (Some v) (option_or o p) ≡ option_or (cond b (Some v) o) p
@@ -85,27 +91,49 @@ pub all_each : (nodes : List node.Node) (state : State) → all_pieces (parts_of
 all_each [] state = refl
 all_each (n ∷ nodes) state = ap (joined (pieces (part_of n) state)) (all_each nodes state)
 
-module _ (held : node.Node) (bound : Bound) (over : Place) (body otherwise : Vec node.Node Global) (state : State)
+-- what a choice shows
+pub shows_choice : (held : node.Node) (test : Written) (chosen otherwise : Vec node.Node Global) (state : State) (v : Form) (b : Bool)
+    → held ≡ node.If test chosen otherwise → value_of (expression_of test.expression) state ≡ Ok v → is_true v ≡ b
+    → pieces (part_of held) state ≡ cond b (all_pieces (parts_of chosen.items) state) (all_pieces (parts_of otherwise.items) state)
+shows_choice held test chosen otherwise state v b is given same =
+    ap (λ p. pieces p state) (ap part_of is ∙ part-If test chosen otherwise)
+    ∙ ap (λ r. and_then r (λ w. cond (is_true w) (all_pieces (parts_of chosen.items) state) (all_pieces (parts_of otherwise.items) state))) given
+    ∙ ap (λ t. cond t (all_pieces (parts_of chosen.items) state) (all_pieces (parts_of otherwise.items) state)) same
+
+-- what comes after both of two steps
+grouped : {X Y Z : Type 0} (r : Result X Refusal) (f : X → Result Y Refusal) (g : Y → Result Z Refusal)
+    → and_then r (λ x. and_then (f x) g) ≡ and_then (and_then r f) g
+grouped (Ok x) f g = refl
+grouped (Err refusal) f g = refl
+
+module _ (held : node.Node) (bound : Bound) (over : Written) (body otherwise : Vec node.Node Global) (state : State)
     (is : held ≡ node.For bound over body otherwise) where
+  -- the names of each turn
+  abbrev pub loop_owns : Result (List Names) Refusal
+  loop_owns = and_then (value_of (expression_of over.expression) state) (owns (bound_of bound) over.text.now)
+
   -- what a loop shows
   pub shows_loop : pieces (part_of held) state
-      ≡ looped (bound_of bound) (place_of over) (all_pieces (parts_of body.items)) (all_pieces (parts_of otherwise.items)) state
+      ≡ and_then (value_of (expression_of over.expression) state)
+      (looped (bound_of bound) over.text.now (all_pieces (parts_of body.items)) (all_pieces (parts_of otherwise.items)) state)
   shows_loop = ap (λ p. pieces p state) (ap part_of is ∙ part-For bound over body otherwise)
 
   -- whose turns have these names
-  pub shows_turns : (all : List Names) → owns (bound_of bound) (place_of over) (found state (place_of over)) ≡ Ok all
+  pub shows_turns : (all : List Names) → loop_owns ≡ Ok all
       → pieces (part_of held) state ≡ repeated (all_pieces (parts_of body.items)) (all_pieces (parts_of otherwise.items)) state all
   shows_turns all given =
-      shows_loop ∙ ap (λ r. and_then r (repeated (all_pieces (parts_of body.items)) (all_pieces (parts_of otherwise.items)) state)) given
+      let turned = repeated (all_pieces (parts_of body.items)) (all_pieces (parts_of otherwise.items)) state in
+      shows_loop ∙ grouped (value_of (expression_of over.expression) state) (owns (bound_of bound) over.text.now) turned
+      ∙ ap (λ r. and_then r turned) given
 
   -- in each turn the body, where there is one
-  pub shows_each : (all : List Names) → owns (bound_of bound) (place_of over) (found state (place_of over)) ≡ Ok all
+  pub shows_each : (all : List Names) → loop_owns ≡ Ok all
       → true ≡ not (nat_eq (length all) 0) → pieces (part_of held) state ≡ each (all_pieces (parts_of body.items)) (turns state all)
   shows_each [] given some = absurd (cc)
   shows_each (own ∷ all) given some = shows_turns (own ∷ all) given
 
   -- and else the other parts, where in no turn something was shown
-  pub shows_otherwise : (all : List Names) (shown : List ℕ) → owns (bound_of bound) (place_of over) (found state (place_of over)) ≡ Ok all
+  pub shows_otherwise : (all : List Names) (shown : List ℕ) → loop_owns ≡ Ok all
       → false ≡ not (nat_eq (length all) 0) → IsPageOf (each (all_pieces (parts_of body.items)) (turns state all)) shown
       → (pieces (part_of held) state ≡ all_pieces (parts_of otherwise.items) state) × (shown ≡ [])
   shows_otherwise [] shown given none page = (shows_turns [] given, page)

@@ -1,79 +1,11 @@
 -- Which bytes spell a template.
-use Rattle.std.specs.Prelude.{◌≡◌, ◌≢◌, ◌⊎◌, ⊤, ◌||◌, ◌==◌, ◌&&◌, ◌<◌, ◌-◌, not, ℕ, Bool}
-use Rattle.std.specs.Prelude.{true, false, IsTrue, List, [], ◌∷◌, ◌++◌, drop, length, slice_index}
-use Rattle.std.specs.Prelude.{codes, Option, None, Some, if◌then◌else◌}
-use Rattle.std.specs.Char.{is_ascii_alphabetic, is_ascii_alphanumeric}
-use Rattle.std.specs.List.{list_all, list_any}
-use Rattle.std.specs.Str.{bytes_eq}
-use Rattle.tera_page.specs.Rendering.{place_and}
+use Rattle.std.specs.Prelude.{◌≡◌, ◌≢◌, ◌⊎◌, ⊤, ◌||◌, ◌==◌, ◌&&◌, ◌<◌, ◌-◌, ℕ, Bool, true, false}
+use Rattle.std.specs.Prelude.{IsTrue, List, [], ◌∷◌, ◌++◌, drop, length, slice_index, codes}
+use Rattle.tera_page.specs.Expressions.{Writes}
 use Rattle.tera_page.specs.Template as tree
-use Rattle.tera_page.specs.Template.{Bound, Place, Showing, Part, Parts, in_page, as_printed, item}
+use Rattle.tera_page.specs.Template.{Bound, Showing, Part, Parts, Written, in_page, as_printed, item}
 use Rattle.tera_page.specs.Template.{pair}
-
--- ---- words
-
--- a space, a tab, a line feed or a carriage return
-abbrev pub is_blank : ℕ → Bool
-is_blank b = b == 32 || (b == 9 || (b == 10 || b == 13))
-
-abbrev pub AreBlanks : List ℕ → Type 0
-AreBlanks bytes = IsTrue (list_all is_blank bytes)
-
--- there is nothing, or a blank is first
-abbrev pub Ends : List ℕ → Type 0
-Ends [] = ⊤
-Ends (b ∷ bytes) = is_blank b ≡ true
-
--- behind blanks stands a word, which ends there, and then the rest
-abbrev pub IsNext : List ℕ → List ℕ → List ℕ → Type 0
-IsNext text word rest =
-    (before : List ℕ) × AreBlanks before × Ends rest × (text ≡ before ++ (word ++ rest))
-
--- the text is these words, with blanks before, between and behind them
-abbrev pub Words : List (List ℕ) → List ℕ → Type 0
-Words [] text = AreBlanks text
-Words (word ∷ words) text = (rest : List ℕ) × IsNext text word rest × Words words rest
-
--- ---- names and places
-
-abbrev pub is_name_start : ℕ → Bool
-is_name_start b = is_ascii_alphabetic b || b == 95
-
-abbrev pub is_name_byte : ℕ → Bool
-is_name_byte b = is_ascii_alphanumeric b || b == 95
-
--- the words that stand for something else than a value of the state
-abbrev pub is_word_of_language : List ℕ → Bool
-is_word_of_language word =
-    list_any (bytes_eq word) (codes "and" ∷ codes "false" ∷ codes "in" ∷ codes "is" ∷ codes "loop"
-    ∷ codes "none" ∷ codes "not" ∷ codes "or" ∷ codes "true" ∷ [])
-
--- letters, digits and `_`, no digit first
-abbrev pub is_name : List ℕ → Bool
-is_name [] = false
-is_name (b ∷ bytes) =
-    is_name_start b && (list_all is_name_byte bytes && not (is_word_of_language (b ∷ bytes)))
-
--- elements of letters, digits and `_`, none empty, with dots between them; whether one has begun
-abbrev pub are_elements : Bool → List ℕ → Bool
-are_elements begun [] = begun
-are_elements begun (b ∷ bytes) =
-    if b == 46 then begun && are_elements false bytes else is_name_byte b && are_elements true bytes
-
-abbrev pub IsPath : Option (List ℕ) → Type 0
-IsPath None = ⊤
-IsPath (Some to) = IsTrue (are_elements false to)
-
--- the names that each turn of a loop brings
-abbrev pub is_loop_name : List ℕ → Bool
-is_loop_name word =
-    list_any (bytes_eq word) (codes "loop.first" ∷ codes "loop.index" ∷ codes "loop.index0"
-    ∷ codes "loop.last" ∷ [])
-
--- a name and maybe a path, or a name of a loop's turn without one
-abbrev pub IsPlace : Place → Type 0
-IsPlace at =
-    (IsTrue (is_name at.name) × IsPath at.to) ⊎ (IsTrue (is_loop_name at.name) × (at.to ≡ None))
+use Rattle.tera_page.specs.Words.{AreBlanks, IsNext, Words, is_blank, is_name}
 
 -- ---- marks
 
@@ -164,12 +96,13 @@ pub record Marked (mark : Mark) (said text rest : List ℕ) : Type 0 where
 
 -- ---- tags
 
+-- what a tag says: the text of an expression is told as it stands behind its word
 pub data Tag : Type 0 where
-  if_tag : Place → Tag
-  elif_tag : Place → Tag
+  if_tag : List ℕ → Tag
+  elif_tag : List ℕ → Tag
   else_tag : Tag
   endif_tag : Tag
-  for_tag : Bound → Place → Tag
+  for_tag : Bound → List ℕ → Tag
   endfor_tag : Tag
 
 -- behind blanks stands what is bound, and then the rest; a comma, maybe in blanks, parts two names
@@ -183,15 +116,14 @@ Binds (pair key value) text rest =
 abbrev pub Begins : List ℕ → (List ℕ → Type 0) → List ℕ → Type 0
 Begins word More text = (rest : List ℕ) × IsNext text word rest × More rest
 
--- what stands behind the first word of a loop
-abbrev pub Loops : Bound → Place → List ℕ → Type 0
-Loops bound over text =
-    (rest : List ℕ) × Binds bound text rest × Words (codes "in" ∷ place_and over [] ∷ []) rest
+-- what stands behind the first word of a loop: what is bound, `in`, and an expression
+abbrev pub Loops : Bound → List ℕ → List ℕ → Type 0
+Loops bound over text = (rest : List ℕ) × Binds bound text rest × IsNext rest (codes "in") over
 
 -- what a tag says between its marks
 abbrev pub Says : Tag → List ℕ → Type 0
-Says (if_tag at) said = Words (codes "if" ∷ place_and at [] ∷ []) said
-Says (elif_tag at) said = Words (codes "elif" ∷ place_and at [] ∷ []) said
+Says (if_tag test) said = IsNext said (codes "if") test
+Says (elif_tag test) said = IsNext said (codes "elif") test
 Says else_tag said = Words (codes "else" ∷ []) said
 Says endif_tag said = Words (codes "endif" ∷ []) said
 Says (for_tag bound over) said = Begins (codes "for") (Loops bound over) said
@@ -202,12 +134,8 @@ IsBound (item name) = IsTrue (is_name name)
 IsBound (pair key value) = IsTrue (is_name key) × IsTrue (is_name value)
 
 abbrev pub IsProper : Tag → Type 0
-IsProper (if_tag at) = IsPlace at
-IsProper (elif_tag at) = IsPlace at
-IsProper else_tag = ⊤
-IsProper endif_tag = ⊤
-IsProper (for_tag bound over) = IsBound bound × IsPlace over
-IsProper endfor_tag = ⊤
+IsProper (for_tag bound over) = IsBound bound
+IsProper _ = ⊤
 
 abbrev pub InTag : Tag → List ℕ → Type 0
 InTag tag said = IsProper tag × Says tag said
@@ -216,20 +144,21 @@ InTag tag said = IsProper tag × Says tag said
 abbrev pub SpellsTag : Tag → List ℕ → List ℕ → Type 0
 SpellsTag tag text rest = (said : List ℕ) × InTag tag said × Marked tag_mark said text rest
 
--- a place, and behind `|` a filter
-abbrev pub Filtered : Place → List ℕ → List ℕ → Type 0
-Filtered at filter said =
-    (left right : List ℕ) × Words (place_and at [] ∷ []) left × Words (filter ∷ []) right
-    × (said ≡ left ++ (codes "|" ++ right))
-
 -- `escape` asks for what is done without a filter, and so nothing is escaped twice
 abbrev pub filter_of : Showing → List ℕ
 filter_of in_page = codes "escape"
 filter_of as_printed = codes "safe"
 
-abbrev pub Shows : Place → Showing → List ℕ → Type 0
-Shows at how said =
-    ((how ≡ in_page) × Words (place_and at [] ∷ []) said) ⊎ Filtered at (filter_of how) said
+-- what is said is an expression's text, and maybe a filter behind `|`
+abbrev pub Filtered : List ℕ → Showing → List ℕ → Type 0
+Filtered said how whole =
+    ((how ≡ in_page) × (whole ≡ said))
+    ⊎ ((right : List ℕ) × Words (filter_of how ∷ []) right × (whole ≡ said ++ (codes "|" ++ right)))
+
+-- the text shows an expression of that text so, and then the rest
+abbrev pub Shows : List ℕ → Showing → List ℕ → List ℕ → Type 0
+Shows said how text rest =
+    (whole : List ℕ) × Filtered said how whole × Marked value_mark whole text rest
 
 -- ---- templates
 
@@ -245,16 +174,15 @@ mutual
         → SpellsPart (tree.text run) whole rest
     comment : (said whole rest : List ℕ) → Marked comment_mark said whole rest
         → SpellsPart (tree.comment said) whole rest
-    show : (at : Place) (how : Showing) (said whole rest : List ℕ) → IsPlace at
-        → Shows at how said → Marked value_mark said whole rest
-        → SpellsPart (tree.show at how) whole rest
-    choice : (at : Place) (chosen otherwise : Parts) (whole body tail rest : List ℕ)
-        → SpellsTag (if_tag at) whole body → SpellsUpTo chosen body tail
+    show : (w : Written) (how : Showing) (said whole rest : List ℕ) → Writes w said
+        → Shows said how whole rest → SpellsPart (tree.show w how) whole rest
+    choice : (test : Written) (chosen otherwise : Parts) (said whole body tail rest : List ℕ)
+        → Writes test said → SpellsTag (if_tag said) whole body → SpellsUpTo chosen body tail
         → SpellsElse otherwise tail rest
-        → SpellsPart (tree.choice at chosen otherwise) whole rest
-    loop : (bound : Bound) (over : Place) (repeated otherwise : Parts)
-        (whole body tail rest : List ℕ)
-        → SpellsTag (for_tag bound over) whole body → SpellsUpTo repeated body tail
+        → SpellsPart (tree.choice test chosen otherwise) whole rest
+    loop : (bound : Bound) (over : Written) (repeated otherwise : Parts)
+        (said whole body tail rest : List ℕ) → Writes over said
+        → SpellsTag (for_tag bound said) whole body → SpellsUpTo repeated body tail
         → SpellsEnd endfor_tag otherwise tail rest
         → SpellsPart (tree.loop bound over repeated otherwise) whole rest
 
@@ -270,10 +198,10 @@ mutual
   pub data SpellsElse : Parts → List ℕ → List ℕ → Type 0 where
     last : (ps : Parts) (text rest : List ℕ) → SpellsEnd endif_tag ps text rest
         → SpellsElse ps text rest
-    elif : (at : Place) (chosen others : Parts) (text body tail rest : List ℕ)
-        → SpellsTag (elif_tag at) text body → SpellsUpTo chosen body tail
+    elif : (test : Written) (chosen others : Parts) (said text body tail rest : List ℕ)
+        → Writes test said → SpellsTag (elif_tag said) text body → SpellsUpTo chosen body tail
         → SpellsElse others tail rest
-        → SpellsElse (tree.part (tree.choice at chosen others) tree.no_parts) text rest
+        → SpellsElse (tree.part (tree.choice test chosen others) tree.no_parts) text rest
 
 -- the text is these parts
 abbrev pub Spells : Parts → List ℕ → Type 0

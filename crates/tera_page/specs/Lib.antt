@@ -1,7 +1,12 @@
+pub mod Expressions
 pub mod Grammar
 pub mod Headline
+pub mod Parsing
 pub mod Reading
 pub mod Rendering
+pub mod Symbols
 pub mod Template
 pub mod Tokens
+pub mod Values
 pub mod View
+pub mod Words

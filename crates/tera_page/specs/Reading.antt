@@ -4,10 +4,11 @@ use Rattle.tera.specs.Errors.{Raises}
 use Rattle.tera.specs.Refusal.{syntax_error}
 use Rattle.tera.specs.types.Error.{Error}
 use Rattle.tera.specs.types.Span.{Span}
+use Rattle.tera_page.specs.Expressions.{Writes}
 use Rattle.tera_page.specs.Grammar as grammar
 use Rattle.tera_page.specs.Grammar.{SpellsUpTo, SpellsElse, SpellsEnd, SpellsPart, SpellsTag}
 use Rattle.tera_page.specs.Template as tree
-use Rattle.tera_page.specs.Template.{Bound, Parts, Place}
+use Rattle.tera_page.specs.Template.{Bound, Parts, Written}
 use Rattle.tera_page.specs.Tokens.{tag_of}
 use Rattle.tera_page.specs.View.{part_of, parts_of}
 use Rattle.tera_page.specs.declared.syntax.End.{End}
@@ -38,7 +39,8 @@ ShowsIn message file source e = (span : Span) × ShowsAt message file source spa
 abbrev pub IsSyntaxError : List ℕ → List ℕ → Error → Type 0
 IsSyntaxError file source e =
     ShowsIn (codes "This is not read") file source e
-    ⊎ ShowsIn (codes "More than 64 levels") file source e
+    ⊎ (ShowsIn (codes "More than 64 levels") file source e
+    ⊎ ShowsIn (codes "More than 128 words and signs") file source e)
 
 -- parts end with the text, or at a tag, behind which is the rest
 abbrev pub StopsAt : Option Tag → List ℕ → List ℕ → Type 0
@@ -65,15 +67,15 @@ IsLastStep (step.Node node rest) = rest.now ≡ []
 IsLastStep (step.Stop tag rest) = ⊥
 
 -- the node is what its tag began, and the text is what stands behind the tag, and then the rest
-abbrev pub IsChoice : Place → Node → List ℕ → List ℕ → Type 0
-IsChoice at node text rest =
-    (chosen otherwise : Parts) × (tail : List ℕ)
-    × (part_of node ≡ tree.choice at chosen otherwise) × SpellsUpTo chosen text tail
+abbrev pub IsChoice : List ℕ → Node → List ℕ → List ℕ → Type 0
+IsChoice said node text rest =
+    (test : Written) × (chosen otherwise : Parts) × (tail : List ℕ) × Writes test said
+    × (part_of node ≡ tree.choice test chosen otherwise) × SpellsUpTo chosen text tail
     × SpellsElse otherwise tail rest
 
-abbrev pub IsLoop : Bound → Place → Node → List ℕ → List ℕ → Type 0
-IsLoop bound over node text rest =
-    (repeated otherwise : Parts) × (tail : List ℕ)
+abbrev pub IsLoop : Bound → List ℕ → Node → List ℕ → List ℕ → Type 0
+IsLoop bound said node text rest =
+    (over : Written) × (repeated otherwise : Parts) × (tail : List ℕ) × Writes over said
     × (part_of node ≡ tree.loop bound over repeated otherwise) × SpellsUpTo repeated text tail
     × SpellsEnd grammar.endfor_tag otherwise tail rest
 

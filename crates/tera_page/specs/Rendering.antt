@@ -1,10 +1,9 @@
 -- What a template shows of a state.
-use Rattle.std.specs.Prelude.{◌≡◌, ◌+◌, ◌==◌, ◌++◌, ℕ, suc, pos, Bool, false, List, [], ◌∷◌}
-use Rattle.std.specs.Prelude.{codes, length, map, Option, None, Some, Result, Ok, Err}
-use Rattle.std.specs.Prelude.{if◌then◌else◌}
-use Rattle.std.specs.FinMap.{get, insert}
-use Rattle.std.specs.Option.{option_map, option_and_then, ok_or}
-use Rattle.std.specs.Str.{bytes_eq}
+use Rattle.std.specs.Prelude.{◌≡◌, ◌+◌, ◌==◌, ◌++◌, ℕ, suc, pos, List, [], ◌∷◌, codes, length, map}
+use Rattle.std.specs.Prelude.{Option, None, Some, Result, Ok, Err, if◌then◌else◌}
+use Rattle.std.specs.FinMap.{insert}
+use Rattle.std.specs.Option.{ok_or}
+use Rattle.std.specs.Str.{bytes_eq, trim}
 use Rattle.tera.specs.Arithmetic.{and_then}
 use Rattle.tera.specs.Form.{Form}
 use Rattle.tera.specs.InPage.{ShowsInPage}
@@ -12,52 +11,29 @@ use Rattle.tera.specs.InTurn.{ShownInTurn}
 use Rattle.tera.specs.Integer.{u64}
 use Rattle.tera.specs.Key.{key_value}
 use Rattle.tera.specs.KeyMeaning.{KeyForm}
-use Rattle.tera.specs.Meaning.{layout, meaning}
-use Rattle.tera.specs.Path.{path}
+use Rattle.tera.specs.Meaning.{layout}
 use Rattle.tera.specs.Quoted.{Prints}
-use Rattle.tera.specs.Read.{items_in, members_in, truthy_in}
+use Rattle.tera.specs.Read.{items_in, members_in}
 use Rattle.tera.specs.Refusal.{Refusal, message}
 use Rattle.tera.specs.State.{State}
-use Rattle.tera.specs.Tree.{undefined, none, truth, number, text, bytes, array, object}
+use Rattle.tera.specs.Tree.{number, truth}
 use Rattle.tera_page.specs.Template as tree
-use Rattle.tera_page.specs.Template.{Bound, Place, Showing, Part, Parts, item, pair}
+use Rattle.tera_page.specs.Template.{Bound, Showing, Part, Parts, item, pair}
+use Rattle.tera_page.specs.Values.{is_there, is_true, value_of}
 
--- what a path leads to; no path leads to the value itself
-abbrev pub led : Option (List ℕ) → Form → Option Form
-led None value = Some value
-led (Some to) value = path value to
+-- what is said of what an expression stands for, by its text without blanks around it
+abbrev pub nothing_at : List ℕ → Refusal
+nothing_at said = message (codes "Nothing is found at `" ++ (trim said ++ codes "`"))
+
+abbrev pub no_array_at : List ℕ → Refusal
+no_array_at said = message (codes "What is found at `" ++ (trim said ++ codes "` is no array"))
+
+abbrev pub no_map_at : List ℕ → Refusal
+no_map_at said = message (codes "What is found at `" ++ (trim said ++ codes "` is no map"))
 
 -- undefined is nothing
-abbrev pub defined : Form → Option Form
-defined undefined = None
-defined none = Some none
-defined (truth b) = Some (truth b)
-defined (number n) = Some (number n)
-defined (text t) = Some (text t)
-defined (bytes bs) = Some (bytes bs)
-defined (array xs) = Some (array xs)
-defined (object ps) = Some (object ps)
-
--- what is found at a place
-abbrev pub found : State → Place → Option Form
-found state at = option_and_then defined (option_and_then (led at.to) (get state at.name))
-
--- a place as it is written, and then a text
-abbrev pub path_and : Option (List ℕ) → List ℕ → List ℕ
-path_and None rest = rest
-path_and (Some to) rest = codes "." ++ (to ++ rest)
-
-abbrev pub place_and : Place → List ℕ → List ℕ
-place_and at rest = at.name ++ path_and at.to rest
-
-abbrev pub nothing_at : Place → Refusal
-nothing_at at = message (codes "Nothing is found at `" ++ place_and at (codes "`"))
-
-abbrev pub no_array_at : Place → Refusal
-no_array_at at = message (codes "What is found at `" ++ place_and at (codes "` is no array"))
-
-abbrev pub no_map_at : Place → Refusal
-no_map_at at = message (codes "What is found at `" ++ place_and at (codes "` is no map"))
+abbrev pub there : List ℕ → Form → Result Form Refusal
+there said value = if is_there value then Ok value else Err (nothing_at said)
 
 -- one piece of a page: a text of the template, or a value
 pub data Piece : Type 0 where
@@ -75,22 +51,17 @@ abbrev pub each : {X : Type 0} → (X → Pieces) → List X → Pieces
 each f [] = Ok []
 each f (x ∷ xs) = joined (f x) (each f xs)
 
--- the value that is found, alone
-abbrev pub found_shown : Showing → Place → Option Form → Pieces
-found_shown how at o = ok_or (option_map (λ v. value how v ∷ []) o) (nothing_at at)
+-- a value, alone
+abbrev pub value_alone : Showing → List ℕ → Form → Pieces
+value_alone how said v = and_then (there said v) (λ it. Ok (value how it ∷ []))
 
--- what counts as true, and is there
-abbrev pub is_true : Option Form → Bool
-is_true None = false
-is_true (Some v) = truthy_in (meaning v)
+-- the items of an array
+abbrev pub items_of : List ℕ → Form → Result (List Form) Refusal
+items_of said v = and_then (there said v) (λ it. ok_or (items_in it) (no_array_at said))
 
--- the items of the array that is found
-abbrev pub found_items : Place → Option Form → Result (List Form) Refusal
-found_items at o = and_then (ok_or o (nothing_at at)) (λ v. ok_or (items_in v) (no_array_at at))
-
--- the pairs of the map that is found
-abbrev pub found_pairs : Place → Option Form → Result (List (KeyForm × Form)) Refusal
-found_pairs at o = and_then (ok_or o (nothing_at at)) (λ v. ok_or (members_in v) (no_map_at at))
+-- the pairs of a map
+abbrev pub pairs_of : List ℕ → Form → Result (List (KeyForm × Form)) Refusal
+pairs_of said v = and_then (there said v) (λ it. ok_or (members_in it) (no_map_at said))
 
 -- names, and what they stand for
 abbrev pub Names : Type 0
@@ -132,30 +103,31 @@ abbrev pub named_pairs : List ℕ → List ℕ → List (KeyForm × Form) → Li
 named_pairs k v ps = map (λ p. (v, p.1) ∷ (k, key_value p.0) ∷ []) ps
 
 -- the names of each turn of a loop
-abbrev pub owns : Bound → Place → Option Form → Result (List Names) Refusal
-owns (item name) at o = and_then (found_items at o) (λ xs. Ok (named_items name xs))
-owns (pair k v) at o = and_then (found_pairs at o) (λ ps. Ok (named_pairs k v ps))
+abbrev pub owns : Bound → List ℕ → Form → Result (List Names) Refusal
+owns (item name) said v = and_then (items_of said v) (λ xs. Ok (named_items name xs))
+owns (pair k v) said w = and_then (pairs_of said w) (λ ps. Ok (named_pairs k v ps))
 
 -- what is repeated in each turn; or what is taken where there is none
 abbrev pub repeated : (State → Pieces) → (State → Pieces) → State → List Names → Pieces
 repeated body otherwise state [] = otherwise state
 repeated body otherwise state (own ∷ owns) = each body (turns state (own ∷ owns))
 
--- what a loop shows
-abbrev pub looped : Bound → Place → (State → Pieces) → (State → Pieces) → State → Pieces
-looped bound over body otherwise state =
-    and_then (owns bound over (found state over)) (repeated body otherwise state)
+-- what a loop over a value shows
+abbrev pub looped : Bound → List ℕ → (State → Pieces) → (State → Pieces) → State → Form → Pieces
+looped bound said body otherwise state v = and_then (owns bound said v) (repeated body otherwise state)
 
 -- the pieces of a part, and of parts one behind the other
 abbrev mutual
   pub pieces : Part → State → Pieces
   pieces (tree.text t) state = Ok (verbatim t ∷ [])
   pieces (tree.comment t) state = Ok []
-  pieces (tree.show at how) state = found_shown how at (found state at)
-  pieces (tree.choice at chosen otherwise) state =
-      if is_true (found state at) then all_pieces chosen state else all_pieces otherwise state
+  pieces (tree.show w how) state = and_then (value_of w.expression state) (value_alone how w.text)
+  pieces (tree.choice test chosen otherwise) state =
+      and_then (value_of test.expression state)
+      (λ v. if is_true v then all_pieces chosen state else all_pieces otherwise state)
   pieces (tree.loop bound over body otherwise) state =
-      looped bound over (all_pieces body) (all_pieces otherwise) state
+      and_then (value_of over.expression state)
+      (looped bound over.text (all_pieces body) (all_pieces otherwise) state)
 
   pub all_pieces : Parts → State → Pieces
   all_pieces tree.no_parts state = Ok []

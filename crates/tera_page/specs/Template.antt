@@ -1,10 +1,44 @@
 -- A template as a tree.
 use Rattle.std.specs.Prelude.{ℕ, List, [], ◌∷◌, Option}
+use Rattle.tera.specs.Form.{Form}
+use Rattle.tera.specs.Refusal as layer
 
 -- where a value is found: at a name, or by a path from there
 pub record Place : Type 0 where
   pub name : List ℕ
   pub to : Option (List ℕ)
+
+-- what is made of one value: `not`, `-` and `is defined`
+pub data Unary : Type 0 where
+  denied : Unary
+  opposite : Unary
+  is_defined : Unary
+
+-- what is made of two: `or`, `and`, `in`, `not in`, a comparison, or arithmetic
+pub data Binary : Type 0 where
+  either : Binary
+  both : Binary
+  within : Binary
+  not_within : Binary
+  equal : Binary
+  unequal : Binary
+  less : Binary
+  at_most : Binary
+  more : Binary
+  at_least : Binary
+  arithmetic : layer.Operator → Binary
+
+-- what a value is written by: itself, where it is found, or what it is made of
+pub data Expression : Type 0 where
+  constant : Form → Expression
+  found_at : Place → Expression
+  one : Unary → Expression → Expression
+  two : Binary → Expression → Expression → Expression
+
+-- an expression, and the text that it is written in
+pub record Written : Type 0 where
+  pub text : List ℕ
+  pub expression : Expression
 
 -- how a value is shown: as a page shows it, or as it prints
 pub data Showing : Type 0 where
@@ -22,9 +56,9 @@ mutual
   pub data Part : Type 0 where
     text : List ℕ → Part
     comment : List ℕ → Part
-    show : Place → Showing → Part
-    choice : Place → Parts → Parts → Part
-    loop : Bound → Place → Parts → Parts → Part
+    show : Written → Showing → Part
+    choice : Written → Parts → Parts → Part
+    loop : Bound → Written → Parts → Parts → Part
 
   pub data Parts : Type 0 where
     no_parts : Parts

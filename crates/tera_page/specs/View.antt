@@ -2,11 +2,18 @@
 use Rattle.std.specs.Prelude.{List, [], ◌∷◌, map, codes}
 use Rattle.std.specs.FinMap.{insert}
 use Rattle.std.specs.Option.{option_copied}
+use Rattle.tera.specs.Form.{Form}
+use Rattle.tera.specs.Operation.{operator_of}
 use Rattle.tera.specs.State.{State}
 use Rattle.tera_page.specs.Rendering.{Names, under}
 use Rattle.tera_page.specs.Template as tree
+use Rattle.tera_page.specs.declared.tree.Binary.{Binary}
+use Rattle.tera_page.specs.declared.tree.Binary.TheVariants.{Or, And, In, NotIn, Equal, Unequal, Less}
+use Rattle.tera_page.specs.declared.tree.Binary.TheVariants.{AtMost, More, AtLeast, Arithmetic}
 use Rattle.tera_page.specs.declared.tree.Bound.{Bound}
 use Rattle.tera_page.specs.declared.tree.Bound.TheVariants.{Item, Pair}
+use Rattle.tera_page.specs.declared.tree.Expression.{Expression}
+use Rattle.tera_page.specs.declared.tree.Expression.TheVariants.{Constant, Found, One', Two'}
 use Rattle.tera_page.specs.declared.scope.Scope.{Scope, fold-Scope}
 use Rattle.tera_page.specs.declared.scope.Scope.TheOpen.{Scope-F}
 use Rattle.tera_page.specs.declared.scope.Turn.{Turn}
@@ -16,9 +23,43 @@ use Rattle.tera_page.specs.declared.tree.Place.{Place}
 use Rattle.tera_page.specs.declared.tree.Showing.{Showing}
 use Rattle.tera_page.specs.declared.tree.Showing.TheVariants.{InPage, AsPrinted}
 use Rattle.tera_page.specs.declared.tree.Template.{Template}
+use Rattle.tera_page.specs.declared.tree.Unary.{Unary}
+use Rattle.tera_page.specs.declared.tree.Unary.TheVariants.{Not, Minus, IsDefined}
+use Rattle.tera_page.specs.declared.tree.Written.{Written}
+use Rattle.tera_page.specs.declared.value.Held.{Held}
+use Rattle.tera_page.specs.declared.value.Held.TheVariants.{Lent, Made}
 
 abbrev pub place_of : Place → tree.Place
 place_of at = record { name = at.name.now; to = option_copied at.to }
+
+abbrev pub unary_of : Unary → tree.Unary
+unary_of Not = tree.denied
+unary_of Minus = tree.opposite
+unary_of IsDefined = tree.is_defined
+
+abbrev pub binary_of : Binary → tree.Binary
+binary_of Or = tree.either
+binary_of And = tree.both
+binary_of In = tree.within
+binary_of NotIn = tree.not_within
+binary_of Equal = tree.equal
+binary_of Unequal = tree.unequal
+binary_of Less = tree.less
+binary_of AtMost = tree.at_most
+binary_of More = tree.more
+binary_of AtLeast = tree.at_least
+binary_of (Arithmetic operator) = tree.arithmetic (operator_of operator)
+
+abbrev pub expression_of : Expression → tree.Expression
+expression_of (Constant value) = tree.constant value
+expression_of (Found at) = tree.found_at (place_of at)
+expression_of (One' operator p e) = tree.one (unary_of operator) (expression_of e)
+expression_of (Two' operator p e q f) =
+    tree.two (binary_of operator) (expression_of e) (expression_of f)
+
+abbrev pub written_of : Written → tree.Written
+written_of written =
+    record { text = written.text.now; expression = expression_of written.expression }
 
 abbrev pub showing_of : Showing → tree.Showing
 showing_of InPage = tree.in_page
@@ -31,11 +72,11 @@ bound_of (Pair key value) = tree.pair key.now value.now
 abbrev pub node_step : Node-F tree.Part → tree.Part
 node_step (Node-F.Text shown) = tree.text shown.now
 node_step (Node-F.Comment said) = tree.comment said.now
-node_step (Node-F.Show at how) = tree.show (place_of at) (showing_of how)
-node_step (Node-F.If at chosen otherwise) =
-    tree.choice (place_of at) (tree.parts chosen.items) (tree.parts otherwise.items)
+node_step (Node-F.Show written how) = tree.show (written_of written) (showing_of how)
+node_step (Node-F.If test chosen otherwise) =
+    tree.choice (written_of test) (tree.parts chosen.items) (tree.parts otherwise.items)
 node_step (Node-F.For bound over body otherwise) =
-    tree.loop (bound_of bound) (place_of over) (tree.parts body.items) (tree.parts otherwise.items)
+    tree.loop (bound_of bound) (written_of over) (tree.parts body.items) (tree.parts otherwise.items)
 
 abbrev pub part_of : Node → tree.Part
 part_of = fold-Node tree.Part node_step
@@ -59,3 +100,7 @@ scope_step (Scope-F.Item name value outer) = insert outer.now name.now value.now
 
 abbrev pub state_of : Scope → State
 state_of = fold-Scope State scope_step
+
+abbrev pub form_of : Held → Form
+form_of (Lent value) = value.now
+form_of (Made value) = value

@@ -17,6 +17,8 @@ pub(crate) enum Fault<'a> {
     Bad(&'a str),
     /// A tag inside as many others as there may be.
     Deep(&'a str),
+    /// An expression of more words and signs than there may be.
+    Long(&'a str),
 }
 
 impl From<AllocError> for Fault<'_> {
@@ -51,6 +53,7 @@ impl Fault<'_> {
             Fault::Memory => out_of_memory(),
             Fault::Bad(at) => told(alloc, "This is not read", file, source, at),
             Fault::Deep(at) => told(alloc, "More than 64 levels", file, source, at),
+            Fault::Long(at) => told(alloc, "More than 128 words and signs", file, source, at),
         }
     }
 }

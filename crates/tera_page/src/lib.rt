@@ -4,16 +4,21 @@
 //! a safe flag brings no tag, and ends no quoted attribute: `laws` says so of every page.
 #![tactic(auto)]
 
+mod expression;
 mod fault;
 pub mod laws;
 mod page;
 mod refused;
 mod scope;
+mod symbol;
 mod syntax;
 mod token;
 mod tree;
+mod value;
 mod word;
 
 pub use page::render;
 pub use syntax::{parse, parse_named};
-pub use tree::{Bound, Node, Place, Showing, Template};
+pub use tree::{
+    Binary, Bound, Expression, Node, Place, Showing, Template, Unary, Written,
+};

@@ -2,23 +2,25 @@
 ghost use Rattle.std.specs.Prelude.{◌≡◌, ◌++◌, ℕ, List, IfOk, IfErr, Ok, OnOk, IsTrue, length};
 ghost use Rattle.std.specs.Prelude.{nat_eq, not};
 ghost use Rattle.std.specs.String.{string_bytes};
+ghost use Rattle.tera.specs.Arithmetic.{and_then};
 ghost use Rattle.tera.specs.Errors.{IsOutOfMemory, Refuses};
 ghost use Rattle.tera.specs.Form.{Form};
 ghost use Rattle.tera.specs.Growing.{grown_bytes};
 ghost use Rattle.tera.specs.State.{State};
 ghost use Rattle.tera_page.specs.Headline.{BringsNoTag};
-ghost use Rattle.tera_page.specs.Rendering.{IsPageOf, all_pieces, each, found, found_items};
-ghost use Rattle.tera_page.specs.Rendering.{ShowsPiece, found_shown, is_true, named_items, pieces};
-ghost use Rattle.tera_page.specs.Rendering.{Names, Pieces, found_pairs, looped, named_pairs, owns};
-ghost use Rattle.tera_page.specs.Rendering.{turns};
+ghost use Rattle.tera_page.specs.Rendering.{IsPageOf, Names, Pieces, ShowsPiece, all_pieces, each};
+ghost use Rattle.tera_page.specs.Rendering.{items_of, looped, named_items, named_pairs, owns};
+ghost use Rattle.tera_page.specs.Rendering.{pairs_of, pieces, turns, value_alone};
 ghost use Rattle.tera_page.specs.Rendering;
-ghost use Rattle.tera_page.specs.View.{bound_of, part_of, parts_of, place_of, showing_of};
-ghost use Rattle.tera_page.specs.View.{state_of, tree_of};
+ghost use Rattle.tera_page.specs.Values.{is_true, value_of};
+ghost use Rattle.tera_page.specs.View.{bound_of, expression_of, part_of, parts_of, showing_of};
+ghost use Rattle.tera_page.specs.View.{state_of, tree_of, written_of};
 
 use crate::laws::values_bring_no_tag;
 use crate::refused::{no_array_at, no_map_at, nothing_at};
-use crate::scope::{Scope, Turn, found};
-use crate::tree::{Bound, Node, Place, Showing, Template};
+use crate::scope::{Scope, Turn};
+use crate::tree::{Bound, Expression, Node, Showing, Template, Written};
+use crate::value::value_of;
 use std::alloc::Global;
 use tera::sink::{Growing, Sink};
 use tera::{Context, Map, TeraResult, Value, show_in_page};
@@ -27,13 +29,15 @@ use tera::{Context, Map, TeraResult, Value, show_in_page};
 /// items and turns. A value is shown as it prints, escaped unless it is safe: what is not marked
 /// safe brings no tag, and ends no quoted attribute.
 ///
-/// Refuses the first place that is shown or looped over where nothing, or undefined, is found, with
-/// ``Nothing is found at `P` ``, without the last blank. Refuses the first loop by one name where
-/// no array is found, with ``What is found at `P` is no array``, and by two where no map is, with
-/// ``What is found at `P` is no map``. In a condition, what is not found is false.
+/// Refuses the first expression E that is shown or looped over and stands for nothing, or for
+/// undefined, with ``Nothing is found at `E` ``, without the last blank. Refuses the first loop by
+/// one name over no array with ``What is found at `E` is no array``, and by two over no map with
+/// ``What is found at `E` is no map``. Refuses what an operator of an expression refuses, in the
+/// words of [`tera::value::number::calculate`], `negate` and `contains`. In a condition, what is not
+/// found is false.
 ///
-/// Takes memory for the page, and for a key that is a text; want of it is answered by `Out of
-/// memory`.
+/// Takes memory for the page, for a key that is a text, and for the words of a refusal; want of it
+/// is answered by `Out of memory`.
 pub fn render<'a>(
     alloc: Global,
     template: &'a Template<'_>,
@@ -86,13 +90,14 @@ fn put_node<'a, 't>(
     match node {
         Node::Text(text) => Ok(page.put(*text)?),
         Node::Comment(_) => Ok(()),
-        Node::Show { at, how } => put_found(alloc, *at, *how, scope, page),
+        Node::Show { written, how } => put_written(alloc, written, *how, scope, page),
         Node::If {
-            at,
+            test,
             then,
             otherwise,
         } => {
-            if is_true(*at, scope) {
+            let holds = is_true(alloc, &test.expression, scope)?;
+            if holds {
                 put_nodes(alloc, then.as_slice(), scope, page)
             } else {
                 put_nodes(alloc, otherwise.as_slice(), scope, page)
@@ -104,7 +109,7 @@ fn put_node<'a, 't>(
             body,
             otherwise,
         } => {
-            if put_turns(alloc, *bound, *over, body.as_slice(), scope, page)? {
+            if put_turns(alloc, *bound, over, body.as_slice(), scope, page)? {
                 Ok(())
             } else {
                 put_nodes(alloc, otherwise.as_slice(), scope, page)
@@ -118,30 +123,32 @@ fn put_node<'a, 't>(
 fn put_turns<'a, 't>(
     alloc: Global,
     bound: Bound<'a>,
-    over: Place<'a>,
+    over: &'a Written<'t>,
     body: &'a [Node<'t>],
     scope: &'a Scope<'a>,
     page: &mut Growing,
 ) -> TeraResult<bool>
     ensures ok { IfOk result (λ turned. (all : List Names) × (shown : List ℕ)
-        × (owns (bound_of bound.entry) (place_of over.entry)
-        (found (state_of scope.now) (place_of over.entry)) ≡ Ok all)
+        × (and_then (value_of (expression_of over.now.expression) (state_of scope.now))
+        (owns (bound_of bound.entry) over.now.text.now) ≡ Ok all)
         × IsPageOf (each (all_pieces (parts_of body.now)) (turns (state_of scope.now) all)) shown
         × (grown_bytes page.new ≡ grown_bytes page.old ++ shown)
         × (turned ≡ not (nat_eq (length all) 0))) }
     ensures err { IfErr result (λ e. (otherwise : State → Pieces)
-        → Refuses (looped (bound_of bound.entry) (place_of over.entry)
-        (all_pieces (parts_of body.now)) otherwise (state_of scope.now)) e) }
+        → Refuses (and_then (value_of (expression_of over.now.expression) (state_of scope.now))
+        (looped (bound_of bound.entry) over.now.text.now
+        (all_pieces (parts_of body.now)) otherwise (state_of scope.now))) e) }
 {
+    let held = value_of(alloc, &over.expression, scope)?;
     match bound {
         Bound::Item(name) => {
-            let items = found_items(alloc, over, scope)?;
-            put_each(alloc, body, name, items, scope, page)?;
+            let items = items_of(alloc, over.text, held.value())?;
+            put_each(alloc, &*body, &*name, items, &*scope, page)?;
             Ok(!items.is_empty())
         }
         Bound::Pair(key_name, name) => {
-            let pairs = found_pairs(alloc, over, scope)?;
-            put_pairs(alloc, body, key_name, name, pairs, scope, page)?;
+            let pairs = pairs_of(alloc, over.text, held.value())?;
+            put_pairs(alloc, &*body, &*key_name, &*name, pairs, &*scope, page)?;
             Ok(!pairs.is_empty())
         }
     }
@@ -223,25 +230,28 @@ fn put_pairs<'a, 't>(
     Ok(())
 }
 
-// Puts what is found at a place.
+// Puts what an expression stands for.
 #[tactic(auto, using(tera::proofs::InTurnLaws::shown_alone))]
-fn put_found<'a>(
+fn put_written<'a, 't>(
     alloc: Global,
-    at: Place<'a>,
+    written: &'a Written<'t>,
     how: Showing,
     scope: &'a Scope<'a>,
     page: &mut Growing,
 ) -> TeraResult<()>
     ensures ok { OnOk result ((shown : List ℕ)
-        × IsPageOf (found_shown (showing_of how) (place_of at.entry)
-        (found (state_of scope.now) (place_of at.entry))) shown
+        × IsPageOf (and_then (value_of (expression_of written.now.expression) (state_of scope.now))
+        (value_alone (showing_of how) written.now.text.now)) shown
         × (grown_bytes page.new ≡ grown_bytes page.old ++ shown)) }
-    ensures err { IfErr result (Refuses (found_shown (showing_of how) (place_of at.entry)
-        (found (state_of scope.now) (place_of at.entry)))) }
+    ensures err { IfErr result (Refuses
+        (and_then (value_of (expression_of written.now.expression) (state_of scope.now))
+        (value_alone (showing_of how) written.now.text.now))) }
 {
-    let Some(value) = found(scope, at) else {
-        return Err(nothing_at(alloc, at));
-    };
+    let held = value_of(alloc, &written.expression, scope)?;
+    let value = held.value();
+    if value.is_undefined() {
+        return Err(nothing_at(alloc, written.text));
+    }
     put_value(value, how, page)
 }
 
@@ -258,44 +268,45 @@ fn put_value(value: &Value, how: Showing, page: &mut Growing) -> TeraResult<()>
     }
 }
 
-// Whether what is found at a place counts as true.
-fn is_true<'a>(at: Place<'a>, scope: &'a Scope<'a>) -> bool
-    ensures { result ≡ is_true (found (state_of scope.now) (place_of at.entry)) }
+// Whether what an expression stands for counts as true.
+fn is_true<'a, 't>(
+    alloc: Global,
+    expression: &'a Expression<'t>,
+    scope: &'a Scope<'a>,
+) -> TeraResult<bool>
+    ensures ok { IfOk result (λ answer. (v : Form)
+        × (value_of (expression_of expression.now) (state_of scope.now) ≡ Ok v)
+        × (answer ≡ is_true v)) }
+    ensures err { IfErr result
+        (Refuses (value_of (expression_of expression.now) (state_of scope.now))) }
 {
-    match found(scope, at) {
-        Some(value) => value.is_truthy(),
-        None => false,
-    }
+    Ok(value_of(alloc, expression, scope)?.value().is_truthy())
 }
 
-// The items of the array that is found at a place.
-fn found_items<'a>(alloc: Global, at: Place<'a>, scope: &'a Scope<'a>) -> TeraResult<&'a [Value]>
-    ensures ok { IfOk result (λ items. found_items (place_of at.entry)
-        (found (state_of scope.now) (place_of at.entry)) ≡ Ok items.now) }
-    ensures err { IfErr result (Refuses (found_items (place_of at.entry)
-        (found (state_of scope.now) (place_of at.entry)))) }
+// The items of an array, for which an expression of that text stands.
+fn items_of<'a>(alloc: Global, text: &str, value: &'a Value) -> TeraResult<&'a [Value]>
+    ensures ok { IfOk result (λ items. items_of text.now value.now ≡ Ok items.now) }
+    ensures err { IfErr result (Refuses (items_of text.now value.now)) }
 {
-    let Some(value) = found(scope, at) else {
-        return Err(nothing_at(alloc, at));
-    };
+    if value.is_undefined() {
+        return Err(nothing_at(alloc, text));
+    }
     match value.as_array() {
         Some(items) => Ok(items),
-        None => Err(no_array_at(alloc, at)),
+        None => Err(no_array_at(alloc, text)),
     }
 }
 
-// The pairs of the map that is found at a place.
-fn found_pairs<'a>(alloc: Global, at: Place<'a>, scope: &'a Scope<'a>) -> TeraResult<&'a Map>
-    ensures ok { IfOk result (λ pairs. found_pairs (place_of at.entry)
-        (found (state_of scope.now) (place_of at.entry)) ≡ Ok pairs.now) }
-    ensures err { IfErr result (Refuses (found_pairs (place_of at.entry)
-        (found (state_of scope.now) (place_of at.entry)))) }
+// The pairs of a map, for which an expression of that text stands.
+fn pairs_of<'a>(alloc: Global, text: &str, value: &'a Value) -> TeraResult<&'a Map>
+    ensures ok { IfOk result (λ pairs. pairs_of text.now value.now ≡ Ok pairs.now) }
+    ensures err { IfErr result (Refuses (pairs_of text.now value.now)) }
 {
-    let Some(value) = found(scope, at) else {
-        return Err(nothing_at(alloc, at));
-    };
+    if value.is_undefined() {
+        return Err(nothing_at(alloc, text));
+    }
     match value.as_map() {
         Some(pairs) => Ok(pairs),
-        None => Err(no_map_at(alloc, at)),
+        None => Err(no_map_at(alloc, text)),
     }
 }

@@ -1,8 +1,10 @@
 //! What names stand for in a part of a template.
-ghost use Rattle.std.specs.Prelude.{◌≡◌, ◌<◌};
+ghost use Rattle.std.specs.Prelude.{◌≡◌, ◌<◌, unwrap_or};
 ghost use Rattle.std.specs.FinMap.{get};
 ghost use Rattle.std.specs.Option.{option_copied};
-ghost use Rattle.tera_page.specs.Rendering.{defined, found, led, stands_for, turn_names};
+ghost use Rattle.tera.specs.Tree.{undefined};
+ghost use Rattle.tera_page.specs.Rendering.{stands_for, turn_names};
+ghost use Rattle.tera_page.specs.Values.{found, led};
 ghost use Rattle.tera_page.specs.View.{names_of, place_of, state_of};
 
 use crate::tree::Place;
@@ -67,16 +69,12 @@ impl Turn {
     }
 }
 
-/// What is found at a place. Undefined is nothing.
+/// What is found at a place; nothing where nothing is.
 pub(crate) fn found<'a>(scope: &'a Scope<'a>, at: Place<'a>) -> Option<&'a Value>
-    ensures { option_copied result ≡ found (state_of scope.now) (place_of at.entry) }
+    ensures { unwrap_or (option_copied result) undefined
+        ≡ found (state_of scope.now) (place_of at.entry) }
 {
-    let value = led(named(scope, at.name)?, at.to)?;
-    if value.is_undefined() {
-        None
-    } else {
-        Some(value)
-    }
+    led(named(scope, at.name)?, at.to)
 }
 
 // The value of a name: the innermost one.

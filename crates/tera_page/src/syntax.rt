@@ -10,11 +10,14 @@ ghost use Rattle.tera_page.specs.Reading.{IsChoice, IsLastStep, IsLoop, IsSectio
 ghost use Rattle.tera_page.specs.Reading.{IsSyntaxError, StopsAt, end_tag, rest_of};
 ghost use Rattle.tera_page.specs.declared.fault.Fault.TheVariants.{Memory};
 ghost use Rattle.tera_page.specs.Tokens.{tag_of};
-ghost use Rattle.tera_page.specs.View.{bound_of, parts_of, place_of, tree_of};
+ghost use Rattle.tera_page.specs.Expressions.{Writes};
+ghost use Rattle.tera_page.specs.View.{bound_of, parts_of, tree_of, written_of};
 
+use crate::expression::read_written;
 use crate::fault::Fault;
+use crate::symbol::Unread;
 use crate::token::{Tag, Token, take_token};
-use crate::tree::{Bound, Node, Place, Template};
+use crate::tree::{Bound, Node, Template, Written};
 use std::alloc::Global;
 use tera::TeraResult;
 
@@ -24,8 +27,8 @@ pub const LEVELS: usize = 64;
 /// The template that a text spells. A text that holds none of `{{`, `{%` and `{#` spells one.
 ///
 /// Refuses a text that it does not read with a report of the text: `This is not read` at the first
-/// thing that it does not read, or at the end, and `More than 64 levels` at a tag inside as many
-/// others. Takes memory; want of it, `Out of memory`, is answered in the place of all else.
+/// thing that it does not read, or at the end, `More than 64 levels` at a tag inside as many others,
+/// and `More than 128 words and signs` where a longer expression stands. Takes memory; want of it, `Out of memory`, is answered in the place of all else.
 pub fn parse(alloc: Global, text: &str) -> TeraResult<Template<'_>>
     ensures ok { IfOk result (λ template. Spells (tree_of template) text.now) }
     ensures err { IfErr result (IsSyntaxError [] text.now) }
@@ -124,8 +127,23 @@ fn read_node<'a>(alloc: Global, text: &'a str, levels: usize) -> Result<Step<'a>
     match token {
         Token::Run(run) => Ok(Step::Node(Node::Text(run), rest)),
         Token::Comment(said) => Ok(Step::Node(Node::Comment(said), rest)),
-        Token::Show(at, how) => Ok(Step::Node(Node::Show { at, how }, rest)),
+        Token::Show(said, how) => {
+            let written = written_in(alloc, said, text)?;
+            Ok(Step::Node(Node::Show { written, how }, rest))
+        }
         Token::Tag(tag) => read_tag(alloc, tag, text, rest, levels),
+    }
+}
+
+// The expression that a text writes, which stands in what begins `from`.
+fn written_in<'a>(alloc: Global, said: &'a str, from: &'a str) -> Result<Written<'a>, Fault<'a>>
+    ensures { IfOk result (λ written. Writes (written_of written) said.now) }
+{
+    match read_written(alloc, said) {
+        Ok(written) => Ok(written),
+        Err(Unread::Memory) => Err(Fault::Memory),
+        Err(Unread::Bad) => Err(Fault::Bad(from)),
+        Err(Unread::Long) => Err(Fault::Long(from)),
     }
 }
 
@@ -143,12 +161,12 @@ fn read_tag<'a>(
     ensures within { IfOk result (λ step. length (rest_of step) ≤ length rest.now) }
 {
     match tag {
-        Tag::If(at) => {
-            let (node, rest) = read_if(alloc, at, from, rest, levels)?;
+        Tag::If(said) => {
+            let (node, rest) = read_if(alloc, said, from, rest, levels)?;
             Ok(Step::Node(node, rest))
         }
-        Tag::For(bound, over) => {
-            let (node, rest) = read_for(alloc, bound, over, from, rest, levels)?;
+        Tag::For(bound, said) => {
+            let (node, rest) = read_for(alloc, bound, said, from, rest, levels)?;
             Ok(Step::Node(node, rest))
         }
         other => Ok(Step::Stop(other, rest)),
@@ -160,28 +178,29 @@ fn read_tag<'a>(
 #[cycle(read)]
 fn read_if<'a>(
     alloc: Global,
-    at: Place<'a>,
+    said: &'a str,
     from: &'a str,
     text: &'a str,
     levels: usize,
 ) -> Result<(Node<'a>, &'a str), Fault<'a>>
     ensures read { IfOk result
-        (λ read. IsChoice (place_of at.entry) read.0 text.now read.1.now) }
+        (λ read. IsChoice said.now read.0 text.now read.1.now) }
     ensures within { IfOk result (λ read. length read.1.now ≤ length text.now) }
 {
     if levels == 0 {
         return Err(Fault::Deep(from));
     }
+    let test = written_in(alloc, said, from)?;
     let Section {
         nodes,
         stop,
-        at: stopped,
+        at,
         rest,
     } = read_nodes(alloc, text, levels - 1)?;
-    let (otherwise, rest) = read_else(alloc, stop, stopped, rest, levels - 1)?;
+    let (otherwise, rest) = read_else(alloc, stop, at, rest, levels - 1)?;
     Ok((
         Node::If {
-            at,
+            test,
             then: nodes,
             otherwise,
         },
@@ -194,18 +213,19 @@ fn read_if<'a>(
 fn read_for<'a>(
     alloc: Global,
     bound: Bound<'a>,
-    over: Place<'a>,
+    said: &'a str,
     from: &'a str,
     text: &'a str,
     levels: usize,
 ) -> Result<(Node<'a>, &'a str), Fault<'a>>
     ensures read { IfOk result
-        (λ read. IsLoop (bound_of bound.entry) (place_of over.entry) read.0 text.now read.1.now) }
+        (λ read. IsLoop (bound_of bound.entry) said.now read.0 text.now read.1.now) }
     ensures within { IfOk result (λ read. length read.1.now ≤ length text.now) }
 {
     if levels == 0 {
         return Err(Fault::Deep(from));
     }
+    let over = written_in(alloc, said, from)?;
     let Section {
         nodes,
         stop,
@@ -246,13 +266,13 @@ fn read_else<'a>(
     Ok((otherwise, rest))
 }
 
-// The place of an `elif` tag.
-fn elif<'a>(stop: Option<Tag<'a>>) -> Option<Place<'a>>
+// What an `elif` tag says behind its word.
+fn elif<'a>(stop: Option<Tag<'a>>) -> Option<&'a str>
     ensures { IfSome result
-        (λ at. option_map tag_of stop.entry ≡ Some (elif_tag (place_of at))) }
+        (λ said. option_map tag_of stop.entry ≡ Some (elif_tag said.now)) }
 {
     match stop? {
-        Tag::Elif(at) => Some(at),
+        Tag::Elif(said) => Some(said),
         _ => None,
     }
 }

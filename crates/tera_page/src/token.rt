@@ -2,27 +2,27 @@
 ghost use Rattle.std.specs.Prelude.{◌≡◌, ◌++◌, ◌-◌, ◌≤◌, ◌<◌, ◌∷◌, [], ℕ, List, IfSome, IfNone};
 ghost use Rattle.std.specs.Prelude.{true, false, cond, take, drop, codes, length, slice_index};
 ghost use Rattle.std.specs.Option.{IsSomeAnd};
-ghost use Rattle.tera_page.specs.Grammar.{AreBlanks, Binds, DashFirst, DashLast, InTag, IsBound};
-ghost use Rattle.tera_page.specs.Grammar.{IsPlace, IsPlain};
-ghost use Rattle.tera_page.specs.Grammar.{Marked, NoneOpens, Shows, closing, filter_of, is_blank};
+ghost use Rattle.tera_page.specs.Grammar.{Binds, DashFirst, DashLast, Filtered, InTag, IsBound};
+ghost use Rattle.tera_page.specs.Grammar.{IsPlain, Marked, NoneOpens, closing, filter_of};
 ghost use Rattle.tera_page.specs.Grammar.{leaves_out, opening, opens, opens_dashed};
 ghost use Rattle.tera_page.specs.Tokens.{IsBareTag, IsForTag, IsLastRun, SpellsToken, begins};
 ghost use Rattle.tera_page.specs.Tokens.{mark_of, tag_of};
-ghost use Rattle.tera_page.specs.View.{bound_of, place_of, showing_of};
+ghost use Rattle.tera_page.specs.View.{bound_of, showing_of};
+ghost use Rattle.tera_page.specs.Words.{AreBlanks, is_blank};
 
-use crate::tree::{Bound, Place, Showing};
+use crate::tree::{Bound, Showing};
 use crate::word::{
-    are_blanks, behind, cut_at, is_blank, is_name, next_word, only_word, past_blanks, place_in,
+    are_blanks, behind, cut_at, cut_last, is_blank, is_name, next_word, only_word, past_blanks,
 };
 
-/// What a tag says.
+/// What a tag says: of an expression its text, which is not read yet.
 #[derive(Clone, Copy)]
 pub(crate) enum Tag<'a> {
-    If(Place<'a>),
-    Elif(Place<'a>),
+    If(&'a str),
+    Elif(&'a str),
     Else,
     EndIf,
-    For(Bound<'a>, Place<'a>),
+    For(Bound<'a>, &'a str),
     EndFor,
 }
 
@@ -32,7 +32,7 @@ pub(crate) enum Token<'a> {
     /// A text in which nothing begins.
     Run(&'a str),
     Comment(&'a str),
-    Show(Place<'a>, Showing),
+    Show(&'a str, Showing),
     Tag(Tag<'a>),
 }
 
@@ -78,8 +78,8 @@ pub(crate) fn take_token(text: &str) -> Option<(Token<'_>, &str)>
         return Some((Token::Run(run), rest));
     }
     if let Some((said, rest)) = marked(text, Mark::Value) {
-        let (at, how) = show_in(said)?;
-        return Some((Token::Show(at, how), rest));
+        let (shown, how) = show_in(said);
+        return Some((Token::Show(shown, how), rest));
     }
     if let Some((said, rest)) = marked(text, Mark::Tag) {
         return Some((Token::Tag(tag_in(said)?), rest));
@@ -189,19 +189,22 @@ fn opens_dashed(bytes: &[u8]) -> bool
     }
 }
 
-// The value that is shown.
-fn show_in(inner: &str) -> Option<(Place<'_>, Showing)>
-    ensures proper { IfSome result (λ shown. IsPlace (place_of shown.0)) }
-    ensures shows { IfSome result
-        (λ shown. Shows (place_of shown.0) (showing_of shown.1) inner.now) }
+// The text of the expression that is shown, and how it is.
+fn show_in(inner: &str) -> (&str, Showing)
+    ensures { Filtered result.0.now (showing_of result.1) inner.now }
 {
-    match cut_at(inner, "|") {
-        None => Some((place_in(only_word(inner)?)?, Showing::InPage)),
-        Some((left, right)) => {
-            let at = place_in(only_word(left)?)?;
-            Some((at, filter(only_word(right)?)?))
-        }
+    match filtered(inner) {
+        Some(shown) => shown,
+        None => (inner, Showing::InPage),
     }
+}
+
+// What stands before the last `|`, and what the filter behind it asks for.
+fn filtered(inner: &str) -> Option<(&str, Showing)>
+    ensures { IfSome result (λ shown. Filtered shown.0.now (showing_of shown.1) inner.now) }
+{
+    let (left, right) = cut_last(inner, "|")?;
+    Some((left, filter(only_word(right)?)?))
 }
 
 // What a filter asks for.
@@ -223,9 +226,9 @@ fn tag_in(inner: &str) -> Option<Tag<'_>>
 {
     let (verb, rest) = next_word(inner);
     if verb == "if" {
-        Some(Tag::If(place_in(only_word(rest)?)?))
+        Some(Tag::If(rest))
     } else if verb == "elif" {
-        Some(Tag::Elif(place_in(only_word(rest)?)?))
+        Some(Tag::Elif(rest))
     } else if verb == "for" {
         for_in(rest)
     } else {
@@ -240,7 +243,7 @@ fn for_in(text: &str) -> Option<Tag<'_>>
     let (bound, rest) = bound_in(text)?;
     let (between, rest) = next_word(rest);
     if between == "in" {
-        Some(Tag::For(bound, place_in(only_word(rest)?)?))
+        Some(Tag::For(bound, rest))
     } else {
         None
     }

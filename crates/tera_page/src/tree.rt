@@ -2,11 +2,72 @@
 ghost use Rattle.std.specs.Prelude.{◌≡◌};
 ghost use Rattle.tera_page.specs.View.{parts_of, tree_of};
 
+use tera::Value;
+use tera::scalars::BinaryOp;
+
 /// Where a value is found: at a name, or by a path from there.
 #[derive(Clone, Copy, Debug, PartialEq, Eq)]
 pub struct Place<'a> {
     pub name: &'a str,
     pub to: Option<&'a str>,
+}
+
+/// What is made of one value.
+#[derive(Clone, Copy, Debug, PartialEq, Eq)]
+pub enum Unary {
+    /// `not`: whether it does not count as true.
+    Not,
+    /// `-`: the number with the other sign.
+    Minus,
+    /// `is defined`: whether it is not undefined.
+    IsDefined,
+}
+
+/// What is made of two values.
+#[derive(Clone, Copy, Debug, PartialEq, Eq)]
+pub enum Binary {
+    /// `or`: whether one of them counts as true.
+    Or,
+    /// `and`: whether both do.
+    And,
+    /// `in`: whether the second holds the first.
+    In,
+    /// `not in`.
+    NotIn,
+    /// `==`, of their meanings.
+    Equal,
+    /// `!=`.
+    Unequal,
+    /// `<`, which holds only inside a rank: of two numbers, of two texts, and so on.
+    Less,
+    /// `<=`.
+    AtMost,
+    /// `>`.
+    More,
+    /// `>=`.
+    AtLeast,
+    /// `+`, `-`, `*`, `//`, `%` or `**`.
+    Arithmetic(BinaryOp),
+}
+
+/// What a value is written by.
+#[derive(Debug, Drop)]
+pub enum Expression<'a> {
+    /// A value itself.
+    Constant(Value),
+    /// What is found at a place, or undefined.
+    Found(Place<'a>),
+    /// What is made of one value.
+    One(Unary, Box<Expression<'a>>),
+    /// What is made of two.
+    Two(Binary, Box<Expression<'a>>, Box<Expression<'a>>),
+}
+
+/// An expression, and the text that it is written in.
+#[derive(Debug, Drop)]
+pub struct Written<'a> {
+    pub text: &'a str,
+    pub expression: Expression<'a>,
 }
 
 /// How a value is shown.
@@ -36,19 +97,19 @@ pub enum Node<'a> {
     Comment(&'a str),
     /// A value that is shown.
     Show {
-        at: Place<'a>,
+        written: Written<'a>,
         how: Showing,
     },
     /// What is taken where a value is true, and where it is not.
     If {
-        at: Place<'a>,
+        test: Written<'a>,
         then: Vec<Node<'a>>,
         otherwise: Vec<Node<'a>>,
     },
     /// What is repeated for each item or pair, and what is taken where there is none.
     For {
         bound: Bound<'a>,
-        over: Place<'a>,
+        over: Written<'a>,
         body: Vec<Node<'a>>,
         otherwise: Vec<Node<'a>>,
     },

@@ -2,12 +2,10 @@
 ghost use Rattle.std.specs.Prelude.{◌≡◌, ◌++◌, ◌≤◌, ◌<◌, [], ◌∷◌, ℕ, IfSome, length, take};
 ghost use Rattle.std.specs.Prelude.{slice_index, true, false};
 ghost use Rattle.std.specs.List.{list_all};
-ghost use Rattle.tera_page.specs.Grammar.{AreBlanks, IsNext, IsPlace, Words, are_elements};
 ghost use Rattle.tera_page.specs.Grammar.{begins_blank};
-ghost use Rattle.tera_page.specs.Grammar.{is_blank, is_loop_name, is_name, is_name_byte};
-ghost use Rattle.tera_page.specs.Grammar.{is_name_start};
-ghost use Rattle.tera_page.specs.Grammar.{is_word_of_language};
-ghost use Rattle.tera_page.specs.Rendering.{place_and};
+ghost use Rattle.tera_page.specs.Words.{AreBlanks, IsNext, IsPlace, Words, are_elements, is_blank};
+ghost use Rattle.tera_page.specs.Words.{is_loop_name, is_name, is_name_byte, is_name_start};
+ghost use Rattle.tera_page.specs.Words.{is_word_of_language, place_text};
 ghost use Rattle.tera_page.specs.View.{place_of};
 
 use crate::tree::Place;
@@ -25,7 +23,8 @@ fn is_name_start(byte: u8) -> bool
     byte.is_ascii_alphabetic() || byte == b'_'
 }
 
-fn is_name_byte(byte: u8) -> bool
+/// Whether a byte is a letter, a digit or `_`.
+pub(crate) fn is_name_byte(byte: u8) -> bool
     ensures { result ≡ is_name_byte byte }
 {
     byte.is_ascii_alphanumeric() || byte == b'_'
@@ -36,6 +35,13 @@ pub(crate) fn cut_at<'a>(text: &'a str, mark: &'static str) -> Option<(&'a str, 
     ensures { IfSome result (λ cut. text.now ≡ cut.0.now ++ (mark.now ++ cut.1.now)) }
 {
     text.split_once(mark)
+}
+
+/// What stands before a mark, and what stands after it, where it stands in the text last.
+pub(crate) fn cut_last<'a>(text: &'a str, mark: &'static str) -> Option<(&'a str, &'a str)>
+    ensures { IfSome result (λ cut. text.now ≡ cut.0.now ++ (mark.now ++ cut.1.now)) }
+{
+    text.rsplit_once(mark)
 }
 
 /// What stands behind a mark, where the text begins with it.
@@ -112,7 +118,7 @@ pub(crate) fn only_word(text: &str) -> Option<&str>
 
 /// The place that a word writes: a name, and maybe a path behind a dot; or a name of a loop's turn.
 pub(crate) fn place_in(word: &str) -> Option<Place<'_>>
-    ensures written { IfSome result (λ at. word.now ≡ place_and (place_of at) []) }
+    ensures written { IfSome result (λ at. word.now ≡ place_text (place_of at)) }
     ensures proper { IfSome result (λ at. IsPlace (place_of at)) }
 {
     if is_loop_name(word) {

@@ -1,16 +1,18 @@
 -- By the lemmas on pieces that are put one behind the other.
-use Rattle.std.proofs.Common.{◌≡◌, ◌≤◌, ◌∷◌, ◌++◌, ◌+◌, [], append-nil, drop, map, length, refl, ap, sym, subst, ◌∙◌, arith, rules}
-use Rattle.std.proofs.lemmas.Result.{on_ok_weaker}
+use Rattle.std.proofs.Common.{◌≡◌, ◌≤◌, ◌∷◌, ◌++◌, ◌+◌, [], append-nil, drop, map, false, length, refl, true, ap, sym, subst, ◌∙◌, arith, rules}
+use Rattle.std.proofs.lemmas.Result.{IfErr-weaker, on_ok_weaker}
+use Rattle.tera.specs.Arithmetic.{and_then}
 use Rattle.tera.specs.Errors.{Refuses}
 use Rattle.tera.specs.Growing.{grown_bytes}
 use Rattle.tera.specs.Form.{Form}
 use Rattle.tera.specs.Key.{key_form, key_value}
 use Rattle.tera.specs.KeyMeaning.{KeyForm}
 use Rattle.tera_page.proofs.Turns.{Goes, goes_on, goes_wrong, goes_last, left_within, made_count, next_left, next_made, none_left, tail_left}
-use Rattle.tera_page.proofs.Views.{all_each, shows_each, shows_loop, shows_otherwise, state-paired, state-turned}
+use Rattle.tera_page.proofs.Views.{all_each, shows_choice, shows_each, shows_loop, shows_otherwise, state-paired, state-turned}
 use Rattle.tera_page.proofs.page.+put.Goals as goal
 use Rattle.tera_page.specs.Rendering.{IsPageOf, Names, all_pieces, each, looped, named_items, pieces, turn_names, turns, under}
-use Rattle.tera_page.specs.View.{bound_of, part_of, parts_of, place_of, state_of}
+use Rattle.tera_page.specs.Values.{value_of}
+use Rattle.tera_page.specs.View.{bound_of, expression_of, part_of, parts_of, state_of}
 
 pub put_nodes-loop-node-preserved : goal.put_nodes-loop-node-preserved
 put_nodes-loop-node-preserved t c =
@@ -81,7 +83,8 @@ put_node-returns-in_err-put_turns-in-For-clause-err t c =
     let otherwise = all_pieces (parts_of f.otherwise.items) in
     let refused : Refuses (pieces (part_of c.args.node.now) state) e =
     subst (λ p. Refuses p e) (sym (shows_loop c.args.node.now f.bound f.over f.body f.otherwise state f.is))
-    (subst (λ nodes. Refuses (looped (bound_of f.bound) (place_of f.over) (all_pieces (parts_of nodes)) otherwise state) e)
+    (subst (λ nodes. Refuses (and_then (value_of (expression_of f.over.expression) state)
+    (looped (bound_of f.bound) f.over.text.now (all_pieces (parts_of nodes)) otherwise state)) e)
     c.as_slice-in-For.ensures.value (c.in_err-put_turns-in-For.ensures.err otherwise)) in
     search rules
 
@@ -164,3 +167,32 @@ put_pairs-returns-in_err-put_nodes-clause-err t c =
     (grown_bytes c.args.page.now) (grown_bytes c.loop-key.page) e (next_made make state pairs pair at next)
     (subst (λ s. Refuses (body s) e) seen c.in_err-put_nodes.ensures.err) c.loop-key.invariant.0 in
     search rules
+
+pub put_node-returns-then-holds-clause-ok : goal.put_node-returns-then-holds-clause-ok
+put_node-returns-then-holds-clause-ok t c =
+    let f = c.in-If in
+    let state = state_of c.args.scope.now in
+    let (v, given, same) = c.in_ok-holds-in-If.ensures.ok in
+    let shows = shows_choice c.args.node.now f.test f.then f.otherwise state v true f.is given (sym same ∙ c.if-holds.true)
+    ∙ ap (λ nodes. all_pieces (parts_of nodes) state) (sym c.as_slice.ensures.value) in
+    on_ok_weaker c.put_nodes.result (λ more. (more.0, subst (λ p. IsPageOf p more.0) (sym shows) more.1, more.2)) c.put_nodes.ensures.ok
+
+pub put_node-returns-else-holds-clause-ok : goal.put_node-returns-else-holds-clause-ok
+put_node-returns-else-holds-clause-ok t c =
+    let f = c.in-If in
+    let state = state_of c.args.scope.now in
+    let (v, given, same) = c.in_ok-holds-in-If.ensures.ok in
+    let shows = shows_choice c.args.node.now f.test f.then f.otherwise state v false f.is given (sym same ∙ c.if-holds.false)
+    ∙ ap (λ nodes. all_pieces (parts_of nodes) state) (sym c.as_slice-else-holds.ensures.value) in
+    on_ok_weaker c.put_nodes-else-holds.result (λ more. (more.0, subst (λ p. IsPageOf p more.0) (sym shows) more.1, more.2))
+    c.put_nodes-else-holds.ensures.ok
+
+pub put_node-returns-else-branch-clause-err : goal.put_node-returns-else-branch-clause-err
+put_node-returns-else-branch-clause-err t c =
+    let f = c.in-For in
+    let state = state_of c.args.scope.now in
+    let put = c.in_ok-put_turns-in-For.ensures.ok in
+    let page = subst (λ nodes. IsPageOf (each (all_pieces (parts_of nodes)) (turns state put.0)) put.1) c.as_slice-in-For.ensures.value put.3 in
+    let none = shows_otherwise c.args.node.now f.bound f.over f.body f.otherwise state f.is put.0 put.1 put.2 (sym c.if-branch.false ∙ put.5) page in
+    let shows = none.0 ∙ ap (λ nodes. all_pieces (parts_of nodes) state) (sym c.as_slice-else-branch.ensures.value) in
+    IfErr-weaker c.put_nodes-else-branch.result _ _ (λ e refused. subst (λ p. Refuses p e) (sym shows) refused) c.put_nodes-else-branch.ensures.err

@@ -2,22 +2,23 @@
 use Rattle.std.proofs.Common.{◌≡◌, ◌<◌, true, length, ◌++◌, ◌∷◌, [], inl, inr, refl, ap, sym, subst, ◌∙◌, arith, rules}
 use Rattle.std.proofs.lemmas.Result.{IfOk-weaker}
 use Rattle.tera_page.proofs.Spelled.{else_elif, ends_at, next_choice, next_comment, next_loop, next_show, next_text, plain_left, spelled_more}
+use Rattle.tera_page.proofs.Views.{part-For, part-If}
 use Rattle.tera_page.proofs.syntax.+read.Goals as goal
 use Rattle.tera_page.specs.Grammar as grammar
 use Rattle.tera_page.specs.Grammar.{SpellsEnd, SpellsElse, SpellsTag, SpellsUpTo, else_tag, elif_tag}
 use Rattle.tera_page.specs.Reading.{IsLastStep, IsStep, end_tag, rest_of}
 use Rattle.tera_page.specs.Tokens.{IsLastRun, SpellsToken, tag_of}
-use Rattle.tera_page.specs.View.{bound_of, parts_of, place_of}
+use Rattle.tera_page.specs.View.{bound_of, parts_of, written_of}
 
 pub read_else-returns-clause-spells : goal.read_else-returns-clause-spells
 read_else-returns-clause-spells t c left stops =
     let node = c.in_ok-node.node in
-    let at = place_of c.in-Some.next in
+    let said = c.in-Some.next.now in
     let rest = c.in_ok-node.rest.now in
-    let tag = ends_at c.args.stop (elif_tag at) left c.args.rest.now c.in-Some.ensures stops in
+    let tag = ends_at c.args.stop (elif_tag said) left c.args.rest.now c.in-Some.ensures stops in
     let alone : c.push.new.self.items ≡ node ∷ [] =
     c.in_ok-push.ensures.items ∙ ap (λ l. l ++ node ∷ []) c.new-otherwise.ensures.items in
-    subst (λ l. SpellsElse (parts_of l) left rest) (sym alone) (else_elif at node left c.args.rest.now rest tag c.in_ok-node.ensures.read)
+    subst (λ l. SpellsElse (parts_of l) left rest) (sym alone) (else_elif said node left c.args.rest.now rest tag c.in_ok-node.ensures.read)
 
 pub read_else-returns-in_default-clause-spells : goal.read_else-returns-in_default-clause-spells
 read_else-returns-in_default-clause-spells t c =
@@ -49,10 +50,10 @@ read_node-returns-in-Comment-clause-ok t c =
     let token = subst (λ t. SpellsToken t c.args.text.now c.in-Some.rest.now) c.in-Comment.is c.in-Some.ensures.spelled in
     next_comment c.args.text.now c.in-Some.rest.now c.in-Comment.said token
 
-pub read_node-returns-in-Show-clause-ok : goal.read_node-returns-in-Show-clause-ok
-read_node-returns-in-Show-clause-ok t c =
+pub read_node-returns-in_ok-written-in-Show-clause-ok : goal.read_node-returns-in_ok-written-in-Show-clause-ok
+read_node-returns-in_ok-written-in-Show-clause-ok t c =
     let token = subst (λ t. SpellsToken t c.args.text.now c.in-Some.rest.now) c.in-Show.is c.in-Some.ensures.spelled in
-    next_show c.args.text.now c.in-Some.rest.now c.in-Show.at c.in-Show.how token
+    next_show c.args.text.now c.in-Some.rest.now c.in_ok-written-in-Show.written c.in-Show.how c.in-Show.said.now c.in_ok-written-in-Show.ensures token
 
 pub read_node-returns-in-Tag-clause-ok : goal.read_node-returns-in-Tag-clause-ok
 read_node-returns-in-Tag-clause-ok t c =
@@ -66,9 +67,41 @@ pub read_node-returns-in-Comment-clause-plain : goal.read_node-returns-in-Commen
 read_node-returns-in-Comment-clause-plain t c plain some =
     absurd (subst (λ t. IsLastRun t c.in-Some.rest.now) c.in-Comment.is (c.in-Some.ensures.plain plain some))
 
-pub read_node-returns-in-Show-clause-plain : goal.read_node-returns-in-Show-clause-plain
-read_node-returns-in-Show-clause-plain t c plain some =
+pub read_node-returns-in_ok-written-in-Show-clause-plain : goal.read_node-returns-in_ok-written-in-Show-clause-plain
+read_node-returns-in_ok-written-in-Show-clause-plain t c plain some =
     absurd (subst (λ t. IsLastRun t c.in-Some.rest.now) c.in-Show.is (c.in-Some.ensures.plain plain some))
+
+pub read_node-returns-in_err-written-in-Show-clause-plain : goal.read_node-returns-in_err-written-in-Show-clause-plain
+read_node-returns-in_err-written-in-Show-clause-plain t c plain some =
+    absurd (subst (λ t. IsLastRun t c.in-Some.rest.now) c.in-Show.is (c.in-Some.ensures.plain plain some))
+
+pub read_for-returns-clause-read : goal.read_for-returns-clause-read
+read_for-returns-clause-read t c =
+    let f = c.in_ok-nodes.field-0 in
+    let (tail, inside, stops) = c.in_ok-nodes.ensures.ok in (
+      written_of c.in_ok-over.over,
+      parts_of f.nodes.items,
+      parts_of c.in_ok-otherwise.otherwise.items,
+      tail,
+      c.in_ok-over.ensures,
+      part-For c.args.bound c.in_ok-over.over f.nodes c.in_ok-otherwise.otherwise,
+      inside,
+      c.in_ok-otherwise.ensures.spells tail stops,
+    )
+
+pub read_if-returns-clause-read : goal.read_if-returns-clause-read
+read_if-returns-clause-read t c =
+    let f = c.in_ok-nodes.field-0 in
+    let (tail, inside, stops) = c.in_ok-nodes.ensures.ok in (
+      written_of c.in_ok-test.test,
+      parts_of f.nodes.items,
+      parts_of c.in_ok-otherwise.otherwise.items,
+      tail,
+      c.in_ok-test.ensures,
+      part-If c.in_ok-test.test f.nodes c.in_ok-otherwise.otherwise,
+      inside,
+      c.in_ok-otherwise.ensures.spells tail stops,
+    )
 
 pub read_node-returns-in-Tag-clause-plain : goal.read_node-returns-in-Tag-clause-plain
 read_node-returns-in-Tag-clause-plain t c plain some =
@@ -76,12 +109,12 @@ read_node-returns-in-Tag-clause-plain t c plain some =
 
 pub read_tag-returns-in_ok-node-in-If-clause-step : goal.read_tag-returns-in_ok-node-in-If-clause-step
 read_tag-returns-in_ok-node-in-If-clause-step t c spells =
-    next_choice c.args.from.now c.in_ok-node-in-If.rest.now (place_of c.in-If.at) c.in_ok-node-in-If.node c.args.rest.now
+    next_choice c.args.from.now c.in_ok-node-in-If.rest.now c.in-If.said.now c.in_ok-node-in-If.node c.args.rest.now
     (subst (λ t. SpellsTag (tag_of t) c.args.from.now c.args.rest.now) c.in-If.is spells) c.in_ok-node-in-If.ensures.read
 
 pub read_tag-returns-in_ok-node-in-For-clause-step : goal.read_tag-returns-in_ok-node-in-For-clause-step
 read_tag-returns-in_ok-node-in-For-clause-step t c spells =
-    next_loop c.args.from.now c.in_ok-node-in-For.rest.now (bound_of c.in-For.bound) (place_of c.in-For.over) c.in_ok-node-in-For.node c.args.rest.now
+    next_loop c.args.from.now c.in_ok-node-in-For.rest.now (bound_of c.in-For.bound) c.in-For.said.now c.in_ok-node-in-For.node c.args.rest.now
     (subst (λ t. SpellsTag (tag_of t) c.args.from.now c.args.rest.now) c.in-For.is spells) c.in_ok-node-in-For.ensures.read
 
 pub read_nodes-parts-init : goal.read_nodes-parts-init

@@ -2,7 +2,7 @@
 use Rattle.std.proofs.Common.{ap, ◌∙◌, slice_index, sym, arith}
 use Rattle.tera_page.proofs.Fronts.{cut_behind_blanks}
 use Rattle.tera_page.proofs.word.next_word.Goals as goal
-use Rattle.tera_page.specs.Grammar.{is_blank}
+use Rattle.tera_page.specs.Words.{is_blank}
 
 pub split_at-requires : goal.split_at-requires
 split_at-requires c =

@@ -2,7 +2,8 @@
 use Rattle.std.proofs.Common.{ap, ◌≡◌, ◌<◌, ◌∙◌, false, length, slice_index, subst, sym, arith}
 use Rattle.tera_page.proofs.Fronts.{cut_behind_blanks, solid_from}
 use Rattle.tera_page.proofs.word.past_blanks.Goals as goal
-use Rattle.tera_page.specs.Grammar.{begins_blank, is_blank}
+use Rattle.tera_page.specs.Grammar.{begins_blank}
+use Rattle.tera_page.specs.Words.{is_blank}
 
 pub split_at-requires : goal.split_at-requires
 split_at-requires c =

@@ -1,0 +1,21 @@
+-- A number, or a place.
+use Rattle.std.proofs.Common.{◌≡◌, ◌∷◌, ◌∙◌, Some, subst, sym}
+use Rattle.tera.specs.Path.{place}
+use Rattle.tera_page.proofs.expression.read_word.Goals as goal
+use Rattle.tera_page.specs.Expressions as grammar
+use Rattle.tera_page.specs.Expressions.{Reads, alone}
+use Rattle.tera_page.specs.Symbols.{word}
+use Rattle.tera_page.specs.Template.{constant, found_at}
+use Rattle.tera_page.specs.View.{place_of}
+
+pub returns-in-Some : goal.returns-in-Some
+returns-in-Some c rest =
+    let is : place c.args.word.now ≡ Some c.in-Some.number = sym c.place_in_path.ensures ∙ c.in-Some.is in
+    subst (λ v. Reads alone (constant v) (word c.args.word.now ∷ rest) rest) (sym c.from.ensures)
+    (grammar.number c.in-Some.number c.args.word.now rest is)
+
+pub returns-in_ok-place_in-in-None : goal.returns-in_ok-place_in-in-None
+returns-in_ok-place_in-in-None c rest =
+    let at = place_of c.in_ok-place_in-in-None.field-0 in
+    subst (λ w. Reads alone (found_at at) (word w ∷ rest) rest) (sym c.in_ok-place_in-in-None.ensures.written)
+    (grammar.found at rest c.in_ok-place_in-in-None.ensures.proper)

@@ -1,0 +1,408 @@
+//! Reads expressions.
+ghost use Rattle.std.specs.Prelude.{◌≡◌, ◌++◌, ◌∷◌, [], ◌<◌, IfOk, IfSome, List, Some, codes, length};
+ghost use Rattle.tera_page.specs.Expressions.{Reads, Writes, between, constant_of, tighter, level};
+ghost use Rattle.tera_page.specs.Expressions;
+ghost use Rattle.tera_page.specs.Parsing.{IsRead, level_of, row_level, symbols_of};
+ghost use Rattle.tera_page.specs.Symbols;
+ghost use Rattle.tera_page.specs.Symbols.{sign, word};
+ghost use Rattle.tera_page.specs.Template;
+ghost use Rattle.tera_page.specs.Tokens.{sign_of, symbol_of};
+ghost use Rattle.tera_page.specs.View.{binary_of, expression_of, unary_of, written_of};
+
+use crate::symbol::{Sign, Symbol, Unread, symbols_in};
+use crate::tree::{Binary, Expression, Unary, Written};
+use crate::word::place_in;
+use std::alloc::Global;
+use tera::Value;
+use tera::scalars::{BinaryOp, place_in_path};
+
+/// How tightly an expression holds together, from `or` to what stands alone.
+#[derive(Clone, Copy)]
+pub(crate) enum Level {
+    Ors,
+    Ands,
+    Nots,
+    Comparisons,
+    Sums,
+    Products,
+    Opposites,
+    Powers,
+    Alone,
+}
+
+/// What may stand several times in a row: the last takes all that is before it.
+#[derive(Clone, Copy)]
+pub(crate) enum Row {
+    Ors,
+    Ands,
+    Sums,
+    Products,
+}
+
+/// The expression that a text writes.
+pub(crate) fn read_written(alloc: Global, text: &str) -> Result<Written<'_>, Unread>
+    ensures { IfOk result (λ written. Writes (written_of written) text.now) }
+{
+    let symbols = symbols_in(alloc, text)?;
+    let (expression, rest) = read(alloc, Level::Ors, symbols.as_slice())?;
+    if rest.is_empty() {
+        Ok(Written { text, expression })
+    } else {
+        Err(Unread::Bad)
+    }
+}
+
+// Reads an expression that holds together so tightly, and gives what is left.
+#[cycle(read)]
+fn read<'a, 's>(
+    alloc: Global,
+    level: Level,
+    symbols: &'s [Symbol<'a>],
+) -> Result<(Expression<'a>, &'s [Symbol<'a>]), Unread>
+    ensures { IfOk result (λ read. IsRead (level_of level) symbols.now read.0 read.1.now) }
+{
+    match level {
+        Level::Ors => read_row(alloc, Row::Ors, symbols),
+        Level::Ands => read_row(alloc, Row::Ands, symbols),
+        Level::Nots => read_not(alloc, symbols),
+        Level::Comparisons => read_comparison(alloc, symbols),
+        Level::Sums => read_row(alloc, Row::Sums, symbols),
+        Level::Products => read_row(alloc, Row::Products, symbols),
+        Level::Opposites => read_opposite(alloc, symbols),
+        Level::Powers => read_power(alloc, symbols),
+        Level::Alone => read_alone(alloc, symbols),
+    }
+}
+
+// Reads a row, from its first to its last.
+#[cycle(read)]
+fn read_row<'a, 's>(
+    alloc: Global,
+    row: Row,
+    symbols: &'s [Symbol<'a>],
+) -> Result<(Expression<'a>, &'s [Symbol<'a>]), Unread>
+    ensures { IfOk result (λ read. IsRead (row_level row) symbols.now read.0 read.1.now) }
+{
+    let (mut left, mut rest) = read(alloc, tighter(row), symbols)?;
+    'row: while let Some((operator, after)) = operator_in(row, rest) {
+        let (right, left_over) = read(alloc, tighter(row), after)?;
+        left = two(alloc, operator, left, right)?;
+        rest = left_over;
+    }
+    Ok((left, rest))
+}
+
+// The level inside of a row.
+fn tighter(row: Row) -> Level
+    ensures { level_of result ≡ tighter (row_level row) }
+{
+    match row {
+        Row::Ors => Level::Ands,
+        Row::Ands => Level::Nots,
+        Row::Sums => Level::Products,
+        Row::Products => Level::Opposites,
+    }
+}
+
+// The operator of a row that is first, and what stands behind it.
+fn operator_in<'a, 's>(
+    row: Row,
+    symbols: &'s [Symbol<'a>],
+) -> Option<(Binary, &'s [Symbol<'a>])>
+    ensures level { IfSome result (λ found. level (binary_of found.0) ≡ row_level row) }
+    ensures between { IfSome result (λ found. symbols_of symbols.now
+        ≡ between (binary_of found.0) ++ symbols_of found.1.now) }
+    ensures shorter { IfSome result (λ found. length found.1.now < length symbols.now) }
+{
+    let (first, rest) = symbols.split_first()?;
+    match first {
+        Symbol::Sign(sign) => Some((operator_of(row, *sign)?, rest)),
+        _ => None,
+    }
+}
+
+// The operator of a row that a sign stands for.
+fn operator_of(row: Row, sign: Sign) -> Option<Binary>
+    ensures level { IfSome result (λ found. level (binary_of found) ≡ row_level row) }
+    ensures between { IfSome result
+        (λ found. between (binary_of found) ≡ Symbols.sign (sign_of sign) ∷ []) }
+{
+    match (row, sign) {
+        (Row::Ors, Sign::Or) => Some(Binary::Or),
+        (Row::Ands, Sign::And) => Some(Binary::And),
+        (Row::Sums, Sign::Plus) => Some(Binary::Arithmetic(BinaryOp::Add)),
+        (Row::Sums, Sign::Minus) => Some(Binary::Arithmetic(BinaryOp::Sub)),
+        (Row::Products, Sign::Times) => Some(Binary::Arithmetic(BinaryOp::Mul)),
+        (Row::Products, Sign::Floor) => Some(Binary::Arithmetic(BinaryOp::FloorDiv)),
+        (Row::Products, Sign::Remainder) => Some(Binary::Arithmetic(BinaryOp::Rem)),
+        _ => None,
+    }
+}
+
+// Reads what `not` stands before, or what holds together more tightly.
+#[cycle(read)]
+fn read_not<'a, 's>(
+    alloc: Global,
+    symbols: &'s [Symbol<'a>],
+) -> Result<(Expression<'a>, &'s [Symbol<'a>]), Unread>
+    ensures { IfOk result (λ read. IsRead Expressions.nots symbols.now read.0 read.1.now) }
+{
+    match behind(Sign::Not, symbols) {
+        Some(rest) => {
+            let (inner, rest) = read(alloc, Level::Nots, rest)?;
+            Ok((one(alloc, Unary::Not, inner)?, rest))
+        }
+        None => read(alloc, Level::Comparisons, symbols),
+    }
+}
+
+// Reads one comparison, or a sum alone.
+#[cycle(read)]
+fn read_comparison<'a, 's>(
+    alloc: Global,
+    symbols: &'s [Symbol<'a>],
+) -> Result<(Expression<'a>, &'s [Symbol<'a>]), Unread>
+    ensures { IfOk result
+        (λ read. IsRead Expressions.comparisons symbols.now read.0 read.1.now) }
+{
+    let (left, rest) = read(alloc, Level::Sums, symbols)?;
+    if let Some(rest) = behind(Sign::Is, rest) {
+        return read_test(alloc, left, rest);
+    }
+    match comparison_in(rest) {
+        Some((operator, after)) => {
+            let (right, rest) = read(alloc, Level::Sums, after)?;
+            Ok((two(alloc, operator, left, right)?, rest))
+        }
+        None => Ok((left, rest)),
+    }
+}
+
+// Reads what stands behind `is`.
+fn read_test<'a, 's>(
+    alloc: Global,
+    inner: Expression<'a>,
+    symbols: &'s [Symbol<'a>],
+) -> Result<(Expression<'a>, &'s [Symbol<'a>]), Unread>
+    ensures reads { IfOk result (λ read. (ss : List Symbols.Symbol)
+        → Reads Expressions.sums (expression_of inner.entry) ss
+        (sign Symbols.is ∷ symbols_of symbols.now)
+        → Reads Expressions.comparisons (expression_of read.0) ss (symbols_of read.1.now)) }
+    ensures shorter { IfOk result (λ read. length read.1.now < length symbols.now) }
+{
+    match behind(Sign::Not, symbols) {
+        Some(rest) => {
+            let rest = behind_defined(rest)?;
+            let defined = one(alloc, Unary::IsDefined, inner)?;
+            Ok((one(alloc, Unary::Not, defined)?, rest))
+        }
+        None => {
+            let rest = behind_defined(symbols)?;
+            Ok((one(alloc, Unary::IsDefined, inner)?, rest))
+        }
+    }
+}
+
+// What stands behind the word `defined`, where that is first.
+fn behind_defined<'a, 's>(symbols: &'s [Symbol<'a>]) -> Result<&'s [Symbol<'a>], Unread>
+    ensures first { IfOk result (λ rest. symbols_of symbols.now
+        ≡ word (codes "defined") ∷ symbols_of rest.now) }
+    ensures shorter { IfOk result (λ rest. length rest.now < length symbols.now) }
+{
+    let Some((first, rest)) = symbols.split_first() else {
+        return Err(Unread::Bad);
+    };
+    match first {
+        Symbol::Word(word) => if *word == "defined" { Ok(rest) } else { Err(Unread::Bad) },
+        _ => Err(Unread::Bad),
+    }
+}
+
+// The comparison that is first, and what stands behind it.
+fn comparison_in<'a, 's>(symbols: &'s [Symbol<'a>]) -> Option<(Binary, &'s [Symbol<'a>])>
+    ensures level { IfSome result
+        (λ found. level (binary_of found.0) ≡ Expressions.comparisons) }
+    ensures between { IfSome result (λ found. symbols_of symbols.now
+        ≡ between (binary_of found.0) ++ symbols_of found.1.now) }
+    ensures shorter { IfSome result (λ found. length found.1.now < length symbols.now) }
+{
+    if let Some(rest) = behind(Sign::Not, symbols) {
+        return Some((Binary::NotIn, behind(Sign::In, rest)?));
+    }
+    let (first, rest) = symbols.split_first()?;
+    match first {
+        Symbol::Sign(sign) => Some((comparison_of(*sign)?, rest)),
+        _ => None,
+    }
+}
+
+// The comparison that a sign stands for.
+fn comparison_of(sign: Sign) -> Option<Binary>
+    ensures level { IfSome result (λ found. level (binary_of found) ≡ Expressions.comparisons) }
+    ensures between { IfSome result
+        (λ found. between (binary_of found) ≡ Symbols.sign (sign_of sign) ∷ []) }
+{
+    match sign {
+        Sign::In => Some(Binary::In),
+        Sign::Equal => Some(Binary::Equal),
+        Sign::Unequal => Some(Binary::Unequal),
+        Sign::Less => Some(Binary::Less),
+        Sign::AtMost => Some(Binary::AtMost),
+        Sign::More => Some(Binary::More),
+        Sign::AtLeast => Some(Binary::AtLeast),
+        _ => None,
+    }
+}
+
+// Reads what `-` stands before, or a power.
+#[cycle(read)]
+fn read_opposite<'a, 's>(
+    alloc: Global,
+    symbols: &'s [Symbol<'a>],
+) -> Result<(Expression<'a>, &'s [Symbol<'a>]), Unread>
+    ensures { IfOk result (λ read. IsRead Expressions.opposites symbols.now read.0 read.1.now) }
+{
+    match behind(Sign::Minus, symbols) {
+        Some(rest) => {
+            let (inner, rest) = read(alloc, Level::Opposites, rest)?;
+            Ok((one(alloc, Unary::Minus, inner)?, rest))
+        }
+        None => read(alloc, Level::Powers, symbols),
+    }
+}
+
+// Reads a power, or what stands alone.
+#[cycle(read)]
+fn read_power<'a, 's>(
+    alloc: Global,
+    symbols: &'s [Symbol<'a>],
+) -> Result<(Expression<'a>, &'s [Symbol<'a>]), Unread>
+    ensures { IfOk result (λ read. IsRead Expressions.powers symbols.now read.0 read.1.now) }
+{
+    let (base, rest) = read(alloc, Level::Alone, symbols)?;
+    match behind(Sign::Power, rest) {
+        Some(after) => {
+            let (exponent, rest) = read(alloc, Level::Opposites, after)?;
+            let power = Binary::Arithmetic(BinaryOp::Pow);
+            Ok((two(alloc, power, base, exponent)?, rest))
+        }
+        None => Ok((base, rest)),
+    }
+}
+
+// Reads what stands alone: a value, a place, or an expression in parentheses.
+#[cycle(read)]
+fn read_alone<'a, 's>(
+    alloc: Global,
+    symbols: &'s [Symbol<'a>],
+) -> Result<(Expression<'a>, &'s [Symbol<'a>]), Unread>
+    ensures { IfOk result (λ read. IsRead Expressions.alone symbols.now read.0 read.1.now) }
+{
+    if let Some(rest) = behind(Sign::Open, symbols) {
+        return read_group(alloc, rest);
+    }
+    let Some((first, rest)) = symbols.split_first() else {
+        return Err(Unread::Bad);
+    };
+    Ok((read_one(alloc, *first)?, rest))
+}
+
+// Reads what stands in parentheses, behind the first of them.
+#[cycle(read)]
+fn read_group<'a, 's>(
+    alloc: Global,
+    symbols: &'s [Symbol<'a>],
+) -> Result<(Expression<'a>, &'s [Symbol<'a>]), Unread>
+    ensures reads { IfOk result (λ read. Reads Expressions.alone (expression_of read.0)
+        (sign Symbols.opens ∷ symbols_of symbols.now) (symbols_of read.1.now)) }
+    ensures shorter { IfOk result (λ read. length read.1.now < length symbols.now) }
+{
+    let (inner, rest) = read(alloc, Level::Ors, symbols)?;
+    match behind(Sign::Close, rest) {
+        Some(rest) => Ok((inner, rest)),
+        None => Err(Unread::Bad),
+    }
+}
+
+// Reads one symbol that is an expression.
+fn read_one<'a>(alloc: Global, symbol: Symbol<'a>) -> Result<Expression<'a>, Unread>
+    ensures { IfOk result (λ made. (rest : List Symbols.Symbol)
+        → Reads Expressions.alone (expression_of made) (symbol_of symbol.entry ∷ rest) rest) }
+{
+    match symbol {
+        Symbol::Word(word) => read_word(word).ok_or(Unread::Bad),
+        Symbol::Quoted(text) => {
+            let text = String::from_str(alloc, text)?;
+            Ok(Expression::Constant(Value::from(text)))
+        }
+        Symbol::Sign(sign) => match constant_of(sign) {
+            Some(value) => Ok(Expression::Constant(value)),
+            None => Err(Unread::Bad),
+        },
+    }
+}
+
+// The number or the place that a word is.
+fn read_word(word: &str) -> Option<Expression<'_>>
+    ensures { IfSome result (λ made. (rest : List Symbols.Symbol)
+        → Reads Expressions.alone (expression_of made) (Symbols.word word.now ∷ rest) rest) }
+{
+    match place_in_path(word) {
+        Some(number) => Some(Expression::Constant(Value::from(number))),
+        None => Some(Expression::Found(place_in(word)?)),
+    }
+}
+
+// The value that a word of the language stands for.
+fn constant_of(sign: Sign) -> Option<Value>
+    ensures { IfSome result (λ value. constant_of (sign_of sign) ≡ Some value) }
+{
+    match sign {
+        Sign::True => Some(Value::from(true)),
+        Sign::False => Some(Value::from(false)),
+        Sign::None => Some(Value::none()),
+        _ => None,
+    }
+}
+
+// What stands behind a sign, where that is first.
+fn behind<'a, 's>(wanted: Sign, symbols: &'s [Symbol<'a>]) -> Option<&'s [Symbol<'a>]>
+    ensures first { IfSome result
+        (λ rest. symbols_of symbols.now ≡ sign (sign_of wanted) ∷ symbols_of rest.now) }
+    ensures shorter { IfSome result (λ rest. length rest.now < length symbols.now) }
+{
+    let (first, rest) = symbols.split_first()?;
+    match first {
+        Symbol::Sign(found) => if *found == wanted { Some(rest) } else { None },
+        _ => None,
+    }
+}
+
+// What is made of one expression.
+fn one<'a>(
+    alloc: Global,
+    operator: Unary,
+    inner: Expression<'a>,
+) -> Result<Expression<'a>, Unread>
+    ensures { IfOk result (λ made. expression_of made
+        ≡ Template.one (unary_of operator) (expression_of inner.entry)) }
+{
+    Ok(Expression::One(operator, Box::new(alloc, inner)?))
+}
+
+// What is made of two.
+fn two<'a>(
+    alloc: Global,
+    operator: Binary,
+    left: Expression<'a>,
+    right: Expression<'a>,
+) -> Result<Expression<'a>, Unread>
+    ensures { IfOk result (λ made. expression_of made ≡ Template.two (binary_of operator)
+        (expression_of left.entry) (expression_of right.entry)) }
+{
+    Ok(Expression::Two(
+        operator,
+        Box::new(alloc, left)?,
+        Box::new(alloc, right)?,
+    ))
+}
