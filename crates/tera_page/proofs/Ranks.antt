@@ -1,7 +1,6 @@
 -- The rank of a value, by its kind.
 use Rattle.std.specs.Prelude.{◌≡◌, ℕ, refl}
 use Rattle.tera.specs.Form.{Form}
-use Rattle.tera.specs.Integer.{IntegerKind}
 use Rattle.tera.specs.Kind.{Kind, kind_in, undefined_kind, none_kind, truth_kind, number_kind, text_kind, array_kind, object_kind, bytes_kind}
 use Rattle.tera.specs.Meaning.{meaning}
 use Rattle.tera.specs.Order.{rank}

@@ -9,7 +9,7 @@ use Rattle.tera_page.proofs.Views.{part-Comment, part-Show, part-Text}
 use Rattle.tera_page.specs.Expressions.{Writes}
 use Rattle.tera_page.specs.Grammar as grammar
 use Rattle.tera_page.specs.Grammar.{InTag, IsPlain, IsRun, Marked, Shows, SpellsElse, SpellsPart, SpellsTag, SpellsUpTo}
-use Rattle.tera_page.specs.Words.{IsNext, IsPlace}
+use Rattle.tera_page.specs.Words.{IsNext}
 use Rattle.tera_page.specs.Grammar.{Tag, if_tag, for_tag, elif_tag, comment_mark, value_mark}
 use Rattle.tera_page.specs.Reading.{IsChoice, IsLoop, StopsAt}
 use Rattle.tera_page.specs.Template as tree

@@ -7,7 +7,7 @@ use Rattle.tera.specs.Refusal as layer
 use Rattle.tera.specs.Tree as form
 use Rattle.tera_page.specs.Symbols as symbol
 use Rattle.tera_page.specs.Symbols.{AreSymbols, Sign, Symbol, sign, quoted, word}
-use Rattle.tera_page.specs.Template.{Binary, Expression, Place, Unary, Written, denied, opposite}
+use Rattle.tera_page.specs.Template.{Binary, Expression, Place, Written, denied, opposite}
 use Rattle.tera_page.specs.Template.{is_defined, either, both, within, not_within, equal, unequal}
 use Rattle.tera_page.specs.Template.{less, at_most, more, at_least, arithmetic, constant, found_at}
 use Rattle.tera_page.specs.Template.{one, two}

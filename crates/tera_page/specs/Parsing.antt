@@ -1,5 +1,5 @@
 -- What the clauses of the reader of expressions cite.
-use Rattle.std.specs.Prelude.{◌≡◌, ◌≤◌, List, map, length}
+use Rattle.std.specs.Prelude.{◌≤◌, List, map, length}
 use Rattle.tera_page.specs.Expressions as grammar
 use Rattle.tera_page.specs.Expressions.{Reads}
 use Rattle.tera_page.specs.Symbols as symbol

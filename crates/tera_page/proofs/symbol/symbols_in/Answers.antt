@@ -1,5 +1,5 @@
 -- With blanks around them.
-use Rattle.std.proofs.Common.{◌≡◌, ◌∷◌, ◌++◌, [], append-nil, ap, map, refl, subst, sym, ◌∙◌, rules}
+use Rattle.std.proofs.Common.{◌∷◌, ◌++◌, [], append-nil, ap, map, refl, subst, sym, ◌∙◌, rules}
 use Rattle.tera_page.proofs.Lexed.{none_there, pushed, symbols_behind}
 use Rattle.tera_page.proofs.symbol.symbols_in.Goals as goal
 use Rattle.tera_page.specs.Symbols.{AreSymbols}
