@@ -2,8 +2,12 @@
 #![tactic(auto)]
 
 #[cfg(test)]
+mod expressions;
+#[cfg(test)]
 mod held;
 #[cfg(test)]
 mod hostile;
 #[cfg(test)]
 mod pages;
+#[cfg(test)]
+mod shop;

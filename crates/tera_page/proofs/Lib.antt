@@ -1,7 +1,6 @@
 mod Fronts
 mod Lexed
 mod Plainly
-mod Ranks
 mod Rows
 mod Spelled
 mod Turns

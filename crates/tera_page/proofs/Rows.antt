@@ -1,13 +1,14 @@
 -- The levels of rows.
-use Rattle.std.specs.Prelude.{◌≡◌, ◌+◌, ◌++◌, ℕ, List, refl}
+use Rattle.std.specs.Prelude.{◌≡◌, ◌++◌, ℕ, List, refl}
 use Rattle.std.proofs.Common.{subst, sym}
 use Rattle.tera_page.specs.Expressions as grammar
-use Rattle.tera_page.specs.Expressions.{Level, Reads, between, level, first_level, second_level, tighter, ors, ands, nots, comparisons, sums, products, opposites, powers, alone}
+use Rattle.tera_page.specs.Expressions.{Level, Reads, alone, ands, between, comparisons, first_level, level, nots, opposites, ors, powers}
+use Rattle.tera_page.specs.Expressions.{products, second_level, sums, tighter}
 use Rattle.tera_page.specs.Parsing.{row_level}
 use Rattle.tera_page.specs.Symbols.{Symbol}
 use Rattle.tera_page.specs.Template.{Binary, Expression, two}
-use Rattle.tera_page.specs.declared.expression.Row.{Row}
-use Rattle.tera_page.specs.declared.expression.Row.TheVariants as row
+use Rattle.tera_page.specs.declared.level.Row.{Row}
+use Rattle.tera_page.specs.declared.level.Row.TheVariants as row
 
 -- how many levels are tighter
 abbrev pub tightness : Level → ℕ
@@ -33,12 +34,6 @@ row_second row.Ors = refl
 row_second row.Ands = refl
 row_second row.Sums = refl
 row_second row.Products = refl
-
-pub row_falls : (r : Row) → tightness (tighter (row_level r)) + 1 ≡ tightness (row_level r)
-row_falls row.Ors = refl
-row_falls row.Ands = refl
-row_falls row.Sums = refl
-row_falls row.Products = refl
 
 -- what is read of two
 pub read_two : (operator : Binary) (l : Level) (e f made : Expression) (ss ts us rest : List Symbol) → level operator ≡ l

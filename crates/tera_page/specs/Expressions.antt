@@ -1,5 +1,6 @@
 -- Which symbols spell an expression.
-use Rattle.std.specs.Prelude.{◌≡◌, ℕ, pos, false, true, List, [], ◌∷◌, ◌++◌, codes, Some, Option, None}
+use Rattle.std.specs.Prelude.{◌≡◌, ℕ, pos, false, true, List, [], ◌∷◌, ◌++◌, codes, Some, Option}
+use Rattle.std.specs.Prelude.{None}
 use Rattle.tera.specs.Form.{Form}
 use Rattle.tera.specs.Integer.{u64}
 use Rattle.tera.specs.Path.{place}
@@ -108,9 +109,11 @@ pub data Reads : Level → Expression → List Symbol → List Symbol → Type 0
       → Reads ors e ss (sign symbol.closes ∷ rest)
       → Reads alone e (sign symbol.opens ∷ ss) rest
   number : (n : ℕ) (w : List ℕ) (rest : List Symbol) → place w ≡ Some n
-      → Reads alone (constant (form.number (record { kind = u64; value = pos n }))) (word w ∷ rest) rest
+      → Reads alone (constant (form.number (record { kind = u64; value = pos n })))
+      (word w ∷ rest) rest
   text : (t : List ℕ) (rest : List Symbol)
-      → Reads alone (constant (form.text (record { spelled = t; safe = false }))) (quoted t ∷ rest) rest
+      → Reads alone (constant (form.text (record { spelled = t; safe = false })))
+      (quoted t ∷ rest) rest
   of_language : (s : Sign) (v : Form) (rest : List Symbol) → constant_of s ≡ Some v
       → Reads alone (constant v) (sign s ∷ rest) rest
   found : (at : Place) (rest : List Symbol) → IsPlace at

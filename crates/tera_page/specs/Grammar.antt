@@ -3,8 +3,8 @@ use Rattle.std.specs.Prelude.{◌≡◌, ◌≢◌, ◌⊎◌, ⊤, ◌||◌, �
 use Rattle.std.specs.Prelude.{IsTrue, List, [], ◌∷◌, ◌++◌, drop, length, slice_index, codes}
 use Rattle.tera_page.specs.Expressions.{Writes}
 use Rattle.tera_page.specs.Template as tree
-use Rattle.tera_page.specs.Template.{Bound, Showing, Part, Parts, Written, in_page, as_printed, item}
-use Rattle.tera_page.specs.Template.{pair}
+use Rattle.tera_page.specs.Template.{Bound, Showing, Part, Parts, Written, in_page, as_printed}
+use Rattle.tera_page.specs.Template.{item, pair}
 use Rattle.tera_page.specs.Words.{AreBlanks, IsNext, Words, is_blank, is_name}
 
 -- ---- marks

@@ -5,10 +5,10 @@ use Rattle.tera_page.specs.Expressions.{Reads}
 use Rattle.tera_page.specs.Symbols as symbol
 use Rattle.tera_page.specs.Tokens.{symbol_of}
 use Rattle.tera_page.specs.View.{expression_of}
-use Rattle.tera_page.specs.declared.expression.Level.{Level}
-use Rattle.tera_page.specs.declared.expression.Level.TheVariants as level
-use Rattle.tera_page.specs.declared.expression.Row.{Row}
-use Rattle.tera_page.specs.declared.expression.Row.TheVariants as row
+use Rattle.tera_page.specs.declared.level.Level.{Level}
+use Rattle.tera_page.specs.declared.level.Level.TheVariants as level
+use Rattle.tera_page.specs.declared.level.Row.{Row}
+use Rattle.tera_page.specs.declared.level.Row.TheVariants as row
 use Rattle.tera_page.specs.declared.symbol.Symbol.{Symbol}
 use Rattle.tera_page.specs.declared.tree.Expression.{Expression}
 

@@ -114,14 +114,16 @@ repeated body otherwise state (own ∷ owns) = each body (turns state (own ∷ o
 
 -- what a loop over a value shows
 abbrev pub looped : Bound → List ℕ → (State → Pieces) → (State → Pieces) → State → Form → Pieces
-looped bound said body otherwise state v = and_then (owns bound said v) (repeated body otherwise state)
+looped bound said body otherwise state v =
+    and_then (owns bound said v) (repeated body otherwise state)
 
 -- the pieces of a part, and of parts one behind the other
 abbrev mutual
   pub pieces : Part → State → Pieces
   pieces (tree.text t) state = Ok (verbatim t ∷ [])
   pieces (tree.comment t) state = Ok []
-  pieces (tree.show w how) state = and_then (value_of w.expression state) (value_alone how w.text)
+  pieces (tree.show w how) state =
+      and_then (value_of w.expression state) (value_alone how w.text)
   pieces (tree.choice test chosen otherwise) state =
       and_then (value_of test.expression state)
       (λ v. if is_true v then all_pieces chosen state else all_pieces otherwise state)

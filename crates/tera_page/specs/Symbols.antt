@@ -69,7 +69,8 @@ begins_word (b ∷ bytes) = is_word_byte b
 -- the text is a word, which ends there, and then the rest
 abbrev pub IsWord : List ℕ → List ℕ → List ℕ → Type 0
 IsWord w text rest =
-    (0 < length w) × IsTrue (list_all is_word_byte w) × (begins_word rest ≡ false) × (text ≡ w ++ rest)
+    (0 < length w) × IsTrue (list_all is_word_byte w) × (begins_word rest ≡ false)
+    × (text ≡ w ++ rest)
 
 -- a byte that may stand between such quotes: no quote, and no backslash
 abbrev pub is_plain : ℕ → ℕ → Bool
@@ -92,5 +93,5 @@ IsSymbol (sign s) text rest =
 abbrev pub AreSymbols : List Symbol → List ℕ → Type 0
 AreSymbols [] text = AreBlanks text
 AreSymbols (s ∷ ss) text =
-    (before inner rest : List ℕ) × AreBlanks before × (text ≡ before ++ inner) × IsSymbol s inner rest
-    × AreSymbols ss rest
+    (before inner rest : List ℕ) × AreBlanks before × (text ≡ before ++ inner)
+    × IsSymbol s inner rest × AreSymbols ss rest

@@ -16,8 +16,9 @@ use Rattle.tera.specs.Refusal.{Refusal}
 use Rattle.tera.specs.State.{State}
 use Rattle.tera.specs.Tree.{undefined, none, truth, number, text, bytes, array, object}
 use Rattle.tera_page.specs.Template.{Binary, Expression, Place, Unary, denied, opposite, is_defined}
-use Rattle.tera_page.specs.Template.{either, both, within, not_within, equal, unequal, less, at_most}
-use Rattle.tera_page.specs.Template.{more, at_least, arithmetic, constant, found_at, one, two}
+use Rattle.tera_page.specs.Template.{either, both, within, not_within, equal, unequal, less}
+use Rattle.tera_page.specs.Template.{at_most, more, at_least, arithmetic, constant, found_at}
+use Rattle.tera_page.specs.Template.{one, two}
 
 -- what a path leads to; no path leads to the value itself
 abbrev pub led : Option (List ℕ) → Form → Option Form

@@ -8,8 +8,9 @@ use Rattle.tera.specs.State.{State}
 use Rattle.tera_page.specs.Rendering.{Names, under}
 use Rattle.tera_page.specs.Template as tree
 use Rattle.tera_page.specs.declared.tree.Binary.{Binary}
-use Rattle.tera_page.specs.declared.tree.Binary.TheVariants.{Or, And, In, NotIn, Equal, Unequal, Less}
-use Rattle.tera_page.specs.declared.tree.Binary.TheVariants.{AtMost, More, AtLeast, Arithmetic}
+use Rattle.tera_page.specs.declared.tree.Binary.TheVariants.{Or, And, In, NotIn, Equal, Unequal}
+use Rattle.tera_page.specs.declared.tree.Binary.TheVariants.{Less, AtMost, More}
+use Rattle.tera_page.specs.declared.tree.Binary.TheVariants.{AtLeast, Arithmetic}
 use Rattle.tera_page.specs.declared.tree.Bound.{Bound}
 use Rattle.tera_page.specs.declared.tree.Bound.TheVariants.{Item, Pair}
 use Rattle.tera_page.specs.declared.tree.Expression.{Expression}
@@ -76,7 +77,8 @@ node_step (Node-F.Show written how) = tree.show (written_of written) (showing_of
 node_step (Node-F.If test chosen otherwise) =
     tree.choice (written_of test) (tree.parts chosen.items) (tree.parts otherwise.items)
 node_step (Node-F.For bound over body otherwise) =
-    tree.loop (bound_of bound) (written_of over) (tree.parts body.items) (tree.parts otherwise.items)
+    tree.loop (bound_of bound) (written_of over) (tree.parts body.items)
+    (tree.parts otherwise.items)
 
 abbrev pub part_of : Node → tree.Part
 part_of = fold-Node tree.Part node_step

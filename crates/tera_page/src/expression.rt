@@ -1,6 +1,6 @@
 //! Reads expressions.
-ghost use Rattle.std.specs.Prelude.{◌≡◌, ◌++◌, ◌∷◌, [], ◌<◌, IfOk, IfSome, List, Some, codes, length};
-ghost use Rattle.tera_page.specs.Expressions.{Reads, Writes, between, constant_of, tighter, level};
+ghost use Rattle.std.specs.Prelude.{◌≡◌, ◌∷◌, ◌<◌, IfOk, IfSome, List, Some, codes, length};
+ghost use Rattle.tera_page.specs.Expressions.{Reads, Writes, constant_of};
 ghost use Rattle.tera_page.specs.Expressions;
 ghost use Rattle.tera_page.specs.Parsing.{IsRead, level_of, row_level, symbols_of};
 ghost use Rattle.tera_page.specs.Symbols;
@@ -9,35 +9,13 @@ ghost use Rattle.tera_page.specs.Template;
 ghost use Rattle.tera_page.specs.Tokens.{sign_of, symbol_of};
 ghost use Rattle.tera_page.specs.View.{binary_of, expression_of, unary_of, written_of};
 
+use crate::level::{Level, Row, behind, comparison_in, operator_in, tighter};
 use crate::symbol::{Sign, Symbol, Unread, symbols_in};
 use crate::tree::{Binary, Expression, Unary, Written};
 use crate::word::place_in;
 use std::alloc::Global;
 use tera::Value;
 use tera::scalars::{BinaryOp, place_in_path};
-
-/// How tightly an expression holds together, from `or` to what stands alone.
-#[derive(Clone, Copy)]
-pub(crate) enum Level {
-    Ors,
-    Ands,
-    Nots,
-    Comparisons,
-    Sums,
-    Products,
-    Opposites,
-    Powers,
-    Alone,
-}
-
-/// What may stand several times in a row: the last takes all that is before it.
-#[derive(Clone, Copy)]
-pub(crate) enum Row {
-    Ors,
-    Ands,
-    Sums,
-    Products,
-}
 
 /// The expression that a text writes.
 pub(crate) fn read_written(alloc: Global, text: &str) -> Result<Written<'_>, Unread>
@@ -90,53 +68,6 @@ fn read_row<'a, 's>(
         rest = left_over;
     }
     Ok((left, rest))
-}
-
-// The level inside of a row.
-fn tighter(row: Row) -> Level
-    ensures { level_of result ≡ tighter (row_level row) }
-{
-    match row {
-        Row::Ors => Level::Ands,
-        Row::Ands => Level::Nots,
-        Row::Sums => Level::Products,
-        Row::Products => Level::Opposites,
-    }
-}
-
-// The operator of a row that is first, and what stands behind it.
-fn operator_in<'a, 's>(
-    row: Row,
-    symbols: &'s [Symbol<'a>],
-) -> Option<(Binary, &'s [Symbol<'a>])>
-    ensures level { IfSome result (λ found. level (binary_of found.0) ≡ row_level row) }
-    ensures between { IfSome result (λ found. symbols_of symbols.now
-        ≡ between (binary_of found.0) ++ symbols_of found.1.now) }
-    ensures shorter { IfSome result (λ found. length found.1.now < length symbols.now) }
-{
-    let (first, rest) = symbols.split_first()?;
-    match first {
-        Symbol::Sign(sign) => Some((operator_of(row, *sign)?, rest)),
-        _ => None,
-    }
-}
-
-// The operator of a row that a sign stands for.
-fn operator_of(row: Row, sign: Sign) -> Option<Binary>
-    ensures level { IfSome result (λ found. level (binary_of found) ≡ row_level row) }
-    ensures between { IfSome result
-        (λ found. between (binary_of found) ≡ Symbols.sign (sign_of sign) ∷ []) }
-{
-    match (row, sign) {
-        (Row::Ors, Sign::Or) => Some(Binary::Or),
-        (Row::Ands, Sign::And) => Some(Binary::And),
-        (Row::Sums, Sign::Plus) => Some(Binary::Arithmetic(BinaryOp::Add)),
-        (Row::Sums, Sign::Minus) => Some(Binary::Arithmetic(BinaryOp::Sub)),
-        (Row::Products, Sign::Times) => Some(Binary::Arithmetic(BinaryOp::Mul)),
-        (Row::Products, Sign::Floor) => Some(Binary::Arithmetic(BinaryOp::FloorDiv)),
-        (Row::Products, Sign::Remainder) => Some(Binary::Arithmetic(BinaryOp::Rem)),
-        _ => None,
-    }
 }
 
 // Reads what `not` stands before, or what holds together more tightly.
@@ -213,44 +144,12 @@ fn behind_defined<'a, 's>(symbols: &'s [Symbol<'a>]) -> Result<&'s [Symbol<'a>],
         return Err(Unread::Bad);
     };
     match first {
-        Symbol::Word(word) => if *word == "defined" { Ok(rest) } else { Err(Unread::Bad) },
+        Symbol::Word(word) => if *word == "defined" {
+            Ok(rest)
+        } else {
+            Err(Unread::Bad)
+        },
         _ => Err(Unread::Bad),
-    }
-}
-
-// The comparison that is first, and what stands behind it.
-fn comparison_in<'a, 's>(symbols: &'s [Symbol<'a>]) -> Option<(Binary, &'s [Symbol<'a>])>
-    ensures level { IfSome result
-        (λ found. level (binary_of found.0) ≡ Expressions.comparisons) }
-    ensures between { IfSome result (λ found. symbols_of symbols.now
-        ≡ between (binary_of found.0) ++ symbols_of found.1.now) }
-    ensures shorter { IfSome result (λ found. length found.1.now < length symbols.now) }
-{
-    if let Some(rest) = behind(Sign::Not, symbols) {
-        return Some((Binary::NotIn, behind(Sign::In, rest)?));
-    }
-    let (first, rest) = symbols.split_first()?;
-    match first {
-        Symbol::Sign(sign) => Some((comparison_of(*sign)?, rest)),
-        _ => None,
-    }
-}
-
-// The comparison that a sign stands for.
-fn comparison_of(sign: Sign) -> Option<Binary>
-    ensures level { IfSome result (λ found. level (binary_of found) ≡ Expressions.comparisons) }
-    ensures between { IfSome result
-        (λ found. between (binary_of found) ≡ Symbols.sign (sign_of sign) ∷ []) }
-{
-    match sign {
-        Sign::In => Some(Binary::In),
-        Sign::Equal => Some(Binary::Equal),
-        Sign::Unequal => Some(Binary::Unequal),
-        Sign::Less => Some(Binary::Less),
-        Sign::AtMost => Some(Binary::AtMost),
-        Sign::More => Some(Binary::More),
-        Sign::AtLeast => Some(Binary::AtLeast),
-        _ => None,
     }
 }
 
@@ -365,25 +264,8 @@ fn constant_of(sign: Sign) -> Option<Value>
     }
 }
 
-// What stands behind a sign, where that is first.
-fn behind<'a, 's>(wanted: Sign, symbols: &'s [Symbol<'a>]) -> Option<&'s [Symbol<'a>]>
-    ensures first { IfSome result
-        (λ rest. symbols_of symbols.now ≡ sign (sign_of wanted) ∷ symbols_of rest.now) }
-    ensures shorter { IfSome result (λ rest. length rest.now < length symbols.now) }
-{
-    let (first, rest) = symbols.split_first()?;
-    match first {
-        Symbol::Sign(found) => if *found == wanted { Some(rest) } else { None },
-        _ => None,
-    }
-}
-
 // What is made of one expression.
-fn one<'a>(
-    alloc: Global,
-    operator: Unary,
-    inner: Expression<'a>,
-) -> Result<Expression<'a>, Unread>
+fn one<'a>(alloc: Global, operator: Unary, inner: Expression<'a>) -> Result<Expression<'a>, Unread>
     ensures { IfOk result (λ made. expression_of made
         ≡ Template.one (unary_of operator) (expression_of inner.entry)) }
 {
@@ -400,9 +282,5 @@ fn two<'a>(
     ensures { IfOk result (λ made. expression_of made ≡ Template.two (binary_of operator)
         (expression_of left.entry) (expression_of right.entry)) }
 {
-    Ok(Expression::Two(
-        operator,
-        Box::new(alloc, left)?,
-        Box::new(alloc, right)?,
-    ))
+    Ok(Expression::Two(operator, Box::new(alloc, left)?, Box::new(alloc, right)?))
 }

@@ -7,6 +7,7 @@
 mod expression;
 mod fault;
 pub mod laws;
+mod level;
 mod page;
 mod refused;
 mod scope;
@@ -19,6 +20,4 @@ mod word;
 
 pub use page::render;
 pub use syntax::{parse, parse_named};
-pub use tree::{
-    Binary, Bound, Expression, Node, Place, Showing, Template, Unary, Written,
-};
+pub use tree::{Binary, Bound, Expression, Node, Place, Showing, Template, Unary, Written};

@@ -16,18 +16,12 @@ pub(crate) fn nothing_at(alloc: Global, text: &str) -> Error
 pub(crate) fn no_array_at(alloc: Global, text: &str) -> Error
     ensures { Raises (no_array_at text.now) result }
 {
-    Error::message_of(
-        alloc,
-        &["What is found at `", text.trim(), "` is no array"],
-    )
+    Error::message_of(alloc, &["What is found at `", text.trim(), "` is no array"])
 }
 
 /// An expression of that text stands for no map.
 pub(crate) fn no_map_at(alloc: Global, text: &str) -> Error
     ensures { Raises (no_map_at text.now) result }
 {
-    Error::message_of(
-        alloc,
-        &["What is found at `", text.trim(), "` is no map"],
-    )
+    Error::message_of(alloc, &["What is found at `", text.trim(), "` is no map"])
 }

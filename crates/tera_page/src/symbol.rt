@@ -199,9 +199,7 @@ fn quoted_in(text: &str) -> Option<(&str, &str)>
 fn are_plain(quote: u8, bytes: &[u8]) -> bool
     ensures { result ≡ list_all (is_plain quote) bytes.now }
 {
-    bytes
-        .iter()
-        .all(|byte| *byte != quote && *byte != b'\\')
+    bytes.iter().all(|byte| *byte != quote && *byte != b'\\')
 }
 
 // A sign at the front that is no word, and what stands behind it.

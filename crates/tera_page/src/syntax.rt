@@ -27,8 +27,9 @@ pub const LEVELS: usize = 64;
 /// The template that a text spells. A text that holds none of `{{`, `{%` and `{#` spells one.
 ///
 /// Refuses a text that it does not read with a report of the text: `This is not read` at the first
-/// thing that it does not read, or at the end, `More than 64 levels` at a tag inside as many others,
-/// and `More than 128 words and signs` where a longer expression stands. Takes memory; want of it, `Out of memory`, is answered in the place of all else.
+/// thing that it does not read, or at the end; `More than 64 levels` at a tag inside as many
+/// others; and `More than 128 words and signs` where a longer expression stands. Takes memory; want
+/// of it, `Out of memory`, is answered in the place of all else.
 pub fn parse(alloc: Global, text: &str) -> TeraResult<Template<'_>>
     ensures ok { IfOk result (λ template. Spells (tree_of template) text.now) }
     ensures err { IfErr result (IsSyntaxError [] text.now) }

@@ -90,23 +90,14 @@ fn settled(operator: Binary, value: &Value) -> Option<bool>
     ensures { result ≡ settled (binary_of operator) value.now }
 {
     match operator {
-        Binary::Or => {
-            if value.is_truthy() { Some(true) } else { None }
-        }
-        Binary::And => {
-            if value.is_truthy() { None } else { Some(false) }
-        }
+        Binary::Or => { if value.is_truthy() { Some(true) } else { None } }
+        Binary::And => { if value.is_truthy() { None } else { Some(false) } }
         _ => None,
     }
 }
 
 // What is made of two values.
-fn made_of_two(
-    alloc: Global,
-    operator: Binary,
-    left: &Value,
-    right: &Value,
-) -> TeraResult<Value>
+fn made_of_two(alloc: Global, operator: Binary, left: &Value, right: &Value) -> TeraResult<Value>
     ensures ok { IfOk result
         (λ made. made_of_two (binary_of operator) left.now right.now ≡ Ok made) }
     ensures err { IfErr result (Refuses (made_of_two (binary_of operator) left.now right.now)) }

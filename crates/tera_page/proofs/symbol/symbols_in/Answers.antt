@@ -22,9 +22,9 @@ symbols-preserved c =
     let after = c.in-Some.after.now in (
       search rules,
       λ ss more.
-      let later = symbols_behind ss cut.result.0.now after cut.result.1.now cut.ensures.blanks cut.ensures.whole more in
-      let all = c.symbols.invariant.1 (one ∷ ss) ([], c.symbols.rest.now, after, refl, refl, c.in-Some.ensures.spelled, later) in
-      subst (λ l. AreSymbols l c.args.text.now)
+          let later = symbols_behind ss cut.result.0.now after cut.result.1.now cut.ensures.blanks cut.ensures.whole more in
+          let all = c.symbols.invariant.1 (one ∷ ss) ([], c.symbols.rest.now, after, refl, refl, c.in-Some.ensures.spelled, later) in
+          subst (λ l. AreSymbols l c.args.text.now)
           (sym (ap (λ l. map symbol_of l ++ ss) c.in_ok-push.ensures.items ∙ pushed symbol_of found c.in-Some.symbol ss)) all,
     )
 
