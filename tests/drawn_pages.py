@@ -1,8 +1,8 @@
 """Templates at random with the names that they are shown over, from a seed: the part of the language that ours and jinja2
 have in common (docs/PAGE.md).
 
-What is added to the language is added here in one place each: a part of a template to PARTS, a filter to FILTERS, a mark
-that trims to OPENS and CLOSES, and a name that a loop brings to `loop_names`.
+What is added to the language is added here in one place each: a part of a template to PARTS, an expression to MADE, a sign to
+SIGNS, a filter to FILTERS, a mark that trims to OPENS and CLOSES, and a name that a loop brings to `loop_names`.
 """
 from __future__ import annotations
 
@@ -25,6 +25,8 @@ TEXTS = ["<p>", "</p>\n", "<a title=\"", "\">", "<li class='", "'>", "</li>", " 
 FILTERS = ["", "", "", "safe", "escape"]
 OPENS, CLOSES = ["", "", "-"], ["", "", "-"]
 BLANKS = ["", " ", " ", " ", "  ", "\n", "\t"]
+NUMBERS = ["0", "1", "2", "3", "3", "7", "10", "007", "42", "1234", "9223372036854775808", "18446744073709551615", "18446744073709551616"]
+EXPONENTS = ["0", "1", "2", "3", "10", "63", "126", "127", "128", "200"]
 DEPTH = 3
 
 
@@ -33,6 +35,31 @@ class Page(NamedTuple):
 
     template: str
     names: Dict[str, Any]
+
+
+class Said(NamedTuple):
+    """An expression, and how tightly it holds together: a place in LEVELS."""
+
+    text: str
+    level: int
+
+
+class Sign(NamedTuple):
+    """What stands between two expressions: its level, and those that the first and the second have at least."""
+
+    level: int
+    first: int
+    second: int
+
+
+LEVELS = ORS, ANDS, NOTS, COMPARISONS, SUMS, PRODUCTS, OPPOSITES, POWERS, ALONE = range(9)
+SIGNS = {
+    "or": Sign(ORS, ORS, ANDS), "and": Sign(ANDS, ANDS, NOTS),
+    **{sign: Sign(COMPARISONS, SUMS, SUMS) for sign in ("==", "!=", "<", "<=", ">", ">=", "in", "not in")},
+    **{sign: Sign(SUMS, SUMS, PRODUCTS) for sign in "+-"},
+    **{sign: Sign(PRODUCTS, PRODUCTS, OPPOSITES) for sign in ("*", "//", "%")},
+    "**": Sign(POWERS, ALONE, OPPOSITES),
+}
 
 
 class Drawn:
@@ -81,7 +108,7 @@ class Drawn:
 
     def integer(self) -> int:
         """An integer, often at an end of the range."""
-        near = self.chance.choice([0, 1, 7, -7, 1234, 2**63, 2**64, -2**63, 2**128 - 4, -2**127 + 4])
+        near = self.chance.choice([0, 0, 1, 7, 7, -7, 42, 1234, 2**63, 2**64, -2**63, 2**127, 2**128 - 4, -2**127 + 3])
         return near + self.chance.randint(-3, 3)
 
     # Parts of a template.
@@ -116,16 +143,20 @@ class Drawn:
 
     def show(self, scope: Scope, depth: int) -> str:
         """A value that is shown."""
-        place, _ = self.place(scope)
         name = self.chance.choice(FILTERS)
-        return self.tag(place + (f"{self.blank()}|{self.blank()}{name}" if name else ""), "{")
+        shown = self.place(scope)[0] if self.chance.randrange(3) else self.expression(scope, self.chance.choice(SHOWN), 2).text
+        return self.tag(shown + (f"{self.blank()}|{self.blank()}{name}" if name else ""), "{")
 
     def choice(self, scope: Scope, depth: int) -> str:
         """A choice."""
-        said = [self.tag(f"if {self.place(scope, 6)[0]}"), self.parts(scope, depth - 1)]
+        said = [self.tag(f"if {self.test(scope)}"), self.parts(scope, depth - 1)]
         for _ in range(self.chance.choice([0, 0, 1, 2])):
-            said += [self.tag(f"elif {self.place(scope, 6)[0]}"), self.parts(scope, depth - 1)]
+            said += [self.tag(f"elif {self.test(scope)}"), self.parts(scope, depth - 1)]
         return "".join([*said, self.otherwise(scope, depth), self.tag("endif")])
+
+    def test(self, scope: Scope) -> str:
+        """What a choice asks for."""
+        return self.expression(scope, "truth", 3).text if self.chance.randrange(3) else self.place(scope, 6)[0]
 
     def otherwise(self, scope: Scope, depth: int) -> str:
         """An `else` with its parts, or none."""
@@ -143,7 +174,8 @@ class Drawn:
         parts: List[Shape] = [shape[1]] if isinstance(shape, tuple) else [*shape.values()] if isinstance(shape, dict) else ["any"]
         inner: Scope = {**scope, names[0]: "text", names[-1]: self.chance.choice(parts), **loop_names()}
         bound = f"{self.blank()},{self.blank()}".join(names)
-        said = [self.tag(f"for {bound} in {place}"), self.parts(inner, depth - 1), self.otherwise(scope, depth), self.tag("endfor")]
+        over = self.chance.choice([*[place] * 20, f"({self.blank()}{place})", f"{place} or {place}", self.expression(scope, "any", 1).text])
+        said = [self.tag(f"for {bound} in {over}"), self.parts(inner, depth - 1), self.otherwise(scope, depth), self.tag("endfor")]
         return "".join(said)
 
     def place(self, scope: Scope, missing: int = 60) -> Tuple[str, Shape]:
@@ -160,6 +192,104 @@ class Drawn:
             place, shape = f"{place}.{part}", shape[1] if isinstance(shape, tuple) else shape[part]
         return place, shape
 
+    # Expressions.
+
+    def expression(self, scope: Scope, kind: str, depth: int) -> Said:
+        """An expression that has a value of that kind, but for one in thirty."""
+        if self.once_in(30):
+            return Said(self.place(scope, 5)[0], ALONE)
+        if kind == "any":
+            kind = self.chance.choice(["text", "number", "truth", "none", "array", "map"])
+        if kind in MADE and depth and self.chance.randrange(3):
+            makers = MADE[kind]
+            return self.chance.choices([make for _, make in makers], [weight for weight, _ in makers])[0](self, scope, depth - 1)
+        return self.alone(scope, kind)
+
+    def alone(self, scope: Scope, kind: str) -> Said:
+        """A place, or a literal."""
+        shapes = {"array": tuple, "map": dict}
+        drawn = (self.place(scope) for _ in range(6))
+        places = [place for place, shape in drawn if (isinstance(shape, shapes[kind]) if kind in shapes else shape == kind)]
+        if places and self.chance.randrange(3):
+            return Said(places[0], ALONE)
+        literals: Dict[str, Callable[[], str]] = {
+            "text": self.literal, "number": lambda: self.chance.choice(NUMBERS), "truth": lambda: self.chance.choice(["true", "false"]),
+            "none": lambda: "none"}
+        return Said(literals[kind]() if kind in literals else self.place(scope)[0], ALONE)
+
+    def literal(self) -> str:
+        """A text in quotes, none of which is its own."""
+        text = self.chance.choice(self.chance.choice([HOSTILE, WORDS, WORDS]))
+        quote = self.chance.choice([quote for quote in "\"'" if quote not in text] or ["'"])
+        return quote + text.replace(quote, "") + quote
+
+    def row(self, *words: str) -> str:
+        """Words and signs in a row, with blanks or none between them; there are some where two words meet."""
+        row = words[0]
+        for word in words[1:]:
+            row += (self.blank() or " " * (is_word(row[-1]) and is_word(word[0]))) + word
+        return row
+
+    def within(self, said: Said, level: int) -> str:
+        """An expression where one stands that holds together so tightly: in parentheses where it does not, and once in ten."""
+        return self.row("(", said.text, ")") if said.level < level or self.once_in(10) else said.text
+
+    def two(self, sign: str, first: Said, second: Said) -> Said:
+        """What is made of two."""
+        at = SIGNS[sign]
+        return Said(self.row(self.within(first, at.first), *sign.split(), self.within(second, at.second)), at.level)
+
+    def joined(self, scope: Scope, depth: int) -> Said:
+        """An `or` or an `and`, mostly of truth values."""
+        first, second = (self.expression(scope, self.chance.choice(["truth", "truth", "any"]), depth) for _ in range(2))
+        return self.two(self.chance.choice(["or", "and"]), first, second)
+
+    def denied(self, scope: Scope, depth: int) -> Said:
+        """A `not`."""
+        return Said(self.row("not", self.within(self.expression(scope, "truth", depth), NOTS)), NOTS)
+
+    def compared(self, scope: Scope, depth: int) -> Said:
+        """A comparison, mostly of one kind."""
+        sign, kind = self.chance.choice(["==", "!=", "<", "<=", ">", ">="]), self.chance.choice(["number", "number", "text", "any"])
+        return self.two(sign, self.expression(scope, kind, depth), self.expression(scope, kind, depth))
+
+    def contained(self, scope: Scope, depth: int) -> Said:
+        """An `in` or a `not in`."""
+        kind, container = self.chance.choice([("text", "text"), ("text", "map"), ("any", "array"), ("any", "any")])
+        return self.two(self.chance.choice(["in", "not in"]), self.expression(scope, kind, depth), self.expression(scope, container, depth))
+
+    def defined(self, scope: Scope, depth: int) -> Said:
+        """A question whether something is there, mostly at a place."""
+        said = self.expression(scope, "any", depth) if self.once_in(6) else Said(self.place(scope, 2)[0], ALONE)
+        return Said(self.row(self.within(said, SUMS), *self.chance.choice(["is defined", "is not defined"]).split()), COMPARISONS)
+
+    def counted(self, scope: Scope, depth: int) -> Said:
+        """Arithmetic."""
+        return self.two(self.chance.choice(["+", "-", "*", "//", "%", "%"]), *(self.expression(scope, "number", depth) for _ in range(2)))
+
+    def opposite(self, scope: Scope, depth: int) -> Said:
+        """A `-` before a number."""
+        return Said(self.row("-", self.within(self.expression(scope, "number", depth), OPPOSITES)), OPPOSITES)
+
+    def power(self, scope: Scope, depth: int) -> Said:
+        """A power, small enough for Python where it is made of literals."""
+        places = [place for place, shape in (self.place(scope) for _ in range(3)) if shape == "number"]
+        exponent = Said(self.chance.choice([*EXPONENTS, *places]), ALONE)
+        if self.once_in(6):
+            exponent = self.two("**", *(Said(self.chance.choice(EXPONENTS[:4]), ALONE) for _ in range(2)))
+        if self.once_in(8):
+            exponent = Said(self.row("-", exponent.text), OPPOSITES)
+        return self.two("**", self.alone(scope, "number"), exponent)
+
+    def glued(self, scope: Scope, depth: int) -> Said:
+        """A sum of texts, of which there is none."""
+        return self.two("+", self.alone(scope, "text"), self.alone(scope, "text"))
+
+
+def is_word(character: str) -> bool:
+    """Whether it may stand in a word."""
+    return character.isascii() and character.isalnum() or character in "_."
+
 
 def loop_names() -> Scope:
     """The names that a loop brings beside its own."""
@@ -170,6 +300,14 @@ def loop_names() -> Scope:
 PARTS: List[Tuple[int, bool, Callable[[Drawn, Scope, int], str]]] = [
     (30, False, Drawn.plain), (35, False, Drawn.show), (5, False, Drawn.comment), (14, True, Drawn.choice), (16, True, Drawn.loop),
 ]
+
+# What is made of expressions, by the kind of its values: how often each is drawn, and how.
+Maker = Callable[[Drawn, Scope, int], Said]
+MADE: Dict[str, List[Tuple[int, Maker]]] = {
+    "truth": [(3, Drawn.joined), (2, Drawn.denied), (6, Drawn.compared), (2, Drawn.contained), (2, Drawn.defined)],
+    "number": [(9, Drawn.counted), (2, Drawn.opposite), (3, Drawn.power), (1, Drawn.glued)],
+}
+SHOWN = ["number", "number", "number", "truth", "text", "any"]
 
 
 def page(seed: int) -> Page:

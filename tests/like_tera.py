@@ -1,32 +1,37 @@
-"""jinja2 as it is, and jinja2 with the differences that docs/PAGE.md names. Each difference is a function, which has its name
-there, and any of them can be turned on alone: `answer(template, names, ALL)` is what our program has to answer.
+"""jinja2 as it is, and jinja2 with the differences that docs/PAGE.md names. Each difference is one function or more, which have
+its name there, and any of them can be turned on alone: `answer(template, names, ALL)` is what our program has to answer.
 
 A function changes one step of jinja2: `template` the text and the names before they are read, `settings` the environment,
 `prints` a value before it is shown, `escapes` an escaped text, `looks` what a path leads to, `repeats` what any loop goes over,
-`loops` what one by one name does, `pairs` what one by two does, and `page` the page at its end.
+`loops` what one by one name does, `pairs` what one by two does, `joins` what an `or` or an `and` is, `compares`, `holds` and
+`counts` what a sign makes of values, and `reads` the parser.
 """
 from __future__ import annotations
 
+import contextlib
+import operator
 import re
-from typing import AbstractSet, Any, Callable, Dict, List, NamedTuple, Optional, Set, Tuple
+from typing import AbstractSet, Any, Callable, Dict, List, NamedTuple, Optional, Set, Tuple, Union
 
 import jinja2
 import second
 from jinja2 import Undefined, nodes
+from jinja2.parser import Parser
 from jinja2.runtime import LoopContext
 from jinja2.visitor import NodeTransformer
 from markupsafe import Markup, escape
 
-LEVELS = 64
-TAG = re.compile(r"\{\{.*?\}\}|\{%.*?%\}", re.S)
+LEVELS, SYMBOLS, NUMBERS = 64, 128, 2**64
+COMMENT_OR_TAG = re.compile(r"\{#.*?#\}|\{\{.*?\}\}|\{%.*?%\}", re.S)
+QUOTED = re.compile(r"""("[^"]*"|'[^']*')""")
+SYMBOL = re.compile(r"[\w.]+|[=!<>]=|//|\*\*|\S", re.A)
 CARRIAGE = "\x1c"  # it stands for a carriage return while jinja2 reads, to which it is a blank and no line end
 # What stands for other blanks of Python, to which it is none.
 SOLID = {code: 0xE000 + at for at, code in enumerate(code for code in range(0x3001) if chr(code).isspace() and chr(code) not in " \t\r\n")}
 OF_SOLID = {solid: blank for blank, solid in SOLID.items()}
 
 
-class Refused(Exception):
-    """There is no page."""
+Refused = second.Refused  # there is no page
 
 
 class NoneAtFront:
@@ -47,13 +52,13 @@ class Reason(NamedTuple):
 
 
 Names = Dict[str, Any]
-REASONS: Dict[str, Reason] = {}
+REASONS: Dict[str, List[Reason]] = {}
 
 
 def reason(name: str, step: str) -> Callable[[Callable[..., Any]], Callable[..., Any]]:
     """Keeps a function as a difference of that name."""
     def keep(change: Callable[..., Any]) -> Callable[..., Any]:
-        REASONS[name] = Reason(step, change)
+        REASONS.setdefault(name, []).append(Reason(step, change))
         return change
     return keep
 
@@ -61,35 +66,37 @@ def reason(name: str, step: str) -> Callable[[Callable[..., Any]], Callable[...,
 # What prints.
 
 
-@reason("truth values", "prints")
+@reason("how values print", "prints")
 def truth(value: Any) -> Any:
-    """They print in small letters."""
+    """Truth values print in small letters."""
     return second.truth(value) if isinstance(value, bool) else value
 
 
-@reason("none", "prints")
+@reason("how values print", "prints")
 def none(value: Any) -> Any:
-    """It prints nothing."""
+    """None prints nothing."""
     return "" if value is None else value
 
 
-@reason("arrays and maps", "prints")
+@reason("how values print", "prints")
 def parts(value: Any) -> Any:
-    """They print as the layer has them: texts in double quotes, and what is in them as it prints alone."""
+    """Arrays and maps print as the layer has them: texts in double quotes, and what is in them as it prints alone."""
     return second.printed(held(value)) if isinstance(value, (list, dict)) else value
 
 
 def held(value: Any) -> Any:
-    """A value of JSON as the reference holds it."""
+    """A value as the reference holds it."""
     if isinstance(value, dict):
         return {(2, key): held(part) for key, part in value.items()}
     if isinstance(value, list):
         return tuple(map(held, value))
     if isinstance(value, str):
         return second.Text(value, False)
-    if value is None or isinstance(value, bool):
-        return second.NONE if value is None else value
-    return second.Number("", value)
+    if isinstance(value, Undefined):
+        return second.UNDEFINED
+    if value is None or isinstance(value, NoneAtFront):
+        return second.NONE
+    return value if isinstance(value, bool) else second.Number("", value)
 
 
 @reason("a double quote", "escapes")
@@ -155,12 +162,106 @@ def from_none(value: Any, part: Any, found: Any) -> Any:
     return value if isinstance(value, NoneAtFront) else found
 
 
+# Expressions.
+
+# What Python makes of values by the signs of jinja2's tree, by the step that changes it.
+SIGNS: Dict[str, Dict[str, Callable[..., Any]]] = {
+    "compares": {"eq": operator.eq, "ne": operator.ne, "lt": operator.lt, "lteq": operator.le, "gt": operator.gt, "gteq": operator.ge},
+    "holds": {"in": lambda left, right: left in right, "notin": lambda left, right: left not in right},
+    "counts": {"+": operator.add, "-": operator.sub, "*": operator.mul, "//": operator.floordiv, "%": operator.mod, "**": operator.pow,
+               "opposite": operator.neg},
+}
+WORDS = {sign: word for word, (sign, _) in second.OPERATORS.items()}
+
+
+@reason("and, or", "joins")
+def joined(value: Any) -> bool:
+    """They are truth values."""
+    return bool(value)
+
+
+@reason("comparisons", "compares")
+def compared(sign: str, left: Any, right: Any) -> bool:
+    """They are of what values mean. Values of two ranks are not equal and have no order, and all of one rank have."""
+    first, other = second.meaning(held(left)), second.meaning(held(right))
+    return bool(SIGNS["compares"][sign](first, other)) and (sign in ("eq", "ne") or first[0] == other[0])
+
+
+@reason("in", "holds")
+def within(sign: str, left: Any, right: Any) -> bool:
+    """An array has what is equal to an item, a text has texts, a map has its keys, and nothing else is asked."""
+    return bool(second.contains(held(right), held(left)) == second.truth(sign == "in"))
+
+
+@reason("arithmetic", "counts")
+def counted(sign: str, *values: Any) -> int:
+    """It is of numbers alone, within bounds, and no rest is below 0."""
+    call = second.negate if sign == "opposite" else second.binary(WORDS[sign])
+    return int(call(*map(held, values)).number)
+
+
 # The template.
 
 
 def in_tags(change: Callable[[str], str], template: str) -> str:
-    """The template with what stands in its tags changed."""
-    return TAG.sub(lambda found: change(found[0]), template)
+    """The template with what stands in its tags changed, but for texts in quotes."""
+    def of_tag(tag: str) -> str:
+        return tag if tag.startswith("{#") else "".join(part if at % 2 else change(part) for at, part in enumerate(QUOTED.split(tag)))
+    return COMMENT_OR_TAG.sub(lambda found: of_tag(found[0]), template)
+
+
+@reason("how expressions are read", "template")
+def symbols(template: str, names: Names) -> Tuple[str, Names]:
+    """Texts have no backslash and no end of their mark, there are few symbols, and numbers may begin with zeros."""
+    for tag in COMMENT_OR_TAG.findall(template):
+        said = QUOTED.sub("\0", tag[2:-2].removeprefix("-").removesuffix("-"))
+        expression = re.sub(r"\A\s*(if|elif|for\s.*?\sin)\s|\|.*", "", said, flags=re.S)
+        is_read = len(SYMBOL.findall(expression)) <= SYMBOLS and not re.search("[\"']", said) and "\\" not in tag
+        if not is_read and not tag.startswith("{#"):
+            raise Refused
+    return in_tags(lambda part: re.sub(r"(?<![\w.])0+(?=[0-9])", "", part), template), names
+
+
+@reason("how expressions are read", "reads")
+class Ours(Parser):
+    """jinja2's parser, but for how expressions are read."""
+
+    def parse_tuple(self, simplified: bool = False, with_condexpr: bool = True, extra_end_rules: Any = None,
+                    explicit_parentheses: bool = False, **more: Any) -> Any:
+        """An expression, and behind one that is shown a filter of the whole."""
+        if simplified:  # the names of a loop
+            return super().parse_tuple(simplified, with_condexpr, extra_end_rules, explicit_parentheses, **more)
+        read = self.parse_or()
+        is_filtered = with_condexpr and not explicit_parentheses and self.stream.current.type == "pipe"
+        return self.parse_filter(read) if is_filtered else read
+
+    def parse_compare(self) -> nodes.Expr:
+        """A sum, alone or with one comparison or question."""
+        left, at = self.parse_math1(), self.stream.current
+        if at.test("name:is"):
+            return self.parse_test(left)
+        if at.test("name:not") and self.stream.look().test("name:in"):
+            self.stream.skip()
+        elif not at.test("name:in") and at.type not in SIGNS["compares"]:
+            return left
+        self.stream.skip()
+        sign = {"in": "in", "not": "notin"}.get(at.value, at.type)
+        return nodes.Compare(left, [nodes.Operand(sign, self.parse_math1())], lineno=at.lineno)
+
+    def parse_pow(self) -> nodes.Expr:
+        """What stands alone, maybe with a power, whose exponent may be one; and a `-` before all of it."""
+        lineno = self.stream.current.lineno
+        if self.stream.skip_if("sub"):
+            return nodes.Neg(self.parse_pow(), lineno=lineno)
+        base = self.parse_postfix(self.parse_primary())
+        return nodes.Pow(base, self.parse_pow(), lineno=lineno) if self.stream.skip_if("pow") else base
+
+    def parse_primary(self, **more: Any) -> nodes.Expr:
+        """A number has 64 bits."""
+        token = self.stream.current
+        if token.type == "integer" and int(token.value) >= NUMBERS:
+            self.fail("a number past 64 bits", token.lineno)
+        return super().parse_primary(**more)
 
 
 @reason("a member with a digit first", "template")
@@ -183,22 +284,27 @@ def no_names(environment: jinja2.Environment) -> None:
     environment.globals.clear()
 
 
-@reason("a line end at the end", "settings")
+@reason("blanks and line ends", "settings")
 def last_line_end(environment: jinja2.Environment) -> None:
-    """It stays."""
+    """A line end at the end stays."""
     environment.keep_trailing_newline = True
 
 
-@reason("other blanks", "template")
+@reason("blanks and line ends", "template")
 def other_blanks(template: str, names: Names) -> Tuple[str, Names]:
-    """They are none: a blank is a space, a tab or a line end."""
+    """Other blanks are none: a blank is a space, a tab or a line end."""
     return template.translate(SOLID), names
 
 
-@reason("carriage returns", "template")
+@reason("blanks and line ends", "template")
 def carriage_returns(template: str, names: Names) -> Tuple[str, Names]:
-    """They stay."""
+    """Carriage returns stay."""
     return template.replace("\r", CARRIAGE), names
+
+
+def restored(text: str) -> str:
+    """A text of a template as it was, before jinja2 read it."""
+    return text.replace(CARRIAGE, "\r").translate(OF_SOLID)
 
 
 @reason("more than 64 levels", "template")
@@ -217,7 +323,7 @@ ALL = frozenset(REASONS)
 
 
 class Hooks(NodeTransformer):
-    """A template's tree in which loops and paths go by the environment's own filters."""
+    """A template's tree in which loops, paths and what signs make go by the environment's own filters."""
 
     def visit_For(self, node: nodes.For) -> nodes.Node:
         self.generic_visit(node)
@@ -237,25 +343,55 @@ class Hooks(NodeTransformer):
             node.node = called(node.node, "front")
         return node  # type: ignore[no-any-return]
 
+    def visit_Const(self, node: nodes.Const) -> nodes.Node:
+        node.value = restored(node.value) if isinstance(node.value, str) else node.value
+        return node
 
-def called(node: nodes.Expr, name: str) -> nodes.Filter:
+    def visit_Compare(self, node: nodes.Compare) -> nodes.Node:
+        self.generic_visit(node)
+        sign, *others = node.ops
+        step = "holds" if sign.op in SIGNS["holds"] else "compares"
+        return node if others else called(node.expr, "made", nodes.Const(step), nodes.Const(sign.op), sign.expr)
+
+    def counted(self, node: nodes.BinExpr) -> nodes.Node:
+        """Arithmetic."""
+        self.generic_visit(node)
+        return called(node.left, "made", nodes.Const("counts"), nodes.Const(node.operator), node.right)
+
+    visit_Add = visit_Sub = visit_Mul = visit_FloorDiv = visit_Mod = visit_Pow = counted
+
+    def visit_Neg(self, node: nodes.Neg) -> nodes.Node:
+        self.generic_visit(node)
+        return called(node.node, "made", nodes.Const("counts"), nodes.Const("opposite"))
+
+    def joined(self, node: nodes.BinExpr) -> nodes.Node:
+        """An `or` or an `and`."""
+        self.generic_visit(node)
+        return called(node, "joined")
+
+    visit_Or = visit_And = joined
+
+
+def called(node: nodes.Expr, name: str, *others: nodes.Expr) -> nodes.Filter:
     """The call of a filter."""
-    return nodes.Filter(node, name, [], [], None, None, lineno=node.lineno)
+    return nodes.Filter(node, name, [*others], [], None, None, lineno=node.lineno)
 
 
 class Changed(jinja2.Environment):
     """jinja2 with these differences. `met` has those that have changed something."""
 
     def __init__(self, reasons: AbstractSet[str]) -> None:
-        super().__init__(autoescape=True, finalize=self.shown)
+        # a value that is shown is asked for with the context, and so never before there is one
+        super().__init__(autoescape=True, optimized=False, finalize=jinja2.pass_context(lambda _, value: self.shown(value)))
         self.reasons, self.met = reasons, set[str]()
-        self.filters.update(escape=self.shown, safe=self.as_printed, looped=self.looped, paired=self.paired, front=self.front)
+        self.filters.update(escape=self.shown, safe=self.as_printed, looped=self.looped, paired=self.paired, front=self.front,
+                            made=self.made, joined=self.joined)
         for name, change in self.of_step("settings"):
             change(self)
 
     def of_step(self, step: str) -> List[Tuple[str, Callable[..., Any]]]:
         """The changes of a step, with their names."""
-        return [(name, change) for name, (at, change) in REASONS.items() if at == step and name in self.reasons]
+        return [(name, change) for name, changes in REASONS.items() if name in self.reasons for at, change in changes if at == step]
 
     def changed(self, step: str, value: Any) -> Any:
         """The value after a step."""
@@ -290,6 +426,23 @@ class Changed(jinja2.Environment):
         """What a loop by two names goes over."""
         return self.changed("pairs", self.changed("repeats", value))
 
+    def joined(self, value: Any) -> Any:
+        """What an `or` or an `and` is."""
+        return self.changed("joins", value)
+
+    def made(self, first: Any, step: str, sign: str, *others: Any) -> Any:
+        """What a sign makes of values. Where there is no page Python is not asked, which could take too long."""
+        for name, change in self.of_step(step):
+            is_same = False
+            try:
+                made = change(sign, first, *others)
+                with contextlib.suppress(TypeError, jinja2.UndefinedError):
+                    is_same = SIGNS[step][sign](first, *others) == made
+                return made
+            finally:
+                self.met.update([] if is_same else [name])
+        return SIGNS[step][sign](first, *others)
+
     def front(self, value: Any) -> Any:
         """The front of a path."""
         return NoneAtFront() if value is None and "a path from none" in self.reasons else value
@@ -316,10 +469,25 @@ class Changed(jinja2.Environment):
     def getitem(self, obj: Any, argument: Any) -> Any:
         return self.led(obj, argument, lambda: jinja2.Environment.getitem(self, obj, argument))
 
-    def _parse(self, source: str, name: Any, filename: Any) -> nodes.Template:
-        return Hooks().visit(super()._parse(source, name, filename))  # type: ignore[no-any-return]
+    def tree(self, parser: Callable[..., Parser], *source: Any) -> Union[nodes.Template, jinja2.TemplateSyntaxError]:
+        """The tree of a template, or why there is none."""
+        try:
+            return parser(self, *source).parse()
+        except jinja2.TemplateSyntaxError as why:
+            return why
+
+    def _parse(self, *source: Any) -> nodes.Template:
+        read = own = self.tree(Parser, *source)
+        for name, parser in self.of_step("reads"):
+            read = self.tree(parser, *source)
+            if read != own and not (isinstance(read, Exception) and isinstance(own, Exception)):
+                self.met.add(name)
+        if isinstance(read, jinja2.TemplateSyntaxError):
+            raise read
+        return Hooks().visit(read)  # type: ignore[no-any-return]
 
 
+NO_PAGE = (Refused, jinja2.TemplateError, TypeError, ValueError, ArithmeticError, SyntaxError, RecursionError)
 PLAIN = jinja2.Environment(autoescape=True)
 
 
@@ -327,7 +495,7 @@ def plain_answer(template: str, names: Names) -> Optional[str]:
     """The page that jinja2 itself shows; None where it shows none."""
     try:
         return PLAIN.from_string(template).render(names)
-    except (jinja2.TemplateError, TypeError, ValueError, SyntaxError, RecursionError):
+    except NO_PAGE:
         return None
 
 
@@ -347,7 +515,7 @@ def answer(template: str, names: Names, reasons: AbstractSet[str] = ALL) -> Tupl
             template, names = made, given
         page = environment.from_string(template).render(names)
         if environment.keep_trailing_newline and template.endswith("\n"):
-            met.add("a line end at the end")
-        return page.replace(CARRIAGE, "\r").translate(OF_SOLID), met
-    except (Refused, jinja2.TemplateError, TypeError, ValueError, SyntaxError, RecursionError):
+            met.add("blanks and line ends")
+        return restored(page), met
+    except NO_PAGE:
         return None, met
