@@ -25,8 +25,9 @@ TEXTS = ["<p>", "</p>\n", "<a title=\"", "\">", "<li class='", "'>", "</li>", " 
 FILTERS = ["", "", "", "safe", "escape"]
 OPENS, CLOSES = ["", "", "-"], ["", "", "-"]
 BLANKS = ["", " ", " ", " ", "  ", "\n", "\t"]
-NUMBERS = ["0", "1", "2", "3", "3", "7", "10", "007", "42", "1234", "9223372036854775808", "18446744073709551615", "18446744073709551616"]
-EXPONENTS = ["0", "1", "2", "3", "10", "63", "126", "127", "128", "200"]
+NUMBERS = ["0", "1", "2", "2", "3", "3", "5", "7", "10", "10", "42", "60", "100", "1234", "9223372036854775808", "18446744073709551615"]
+ODD_NUMBERS = ["007", "18446744073709551616"]
+EXPONENTS = ["0", "1", "2", "3", "2", "3", "2", "5", "10", "63", "127", "200"]
 DEPTH = 3
 
 
@@ -108,7 +109,8 @@ class Drawn:
 
     def integer(self) -> int:
         """An integer, often at an end of the range."""
-        near = self.chance.choice([0, 0, 1, 7, 7, -7, 42, 1234, 2**63, 2**64, -2**63, 2**127, 2**128 - 4, -2**127 + 3])
+        ends = [2**63, 2**64, -2**63, 2**127, 2**128 - 4, -2**127 + 3]
+        near = self.chance.choice([3, 7, -7, 42, 1234] if self.chance.randrange(3) else ends)
         return near + self.chance.randint(-3, 3)
 
     # Parts of a template.
@@ -144,7 +146,8 @@ class Drawn:
     def show(self, scope: Scope, depth: int) -> str:
         """A value that is shown."""
         name = self.chance.choice(FILTERS)
-        shown = self.place(scope)[0] if self.chance.randrange(3) else self.expression(scope, self.chance.choice(SHOWN), 2).text
+        said = Said(self.place(scope)[0], ALONE) if self.chance.randrange(3) else self.expression(scope, self.chance.choice(SHOWN), 2)
+        shown = self.within(said, ALONE) if name and self.chance.randrange(3) else said.text
         return self.tag(shown + (f"{self.blank()}|{self.blank()}{name}" if name else ""), "{")
 
     def choice(self, scope: Scope, depth: int) -> str:
@@ -153,6 +156,11 @@ class Drawn:
         for _ in range(self.chance.choice([0, 0, 1, 2])):
             said += [self.tag(f"elif {self.test(scope)}"), self.parts(scope, depth - 1)]
         return "".join([*said, self.otherwise(scope, depth), self.tag("endif")])
+
+    def question(self, scope: Scope, depth: int) -> str:
+        """A choice by an expression, between two words."""
+        said = self.expression(scope, "truth", 3).text
+        return self.tag(f"if {said}") + "yes" + self.tag("else") + "no" + self.tag("endif")
 
     def test(self, scope: Scope) -> str:
         """What a choice asks for."""
@@ -174,7 +182,7 @@ class Drawn:
         parts: List[Shape] = [shape[1]] if isinstance(shape, tuple) else [*shape.values()] if isinstance(shape, dict) else ["any"]
         inner: Scope = {**scope, names[0]: "text", names[-1]: self.chance.choice(parts), **loop_names()}
         bound = f"{self.blank()},{self.blank()}".join(names)
-        over = self.chance.choice([*[place] * 20, f"({self.blank()}{place})", f"{place} or {place}", self.expression(scope, "any", 1).text])
+        over = self.chance.choice([*[place] * 30, f"({self.blank()}{place})", f"{place} or {place}", self.expression(scope, "any", 1).text])
         said = [self.tag(f"for {bound} in {over}"), self.parts(inner, depth - 1), self.otherwise(scope, depth), self.tag("endfor")]
         return "".join(said)
 
@@ -195,12 +203,12 @@ class Drawn:
     # Expressions.
 
     def expression(self, scope: Scope, kind: str, depth: int) -> Said:
-        """An expression that has a value of that kind, but for one in thirty."""
-        if self.once_in(30):
+        """An expression that has a value of that kind, but for one in sixty."""
+        if self.once_in(60):
             return Said(self.place(scope, 5)[0], ALONE)
         if kind == "any":
             kind = self.chance.choice(["text", "number", "truth", "none", "array", "map"])
-        if kind in MADE and depth and self.chance.randrange(3):
+        if kind in MADE and depth and self.chance.randrange(4):
             makers = MADE[kind]
             return self.chance.choices([make for _, make in makers], [weight for weight, _ in makers])[0](self, scope, depth - 1)
         return self.alone(scope, kind)
@@ -213,9 +221,9 @@ class Drawn:
         if places and self.chance.randrange(3):
             return Said(places[0], ALONE)
         literals: Dict[str, Callable[[], str]] = {
-            "text": self.literal, "number": lambda: self.chance.choice(NUMBERS), "truth": lambda: self.chance.choice(["true", "false"]),
-            "none": lambda: "none"}
-        return Said(literals[kind]() if kind in literals else self.place(scope)[0], ALONE)
+            "number": lambda: self.chance.choice(ODD_NUMBERS if self.once_in(40) else NUMBERS),
+            "truth": lambda: self.chance.choice(["true", "false"]), "none": lambda: "none"}
+        return Said(literals.get(kind, self.literal)(), ALONE)
 
     def literal(self) -> str:
         """A text in quotes, none of which is its own."""
@@ -249,13 +257,14 @@ class Drawn:
         return Said(self.row("not", self.within(self.expression(scope, "truth", depth), NOTS)), NOTS)
 
     def compared(self, scope: Scope, depth: int) -> Said:
-        """A comparison, mostly of one kind."""
+        """A comparison, mostly of one kind, and often of a value with itself."""
         sign, kind = self.chance.choice(["==", "!=", "<", "<=", ">", ">="]), self.chance.choice(["number", "number", "text", "any"])
-        return self.two(sign, self.expression(scope, kind, depth), self.expression(scope, kind, depth))
+        first = self.expression(scope, kind, depth)
+        return self.two(sign, first, first if self.once_in(5) else self.expression(scope, kind, depth))
 
     def contained(self, scope: Scope, depth: int) -> Said:
         """An `in` or a `not in`."""
-        kind, container = self.chance.choice([("text", "text"), ("text", "map"), ("any", "array"), ("any", "any")])
+        kind, container = self.chance.choice([*[("text", "text"), ("text", "map"), ("any", "array")] * 3, ("any", "any")])
         return self.two(self.chance.choice(["in", "not in"]), self.expression(scope, kind, depth), self.expression(scope, container, depth))
 
     def defined(self, scope: Scope, depth: int) -> Said:
@@ -264,8 +273,10 @@ class Drawn:
         return Said(self.row(self.within(said, SUMS), *self.chance.choice(["is defined", "is not defined"]).split()), COMPARISONS)
 
     def counted(self, scope: Scope, depth: int) -> Said:
-        """Arithmetic."""
-        return self.two(self.chance.choice(["+", "-", "*", "//", "%", "%"]), *(self.expression(scope, "number", depth) for _ in range(2)))
+        """Arithmetic. Half of what is divided has a `-`."""
+        sign = self.chance.choice(["+", "-", "*", "//", "%", "%"])
+        first = self.opposite(scope, depth) if sign in "//%" and self.once_in(2) else self.expression(scope, "number", depth)
+        return self.two(sign, first, self.expression(scope, "number", depth))
 
     def opposite(self, scope: Scope, depth: int) -> Said:
         """A `-` before a number."""
@@ -274,10 +285,10 @@ class Drawn:
     def power(self, scope: Scope, depth: int) -> Said:
         """A power, small enough for Python where it is made of literals."""
         places = [place for place, shape in (self.place(scope) for _ in range(3)) if shape == "number"]
-        exponent = Said(self.chance.choice([*EXPONENTS, *places]), ALONE)
+        exponent = Said(self.chance.choice([*EXPONENTS, *places[:1]]), ALONE)
         if self.once_in(6):
             exponent = self.two("**", *(Said(self.chance.choice(EXPONENTS[:4]), ALONE) for _ in range(2)))
-        if self.once_in(8):
+        if self.once_in(12):
             exponent = Said(self.row("-", exponent.text), OPPOSITES)
         return self.two("**", self.alone(scope, "number"), exponent)
 
@@ -298,14 +309,15 @@ def loop_names() -> Scope:
 
 # The parts of templates: how often each is drawn, whether it holds others, and how it is drawn.
 PARTS: List[Tuple[int, bool, Callable[[Drawn, Scope, int], str]]] = [
-    (30, False, Drawn.plain), (35, False, Drawn.show), (5, False, Drawn.comment), (14, True, Drawn.choice), (16, True, Drawn.loop),
+    (30, False, Drawn.plain), (35, False, Drawn.show), (25, False, Drawn.question), (5, False, Drawn.comment), (14, True, Drawn.choice),
+    (16, True, Drawn.loop),
 ]
 
 # What is made of expressions, by the kind of its values: how often each is drawn, and how.
 Maker = Callable[[Drawn, Scope, int], Said]
 MADE: Dict[str, List[Tuple[int, Maker]]] = {
-    "truth": [(3, Drawn.joined), (2, Drawn.denied), (6, Drawn.compared), (2, Drawn.contained), (2, Drawn.defined)],
-    "number": [(9, Drawn.counted), (2, Drawn.opposite), (3, Drawn.power), (1, Drawn.glued)],
+    "truth": [(4, Drawn.joined), (3, Drawn.denied), (8, Drawn.compared), (3, Drawn.contained), (2, Drawn.defined)],
+    "number": [(20, Drawn.counted), (5, Drawn.opposite), (6, Drawn.power), (1, Drawn.glued)],
 }
 SHOWN = ["number", "number", "number", "truth", "text", "any"]
 

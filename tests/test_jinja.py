@@ -172,12 +172,12 @@ class Same(unittest.TestCase):
         self.assertGreater(sum(outcome.plain for outcome in outcomes), SEEDS // 5, "equal without any reason")
         self.assertGreater(sum(outcome.refused for outcome in outcomes), SEEDS // 20)
         self.assertLess(sum(outcome.refused for outcome in outcomes), SEEDS // 3)
-        self.assertGreater(len(met), 10, met)
+        self.assertGreater(len(met), 14, met)
 
     def test_by_hand(self) -> None:
-        """sixty templates by hand: pages, mails, feeds, settings of programs, tables of numbers"""
+        """ninety templates by hand: pages, mails, feeds, settings of programs, tables of numbers, deals and dates"""
         cases = list(by_hand())
-        self.assertGreaterEqual(len({case.name.split(" over ")[0] for case in cases}), 60)
+        self.assertGreaterEqual(len({case.name.split(" over ")[0] for case in cases}), 90)
         with Program() as program, ThreadPoolExecutor(os.cpu_count()) as pool:
             for told in pool.map(lambda case: difference(case, program.shows(case.page)), cases):
                 with self.subTest((told or "").partition(" differs")[0]):
