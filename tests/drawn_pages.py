@@ -275,7 +275,7 @@ class Drawn:
     def counted(self, scope: Scope, depth: int) -> Said:
         """Arithmetic. Half of what is divided has a `-`."""
         sign = self.chance.choice(["+", "-", "*", "//", "%", "%"])
-        first = self.opposite(scope, depth) if sign in "//%" and self.once_in(2) else self.expression(scope, "number", depth)
+        first = self.opposite(scope, depth) if sign in ("//", "%") and self.once_in(2) else self.expression(scope, "number", depth)
         return self.two(sign, first, self.expression(scope, "number", depth))
 
     def opposite(self, scope: Scope, depth: int) -> Said:
