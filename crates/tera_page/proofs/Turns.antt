@@ -1,7 +1,8 @@
 -- Pieces that are put one behind the other, or the first refusal.
-use Rattle.std.specs.Prelude.{◌≡◌, ◌≤◌, ◌<◌, ◌+◌, ◌++◌, ℕ, zero, suc, List, [], ◌∷◌, Ok, Err, drop, length, map, refl}
+use Rattle.std.specs.Prelude.{◌≡◌, ◌≤◌, ◌<◌, ◌+◌, ◌++◌, ℕ, zero, suc, List, [], ◌∷◌, Some, Ok, Err, drop, length, map, slice_get, refl}
 use Rattle.std.proofs.Common.{ap, sym, subst, ◌∙◌, get_or, arith}
 use Rattle.std.proofs.lemmas.List.{append-nil, append_assoc, drop_all, drop_more, drop-map, length-map}
+use Rattle.std.specs.Option.{option_map}
 use Rattle.tera.proofs.InTurnLaws.{shown_joined}
 use Rattle.tera.proofs.RefusalLaws.{refuses_on}
 use Rattle.tera.specs.Arithmetic.{and_then}
@@ -55,6 +56,23 @@ turns_many : (state : State) (owns : List Names) (i n : ℕ) → length (turns_f
 turns_many state [] i n = refl
 turns_many state (own ∷ owns) i n = ap suc (turns_many state owns (suc i) n)
 
+pub turns_count : (state : State) (owns : List Names) → length (turns state owns) ≡ length owns
+turns_count state owns = turns_many state owns 0 (length owns)
+
+turn_at : (state : State) (owns : List Names) (own : Names) (j n i k : ℕ) → k ≡ j + i → slice_get owns i ≡ Some own
+    → slice_get (turns_from state j n owns) i ≡ Some (under state (own ++ turn_names k n))
+turn_at state [] own j n zero k at is = absurd (cc is)
+turn_at state [] own j n (suc i) k at is = absurd (cc is)
+turn_at state (other ∷ owns) own j n zero k at is =
+    let here : j ≡ k = omega (arith, at) in
+    ap (option_map (λ it. under state (it ++ turn_names j n))) is ∙ ap (λ m. Some (under state (own ++ turn_names m n))) here
+turn_at state (other ∷ owns) own j n (suc i) k at is = turn_at state owns own (suc j) n i k (omega (arith, at)) is
+
+-- the state of a turn
+pub turn_of : (state : State) (owns : List Names) (own : Names) (i : ℕ) → slice_get owns i ≡ Some own
+    → slice_get (turns state owns) i ≡ Some (under state (own ++ turn_names i (length owns)))
+turn_of state owns own i is = turn_at state owns own 0 (length owns) i i (omega arith) is
+
 -- the state of the turn behind some others
 pub next_turn : (state : State) (owns : List Names) (own : Names) (i : ℕ) → drop i owns ≡ own ∷ drop (i + 1) owns
     → drop i (turns state owns) ≡ under state (own ++ turn_names i (length owns)) ∷ drop (i + 1) (turns state owns)
@@ -67,7 +85,7 @@ next_turn state owns own i is =
 
 -- there are as many turns as parts
 pub made_count : {X : Type 0} (make : X → Names) (state : State) (xs : List X) → length (turns state (map make xs)) ≡ length xs
-made_count make state xs = turns_many state (map make xs) 0 (length (map make xs)) ∙ length-map xs make
+made_count make state xs = turns_count state (map make xs) ∙ length-map xs make
 
 -- the same where the names are those of a list's parts
 pub next_made : {X : Type 0} (make : X → Names) (state : State) (xs : List X) (x : X) (i : ℕ) → drop i xs ≡ x ∷ drop (i + 1) xs

@@ -1,8 +1,10 @@
 //! What pages bring. Each function here does nothing: its clauses are the law.
-ghost use Rattle.std.specs.Prelude.{◌≡◌, ℕ, false, List};
+ghost use Rattle.std.specs.Prelude.{◌≡◌, ◌++◌, ℕ, false, List, Some, length, slice_get};
 ghost use Rattle.tera.specs.Entities.{SpecialBeginEntities};
+ghost use Rattle.tera.specs.State.{State};
 ghost use Rattle.tera_page.specs.Headline.{BringsNoTag, is_marked};
-ghost use Rattle.tera_page.specs.Rendering.{IsPageOf, Piece, Pieces, ShowsPiece};
+ghost use Rattle.tera_page.specs.Rendering.{IsPageOf, Names, Piece, Pieces, ShowsPiece, turn_names};
+ghost use Rattle.tera_page.specs.Rendering.{turns, under};
 
 /// What a page shows of a value brings none of `<`, `>`, `"` and `'`, and no `&` but that of an
 /// entity, unless the template shows the value as it prints, or it is a text with a safe flag. So
@@ -13,4 +15,13 @@ pub fn values_bring_no_tag()
         → is_marked piece ≡ false → SpecialBeginEntities shown }
     ensures page { (pieces : Pieces) (page : List ℕ) → IsPageOf pieces page
         → BringsNoTag pieces page }
+{}
+
+/// A loop has a turn for each of its parts, and each has the names of its part, and behind them
+/// those of its place among all.
+pub fn turns_are_those_of_the_parts()
+    ensures many { (state : State) (owns : List Names) → length (turns state owns) ≡ length owns }
+    ensures each { (state : State) (owns : List Names) (own : Names) (i : ℕ)
+        → slice_get owns i ≡ Some own
+        → slice_get (turns state owns) i ≡ Some (under state (own ++ turn_names i (length owns))) }
 {}
