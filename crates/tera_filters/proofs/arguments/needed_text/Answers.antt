@@ -1,0 +1,25 @@
+use Rattle.std.proofs.Common.{◌≡◌, Ok, MatchOption}
+use Rattle.std.proofs.lemmas.Result.{IfOk-weaker, IfErr-weaker}
+use Rattle.std.specs.Option.{IsSomeAnd}
+use Rattle.tera.specs.Errors.{Raises, Refuses}
+use Rattle.tera.specs.Lookup.{attr}
+use Rattle.tera.specs.Refusal.{missing_argument}
+use Rattle.tera.specs.Taken.{Denies, as_text}
+use Rattle.tera_filters.proofs.Given.{denied_where_needed, taken_where_needed}
+use Rattle.tera_filters.proofs.arguments.needed_text.Goals as goal
+use Rattle.tera_filters.specs.Arguments.{needed}
+
+pub returns-clause-ok : goal.returns-clause-ok
+returns-clause-ok c =
+    let given = attr c.args.arguments.now c.args.name.now in
+    IfOk-weaker c.must_get.result (λ t. IsSomeAnd given (λ v. as_text v ≡ Ok t.now))
+    (λ t. needed as_text c.args.arguments.now c.args.name.now ≡ Ok t.now)
+    (λ t is. taken_where_needed as_text c.args.name.now given t.now is) c.must_get.ensures.ok
+
+pub returns-clause-err : goal.returns-clause-err
+returns-clause-err c =
+    let given = attr c.args.arguments.now c.args.name.now in
+    IfErr-weaker c.must_get.result
+    (λ e. MatchOption given (Raises (missing_argument c.args.name.now) e) (λ v. Denies (as_text v) e))
+    (Refuses (needed as_text c.args.arguments.now c.args.name.now))
+    (λ e is. denied_where_needed as_text c.args.name.now given e is) c.must_get.ensures.err

@@ -1,0 +1,60 @@
+-- What filters make of arrays and of maps.
+use Rattle.std.specs.Prelude.{ℕ, ◌-◌, List, ◌++◌, length, codes, slice_get, pos}
+use Rattle.std.specs.Prelude.{Option, None, Result, unwrap_or}
+use Rattle.std.specs.Option.{ok_or, option_map, option_or}
+use Rattle.tera.specs.Arithmetic.{and_then, each_ok}
+use Rattle.tera.specs.Conversion.{IntegerType, converted}
+use Rattle.tera.specs.Form.{Form}
+use Rattle.tera.specs.Integer.{u64}
+use Rattle.tera.specs.Lookup.{attr, name_of}
+use Rattle.tera.specs.Meaning.{meaning}
+use Rattle.tera.specs.Read.{size_in}
+use Rattle.tera.specs.Refusal.{Refusal, message, wrong_kind}
+use Rattle.tera.specs.Slice.{sliced}
+use Rattle.tera.specs.SliceRule.{item_at}
+use Rattle.tera.specs.Taken.{as_items, as_pairs, as_text}
+use Rattle.tera.specs.Tree.{undefined}
+use Rattle.tera.specs.View.{integer}
+use Rattle.tera_filters.specs.Arguments.{needed, optional}
+
+abbrev pub no_length : List ℕ → Refusal
+no_length actual = wrong_kind (codes "Value of type ") actual (codes " has no length")
+
+-- how many characters a text has, items an array, pairs a map, bytes bytes
+abbrev pub length_of : Form → Result Form Refusal
+length_of value =
+    ok_or (option_map (λ n. integer u64 (pos n)) (size_in (meaning value)))
+    (no_length (name_of value))
+
+-- an item, undefined where there is none
+abbrev pub or_undefined : Option Form → Form
+or_undefined found = unwrap_or found undefined
+
+abbrev pub first_of : Form → Result Form Refusal
+first_of value = each_ok (λ xs. or_undefined (slice_get xs 0)) (as_items value)
+
+abbrev pub last_of : Form → Result Form Refusal
+last_of value = each_ok (λ xs. or_undefined (slice_get xs (length xs - 1))) (as_items value)
+
+-- the item behind as many others as the argument `n` says
+abbrev pub nth_of : Form → Form → Result Form Refusal
+nth_of value arguments =
+    and_then (as_items value)
+    (λ xs. each_ok (λ n. or_undefined (item_at xs n))
+    (needed (converted IntegerType.usize) arguments (codes "n")))
+
+-- the slice between the arguments `start` and `end`, each of which may be left out
+abbrev pub slice_of : Form → Form → Result Form Refusal
+slice_of value arguments =
+    and_then (optional (converted IntegerType.i128) arguments (codes "start"))
+    (λ start. and_then (optional (converted IntegerType.i128) arguments (codes "end"))
+    (λ end. sliced value start end None))
+
+abbrev pub no_key : List ℕ → Refusal
+no_key key = message (codes "The map has no key `" ++ (key ++ codes "`"))
+
+-- what a map has at the argument `key`, or where it has nothing there the argument `default`
+abbrev pub get_of : Form → Form → Result Form Refusal
+get_of value arguments =
+    and_then (as_pairs value) (λ pairs. and_then (needed as_text arguments (codes "key"))
+    (λ key. ok_or (option_or (attr value key) (attr arguments (codes "default"))) (no_key key)))

@@ -1,0 +1,6 @@
+pub mod Arguments
+pub mod Arrays
+pub mod Filters
+pub mod Marks
+pub mod Numbers
+pub mod Words

@@ -1,0 +1,28 @@
+-- Which filters make what they answer, and do not hand on what they were given.
+use Rattle.std.specs.Prelude.{Bool, true, false}
+use Rattle.tera.specs.Form.{Form}
+use Rattle.tera.specs.Tree.{undefined, none, truth, number, text, bytes, array, object}
+use Rattle.tera_filters.specs.declared.filter.Filter.{Filter}
+use Rattle.tera_filters.specs.declared.filter.Filter.TheVariants.{Length, First, Last, Nth}
+use Rattle.tera_filters.specs.declared.filter.Filter.TheVariants.{Reverse, Slice, Get, Abs}
+
+-- whether a value is a text with a safe flag
+abbrev pub is_marked : Form → Bool
+is_marked undefined = false
+is_marked none = false
+is_marked (truth b) = false
+is_marked (number n) = false
+is_marked (text t) = t.safe
+is_marked (bytes bs) = false
+is_marked (array xs) = false
+is_marked (object ps) = false
+
+abbrev pub makes : Filter → Bool
+makes Length = true
+makes First = false
+makes Last = false
+makes Nth = false
+makes Reverse = true
+makes Slice = false
+makes Get = false
+makes Abs = true

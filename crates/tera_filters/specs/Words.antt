@@ -1,0 +1,15 @@
+-- The words by which templates name filters.
+use Rattle.std.specs.Prelude.{ℕ, List, codes}
+use Rattle.tera_filters.specs.declared.filter.Filter.{Filter}
+use Rattle.tera_filters.specs.declared.filter.Filter.TheVariants.{Length, First, Last, Nth}
+use Rattle.tera_filters.specs.declared.filter.Filter.TheVariants.{Reverse, Slice, Get, Abs}
+
+abbrev pub word_of : Filter → List ℕ
+word_of Length = codes "length"
+word_of First = codes "first"
+word_of Last = codes "last"
+word_of Nth = codes "nth"
+word_of Reverse = codes "reverse"
+word_of Slice = codes "slice"
+word_of Get = codes "get"
+word_of Abs = codes "abs"

@@ -1,0 +1,55 @@
+//! What filters take of their named arguments.
+ghost use Rattle.std.specs.Prelude.{◌≡◌, pos, IfOk, IfErr, Ok};
+ghost use Rattle.std.specs.Option.{option_copied};
+ghost use Rattle.tera.specs.Conversion.{IntegerType, converted};
+ghost use Rattle.tera.specs.Errors.{Refuses};
+ghost use Rattle.tera.specs.Lookup.{attr};
+ghost use Rattle.tera.specs.Taken.{as_text};
+ghost use Rattle.tera_filters.specs.Arguments.{needed, optional};
+
+use std::alloc::Global;
+use tera::{Kwargs, TeraResult, Value};
+
+/// The place that an argument is, which has to be there.
+pub(crate) fn needed_place(alloc: Global, arguments: &Kwargs, name: &str) -> TeraResult<usize>
+    ensures ok { IfOk result (λ n.
+        needed (converted IntegerType.usize) arguments.now name.now ≡ Ok (pos n)) }
+    ensures err { IfErr result
+        (Refuses (needed (converted IntegerType.usize) arguments.now name.now)) }
+{
+    arguments.must_get::<usize>(alloc, name)
+}
+
+/// The text that an argument is, which has to be there.
+pub(crate) fn needed_text<'a>(
+    alloc: Global,
+    arguments: &'a Kwargs,
+    name: &'a str,
+) -> TeraResult<&'a str>
+    ensures ok { IfOk result (λ t. needed as_text arguments.now name.now ≡ Ok t.now) }
+    ensures err { IfErr result (Refuses (needed as_text arguments.now name.now)) }
+{
+    arguments.must_get::<&str>(alloc, name)
+}
+
+/// The bound that an argument is, which may be left out.
+pub(crate) fn bound(alloc: Global, arguments: &Kwargs, name: &str) -> TeraResult<Option<i128>>
+    ensures ok { IfOk result (λ bound.
+        optional (converted IntegerType.i128) arguments.now name.now ≡ Ok bound) }
+    ensures err { IfErr result
+        (Refuses (optional (converted IntegerType.i128) arguments.now name.now)) }
+{
+    arguments.get::<i128>(alloc, name)
+}
+
+/// An argument, lent, whatever it is.
+pub(crate) fn argument<'a>(
+    alloc: Global,
+    arguments: &'a Kwargs,
+    name: &'a str,
+) -> TeraResult<Option<&'a Value>>
+    ensures ok { IfOk result (λ value. option_copied value ≡ attr arguments.now name.now) }
+    ensures err { IfErr result (λ _. ⊥) }
+{
+    arguments.get::<&Value>(alloc, name)
+}

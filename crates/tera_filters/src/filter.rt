@@ -1,0 +1,71 @@
+//! The filters by their words.
+ghost use Rattle.std.specs.Prelude.{◌≡◌, ◌≢◌, IfOk, IfErr, MatchOption, Ok};
+ghost use Rattle.tera.specs.Errors.{Refuses};
+ghost use Rattle.tera_filters.specs.Filters.{filtered};
+ghost use Rattle.tera_filters.specs.Words.{word_of};
+
+use crate::arrays::{first, get, last, length, nth, reverse, slice};
+use crate::numbers::abs;
+use std::alloc::Global;
+use tera::{Kwargs, TeraResult, Value};
+
+/// A filter of templates.
+#[derive(Clone, Copy, Debug, PartialEq, Eq)]
+pub enum Filter {
+    /// How many characters, items, pairs or bytes there are.
+    Length,
+    /// The first item of an array.
+    First,
+    /// The last item of an array.
+    Last,
+    /// The item of an array behind as many others as `n` says.
+    Nth,
+    /// Items, characters or bytes in the opposite order.
+    Reverse,
+    /// The items or characters from `start` up to `end`.
+    Slice,
+    /// What a map has at `key`, or else `default`.
+    Get,
+    /// A number without its sign.
+    Abs,
+}
+
+impl Filter {
+    /// The filter that a word names. Takes no memory.
+    pub fn named(word: &str) -> Option<Filter>
+        ensures { MatchOption result ((filter : Filter) → word.now ≢ word_of filter)
+            (λ filter. word.now ≡ word_of filter) }
+    {
+        match word {
+            "length" => Some(Filter::Length),
+            "first" => Some(Filter::First),
+            "last" => Some(Filter::Last),
+            "nth" => Some(Filter::Nth),
+            "reverse" => Some(Filter::Reverse),
+            "slice" => Some(Filter::Slice),
+            "get" => Some(Filter::Get),
+            "abs" => Some(Filter::Abs),
+            _ => None,
+        }
+    }
+
+    /// What the filter makes of a value and of named arguments. It passes over an argument that it
+    /// does not know.
+    ///
+    /// Refuses as the function of the filter does, and takes the memory that that takes.
+    pub fn apply(self, alloc: Global, value: &Value, arguments: &Kwargs) -> TeraResult<Value>
+        ensures ok { IfOk result (λ v. filtered self value.now arguments.now ≡ Ok v) }
+        ensures err { IfErr result (Refuses (filtered self value.now arguments.now)) }
+    {
+        match self {
+            Filter::Length => length(alloc, value),
+            Filter::First => first(alloc, value),
+            Filter::Last => last(alloc, value),
+            Filter::Nth => nth(alloc, value, arguments),
+            Filter::Reverse => reverse(alloc, value),
+            Filter::Slice => slice(alloc, value, arguments),
+            Filter::Get => get(alloc, value, arguments),
+            Filter::Abs => abs(alloc, value),
+        }
+    }
+}

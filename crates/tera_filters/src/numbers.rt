@@ -1,0 +1,28 @@
+//! Filters of numbers.
+ghost use Rattle.std.specs.Prelude.{◌≡◌, IfOk, IfErr, Ok};
+ghost use Rattle.tera.specs.Errors.{Refuses};
+ghost use Rattle.tera_filters.specs.Numbers.{abs_of};
+
+use std::alloc::Global;
+use tera::scalars::not_a_number;
+use tera::value::number::negate;
+use tera::{TeraResult, Value};
+
+/// A number without its sign. One that is not below 0 keeps its kind.
+///
+/// Refuses every other value with ``Only numbers can be used in arithmetic. This is a `N` ``, N
+/// being the name of its kind, without the last blank, and the least number of an `i128` as
+/// [`negate`] does. Takes memory for the text of a refusal; want of it, `Out of memory`, is
+/// answered in its place.
+pub fn abs(alloc: Global, value: &Value) -> TeraResult<Value>
+    ensures ok { IfOk result (λ v. abs_of value.now ≡ Ok v) }
+    ensures err { IfErr result (Refuses (abs_of value.now)) }
+{
+    if !value.is_number() {
+        Err(not_a_number(alloc, value.name()))
+    } else if *value < Value::from(0u64) {
+        negate(alloc, value)
+    } else {
+        value.clone(alloc)
+    }
+}

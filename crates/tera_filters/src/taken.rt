@@ -1,0 +1,32 @@
+//! What filters take of a value, and the copies that they answer.
+ghost use Rattle.std.specs.Prelude.{◌≡◌, IfOk, IfErr, Ok};
+ghost use Rattle.std.specs.Option.{option_copied};
+ghost use Rattle.tera.specs.Errors.{IsOutOfMemory, Refuses};
+ghost use Rattle.tera.specs.Taken.{as_items};
+ghost use Rattle.tera_filters.specs.Arrays.{or_undefined};
+
+use crate::refused::no_array;
+use std::alloc::Global;
+use tera::{TeraResult, Value};
+
+/// The items of an array.
+pub(crate) fn items_of<'a>(alloc: Global, value: &'a Value) -> TeraResult<&'a [Value]>
+    ensures ok { IfOk result (λ items. as_items value.now ≡ Ok items.now) }
+    ensures err { IfErr result (Refuses (as_items value.now)) }
+{
+    match value.as_array() {
+        Some(items) => Ok(items),
+        None => Err(no_array(alloc, value)),
+    }
+}
+
+/// A copy of an item, undefined where there is none.
+pub(crate) fn copy_of(alloc: Global, item: Option<&Value>) -> TeraResult<Value>
+    ensures ok { IfOk result (λ v. or_undefined (option_copied item.entry) ≡ v) }
+    ensures err { IfErr result IsOutOfMemory }
+{
+    match item {
+        Some(item) => item.clone(alloc),
+        None => Ok(Value::undefined()),
+    }
+}
