@@ -42,10 +42,14 @@ module _ {X : Type 0} (taken : Form → Result X Refusal) where
   denied_where_there None e is = elim is [ ]
   denied_where_there (Some v) e is = denied_each (taken v) e is
 
--- what a step behind one that gave something refuses
+-- what a step behind one that gave something refuses, and what is made of a step that refuses
 pub refuses_next : {X Y : Type 0} (r : Result X Refusal) (next : X → Result Y Refusal) (x : X) (e : Error) → r ≡ Ok x
     → Refuses (next x) e → Refuses (and_then r next) e
 refuses_next r next x e is refused = subst (λ s. Refuses (and_then s next) e) (sym is) refused
+
+pub refuses_each : {X Y : Type 0} (f : X → Y) (r : Result X Refusal) (e : Error) → Refuses r e → Refuses (each_ok f r) e
+refuses_each f (Ok x) e is = is
+refuses_each f (Err refusal) e is = is
 
 pub mapped_to_itself : {X : Type 0} (o : Option X) → option_map (λ x. x) o ≡ o
 mapped_to_itself None = refl

@@ -1,2 +1,6 @@
+mod FirstOnes
 mod Given
+mod Joinables
+mod Joined
+mod Sorts
 mod Unmarked

@@ -1,24 +1,32 @@
 -- No text that a filter makes is marked.
-use Rattle.std.specs.Prelude.{◌≡◌, Bool, true, false, List, reverse, Option, Some, None, Result, Ok, Err, ℤ, pos, negsuc, neg_ℤ, refl}
+use Rattle.std.specs.Prelude.{◌≡◌, true, false, [], codes, reverse, Option, Some, None, Result, Ok, Err, ℤ, pos, negsuc, neg_ℤ, refl}
 use Rattle.std.specs.Option.{ok_or, option_and_then, option_map}
-use Rattle.std.specs.Str.{chars, encode_utf8_all}
-use Rattle.std.proofs.Common.{ap, sym, subst, ◌∙◌}
+use Rattle.std.specs.Str.{chars, encode_utf8_all, trim}
+use Rattle.std.specs.StrCase.Lower.{str_to_lowercase}
+use Rattle.std.specs.StrCase.Upper.{str_to_uppercase}
+use Rattle.std.proofs.Common.{subst}
 use Rattle.tera.specs.Arithmetic.{and_then, each_ok, as_i128, small}
 use Rattle.tera.specs.Form.{Form}
 use Rattle.tera.specs.Integer.{Integer, u64}
 use Rattle.tera.specs.Lookup.{name_of}
 use Rattle.tera.specs.Meaning.{meaning}
+use Rattle.tera.specs.Path.{place}
 use Rattle.tera.specs.Read.{size_in}
 use Rattle.tera.specs.Refusal.{Refusal, negation_outside_i128}
 use Rattle.tera.specs.SliceRule.{reversed}
+use Rattle.tera.specs.Taken.{as_items, as_text}
 use Rattle.tera.specs.Tree.{undefined, none, truth, number, text, bytes, array, object, items, items_list}
 use Rattle.tera.specs.View.{integer}
-use Rattle.tera_filters.specs.Arrays.{no_length}
+use Rattle.tera_filters.specs.Arguments.{or_else}
+use Rattle.tera_filters.specs.Arrays.{first_ones, is_less, no_length}
 use Rattle.tera_filters.specs.Filters.{filtered}
 use Rattle.tera_filters.specs.Marks.{is_marked, makes}
-use Rattle.tera_filters.specs.Numbers.{abs_of, without_sign}
+use Rattle.tera_filters.specs.Numbers.{abs_of, int_of, no_integer, without_sign}
+use Rattle.tera_filters.specs.Sorting.{in_order}
+use Rattle.tera_filters.specs.Texts.{join_of, joined, made}
 use Rattle.tera_filters.specs.declared.filter.Filter.{Filter}
 use Rattle.tera_filters.specs.declared.filter.Filter.TheVariants.{Length, First, Last, Nth, Reverse, Slice, Get, Abs}
+use Rattle.tera_filters.specs.declared.filter.Filter.TheVariants.{Upper, Lower, Trim, Join, Sort, Unique, Int}
 
 module _ {X : Type 0} where
   each_unmarked : (f : X → Form) → ((x : X) → is_marked (f x) ≡ false) → (r : Result X Refusal) (v : Form) → each_ok f r ≡ Ok v
@@ -65,6 +73,23 @@ abs_unmarked (bytes bs) v is = absurd (cc)
 abs_unmarked (array xs) v is = absurd (cc)
 abs_unmarked (object ps) v is = absurd (cc)
 
+int_unmarked : (value v : Form) → int_of value ≡ Ok v → is_marked v ≡ false
+int_unmarked undefined v is = absurd (cc)
+int_unmarked none v is = absurd (cc)
+int_unmarked (truth b) v is = absurd (cc)
+int_unmarked (number n) v is = handed (number n) v (int_of (number n)) refl is refl
+int_unmarked (text t) v is = found_unmarked (λ n. integer u64 (pos n)) (λ n. refl) (place t.spelled) (no_integer t.spelled) v is
+int_unmarked (bytes bs) v is = absurd (cc)
+int_unmarked (array xs) v is = absurd (cc)
+int_unmarked (object ps) v is = absurd (cc)
+
+join_unmarked : (value arguments v : Form) → join_of value arguments ≡ Ok v → is_marked v ≡ false
+join_unmarked value arguments v is =
+    then_unmarked (as_items value)
+    (λ xs. and_then (or_else as_text arguments (codes "sep") []) (λ between. each_ok made (joined between xs))) v
+    (λ xs. then_unmarked (or_else as_text arguments (codes "sep") []) (λ between. each_ok made (joined between xs)) v
+    (λ between. each_unmarked made (λ t. refl) (joined between xs) v)) is
+
 pub made_is_not_marked : (filter : Filter) (value arguments v : Form) → makes filter ≡ true
     → filtered filter value arguments ≡ Ok v → is_marked v ≡ false
 made_is_not_marked Length value arguments v makes is =
@@ -76,3 +101,12 @@ made_is_not_marked Reverse value arguments v makes is = reversed_unmarked value 
 made_is_not_marked Slice value arguments v makes is = absurd (cc)
 made_is_not_marked Get value arguments v makes is = absurd (cc)
 made_is_not_marked Abs value arguments v makes is = abs_unmarked value v is
+made_is_not_marked Upper value arguments v makes is = each_unmarked (λ t. made (str_to_uppercase t)) (λ t. refl) (as_text value) v is
+made_is_not_marked Lower value arguments v makes is = each_unmarked (λ t. made (str_to_lowercase t)) (λ t. refl) (as_text value) v is
+made_is_not_marked Trim value arguments v makes is = each_unmarked (λ t. made (trim t)) (λ t. refl) (as_text value) v is
+made_is_not_marked Join value arguments v makes is = join_unmarked value arguments v is
+made_is_not_marked Sort value arguments v makes is =
+    each_unmarked (λ xs. array (items (in_order is_less xs))) (λ xs. refl) (as_items value) v is
+made_is_not_marked Unique value arguments v makes is =
+    each_unmarked (λ xs. array (items (first_ones [] xs))) (λ xs. refl) (as_items value) v is
+made_is_not_marked Int value arguments v makes is = int_unmarked value v is

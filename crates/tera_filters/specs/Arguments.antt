@@ -1,5 +1,5 @@
 -- What a filter takes of its named arguments, which stand in a map.
-use Rattle.std.specs.Prelude.{List, ℕ, Option, Some, None, Result, Ok}
+use Rattle.std.specs.Prelude.{List, ℕ, Option, Some, None, Result, Ok, unwrap_or}
 use Rattle.std.specs.Option.{ok_or}
 use Rattle.tera.specs.Arithmetic.{and_then, each_ok}
 use Rattle.tera.specs.Form.{Form}
@@ -21,3 +21,7 @@ module _ {X : Type 0} (taken : Form → Result X Refusal) where
 
   abbrev pub optional : Form → List ℕ → Result (Option X) Refusal
   optional arguments name = where_there (attr arguments name)
+
+  abbrev pub or_else : Form → List ℕ → X → Result X Refusal
+  or_else arguments name otherwise =
+      each_ok (λ x. unwrap_or x otherwise) (optional arguments name)

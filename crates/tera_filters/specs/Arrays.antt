@@ -1,21 +1,25 @@
 -- What filters make of arrays and of maps.
-use Rattle.std.specs.Prelude.{ℕ, ◌-◌, List, ◌++◌, length, codes, slice_get, pos}
-use Rattle.std.specs.Prelude.{Option, None, Result, unwrap_or}
+use Rattle.std.specs.Prelude.{ℕ, ◌-◌, ℤ, List, [], ◌∷◌, ◌++◌, length, codes, slice_get, pos}
+use Rattle.std.specs.Prelude.{Bool, if◌then◌else◌, Option, None, Result, unwrap_or}
+use Rattle.std.specs.List.{list_any}
 use Rattle.std.specs.Option.{ok_or, option_map, option_or}
+use Rattle.std.specs.Ordering.{is_lt}
 use Rattle.tera.specs.Arithmetic.{and_then, each_ok}
 use Rattle.tera.specs.Conversion.{IntegerType, converted}
 use Rattle.tera.specs.Form.{Form}
 use Rattle.tera.specs.Integer.{u64}
 use Rattle.tera.specs.Lookup.{attr, name_of}
 use Rattle.tera.specs.Meaning.{meaning}
+use Rattle.tera.specs.Order.{compare, same}
 use Rattle.tera.specs.Read.{size_in}
 use Rattle.tera.specs.Refusal.{Refusal, message, wrong_kind}
 use Rattle.tera.specs.Slice.{sliced}
 use Rattle.tera.specs.SliceRule.{item_at}
 use Rattle.tera.specs.Taken.{as_items, as_pairs, as_text}
-use Rattle.tera.specs.Tree.{undefined}
+use Rattle.tera.specs.Tree.{undefined, array, items}
 use Rattle.tera.specs.View.{integer}
 use Rattle.tera_filters.specs.Arguments.{needed, optional}
+use Rattle.tera_filters.specs.Sorting.{in_order}
 
 abbrev pub no_length : List ℕ → Refusal
 no_length actual = wrong_kind (codes "Value of type ") actual (codes " has no length")
@@ -58,3 +62,25 @@ abbrev pub get_of : Form → Form → Result Form Refusal
 get_of value arguments =
     and_then (as_pairs value) (λ pairs. and_then (needed as_text arguments (codes "key"))
     (λ key. ok_or (option_or (attr value key) (attr arguments (codes "default"))) (no_key key)))
+
+-- the order in which values are sorted: that of their meanings
+abbrev pub is_less : Form → Form → Bool
+is_less x y = is_lt (compare (meaning x) (meaning y))
+
+-- the items in that order, those of one meaning as they stood
+abbrev pub sort_of : Form → Result Form Refusal
+sort_of value = each_ok (λ xs. array (items (in_order is_less xs))) (as_items value)
+
+-- whether some value means the same
+abbrev pub has_same : List Form → Form → Bool
+has_same xs x = list_any (λ y. same (meaning x) (meaning y)) xs
+
+-- the values behind others before which none that means the same stands
+abbrev pub first_ones : List Form → List Form → List Form
+first_ones before [] = []
+first_ones before (x ∷ xs) =
+    if has_same before x then first_ones (before ++ x ∷ []) xs
+    else x ∷ first_ones (before ++ x ∷ []) xs
+
+abbrev pub unique_of : Form → Result Form Refusal
+unique_of value = each_ok (λ xs. array (items (first_ones [] xs))) (as_items value)

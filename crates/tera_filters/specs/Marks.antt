@@ -5,6 +5,9 @@ use Rattle.tera.specs.Tree.{undefined, none, truth, number, text, bytes, array, 
 use Rattle.tera_filters.specs.declared.filter.Filter.{Filter}
 use Rattle.tera_filters.specs.declared.filter.Filter.TheVariants.{Length, First, Last, Nth}
 use Rattle.tera_filters.specs.declared.filter.Filter.TheVariants.{Reverse, Slice, Get, Abs}
+use Rattle.tera_filters.specs.declared.filter.Filter.TheVariants.{Upper, Lower, Trim, Join}
+use Rattle.tera_filters.specs.declared.filter.Filter.TheVariants.{Sort, Unique}
+use Rattle.tera_filters.specs.declared.filter.Filter.TheVariants.{Int}
 
 -- whether a value is a text with a safe flag
 abbrev pub is_marked : Form → Bool
@@ -26,3 +29,10 @@ makes Reverse = true
 makes Slice = false
 makes Get = false
 makes Abs = true
+makes Upper = true
+makes Lower = true
+makes Trim = true
+makes Join = true
+makes Sort = true
+makes Unique = true
+makes Int = true

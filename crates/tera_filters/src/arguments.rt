@@ -5,7 +5,7 @@ ghost use Rattle.tera.specs.Conversion.{IntegerType, converted};
 ghost use Rattle.tera.specs.Errors.{Refuses};
 ghost use Rattle.tera.specs.Lookup.{attr};
 ghost use Rattle.tera.specs.Taken.{as_text};
-ghost use Rattle.tera_filters.specs.Arguments.{needed, optional};
+ghost use Rattle.tera_filters.specs.Arguments.{needed, optional, or_else};
 
 use std::alloc::Global;
 use tera::{Kwargs, TeraResult, Value};
@@ -52,4 +52,35 @@ pub(crate) fn argument<'a>(
     ensures err { IfErr result (λ _. ⊥) }
 {
     arguments.get::<&Value>(alloc, name)
+}
+
+// The text that an argument is, which may be left out.
+fn optional_text<'a>(
+    alloc: Global,
+    arguments: &'a Kwargs,
+    name: &'a str,
+) -> TeraResult<Option<&'a str>>
+    ensures ok { IfOk result (λ text.
+        optional as_text arguments.now name.now ≡ Ok (option_copied text)) }
+    ensures err { IfErr result (Refuses (optional as_text arguments.now name.now)) }
+{
+    arguments.get::<&str>(alloc, name)
+}
+
+/// The text that an argument is, or another where it is left out.
+pub(crate) fn text_or<'a>(
+    alloc: Global,
+    arguments: &'a Kwargs,
+    name: &'a str,
+    otherwise: &'a str,
+) -> TeraResult<&'a str>
+    ensures ok { IfOk result (λ text.
+        or_else as_text arguments.now name.now otherwise.now ≡ Ok text.now) }
+    ensures err { IfErr result
+        (Refuses (or_else as_text arguments.now name.now otherwise.now)) }
+{
+    match optional_text(alloc, arguments, name)? {
+        Some(text) => Ok(text),
+        None => Ok(otherwise),
+    }
 }

@@ -5,7 +5,9 @@ ghost use Rattle.tera_filters.specs.Filters.{filtered};
 ghost use Rattle.tera_filters.specs.Words.{word_of};
 
 use crate::arrays::{first, get, last, length, nth, reverse, slice};
-use crate::numbers::abs;
+use crate::numbers::{abs, int};
+use crate::ordered::{sort, unique};
+use crate::texts::{join, lower, trim, upper};
 use std::alloc::Global;
 use tera::{Kwargs, TeraResult, Value};
 
@@ -28,6 +30,20 @@ pub enum Filter {
     Get,
     /// A number without its sign.
     Abs,
+    /// A text in upper case.
+    Upper,
+    /// A text in lower case.
+    Lower,
+    /// A text without the white space at its ends.
+    Trim,
+    /// The items of an array with `sep` between them.
+    Join,
+    /// The items of an array in order.
+    Sort,
+    /// The items of an array, of those that mean the same the first.
+    Unique,
+    /// The number that a value is, or that a text writes.
+    Int,
 }
 
 impl Filter {
@@ -45,6 +61,13 @@ impl Filter {
             "slice" => Some(Filter::Slice),
             "get" => Some(Filter::Get),
             "abs" => Some(Filter::Abs),
+            "upper" => Some(Filter::Upper),
+            "lower" => Some(Filter::Lower),
+            "trim" => Some(Filter::Trim),
+            "join" => Some(Filter::Join),
+            "sort" => Some(Filter::Sort),
+            "unique" => Some(Filter::Unique),
+            "int" => Some(Filter::Int),
             _ => None,
         }
     }
@@ -66,6 +89,13 @@ impl Filter {
             Filter::Slice => slice(alloc, value, arguments),
             Filter::Get => get(alloc, value, arguments),
             Filter::Abs => abs(alloc, value),
+            Filter::Upper => upper(alloc, value),
+            Filter::Lower => lower(alloc, value),
+            Filter::Trim => trim(alloc, value),
+            Filter::Join => join(alloc, value, arguments),
+            Filter::Sort => sort(alloc, value),
+            Filter::Unique => unique(alloc, value),
+            Filter::Int => int(alloc, value),
         }
     }
 }

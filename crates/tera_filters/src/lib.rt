@@ -9,9 +9,13 @@ mod arrays;
 mod filter;
 pub mod laws;
 mod numbers;
+mod ordered;
 mod refused;
 mod taken;
+mod texts;
 
 pub use arrays::{first, get, last, length, nth, reverse, slice};
 pub use filter::Filter;
-pub use numbers::abs;
+pub use numbers::{abs, int};
+pub use ordered::{sort, unique};
+pub use texts::{join, lower, trim, upper};

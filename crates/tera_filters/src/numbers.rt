@@ -1,10 +1,11 @@
-//! Filters of numbers.
+//! Filters that make numbers.
 ghost use Rattle.std.specs.Prelude.{◌≡◌, IfOk, IfErr, Ok};
 ghost use Rattle.tera.specs.Errors.{Refuses};
-ghost use Rattle.tera_filters.specs.Numbers.{abs_of};
+ghost use Rattle.tera_filters.specs.Numbers.{abs_of, int_of};
 
+use crate::refused::no_integer;
 use std::alloc::Global;
-use tera::scalars::not_a_number;
+use tera::scalars::{not_a_number, place_in_path};
 use tera::value::number::negate;
 use tera::{TeraResult, Value};
 
@@ -24,5 +25,26 @@ pub fn abs(alloc: Global, value: &Value) -> TeraResult<Value>
         negate(alloc, value)
     } else {
         value.clone(alloc)
+    }
+}
+
+/// The number that a value is, in its kind; or that a text writes, of one or more ASCII digits,
+/// which may stand behind one `+`, of a number below 2^64.
+///
+/// Refuses any other text with ``T` is no integer``, and every other value as [`abs`] does. Takes
+/// memory for the text of the refusal; want of it, `Out of memory`, is answered in its place.
+pub fn int(alloc: Global, value: &Value) -> TeraResult<Value>
+    ensures ok { IfOk result (λ v. int_of value.now ≡ Ok v) }
+    ensures err { IfErr result (Refuses (int_of value.now)) }
+{
+    if value.is_number() {
+        return value.clone(alloc);
+    }
+    let Some(text) = value.as_str() else {
+        return Err(not_a_number(alloc, value.name()));
+    };
+    match place_in_path(text) {
+        Some(n) => Ok(Value::from(n)),
+        None => Err(no_integer(alloc, text)),
     }
 }

@@ -4,6 +4,8 @@ ghost use Rattle.tera.specs.Errors.{Raises};
 ghost use Rattle.tera.specs.Lookup.{name_of};
 ghost use Rattle.tera.specs.Refusal.{invalid_argument, stated};
 ghost use Rattle.tera_filters.specs.Arrays.{no_key, no_length};
+ghost use Rattle.tera_filters.specs.Numbers.{no_integer};
+ghost use Rattle.tera_filters.specs.Texts.{not_joinable};
 
 use std::alloc::Global;
 use tera::{Error, Value};
@@ -34,4 +36,26 @@ pub(crate) fn no_key(alloc: Global, key: &str) -> Error
     ensures { Raises (no_key key.now) result }
 {
     Error::message_of(alloc, &["The map has no key `", key, "`"])
+}
+
+/// A value that is no text. `Out of memory` where the text finds none.
+pub(crate) fn no_text(alloc: Global, value: &Value) -> Error
+    ensures { Raises (invalid_argument (codes "&str") (name_of value.now)) result }
+{
+    Error::invalid_arg_type(alloc, "&str", value.name())
+}
+
+/// An item that is not joined. `Out of memory` where the text finds none.
+pub(crate) fn not_joinable(alloc: Global, item: &Value) -> Error
+    ensures { Raises (stated (not_joinable (name_of item.now))) result }
+{
+    let before = "Only strings, numbers and bools can be joined. This is a `";
+    Error::message_of(alloc, &[before, item.name(), "`"])
+}
+
+/// A text that is no integer. `Out of memory` where the text finds none.
+pub(crate) fn no_integer(alloc: Global, text: &str) -> Error
+    ensures { Raises (no_integer text.now) result }
+{
+    Error::message_of(alloc, &["`", text, "` is no integer"])
 }

@@ -2,10 +2,10 @@
 ghost use Rattle.std.specs.Prelude.{◌≡◌, IfOk, IfErr, Ok};
 ghost use Rattle.std.specs.Option.{option_copied};
 ghost use Rattle.tera.specs.Errors.{IsOutOfMemory, Refuses};
-ghost use Rattle.tera.specs.Taken.{as_items};
+ghost use Rattle.tera.specs.Taken.{as_items, as_text};
 ghost use Rattle.tera_filters.specs.Arrays.{or_undefined};
 
-use crate::refused::no_array;
+use crate::refused::{no_array, no_text};
 use std::alloc::Global;
 use tera::{TeraResult, Value};
 
@@ -17,6 +17,17 @@ pub(crate) fn items_of<'a>(alloc: Global, value: &'a Value) -> TeraResult<&'a [V
     match value.as_array() {
         Some(items) => Ok(items),
         None => Err(no_array(alloc, value)),
+    }
+}
+
+/// The bytes of a text.
+pub(crate) fn text_of<'a>(alloc: Global, value: &'a Value) -> TeraResult<&'a str>
+    ensures ok { IfOk result (λ text. as_text value.now ≡ Ok text.now) }
+    ensures err { IfErr result (Refuses (as_text value.now)) }
+{
+    match value.as_str() {
+        Some(text) => Ok(text),
+        None => Err(no_text(alloc, value)),
     }
 }
 
