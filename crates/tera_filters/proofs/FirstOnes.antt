@@ -1,5 +1,5 @@
 -- The items before which none that means the same stands, one after another.
-use Rattle.std.specs.Prelude.{◌≡◌, ◌<◌, ◌≤◌, ◌+◌, ◌++◌, ◌||◌, ℕ, Bool, true, false, cond, not, List, [], ◌∷◌, length, take, drop, Some, is_some, refl}
+use Rattle.std.specs.Prelude.{◌≡◌, ◌<◌, ◌≤◌, ◌+◌, ◌++◌, ◌||◌, ℕ, Bool, true, false, cond, List, [], ◌∷◌, length, take, drop, Some, is_some, refl}
 use Rattle.std.specs.BTreeMap.{is_at}
 use Rattle.std.specs.List.{find, list_any}
 use Rattle.std.specs.Ordering.{eq_by_cmp, on}

@@ -1,12 +1,10 @@
 -- Items that are joined one after another.
-use Rattle.std.specs.Prelude.{◌≡◌, ◌++◌, ◌+◌, ◌≤◌, ◌<◌, ℕ, List, [], ◌∷◌, drop, length, Result, Ok, Err, refl}
-use Rattle.std.proofs.Common.{ap, sym, subst, ◌∙◌, get_or, inr}
+use Rattle.std.specs.Prelude.{◌≡◌, ◌++◌, ◌+◌, ◌≤◌, ◌<◌, ℕ, List, ◌∷◌, drop, length, Result, Ok, Err, refl}
+use Rattle.std.proofs.Common.{ap, sym, ◌∙◌, get_or}
 use Rattle.std.proofs.lemmas.List.{append-nil, append_assoc, drop_all, drop_more}
 use Rattle.tera.specs.Arithmetic.{and_then, each_ok}
-use Rattle.tera.specs.Errors.{IsOutOfMemory, Refuses}
 use Rattle.tera.specs.Form.{Form}
 use Rattle.tera.specs.Refusal.{Refusal}
-use Rattle.tera.specs.types.Error.{Error}
 use Rattle.tera_filters.specs.Texts.{joinable, joined_on}
 
 -- a text so far, and what is joined behind it
@@ -38,22 +36,6 @@ joins_next between xs i x before so_far separated now w below at is first then (
       ∙ ap (λ r. behind t (and_then r (λ u. each_ok (λ rest. between ++ (u ++ rest)) (joined_on between (drop (i + 1) xs))))) is
       ∙ regrouped (joined_on between (drop (i + 1) xs)) t between w,
 )
-
-refused_each : (t : List ℕ) (r : Result (List ℕ) Refusal) (e : Error) → IsOutOfMemory e → Refuses (behind t r) e
-refused_each t (Ok rest) e is = is
-refused_each t (Err refusal) e is = inr is
-
-refused_behind : (t : List ℕ) (r : Result (List ℕ) Refusal) (next : List ℕ → Result (List ℕ) Refusal) (e : Error) → Refuses r e
-    → Refuses (behind t (and_then r next)) e
-refused_behind t (Err refusal) next e is = is
-refused_behind t (Ok u) next e is = refused_each t (next u) e is
-
-pub joins_wrong : (between : List ℕ) (xs : List Form) (i : ℕ) (x : Form) (before so_far : List ℕ) (e : Error)
-    → i < length xs → x ≡ get_or xs i x → Refuses (joinable x) e → JoinsUpTo between xs i before so_far
-    → Refuses (joined_on between xs) e
-joins_wrong between xs i x before so_far e below at is (t, grown, joins) =
-    subst (λ r. Refuses r e) (sym (joins ∙ ap (λ l. behind t (joined_on between l)) (left xs i x below at)))
-    (refused_behind t (joinable x) (λ u. each_ok (λ rest. between ++ (u ++ rest)) (joined_on between (drop (i + 1) xs))) e is)
 
 pub joins_last : (between : List ℕ) (xs : List Form) (i : ℕ) (before now : List ℕ) → length xs ≤ i
     → JoinsUpTo between xs i before now → (t : List ℕ) × (joined_on between xs ≡ Ok t) × (now ≡ before ++ t)

@@ -1,6 +1,6 @@
 mod FirstOnes
 mod Given
-mod Joinables
+mod Joining
 mod Joined
 mod Sorts
 mod Unmarked

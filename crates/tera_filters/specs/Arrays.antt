@@ -1,5 +1,5 @@
 -- What filters make of arrays and of maps.
-use Rattle.std.specs.Prelude.{ℕ, ◌-◌, ℤ, List, [], ◌∷◌, ◌++◌, length, codes, slice_get, pos}
+use Rattle.std.specs.Prelude.{ℕ, ◌-◌, List, [], ◌∷◌, ◌++◌, length, codes, slice_get, pos}
 use Rattle.std.specs.Prelude.{Bool, if◌then◌else◌, Option, None, Result, unwrap_or}
 use Rattle.std.specs.List.{list_any}
 use Rattle.std.specs.Option.{ok_or, option_map, option_or}

@@ -92,7 +92,7 @@ fn put_others(alloc: Global, items: &[Value], between: &str, out: &mut Growing) 
 }
 
 // Puts what is joined of an item.
-#[tactic(auto, using(crate::proofs::Joinables::prints_joinable, crate::proofs::Joinables::not_joined))]
+#[tactic(auto, using(crate::proofs::Joining::prints_joinable, crate::proofs::Joining::not_joined))]
 fn put_item(alloc: Global, item: &Value, out: &mut Growing) -> TeraResult<()>
     ensures ok { OnOk result ((text : List ℕ) × (joinable item.now ≡ Ok text)
         × (grown_bytes out.new ≡ grown_bytes out.old ++ text)) }
@@ -106,7 +106,7 @@ fn put_item(alloc: Global, item: &Value, out: &mut Growing) -> TeraResult<()>
 }
 
 // Whether an item is a text, a number or a truth value.
-#[tactic(auto, using(crate::proofs::Joinables::joinable_kinds))]
+#[tactic(auto, using(crate::proofs::Joining::joinable_kinds))]
 fn is_joinable(item: &Value) -> bool
     ensures { result ≡ is_ok (joinable item.now) }
 {

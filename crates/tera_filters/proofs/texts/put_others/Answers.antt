@@ -1,6 +1,6 @@
 use Rattle.std.proofs.Common.{arith}
 use Rattle.tera.specs.Growing.{grown_bytes}
-use Rattle.tera_filters.proofs.Joined.{joins_last, joins_next, joins_wrong}
+use Rattle.tera_filters.proofs.Joined.{joins_last, joins_next}
 use Rattle.tera_filters.proofs.texts.put_others.Goals as goal
 
 pub loop-item-preserved : goal.loop-item-preserved
