@@ -1,8 +1,10 @@
-//! Tests of pages through public calls: templates and values in, texts out.
+//! Tests of pages and filters through public calls: templates and values in, texts out.
 #![tactic(auto)]
 
 #[cfg(test)]
 mod expressions;
+#[cfg(test)]
+mod filters;
 #[cfg(test)]
 mod held;
 #[cfg(test)]
