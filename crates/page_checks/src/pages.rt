@@ -1,6 +1,8 @@
 //! What templates show, and what they are refused with.
-use crate::held::hold;
-use crate::shop::{refused, shows};
+use crate::held::{Seen, hold, is_so, same};
+use crate::shop::{refused, shows, told};
+use std::alloc::Global;
+use tera::TeraResult;
 
 #[test]
 fn values_are_shown(rt: HostRuntime) {
@@ -233,8 +235,8 @@ fn what_is_no_template_is_refused(rt: HostRuntime) {
         [
             refused(alloc, "{{ count", "This is not read"),
             refused(alloc, "{{ }}", "This is not read"),
-            refused(alloc, "{{ 1 }}", "This is not read"),
-            refused(alloc, "{{ true }}", "This is not read"),
+            refused(alloc, "{{ 1x }}", "This is not read"),
+            refused(alloc, "{{ loop }}", "This is not read"),
             refused(alloc, "{{ a..b }}", "This is not read"),
             refused(alloc, "{{ a. }}", "This is not read"),
             refused(alloc, "{{ loop }}", "This is not read"),
@@ -255,8 +257,8 @@ fn what_is_no_template_is_refused(rt: HostRuntime) {
             refused(alloc, "{% iffy %}{% endif %}", "This is not read"),
             refused(alloc, "{% for a of b %}{% endfor %}", "This is not read"),
             refused(alloc, "{%- if a %}{% endfor %}", "This is not read"),
-            refused(alloc, "{{ -count }}", "This is not read"),
-            refused(alloc, "{{-- count }}", "This is not read"),
+            shows(alloc, "{{ -count }}", "-3"),
+            shows(alloc, "{{-- count }}", "-3"),
             refused(alloc, "{# open", "This is not read"),
             refused(alloc, "x\n  {#- open -", " --> :2:3\n"),
         ],

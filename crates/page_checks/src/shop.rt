@@ -45,8 +45,8 @@ fn page_of(alloc: Global, text: &str) -> TeraResult<String> {
     render(alloc, &template, &shop(alloc)?)
 }
 
-// The page of a template, or what its refusal says behind a mark.
-fn told(alloc: Global, text: &str) -> String {
+/// The page of a template, or what its refusal says behind a mark.
+pub fn told(alloc: Global, text: &str) -> String {
     match page_of(alloc, text) {
         Ok(page) => page,
         Err(error) => { format!(in alloc; "refused: {error}").unwrap_or(String::new(alloc)) }
