@@ -7,6 +7,7 @@ import copy
 import doctest
 import enum
 import glob
+import html
 import importlib
 import inspect
 import os
@@ -649,6 +650,13 @@ class Escape(unittest.TestCase):
             escaped = tera.escape(text)
             self.assertEqual(typed(escaped), typed(Safe(second.escaped(text))))
             self.assertIs(tera.escape(escaped), escaped)
+
+    def test_places(self):
+        """a special character at each place of a text of each length up to 100 is escaped as Python escapes it, and so is a text of it alone"""
+        for special in "&<>\"'":
+            for size in range(1, 101):
+                for text in [special * size, *(f"{'é' * at}{special}{'a' * (size - at - 1)}" for at in range(size))]:
+                    self.assertEqual(tera.escape(text), html.escape(text).replace("&#x27;", "&#39;"))
 
     def test_html(self):
         """what has `__html__` answers for itself"""

@@ -1,4 +1,4 @@
-mod FrontLemmas
+mod EscapeLemmas
 mod LineLemmas
 mod MeasureLemmas
 mod NameLemmas

@@ -54,18 +54,21 @@ adds_at x =
     by_bool (eqb x 34) _ (λ h. at x 34 h refl) (λ q.
     by_bool (eqb x 39) _ (λ h. at x 39 h refl) (λ s. plain x _ _ _ _ _ a l g q s)))))
 
-at_most_six : (x : ℕ) (a l g q s : Bool) → length (spelling (token_by a l g q s x)) ≤ 6
-at_most_six x true l g q s = omega arith
-at_most_six x false true g q s = omega arith
-at_most_six x false false true q s = omega arith
-at_most_six x false false false true s = omega arith
-at_most_six x false false false false true = omega arith
-at_most_six x false false false false false = omega arith
+six_by : (x : ℕ) (a l g q s : Bool) → length (spelling (token_by a l g q s x)) ≤ 6
+six_by x true l g q s = omega arith
+six_by x false true g q s = omega arith
+six_by x false false true q s = omega arith
+six_by x false false false true s = omega arith
+six_by x false false false false true = omega arith
+six_by x false false false false false = omega arith
+
+pub at_most_six : (x : ℕ) → length (spelling (token_of x)) ≤ 6
+at_most_six x = six_by x (eqb x 38) (eqb x 60) (eqb x 62) (eqb x 34) (eqb x 39)
 
 pub six_times : (xs : List ℕ) → length (escaped xs) ≤ 6 * length xs
 six_times [] = omega arith
 six_times (x ∷ xs) =
-    omega (arith, length-append (spelling (token_of x)) (escaped xs), at_most_six x (eqb x 38) (eqb x 60) (eqb x 62) (eqb x 34) (eqb x 39), six_times xs)
+    omega (arith, length-append (spelling (token_of x)) (escaped xs), at_most_six x, six_times xs)
 
 -- the bytes that take three more, four more and five more than one
 abbrev threes : ℕ → Bool
@@ -89,16 +92,16 @@ added (x ∷ xs) =
 
 -- ---- a block of 32 bytes
 
-abbrev hit : ℕ → ℕ → ℕ
+abbrev pub hit : ℕ → ℕ → ℕ
 hit a b = cond (eqb a b) 255 0
 
-either : (p q : Bool) → bit_or (cond p 255 0) (cond q 255 0) ≡ cond (p || q) 255 0
+pub either : (p q : Bool) → bit_or (cond p 255 0) (cond q 255 0) ≡ cond (p || q) 255 0
 either true true = refl
 either true false = refl
 either false true = refl
 either false false = refl
 
-top_ones : (b : Bool) → top 7 (cond b 255 0) ≡ b
+pub top_ones : (b : Bool) → top 7 (cond b 255 0) ≡ b
 top_ones true = refl
 top_ones false = refl
 

@@ -1,4 +1,3 @@
-pub mod Front
-pub mod FrontLaws
+pub mod Escaping
 pub mod FallibleText
 pub mod FallibleTextLaws

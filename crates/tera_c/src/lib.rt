@@ -11,9 +11,8 @@ ghost use Rattle.tera_c.specs.Status.{bad, closed, is_open, no_memory};
 ghost use Rattle.tera_c.specs.Sessions.{Goes, Hears, Opens, reply_of};
 ghost use Rattle.tera_c.specs.Version.{version_number};
 
+mod escape;
 mod fallible_text;
-mod fill;
-mod front;
 mod line;
 mod measure;
 mod names;
@@ -27,7 +26,7 @@ mod status;
 mod values;
 mod version;
 
-use front::Front;
+use escape::escape_into;
 use measure::escaped_len_of;
 use rooms::deliver;
 use script::replay_into;
@@ -37,7 +36,6 @@ use simdutf8::basic::from_utf8;
 use status::{BAD, CLOSED, DONE, NO_MEMORY, OPEN, SMALL};
 use std::alloc::Global;
 use std::mem;
-use tera_report::escape_to;
 use tera_values::HashState;
 use version::{MAJOR, MINOR, PATCH};
 
@@ -228,9 +226,6 @@ pub extern "C" fn tera_escape(text: &[u8], escaped: &mut [u8], escaped_len: &mut
     if escaped.len() < len {
         return SMALL;
     }
-    let mut front = Front::new(escaped);
-    match escape_to(text, &mut front) {
-        Ok(()) => DONE,
-        Err(_) => unreachable!(),
-    }
+    escape_into(text, &mut escaped[..len]);
+    DONE
 }

@@ -38,9 +38,9 @@ fn block_len(block: u8x32) -> usize
         + 5 * five_more.to_bitmask().count_ones() as usize
 }
 
-// The same of a byte.
+/// The same of a byte.
 #[inline(always)]
-fn byte_len(byte: u8) -> usize
+pub(crate) fn byte_len(byte: u8) -> usize
     ensures { result ≡ length (spelling (token_of byte)) }
 {
     match byte {
