@@ -10,5 +10,5 @@ put_byte-end-requires c =
 
 pub returns-clause-put : goal.returns-clause-put
 returns-clause-put c =
-    byte_put c.args.bytes.now c.put_ordinary-run.new.room c.put_byte-end.new.room (c.args.at + c.put_ordinary-run.result) _ _ (omega arith) c.put_ordinary-run.ensures.put
-    c.put_byte-end.ensures
+    let put = c.put_ordinary-run in
+    byte_put c.args.bytes.now put.new.room c.put_byte-end.new.room (c.args.at + put.result) _ _ (omega arith) put.ensures.put c.put_byte-end.ensures
