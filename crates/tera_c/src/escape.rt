@@ -23,7 +23,8 @@ pub(crate) fn escape_into(text: &str, room: &mut [u8])
     put_rest(bytes, at, room, filled);
 }
 
-// Puts the ordinary bytes that a block begins with, and the special one behind them.
+// Puts a special byte alone, or the ordinary bytes that a block begins with and the special one
+// behind them.
 #[inline(always)]
 fn put_block(bytes: &[u8], at: usize, room: &mut [u8], filled: usize) -> (usize, usize)
     requires block { at + 16 ≤ length bytes.now }
@@ -33,6 +34,11 @@ fn put_block(bytes: &[u8], at: usize, room: &mut [u8], filled: usize) -> (usize,
     ensures more { at < result.0 }
     ensures size { length room.new ≡ length room.old }
 {
+    let first = bytes[at];
+    if byte_len(first) > 1 {
+        let behind = put_byte(first, room, filled);
+        return (at + 1, behind);
+    }
     let run = put_ordinary(bytes, at, room, filled);
     if run == 16 {
         return (at + 16, filled + 16);
