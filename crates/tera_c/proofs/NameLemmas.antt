@@ -16,7 +16,7 @@ use Rattle.tera_report.specs.Refusal.{message}
 use Rattle.tera_report.specs.declared.errors.Error.{Error}
 use Rattle.tera_replies.specs.Script.{ended}
 use Rattle.tera_script.specs.Line.{Says}
-use Rattle.tera_script.specs.Word.{IsName, is_name_byte, is_name_start}
+use Rattle.tera_script.specs.Word.{IsName, is_name_byte}
 use Rattle.tera_c.specs.Values.{SpellsSet, is_broken, names_in, names_where, set_line}
 
 name_bytes : (bytes : List ℕ) → list_all is_name_byte bytes ≡ true → IsAscii bytes

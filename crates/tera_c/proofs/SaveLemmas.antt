@@ -1,5 +1,5 @@
 -- Why a session is no script.
-use Rattle.std.proofs.Common.{◌≡◌, ◌⊎◌, ◌∙◌, inl, inr, ℕ, List, Bool, false, true, Err, ap, sym}
+use Rattle.std.proofs.Common.{◌≡◌, ◌∙◌, inl, inr, ℕ, List, Bool, false, Err, ap, sym}
 use Rattle.std.proofs.lemmas.Bool.{false≢true}
 use Rattle.tera_meaning.specs.Form.{Form}
 use Rattle.tera_meaning.specs.Outcome.{is_want}

@@ -1,12 +1,12 @@
 -- A session by value: its one word, and what it owns.
-use Rattle.std.proofs.Common.{◌≡◌, ℕ, List, [], ◌∷◌, ◌++◌, refl, sym, subst, Option, None, Some}
+use Rattle.std.proofs.Common.{◌≡◌, ℕ, List, [], ◌∷◌, ◌++◌, refl, subst, Option, None, Some}
 use seplogic.Ra.Ura.{Ura}
 use mir.Syntax.{impl, tnil, dnil}
 use mir.Raw.{raw as bare}
 use mir.Val.{Val, vstruct, vcons, vnil, of_list}
 use base.Fml.{Fml}
 use base.Fraction.{full_share}
-use base.Logic.{ent, guard, never, fst∗, snd∗, guard_i, via}
+use base.Logic.{never, fst∗, snd∗, guard_i, via}
 use contract.Monad.{fact_use}
 use types.Kit.{Item, Goal, Seq, Step, step, ‵, given, ◌$◌, drop, fsplit, fjoin, fpick, fpack, feq_i, feq_l, learn, use1}
 use types.Logic.{Logic, sem}

@@ -1,5 +1,5 @@
 -- What a session is given as a line.
-use Rattle.std.specs.Prelude.{◌≡◌, ◌≢◌, ℕ, ◌⊎◌, List, [], ◌∷◌, ◌++◌, length, codes}
+use Rattle.std.specs.Prelude.{◌≡◌, ◌≢◌, ℕ, ◌⊎◌, List, [], ◌∷◌, length, codes}
 use Rattle.std.specs.Str.{chars}
 use Rattle.tera_report.specs.Report.{Report}
 use Rattle.tera_report.specs.declared.span.Span.{Span}

@@ -22,7 +22,7 @@ use Rattle.core.proofs.alloc.Shapes.{after}
 use Rattle.core.proofs.cell.Inside.{Good}
 use Rattle.core.proofs.option.Made.{Some-of, none_of}
 use Rattle.std.proofs.alloc.Calls.{handle_tells}
-use Rattle.std_alloc.proofs.BoxSteps.Form.{D, B, word, box_typed}
+use Rattle.std_alloc.proofs.BoxSteps.Form.{D, word, box_typed}
 use Rattle.std_alloc.proofs.BoxSteps.Steps.{box_in}
 use Rattle.std_alloc.proofs.ResultValues.{and_tt}
 use Rattle.tera_c.proofs.SessionSteps.{E, FromParts, FromSession, FromGlobal, either_held, session_out, word as one_word}

@@ -1,5 +1,5 @@
 -- What is kept as the reply is why there is no script.
-use Rattle.std.proofs.Common.{◌⊎◌, inl, inr, refl}
+use Rattle.std.proofs.Common.{inl, inr, refl}
 use Rattle.tera_report.specs.Errors.{kind_of, refusal_of}
 use Rattle.tera_c.proofs.SaveLemmas.{unsaid_by}
 use Rattle.tera_c.proofs.session_state.SessionState.give_script.Goals as goal
