@@ -1,6 +1,9 @@
 //! Filters of arrays and maps.
-ghost use Rattle.std.specs.Prelude.{◌≡◌, IfOk, IfErr, None, Ok};
+ghost use Rattle.std.specs.Prelude.{◌≡◌, IfOk, IfErr, IsOk, None, Ok, false};
 ghost use Rattle.tera.specs.Errors.{Refuses};
+ghost use Rattle.tera.specs.Form.{Form};
+ghost use Rattle.tera.specs.Meaning.{meaning};
+ghost use Rattle.tera.specs.Read.{iterable_in, truthy_in};
 ghost use Rattle.tera.specs.Slice.{sliced};
 ghost use Rattle.tera.specs.SliceRule.{reversed};
 ghost use Rattle.tera_filters.specs.Arrays.{first_of, get_of, last_of, length_of, nth_of};
@@ -20,6 +23,7 @@ use tera::{Kwargs, TeraResult, Value};
 pub fn length(alloc: Global, value: &Value) -> TeraResult<Value>
     ensures ok { IfOk result (λ v. length_of value.now ≡ Ok v) }
     ensures err { IfErr result (Refuses (length_of value.now)) }
+    ensures succeeds { IsOk (length_of value.now) → IsOk result }
 {
     match value.len() {
         Some(length) => Ok(Value::from(length)),
@@ -35,6 +39,8 @@ pub fn length(alloc: Global, value: &Value) -> TeraResult<Value>
 pub fn first(alloc: Global, value: &Value) -> TeraResult<Value>
     ensures ok { IfOk result (λ v. first_of value.now ≡ Ok v) }
     ensures err { IfErr result (Refuses (first_of value.now)) }
+    ensures succeeds { (made : Form) → first_of value.now ≡ Ok made → iterable_in made ≡ false
+        → IsOk result }
 {
     copy_of(alloc, items_of(alloc, value)?.first())
 }
@@ -45,6 +51,8 @@ pub fn first(alloc: Global, value: &Value) -> TeraResult<Value>
 pub fn last(alloc: Global, value: &Value) -> TeraResult<Value>
     ensures ok { IfOk result (λ v. last_of value.now ≡ Ok v) }
     ensures err { IfErr result (Refuses (last_of value.now)) }
+    ensures succeeds { (made : Form) → last_of value.now ≡ Ok made → iterable_in made ≡ false
+        → IsOk result }
 {
     copy_of(alloc, items_of(alloc, value)?.last())
 }
@@ -70,6 +78,8 @@ pub fn nth(alloc: Global, value: &Value, arguments: &Kwargs) -> TeraResult<Value
 pub fn reverse(alloc: Global, value: &Value) -> TeraResult<Value>
     ensures ok { IfOk result (λ v. reversed value.now ≡ Ok v) }
     ensures err { IfErr result (Refuses (reversed value.now)) }
+    ensures empty { (made : Form) → reversed value.now ≡ Ok made
+        → truthy_in (meaning made) ≡ false → IsOk result }
 {
     value.reverse(alloc)
 }

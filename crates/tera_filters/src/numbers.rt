@@ -1,5 +1,5 @@
 //! Filters that make numbers.
-ghost use Rattle.std.specs.Prelude.{◌≡◌, IfOk, IfErr, Ok};
+ghost use Rattle.std.specs.Prelude.{◌≡◌, IfOk, IfErr, IsOk, Ok};
 ghost use Rattle.tera.specs.Errors.{Refuses};
 ghost use Rattle.tera_filters.specs.Numbers.{abs_of, int_of};
 
@@ -18,6 +18,7 @@ use tera::{TeraResult, Value};
 pub fn abs(alloc: Global, value: &Value) -> TeraResult<Value>
     ensures ok { IfOk result (λ v. abs_of value.now ≡ Ok v) }
     ensures err { IfErr result (Refuses (abs_of value.now)) }
+    ensures succeeds { IsOk (abs_of value.now) → IsOk result }
 {
     if !value.is_number() {
         Err(not_a_number(alloc, value.name()))
@@ -36,6 +37,7 @@ pub fn abs(alloc: Global, value: &Value) -> TeraResult<Value>
 pub fn int(alloc: Global, value: &Value) -> TeraResult<Value>
     ensures ok { IfOk result (λ v. int_of value.now ≡ Ok v) }
     ensures err { IfErr result (Refuses (int_of value.now)) }
+    ensures succeeds { IsOk (int_of value.now) → IsOk result }
 {
     if value.is_number() {
         return value.clone(alloc);

@@ -1,7 +1,8 @@
 //! What filters take of a value, and the copies that they answer.
-ghost use Rattle.std.specs.Prelude.{◌≡◌, IfOk, IfErr, Ok};
+ghost use Rattle.std.specs.Prelude.{◌≡◌, IfOk, IfErr, IsOk, Ok, false};
 ghost use Rattle.std.specs.Option.{option_copied};
 ghost use Rattle.tera.specs.Errors.{IsOutOfMemory, Refuses};
+ghost use Rattle.tera.specs.Read.{iterable_in};
 ghost use Rattle.tera.specs.Taken.{as_items, as_text};
 ghost use Rattle.tera_filters.specs.Arrays.{or_undefined};
 
@@ -13,6 +14,7 @@ use tera::{TeraResult, Value};
 pub(crate) fn items_of<'a>(alloc: Global, value: &'a Value) -> TeraResult<&'a [Value]>
     ensures ok { IfOk result (λ items. as_items value.now ≡ Ok items.now) }
     ensures err { IfErr result (Refuses (as_items value.now)) }
+    ensures succeeds { IsOk (as_items value.now) → IsOk result }
 {
     match value.as_array() {
         Some(items) => Ok(items),
@@ -24,6 +26,7 @@ pub(crate) fn items_of<'a>(alloc: Global, value: &'a Value) -> TeraResult<&'a [V
 pub(crate) fn text_of<'a>(alloc: Global, value: &'a Value) -> TeraResult<&'a str>
     ensures ok { IfOk result (λ text. as_text value.now ≡ Ok text.now) }
     ensures err { IfErr result (Refuses (as_text value.now)) }
+    ensures succeeds { IsOk (as_text value.now) → IsOk result }
 {
     match value.as_str() {
         Some(text) => Ok(text),
@@ -35,6 +38,8 @@ pub(crate) fn text_of<'a>(alloc: Global, value: &'a Value) -> TeraResult<&'a str
 pub(crate) fn copy_of(alloc: Global, item: Option<&Value>) -> TeraResult<Value>
     ensures ok { IfOk result (λ v. or_undefined (option_copied item.entry) ≡ v) }
     ensures err { IfErr result IsOutOfMemory }
+    ensures succeeds { iterable_in (or_undefined (option_copied item.entry)) ≡ false
+        → IsOk result }
 {
     match item {
         Some(item) => item.clone(alloc),
