@@ -1,5 +1,5 @@
 //! What filters take of their named arguments.
-ghost use Rattle.std.specs.Prelude.{◌≡◌, pos, IfOk, IfErr, Ok};
+ghost use Rattle.std.specs.Prelude.{◌≡◌, pos, IfOk, IfErr, IsOk, Ok};
 ghost use Rattle.std.specs.Option.{option_copied};
 ghost use Rattle.tera.specs.Conversion.{IntegerType, converted};
 ghost use Rattle.tera.specs.Errors.{Refuses};
@@ -16,6 +16,8 @@ pub(crate) fn needed_place(alloc: Global, arguments: &Kwargs, name: &str) -> Ter
         needed (converted IntegerType.usize) arguments.now name.now ≡ Ok (pos n)) }
     ensures err { IfErr result
         (Refuses (needed (converted IntegerType.usize) arguments.now name.now)) }
+    ensures succeeds { IsOk (needed (converted IntegerType.usize) arguments.now name.now)
+        → IsOk result }
 {
     arguments.must_get::<usize>(alloc, name)
 }
@@ -28,6 +30,7 @@ pub(crate) fn needed_text<'a>(
 ) -> TeraResult<&'a str>
     ensures ok { IfOk result (λ t. needed as_text arguments.now name.now ≡ Ok t.now) }
     ensures err { IfErr result (Refuses (needed as_text arguments.now name.now)) }
+    ensures succeeds { IsOk (needed as_text arguments.now name.now) → IsOk result }
 {
     arguments.must_get::<&str>(alloc, name)
 }

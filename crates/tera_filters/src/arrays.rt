@@ -65,6 +65,8 @@ pub fn last(alloc: Global, value: &Value) -> TeraResult<Value>
 pub fn nth(alloc: Global, value: &Value, arguments: &Kwargs) -> TeraResult<Value>
     ensures ok { IfOk result (λ v. nth_of value.now arguments.now ≡ Ok v) }
     ensures err { IfErr result (Refuses (nth_of value.now arguments.now)) }
+    ensures succeeds { (made : Form) → nth_of value.now arguments.now ≡ Ok made
+        → iterable_in made ≡ false → IsOk result }
 {
     let items = items_of(alloc, value)?;
     let n = needed_place(alloc, arguments, "n")?;
