@@ -3,7 +3,7 @@ use Rattle.std.specs.Prelude.{◌≡◌, ◌++◌, ℕ, List, refl}
 use Rattle.std.proofs.Common.{subst, sym}
 use Rattle.tera_page.specs.Expressions as grammar
 use Rattle.tera_page.specs.Expressions.{Level, Reads, alone, ands, between, comparisons, first_level, level, nots, opposites, ors, powers}
-use Rattle.tera_page.specs.Expressions.{products, second_level, sums, tighter}
+use Rattle.tera_page.specs.Expressions.{pipes, products, second_level, sums, tighter}
 use Rattle.tera_page.specs.Parsing.{row_level}
 use Rattle.tera_page.specs.Symbols.{Symbol}
 use Rattle.tera_page.specs.Template.{Binary, Expression, two}
@@ -12,12 +12,13 @@ use Rattle.tera_page.specs.declared.level.Row.TheVariants as row
 
 -- how many levels are tighter
 abbrev pub tightness : Level → ℕ
-tightness ors = 8
-tightness ands = 7
-tightness nots = 6
-tightness comparisons = 5
-tightness sums = 4
-tightness products = 3
+tightness ors = 9
+tightness ands = 8
+tightness nots = 7
+tightness comparisons = 6
+tightness sums = 5
+tightness products = 4
+tightness pipes = 3
 tightness opposites = 2
 tightness powers = 1
 tightness alone = 0

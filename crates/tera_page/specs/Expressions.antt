@@ -1,18 +1,15 @@
 -- Which symbols spell an expression.
-use Rattle.std.specs.Prelude.{◌≡◌, ℕ, pos, false, true, List, [], ◌∷◌, ◌++◌, codes, Some, Option}
-use Rattle.std.specs.Prelude.{None}
-use Rattle.tera.specs.Form.{Form}
-use Rattle.tera.specs.Integer.{u64}
-use Rattle.tera.specs.Path.{place}
+use Rattle.std.specs.Prelude.{◌≡◌, ℕ, List, [], ◌∷◌, ◌++◌, codes}
 use Rattle.tera.specs.Refusal as layer
-use Rattle.tera.specs.Tree as form
+use Rattle.tera_filters.specs.Words.{word_of}
+use Rattle.tera_filters.specs.declared.filter.Filter.{Filter}
+use Rattle.tera_page.specs.Arguments.{AreArguments, IsOperand}
 use Rattle.tera_page.specs.Symbols as symbol
-use Rattle.tera_page.specs.Symbols.{AreSymbols, Sign, Symbol, sign, quoted, word}
-use Rattle.tera_page.specs.Template.{Binary, Expression, Place, Written, denied, opposite}
-use Rattle.tera_page.specs.Template.{is_defined, either, both, within, not_within, equal, unequal}
-use Rattle.tera_page.specs.Template.{less, at_most, more, at_least, arithmetic, constant, found_at}
-use Rattle.tera_page.specs.Template.{one, two}
-use Rattle.tera_page.specs.Words.{IsPlace, place_text}
+use Rattle.tera_page.specs.Symbols.{AreSymbols, Symbol, sign, word}
+use Rattle.tera_page.specs.Template.{Argument, Binary, Expression, Operand, Written, denied}
+use Rattle.tera_page.specs.Template.{opposite, is_defined, either, both, within, not_within, equal}
+use Rattle.tera_page.specs.Template.{unequal, less, at_most, more, at_least, arithmetic, operand}
+use Rattle.tera_page.specs.Template.{one, two, piped}
 
 -- how tightly an expression holds together, from `or` to what stands alone
 pub data Level : Type 0 where
@@ -22,6 +19,7 @@ pub data Level : Type 0 where
   comparisons : Level
   sums : Level
   products : Level
+  pipes : Level
   opposites : Level
   powers : Level
   alone : Level
@@ -32,7 +30,8 @@ tighter ands = nots
 tighter nots = comparisons
 tighter comparisons = sums
 tighter sums = products
-tighter products = opposites
+tighter products = pipes
+tighter pipes = opposites
 tighter opposites = powers
 tighter powers = alone
 tighter alone = alone
@@ -80,13 +79,6 @@ between (arithmetic layer.floor_division) = sign symbol.floor ∷ []
 between (arithmetic layer.remainder) = sign symbol.remainder ∷ []
 between (arithmetic layer.power) = sign symbol.power ∷ []
 
--- what a word of the language is the value of
-abbrev pub constant_of : Sign → Option Form
-constant_of symbol.true_ = Some (form.truth true)
-constant_of symbol.false_ = Some (form.truth false)
-constant_of symbol.none = Some form.none
-constant_of _ = None
-
 -- the first symbols are an expression that holds together so tightly, and then the rest
 pub data Reads : Level → Expression → List Symbol → List Symbol → Type 0 where
   tighter_one : (l : Level) (e : Expression) (ss rest : List Symbol)
@@ -99,6 +91,9 @@ pub data Reads : Level → Expression → List Symbol → List Symbol → Type 0
       → Reads nots (one denied e) (sign symbol.not_ ∷ ss) rest
   minus_one : (e : Expression) (ss rest : List Symbol) → Reads opposites e ss rest
       → Reads opposites (one opposite e) (sign symbol.minus ∷ ss) rest
+  piped_one : (f : Filter) (e : Expression) (given : List Argument) (ss ts rest : List Symbol)
+      → Reads pipes e ss (sign symbol.bar ∷ word (word_of f) ∷ ts) → AreArguments given ts rest
+      → Reads pipes (piped f e given) ss rest
   defined_one : (e : Expression) (ss rest : List Symbol)
       → Reads sums e ss (sign symbol.is ∷ word (codes "defined") ∷ rest)
       → Reads comparisons (one is_defined e) ss rest
@@ -108,16 +103,8 @@ pub data Reads : Level → Expression → List Symbol → List Symbol → Type 0
   in_parentheses : (e : Expression) (ss rest : List Symbol)
       → Reads ors e ss (sign symbol.closes ∷ rest)
       → Reads alone e (sign symbol.opens ∷ ss) rest
-  number : (n : ℕ) (w : List ℕ) (rest : List Symbol) → place w ≡ Some n
-      → Reads alone (constant (form.number (record { kind = u64; value = pos n })))
-      (word w ∷ rest) rest
-  text : (t : List ℕ) (rest : List Symbol)
-      → Reads alone (constant (form.text (record { spelled = t; safe = false })))
-      (quoted t ∷ rest) rest
-  of_language : (s : Sign) (v : Form) (rest : List Symbol) → constant_of s ≡ Some v
-      → Reads alone (constant v) (sign s ∷ rest) rest
-  found : (at : Place) (rest : List Symbol) → IsPlace at
-      → Reads alone (found_at at) (word (place_text at) ∷ rest) rest
+  alone_one : (o : Operand) (s : Symbol) (rest : List Symbol) → IsOperand o s
+      → Reads alone (operand o) (s ∷ rest) rest
 
 -- that is said, and its expression is written by it
 abbrev pub Writes : Written → List ℕ → Type 0

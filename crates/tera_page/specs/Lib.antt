@@ -1,3 +1,4 @@
+pub mod Arguments
 pub mod Expressions
 pub mod Grammar
 pub mod Headline

@@ -19,6 +19,7 @@ level_of level.Nots = grammar.nots
 level_of level.Comparisons = grammar.comparisons
 level_of level.Sums = grammar.sums
 level_of level.Products = grammar.products
+level_of level.Pipes = grammar.pipes
 level_of level.Opposites = grammar.opposites
 level_of level.Powers = grammar.powers
 level_of level.Alone = grammar.alone

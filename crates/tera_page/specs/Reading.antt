@@ -40,7 +40,8 @@ abbrev pub IsSyntaxError : List ℕ → List ℕ → Error → Type 0
 IsSyntaxError file source e =
     ShowsIn (codes "This is not read") file source e
     ⊎ (ShowsIn (codes "More than 64 levels") file source e
-    ⊎ ShowsIn (codes "More than 128 words and signs") file source e)
+    ⊎ (ShowsIn (codes "More than 128 words and signs") file source e
+    ⊎ ShowsIn (codes "There is no such filter") file source e))
 
 -- parts end with the text, or at a tag, behind which is the rest
 abbrev pub StopsAt : Option Tag → List ℕ → List ℕ → Type 0

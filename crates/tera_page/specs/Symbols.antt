@@ -20,6 +20,9 @@ pub data Sign : Type 0 where
   floor : Sign
   remainder : Sign
   power : Sign
+  bar : Sign
+  comma : Sign
+  gives : Sign
   and : Sign
   or : Sign
   not_ : Sign
@@ -44,6 +47,9 @@ spelled times = codes "*"
 spelled floor = codes "//"
 spelled remainder = codes "%"
 spelled power = codes "**"
+spelled bar = codes "|"
+spelled comma = codes ","
+spelled gives = codes "="
 spelled and = codes "and"
 spelled or = codes "or"
 spelled not_ = codes "not"

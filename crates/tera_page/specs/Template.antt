@@ -2,11 +2,22 @@
 use Rattle.std.specs.Prelude.{ℕ, List, [], ◌∷◌, Option}
 use Rattle.tera.specs.Form.{Form}
 use Rattle.tera.specs.Refusal as layer
+use Rattle.tera_filters.specs.declared.filter.Filter.{Filter}
 
 -- where a value is found: at a name, or by a path from there
 pub record Place : Type 0 where
   pub name : List ℕ
   pub to : Option (List ℕ)
+
+-- what stands alone: a value itself, or where one is found
+pub data Operand : Type 0 where
+  constant : Form → Operand
+  found_at : Place → Operand
+
+-- a named argument of a filter
+pub record Argument : Type 0 where
+  pub name : List ℕ
+  pub value : Operand
 
 -- what is made of one value: `not`, `-` and `is defined`
 pub data Unary : Type 0 where
@@ -28,12 +39,12 @@ pub data Binary : Type 0 where
   at_least : Binary
   arithmetic : layer.Operator → Binary
 
--- what a value is written by: itself, where it is found, or what it is made of
+-- what a value is written by: what stands alone, what it is made of, or behind it a filter
 pub data Expression : Type 0 where
-  constant : Form → Expression
-  found_at : Place → Expression
+  operand : Operand → Expression
   one : Unary → Expression → Expression
   two : Binary → Expression → Expression → Expression
+  piped : Filter → Expression → List Argument → Expression
 
 -- an expression, and the text that it is written in
 pub record Written : Type 0 where

@@ -1,24 +1,28 @@
 -- What an expression stands for in a state.
-use Rattle.std.specs.Prelude.{◌==◌, ◌&&◌, ℕ, Bool, true, false, not, List, Option, None, Some}
-use Rattle.std.specs.Prelude.{Result, Ok, if◌then◌else◌, unwrap_or}
+use Rattle.std.specs.Prelude.{◌==◌, ◌&&◌, ℕ, Bool, true, false, not, List, [], map, Option, None}
+use Rattle.std.specs.Prelude.{Some, Result, Ok, if◌then◌else◌, unwrap_or}
 use Rattle.std.specs.FinMap.{get}
 use Rattle.std.specs.Option.{option_and_then}
 use Rattle.std.specs.Ordering.{is_lt, is_le, is_gt, is_ge}
 use Rattle.std.specs.declared.cmp.Ordering.{Ordering}
 use Rattle.tera.specs.Arithmetic.{and_then, each_ok, calculated, negated}
 use Rattle.tera.specs.Form.{Form}
+use Rattle.tera.specs.KeyMeaning.{KeyForm, text_key, owned}
 use Rattle.tera.specs.Lookup.{holds}
 use Rattle.tera.specs.Meaning.{meaning}
 use Rattle.tera.specs.Order.{compare, rank, same}
+use Rattle.tera.specs.Pairs.{key_form_order, put_all}
 use Rattle.tera.specs.Path.{path}
 use Rattle.tera.specs.Read.{truthy_in}
 use Rattle.tera.specs.Refusal.{Refusal}
 use Rattle.tera.specs.State.{State}
-use Rattle.tera.specs.Tree.{undefined, none, truth, number, text, bytes, array, object}
-use Rattle.tera_page.specs.Template.{Binary, Expression, Place, Unary, denied, opposite, is_defined}
+use Rattle.tera.specs.Tree.{undefined, none, truth, number, text, bytes, array, object, members}
+use Rattle.tera_filters.specs.Filters.{filtered}
+use Rattle.tera_page.specs.Template.{Argument, Binary, Expression, Operand, Place, Unary, denied}
+use Rattle.tera_page.specs.Template.{opposite, is_defined}
 use Rattle.tera_page.specs.Template.{either, both, within, not_within, equal, unequal, less}
 use Rattle.tera_page.specs.Template.{at_most, more, at_least, arithmetic, constant, found_at}
-use Rattle.tera_page.specs.Template.{one, two}
+use Rattle.tera_page.specs.Template.{operand, one, two, piped}
 
 -- what a path leads to; no path leads to the value itself
 abbrev pub led : Option (List ℕ) → Form → Option Form
@@ -39,6 +43,19 @@ is_there (object ps) = true
 -- what is found at a place; nothing is undefined
 abbrev pub found : State → Place → Form
 found state at = unwrap_or (option_and_then (led at.to) (get state at.name)) undefined
+
+-- what stands alone
+abbrev pub standing : State → Operand → Form
+standing state (constant value) = value
+standing state (found_at at) = found state at
+
+-- each argument at its name
+abbrev pub named : State → List Argument → List (KeyForm × Form)
+named state given = map (λ a. (text_key (owned a.name), standing state a.value)) given
+
+-- the map of the arguments: of two of one name the last value stands
+abbrev pub arguments : State → List Argument → Form
+arguments state given = object (members (put_all key_form_order [] (named state given)))
 
 abbrev pub is_true : Form → Bool
 is_true value = truthy_in (meaning value)
@@ -81,9 +98,10 @@ unless_settled (Some b) later = Ok (truth b)
 unless_settled None later = later
 
 abbrev pub value_of : Expression → State → Result Form Refusal
-value_of (constant value) state = Ok value
-value_of (found_at at) state = Ok (found state at)
+value_of (operand o) state = Ok (standing state o)
 value_of (one operator e) state = and_then (value_of e state) (made_of_one operator)
 value_of (two operator e f) state =
     and_then (value_of e state) (λ l. unless_settled (settled operator l)
     (and_then (value_of f state) (made_of_two operator l)))
+value_of (piped filter e given) state =
+    and_then (value_of e state) (λ value. filtered filter value (arguments state given))

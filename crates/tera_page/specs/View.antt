@@ -7,6 +7,7 @@ use Rattle.tera.specs.Operation.{operator_of}
 use Rattle.tera.specs.State.{State}
 use Rattle.tera_page.specs.Rendering.{Names, under}
 use Rattle.tera_page.specs.Template as tree
+use Rattle.tera_page.specs.declared.tree.Argument.{Argument}
 use Rattle.tera_page.specs.declared.tree.Binary.{Binary}
 use Rattle.tera_page.specs.declared.tree.Binary.TheVariants.{Or, And, In, NotIn, Equal, Unequal}
 use Rattle.tera_page.specs.declared.tree.Binary.TheVariants.{Less, AtMost, More}
@@ -14,7 +15,10 @@ use Rattle.tera_page.specs.declared.tree.Binary.TheVariants.{AtLeast, Arithmetic
 use Rattle.tera_page.specs.declared.tree.Bound.{Bound}
 use Rattle.tera_page.specs.declared.tree.Bound.TheVariants.{Item, Pair}
 use Rattle.tera_page.specs.declared.tree.Expression.{Expression}
-use Rattle.tera_page.specs.declared.tree.Expression.TheVariants.{Constant, Found, One', Two'}
+use Rattle.tera_page.specs.declared.tree.Expression.TheVariants.{One', Piped', Two'}
+use Rattle.tera_page.specs.declared.tree.Expression.TheVariants as written
+use Rattle.tera_page.specs.declared.tree.Operand.{Operand}
+use Rattle.tera_page.specs.declared.tree.Operand.TheVariants.{Constant, Found}
 use Rattle.tera_page.specs.declared.scope.Scope.{Scope, fold-Scope}
 use Rattle.tera_page.specs.declared.scope.Scope.TheOpen.{Scope-F}
 use Rattle.tera_page.specs.declared.scope.Turn.{Turn}
@@ -51,12 +55,23 @@ binary_of More = tree.more
 binary_of AtLeast = tree.at_least
 binary_of (Arithmetic operator) = tree.arithmetic (operator_of operator)
 
+abbrev pub operand_of : Operand → tree.Operand
+operand_of (Constant value) = tree.constant value
+operand_of (Found at) = tree.found_at (place_of at)
+
+abbrev pub argument_of : Argument → tree.Argument
+argument_of given = record { name = given.name.now; value = operand_of given.value }
+
+abbrev pub arguments_of : List Argument → List tree.Argument
+arguments_of given = map argument_of given
+
 abbrev pub expression_of : Expression → tree.Expression
-expression_of (Constant value) = tree.constant value
-expression_of (Found at) = tree.found_at (place_of at)
+expression_of (written.Operand alone) = tree.operand (operand_of alone)
 expression_of (One' operator p e) = tree.one (unary_of operator) (expression_of e)
 expression_of (Two' operator p e q f) =
     tree.two (binary_of operator) (expression_of e) (expression_of f)
+expression_of (Piped' filter p e given) =
+    tree.piped filter (expression_of e) (arguments_of given.items)
 
 abbrev pub written_of : Written → tree.Written
 written_of written =

@@ -1,21 +1,21 @@
 //! Reads expressions.
-ghost use Rattle.std.specs.Prelude.{◌≡◌, ◌∷◌, ◌<◌, IfOk, IfSome, List, Some, codes, length};
-ghost use Rattle.tera_page.specs.Expressions.{Reads, Writes, constant_of};
+ghost use Rattle.std.specs.Prelude.{◌≡◌, ◌∷◌, ◌<◌, IfOk, List, codes, length};
+ghost use Rattle.tera_page.specs.Expressions.{Reads, Writes};
 ghost use Rattle.tera_page.specs.Expressions;
 ghost use Rattle.tera_page.specs.Parsing.{IsRead, level_of, row_level, symbols_of};
 ghost use Rattle.tera_page.specs.Symbols;
 ghost use Rattle.tera_page.specs.Symbols.{sign, word};
 ghost use Rattle.tera_page.specs.Template;
-ghost use Rattle.tera_page.specs.Tokens.{sign_of, symbol_of};
-ghost use Rattle.tera_page.specs.View.{binary_of, expression_of, unary_of, written_of};
+ghost use Rattle.tera_page.specs.View.{arguments_of, binary_of, expression_of, unary_of};
+ghost use Rattle.tera_page.specs.View.{written_of};
 
+use crate::argument::{arguments_in, filter_in, first_of, operand_in, word_in};
 use crate::level::{Level, Row, behind, comparison_in, operator_in, tighter};
 use crate::symbol::{Sign, Symbol, Unread, symbols_in};
-use crate::tree::{Binary, Expression, Unary, Written};
-use crate::word::place_in;
+use crate::tree::{Argument, Binary, Expression, Unary, Written};
 use std::alloc::Global;
-use tera::Value;
-use tera::scalars::{BinaryOp, place_in_path};
+use tera::scalars::BinaryOp;
+use tera_filters::Filter;
 
 /// The expression that a text writes.
 pub(crate) fn read_written(alloc: Global, text: &str) -> Result<Written<'_>, Unread>
@@ -46,6 +46,7 @@ fn read<'a, 's>(
         Level::Comparisons => read_comparison(alloc, symbols),
         Level::Sums => read_row(alloc, Row::Sums, symbols),
         Level::Products => read_row(alloc, Row::Products, symbols),
+        Level::Pipes => read_piped(alloc, symbols),
         Level::Opposites => read_opposite(alloc, symbols),
         Level::Powers => read_power(alloc, symbols),
         Level::Alone => read_alone(alloc, symbols),
@@ -109,6 +110,24 @@ fn read_comparison<'a, 's>(
     }
 }
 
+// Reads what filters stand behind.
+#[cycle(read)]
+fn read_piped<'a, 's>(
+    alloc: Global,
+    symbols: &'s [Symbol<'a>],
+) -> Result<(Expression<'a>, &'s [Symbol<'a>]), Unread>
+    ensures { IfOk result (λ read. IsRead Expressions.pipes symbols.now read.0 read.1.now) }
+{
+    let (mut inner, mut rest) = read(alloc, Level::Opposites, symbols)?;
+    'pipes: while let Some(after) = behind(Sign::Bar, rest) {
+        let (filter, after) = filter_in(after)?;
+        let (arguments, left) = arguments_in(alloc, after)?;
+        inner = piped(alloc, filter, inner, arguments)?;
+        rest = left;
+    }
+    Ok((inner, rest))
+}
+
 // Reads what stands behind `is`.
 fn read_test<'a, 's>(
     alloc: Global,
@@ -140,16 +159,11 @@ fn behind_defined<'a, 's>(symbols: &'s [Symbol<'a>]) -> Result<&'s [Symbol<'a>],
         ≡ word (codes "defined") ∷ symbols_of rest.now) }
     ensures shorter { IfOk result (λ rest. length rest.now < length symbols.now) }
 {
-    let Some((first, rest)) = symbols.split_first() else {
-        return Err(Unread::Bad);
-    };
-    match first {
-        Symbol::Word(word) => if *word == "defined" {
-            Ok(rest)
-        } else {
-            Err(Unread::Bad)
-        },
-        _ => Err(Unread::Bad),
+    let (word, rest) = word_in(symbols)?;
+    if word == "defined" {
+        Ok(rest)
+    } else {
+        Err(Unread::Bad)
     }
 }
 
@@ -200,10 +214,8 @@ fn read_alone<'a, 's>(
     if let Some(rest) = behind(Sign::Open, symbols) {
         return read_group(alloc, rest);
     }
-    let Some((first, rest)) = symbols.split_first() else {
-        return Err(Unread::Bad);
-    };
-    Ok((read_one(alloc, *first)?, rest))
+    let (first, rest) = first_of(symbols)?;
+    Ok((Expression::Operand(operand_in(alloc, first)?), rest))
 }
 
 // Reads what stands in parentheses, behind the first of them.
@@ -220,47 +232,6 @@ fn read_group<'a, 's>(
     match behind(Sign::Close, rest) {
         Some(rest) => Ok((inner, rest)),
         None => Err(Unread::Bad),
-    }
-}
-
-// Reads one symbol that is an expression.
-fn read_one<'a>(alloc: Global, symbol: Symbol<'a>) -> Result<Expression<'a>, Unread>
-    ensures { IfOk result (λ made. (rest : List Symbols.Symbol)
-        → Reads Expressions.alone (expression_of made) (symbol_of symbol.entry ∷ rest) rest) }
-{
-    match symbol {
-        Symbol::Word(word) => read_word(word).ok_or(Unread::Bad),
-        Symbol::Quoted(text) => {
-            let text = String::from_str(alloc, text)?;
-            Ok(Expression::Constant(Value::from(text)))
-        }
-        Symbol::Sign(sign) => match constant_of(sign) {
-            Some(value) => Ok(Expression::Constant(value)),
-            None => Err(Unread::Bad),
-        },
-    }
-}
-
-// The number or the place that a word is.
-fn read_word(word: &str) -> Option<Expression<'_>>
-    ensures { IfSome result (λ made. (rest : List Symbols.Symbol)
-        → Reads Expressions.alone (expression_of made) (Symbols.word word.now ∷ rest) rest) }
-{
-    match place_in_path(word) {
-        Some(number) => Some(Expression::Constant(Value::from(number))),
-        None => Some(Expression::Found(place_in(word)?)),
-    }
-}
-
-// The value that a word of the language stands for.
-fn constant_of(sign: Sign) -> Option<Value>
-    ensures { IfSome result (λ value. constant_of (sign_of sign) ≡ Some value) }
-{
-    match sign {
-        Sign::True => Some(Value::from(true)),
-        Sign::False => Some(Value::from(false)),
-        Sign::None => Some(Value::none()),
-        _ => None,
     }
 }
 
@@ -283,4 +254,17 @@ fn two<'a>(
         (expression_of left.entry) (expression_of right.entry)) }
 {
     Ok(Expression::Two(operator, Box::new(alloc, left)?, Box::new(alloc, right)?))
+}
+
+// What a filter makes of one.
+fn piped<'a>(
+    alloc: Global,
+    filter: Filter,
+    inner: Expression<'a>,
+    arguments: Vec<Argument<'a>>,
+) -> Result<Expression<'a>, Unread>
+    ensures { IfOk result (λ made. expression_of made ≡ Template.piped filter
+        (expression_of inner.entry) (arguments_of arguments.entry.items)) }
+{
+    Ok(Expression::Piped(filter, Box::new(alloc, inner)?, arguments))
 }

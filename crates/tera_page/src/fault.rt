@@ -19,6 +19,8 @@ pub(crate) enum Fault<'a> {
     Deep(&'a str),
     /// An expression of more words and signs than there may be.
     Long(&'a str),
+    /// An expression that names a filter that there is not.
+    Unnamed(&'a str),
 }
 
 impl From<AllocError> for Fault<'_> {
@@ -54,6 +56,7 @@ impl Fault<'_> {
             Fault::Bad(at) => told(alloc, "This is not read", file, source, at),
             Fault::Deep(at) => told(alloc, "More than 64 levels", file, source, at),
             Fault::Long(at) => told(alloc, "More than 128 words and signs", file, source, at),
+            Fault::Unnamed(at) => told(alloc, "There is no such filter", file, source, at),
         }
     }
 }

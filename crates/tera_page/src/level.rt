@@ -21,6 +21,7 @@ pub(crate) enum Level {
     Comparisons,
     Sums,
     Products,
+    Pipes,
     Opposites,
     Powers,
     Alone,
@@ -43,7 +44,7 @@ pub(crate) fn tighter(row: Row) -> Level
         Row::Ors => Level::Ands,
         Row::Ands => Level::Nots,
         Row::Sums => Level::Products,
-        Row::Products => Level::Opposites,
+        Row::Products => Level::Pipes,
     }
 }
 

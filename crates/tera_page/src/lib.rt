@@ -4,6 +4,7 @@
 //! a safe flag brings no tag, and ends no quoted attribute: `laws` says so of every page.
 #![tactic(auto)]
 
+mod argument;
 mod expression;
 mod fault;
 pub mod laws;
@@ -20,4 +21,7 @@ mod word;
 
 pub use page::render;
 pub use syntax::{parse, parse_named};
-pub use tree::{Binary, Bound, Expression, Node, Place, Showing, Template, Unary, Written};
+pub use tera_filters::Filter;
+pub use tree::{
+    Argument, Binary, Bound, Expression, Node, Operand, Place, Showing, Template, Unary, Written,
+};

@@ -30,6 +30,9 @@ pub(crate) enum Sign {
     Floor,
     Remainder,
     Power,
+    Bar,
+    Comma,
+    Gives,
     And,
     Or,
     Not,
@@ -57,6 +60,8 @@ pub(crate) enum Unread {
     Bad,
     /// It has more words and signs than there may be.
     Long,
+    /// It names a filter that there is not.
+    Unnamed,
 }
 
 impl From<AllocError> for Unread {
@@ -253,6 +258,12 @@ fn short_sign_in(text: &str) -> Option<(Sign, &str)>
         Some((Sign::Times, rest))
     } else if let Some(rest) = behind(text, "%") {
         Some((Sign::Remainder, rest))
+    } else if let Some(rest) = behind(text, "|") {
+        Some((Sign::Bar, rest))
+    } else if let Some(rest) = behind(text, ",") {
+        Some((Sign::Comma, rest))
+    } else if let Some(rest) = behind(text, "=") {
+        Some((Sign::Gives, rest))
     } else {
         None
     }

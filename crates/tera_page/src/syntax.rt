@@ -28,8 +28,9 @@ pub const LEVELS: usize = 64;
 ///
 /// Refuses a text that it does not read with a report of the text: `This is not read` at the first
 /// thing that it does not read, or at the end; `More than 64 levels` at a tag inside as many
-/// others; and `More than 128 words and signs` where a longer expression stands. Takes memory; want
-/// of it, `Out of memory`, is answered in the place of all else.
+/// others; `More than 128 words and signs` where a longer expression stands; and `There is no such
+/// filter` where one is named that there is not. Takes memory; want of it, `Out of memory`, is
+/// answered in the place of all else.
 pub fn parse(alloc: Global, text: &str) -> TeraResult<Template<'_>>
     ensures ok { IfOk result (λ template. Spells (tree_of template) text.now) }
     ensures err { IfErr result (IsSyntaxError [] text.now) }
@@ -145,6 +146,7 @@ fn written_in<'a>(alloc: Global, said: &'a str, from: &'a str) -> Result<Written
         Err(Unread::Memory) => Err(Fault::Memory),
         Err(Unread::Bad) => Err(Fault::Bad(from)),
         Err(Unread::Long) => Err(Fault::Long(from)),
+        Err(Unread::Unnamed) => Err(Fault::Unnamed(from)),
     }
 }
 

@@ -4,12 +4,29 @@ ghost use Rattle.tera_page.specs.View.{parts_of, tree_of};
 
 use tera::Value;
 use tera::scalars::BinaryOp;
+use tera_filters::Filter;
 
 /// Where a value is found: at a name, or by a path from there.
 #[derive(Clone, Copy, Debug, PartialEq, Eq)]
 pub struct Place<'a> {
     pub name: &'a str,
     pub to: Option<&'a str>,
+}
+
+/// What stands alone.
+#[derive(Debug, Drop)]
+pub enum Operand<'a> {
+    /// A value itself.
+    Constant(Value),
+    /// What is found at a place, or undefined.
+    Found(Place<'a>),
+}
+
+/// A named argument of a filter.
+#[derive(Debug, Drop)]
+pub struct Argument<'a> {
+    pub name: &'a str,
+    pub value: Operand<'a>,
 }
 
 /// What is made of one value.
@@ -53,14 +70,14 @@ pub enum Binary {
 /// What a value is written by.
 #[derive(Debug, Drop)]
 pub enum Expression<'a> {
-    /// A value itself.
-    Constant(Value),
-    /// What is found at a place, or undefined.
-    Found(Place<'a>),
+    /// What stands alone.
+    Operand(Operand<'a>),
     /// What is made of one value.
     One(Unary, Box<Expression<'a>>),
     /// What is made of two.
     Two(Binary, Box<Expression<'a>>, Box<Expression<'a>>),
+    /// What a filter makes of a value and of arguments. Of two of one name the last counts.
+    Piped(Filter, Box<Expression<'a>>, Vec<Argument<'a>>),
 }
 
 /// An expression, and the text that it is written in.

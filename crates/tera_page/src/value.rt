@@ -1,17 +1,19 @@
 //! What an expression stands for.
 ghost use Rattle.std.specs.Prelude.{◌≡◌, ◌==◌, Ok, IfOk, IfErr};
-ghost use Rattle.tera.specs.Errors.{Refuses};
+ghost use Rattle.tera.specs.Errors.{IsOutOfMemory, Refuses};
 ghost use Rattle.tera.specs.Meaning.{meaning};
 ghost use Rattle.tera.specs.Order.{rank};
-ghost use Rattle.tera_page.specs.Values.{found, made_of_one, made_of_two, settled, value_of};
-ghost use Rattle.tera_page.specs.View.{binary_of, expression_of, form_of, place_of, state_of};
-ghost use Rattle.tera_page.specs.View.{unary_of};
+ghost use Rattle.tera_page.specs.Values.{arguments, made_of_one, made_of_two, settled, standing};
+ghost use Rattle.tera_page.specs.Values.{value_of};
+ghost use Rattle.tera_page.specs.View.{arguments_of, binary_of, expression_of, form_of, operand_of};
+ghost use Rattle.tera_page.specs.View.{state_of, unary_of};
 
 use crate::scope::{Scope, found};
-use crate::tree::{Binary, Expression, Place, Unary};
+use crate::tree::{Argument, Binary, Expression, Operand, Unary};
 use std::alloc::Global;
+use std::borrow::CowStr;
 use tera::value::number::{calculate, negate};
-use tera::{TeraResult, Value};
+use tera::{Kwargs, Map, TeraResult, ToKey, Value};
 
 /// A value that is lent, or one that was made.
 #[derive(Drop)]
@@ -45,8 +47,7 @@ pub(crate) fn value_of<'a, 't>(
         (Refuses (value_of (expression_of expression.now) (state_of scope.now))) }
 {
     match expression {
-        Expression::Constant(value) => Ok(Held::Lent(value)),
-        Expression::Found(at) => Ok(found_or_undefined(scope, *at)),
+        Expression::Operand(operand) => Ok(standing(operand, scope)),
         Expression::One(operator, inner) => {
             let held = value_of(alloc, inner, scope)?;
             Ok(Held::Made(made_of_one(alloc, *operator, held.value())?))
@@ -60,17 +61,46 @@ pub(crate) fn value_of<'a, 't>(
             let made = made_of_two(alloc, *operator, first.value(), second.value())?;
             Ok(Held::Made(made))
         }
+        Expression::Piped(filter, inner, given) => {
+            let held = value_of(alloc, inner, scope)?;
+            let arguments = arguments(alloc, given.as_slice(), scope)?;
+            Ok(Held::Made(filter.apply(alloc, held.value(), &arguments)?))
+        }
     }
 }
 
-// What is found at a place.
-fn found_or_undefined<'a>(scope: &'a Scope<'a>, at: Place<'a>) -> Held<'a>
-    ensures { form_of result ≡ found (state_of scope.now) (place_of at.entry) }
+// What stands alone.
+fn standing<'a, 't>(operand: &'a Operand<'t>, scope: &'a Scope<'a>) -> Held<'a>
+    ensures { form_of result ≡ standing (state_of scope.now) (operand_of operand.now) }
 {
-    match found(scope, at) {
-        Some(value) => Held::Lent(value),
-        None => Held::Made(Value::undefined()),
+    match operand {
+        Operand::Constant(value) => Held::Lent(value),
+        Operand::Found(at) => match found(scope, *at) {
+            Some(value) => Held::Lent(value),
+            None => Held::Made(Value::undefined()),
+        },
     }
+}
+
+// The arguments of a filter: a copy of what stands for each.
+fn arguments<'a, 't>(
+    alloc: Global,
+    given: &'a [Argument<'t>],
+    scope: &'a Scope<'a>,
+) -> TeraResult<Kwargs>
+    ensures ok { IfOk result
+        (λ held. held ≡ arguments (state_of scope.now) (arguments_of given.now)) }
+    ensures err { IfErr result IsOutOfMemory }
+{
+    let mut held = Map::new(alloc);
+    for argument in given {
+        let key = CowStr::Borrowed(argument.name).to_key(alloc)?;
+        held.insert(
+            key,
+            standing(&argument.value, &*scope).value().clone(alloc)?,
+        )?;
+    }
+    Ok(Kwargs::new(held))
 }
 
 // What is made of one value.

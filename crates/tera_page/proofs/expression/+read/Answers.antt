@@ -1,15 +1,16 @@
 -- By what is read of two, and level by level.
-use Rattle.std.proofs.Common.{◌∙◌, ◌∷◌, refl, subst, sym, arith}
+use Rattle.std.proofs.Common.{◌∙◌, ◌∷◌, ap, refl, subst, sym, arith}
 use Rattle.std.proofs.lemmas.Result.{IfOk-weaker}
 use Rattle.tera.specs.Refusal as layer
 use Rattle.tera_page.proofs.Rows.{read_two, row_first, row_second}
 use Rattle.tera_page.proofs.expression.+read.Goals as goal
 use Rattle.tera_page.specs.Expressions as grammar
-use Rattle.tera_page.specs.Expressions.{Reads, comparisons, nots, opposites, ors, powers}
+use Rattle.tera_page.specs.Expressions.{Reads, alone, comparisons, nots, opposites, ors, pipes, powers}
 use Rattle.tera_page.specs.Parsing.{row_level, symbols_of}
 use Rattle.tera_page.specs.Symbols as symbol
-use Rattle.tera_page.specs.Template.{arithmetic}
-use Rattle.tera_page.specs.View.{binary_of, expression_of}
+use Rattle.tera_page.specs.Template.{arithmetic, operand}
+use Rattle.tera_page.specs.Tokens.{symbol_of}
+use Rattle.tera_page.specs.View.{arguments_of, binary_of, expression_of, operand_of}
 
 pub read_comparison-returns-in_ok-two-in-Some-comparison_in : goal.read_comparison-returns-in_ok-two-in-Some-comparison_in
 read_comparison-returns-in_ok-two-in-Some-comparison_in t c =
@@ -112,4 +113,34 @@ read_row-row-preserved t c =
           (subst (λ l. Reads l (expression_of right.right) ts rest) (c.tighter-in-Some.ensures ∙ sym (row_second row)) right.ensures.0)
           c.in_ok-left-2.ensures,
       omega (arith, c.row.invariant.1, found.ensures.shorter, right.ensures.1),
+    )
+
+pub read_piped-pipes-init : goal.read_piped-pipes-init
+read_piped-pipes-init t c = (
+  grammar.tighter_one pipes (expression_of c.in_ok-inner.inner) (symbols_of c.args.symbols.now) (symbols_of c.in_ok-inner.rest.now)
+      c.in_ok-inner.ensures.0,
+  c.in_ok-inner.ensures.1,
+)
+
+pub read_piped-pipes-preserved : goal.read_piped-pipes-preserved
+read_piped-pipes-preserved t c =
+    let filter = c.in_ok-filter in
+    let given = c.in_ok-arguments in
+    let inner = expression_of c.pipes.inner in
+    let ss = symbols_of c.args.symbols.now in
+    let rest = symbols_of given.left.now in
+    let first = c.in-Some.ensures.first ∙ ap (λ l. symbol.sign symbol.bar ∷ l) filter.ensures.first in (
+      subst (λ e. Reads pipes e ss rest) (sym c.in_ok-inner-2.ensures)
+          (grammar.piped_one filter.filter inner (arguments_of given.arguments.items) ss (symbols_of filter.after.now) rest
+          (subst (Reads pipes inner ss) first c.pipes.invariant.0) given.ensures.read),
+      omega (arith, c.pipes.invariant.1, c.in-Some.ensures.shorter, filter.ensures.shorter, given.ensures.within),
+    )
+
+pub read_alone-returns : goal.read_alone-returns
+read_alone-returns t c =
+    let one = operand_of c.in_ok-operand_in.field-0 in
+    let rest = symbols_of c.in_ok-first.rest.now in (
+      subst (λ l. Reads alone (operand one) l rest) (sym c.in_ok-first.ensures.first)
+          (grammar.alone_one one (symbol_of c.in_ok-first.first) rest c.in_ok-operand_in.ensures),
+      omega (arith, c.in_ok-first.ensures.shorter),
     )
