@@ -2,7 +2,8 @@
 have in common (docs/PAGE.md).
 
 What is added to the language is added here in one place each: a part of a template to PARTS, an expression to MADE, a sign to
-SIGNS, a filter to FILTERS, a mark that trims to OPENS and CLOSES, and a name that a loop brings to `loop_names`.
+SIGNS, a filter to PIPES, one that stands last to LASTS, a mark that trims to OPENS and CLOSES, and a name that a loop brings to
+`loop_names`.
 """
 from __future__ import annotations
 
@@ -22,11 +23,12 @@ KEYS = ["id", "name", "title", "price", "tags", "k", "b2", "_x", "items", "keys"
 LOOSE = ["w", "x", "y"]
 TEXTS = ["<p>", "</p>\n", "<a title=\"", "\">", "<li class='", "'>", "</li>", " ", "\n", "plain text ", "&amp; ", "& ", "{ ", " }", "}} ", "%} ", "#} ",
          "100 % # ", "é 日本 ", "\r\n", "&#34;", "\t", "$ ${x} ", "\\n \\ ", "'", "`", "-", "--", "<!-- ", " -->", "- %}"]
-FILTERS = ["", "", "", "safe", "escape"]
+LASTS = ["", "", "", "safe", "escape"]
 OPENS, CLOSES = ["", "", "-"], ["", "", "-"]
 BLANKS = ["", " ", " ", " ", "  ", "\n", "\t"]
 NUMBERS = ["0", "1", "2", "2", "3", "3", "5", "7", "10", "10", "42", "60", "100", "1234", "9223372036854775808", "18446744073709551615"]
 ODD_NUMBERS = ["007", "18446744073709551616"]
+DIGITS = [*['"7"', "'42'", "'+3'", '"007"', '"18446744073709551615"'] * 8, '"-1"', '""', '"7 "', '"18446744073709551616"']
 EXPONENTS = ["0", "1", "2", "3", "2", "3", "2", "5", "10", "63", "127", "200"]
 DEPTH = 3
 
@@ -53,12 +55,12 @@ class Sign(NamedTuple):
     second: int
 
 
-LEVELS = ORS, ANDS, NOTS, COMPARISONS, SUMS, PRODUCTS, OPPOSITES, POWERS, ALONE = range(9)
+LEVELS = ORS, ANDS, NOTS, COMPARISONS, SUMS, PRODUCTS, PIPED, OPPOSITES, POWERS, ALONE = range(10)
 SIGNS = {
     "or": Sign(ORS, ORS, ANDS), "and": Sign(ANDS, ANDS, NOTS),
     **{sign: Sign(COMPARISONS, SUMS, SUMS) for sign in ("==", "!=", "<", "<=", ">", ">=", "in", "not in")},
     **{sign: Sign(SUMS, SUMS, PRODUCTS) for sign in "+-"},
-    **{sign: Sign(PRODUCTS, PRODUCTS, OPPOSITES) for sign in ("*", "//", "%")},
+    **{sign: Sign(PRODUCTS, PRODUCTS, PIPED) for sign in ("*", "//", "%")},
     "**": Sign(POWERS, ALONE, OPPOSITES),
 }
 
@@ -145,9 +147,9 @@ class Drawn:
 
     def show(self, scope: Scope, depth: int) -> str:
         """A value that is shown."""
-        name = self.chance.choice(FILTERS)
+        name = self.chance.choice(LASTS)
         said = Said(self.place(scope)[0], ALONE) if self.chance.randrange(3) else self.expression(scope, self.chance.choice(SHOWN), 2)
-        shown = self.within(said, ALONE) if name and self.chance.randrange(3) else said.text
+        shown = self.within(said, self.chance.choice([PIPED, ALONE])) if name and self.chance.randrange(3) else said.text
         return self.tag(shown + (f"{self.blank()}|{self.blank()}{name}" if name else ""), "{")
 
     def choice(self, scope: Scope, depth: int) -> str:
@@ -183,6 +185,10 @@ class Drawn:
         inner: Scope = {**scope, names[0]: "text", names[-1]: self.chance.choice(parts), **loop_names()}
         bound = f"{self.blank()},{self.blank()}".join(names)
         over = self.chance.choice([*[place] * 30, f"({self.blank()}{place})", f"{place} or {place}", self.expression(scope, "any", 1).text])
+        if kind is tuple and self.once_in(6):
+            over = self.through(scope, Said(place, ALONE), self.chance.choice(PIPES["array"]).name).text
+        if not is_by_two and "," in over:
+            over = place
         said = [self.tag(f"for {bound} in {over}"), self.parts(inner, depth - 1), self.otherwise(scope, depth), self.tag("endfor")]
         return "".join(said)
 
@@ -207,7 +213,7 @@ class Drawn:
         if self.once_in(60):
             return Said(self.place(scope, 5)[0], ALONE)
         if kind == "any":
-            kind = self.chance.choice(["text", "number", "truth", "none", "array", "map"])
+            kind = self.chance.choice(["text", "number", "truth", "none", "array", "map", "item"])
         if kind in MADE and depth and self.chance.randrange(4):
             makers = MADE[kind]
             return self.chance.choices([make for _, make in makers], [weight for weight, _ in makers])[0](self, scope, depth - 1)
@@ -222,7 +228,8 @@ class Drawn:
             return Said(places[0], ALONE)
         literals: Dict[str, Callable[[], str]] = {
             "number": lambda: self.chance.choice(ODD_NUMBERS if self.once_in(40) else NUMBERS),
-            "truth": lambda: self.chance.choice(["true", "false"]), "none": lambda: "none"}
+            "truth": lambda: self.chance.choice(["true", "false"]), "none": lambda: "none",
+            "digits": lambda: self.chance.choice(DIGITS)}
         return Said(literals.get(kind, self.literal)(), ALONE)
 
     def literal(self) -> str:
@@ -292,6 +299,43 @@ class Drawn:
             exponent = Said(self.row("-", exponent.text), OPPOSITES)
         return self.two("**", self.alone(scope, "number"), exponent)
 
+    def piped(self, scope: Scope, depth: int, kind: str) -> Said:
+        """What a filter makes that makes values of that kind. One in forty is of a value of any kind."""
+        pipe = self.chance.choice(PIPES[kind])
+        taken = "any" if self.once_in(40) else pipe.takes
+        if taken not in HELD:
+            return self.through(scope, self.expression(scope, taken, depth), pipe.name)
+        found = [(place, shape) for place, shape in (self.place(scope, 100) for _ in range(30)) if HELD[taken](shape)]
+        if not found:
+            return self.alone(scope, kind)
+        said, shape = Said(found[0][0], ALONE), found[0][1]
+        if taken != "map" and self.once_in(3):
+            said = self.through(scope, said, self.chance.choice(PIPES["array"]).name)
+        return self.through(scope, said, pipe.name, [*shape, *shape, "k"] if isinstance(shape, dict) else KEYS)
+
+    def through(self, scope: Scope, said: Said, name: str, keys: List[str] = KEYS) -> Said:
+        """A filter behind an expression, and mostly one argument or two where it knows some."""
+        drawn = ARGUMENTS.get(name, [])
+        given = [(key, self.argument(scope, keys, kind)) for key, kind, times in drawn if self.chance.randrange(40) < times]
+        if self.once_in(30):
+            key, kind, _ = self.chance.choice([*drawn, ("x", "any", 1), ("loop", "any", 1)])
+            given.insert(self.chance.randint(0, len(given)), (key, self.argument(scope, keys, kind)))
+        words = [word for key, value in given for word in (",", key, "=", value)][1:]
+        if words and self.once_in(40):
+            words = self.chance.choice([words[2:], words[:-1], [*words, ","], [*words[:-1], "(", words[-1], ")"], [*words, "+", "1"]])
+        braced = ["(", *words, ")"] if words or self.once_in(8) else []
+        return Said(self.row(self.within(said, PIPED), "|", name, *braced), PIPED)
+
+    def argument(self, scope: Scope, keys: List[str], kind: str) -> str:
+        """What an argument is given: once in ten a place of any kind."""
+        if kind == "key":
+            return f'"{self.chance.choice(keys)}"'
+        if kind == "index":
+            return self.chance.choice(["0", "0", "1", "1", "1", "2", "2", "-0", "99"])
+        if kind == "bound":
+            return self.chance.choice(["0", "1", "1", "2", "-1", "-1", "- 2", "-3", "5", "-18446744073709551615"])
+        return self.alone(scope, kind).text
+
     def glued(self, scope: Scope, depth: int) -> Said:
         """A sum of texts, of which there is none."""
         return self.two("+", self.alone(scope, "text"), self.alone(scope, "text"))
@@ -307,19 +351,55 @@ def loop_names() -> Scope:
     return {"loop.index": "number", "loop.index0": "number", "loop.first": "truth", "loop.last": "truth"}
 
 
+Maker = Callable[[Drawn, Scope, int], Said]
 # The parts of templates: how often each is drawn, whether it holds others, and how it is drawn.
 PARTS: List[Tuple[int, bool, Callable[[Drawn, Scope, int], str]]] = [
     (30, False, Drawn.plain), (35, False, Drawn.show), (25, False, Drawn.question), (5, False, Drawn.comment), (14, True, Drawn.choice),
     (16, True, Drawn.loop),
 ]
 
+
+class Pipe(NamedTuple):
+    """A filter, and the kind of values that it takes."""
+
+    name: str
+    takes: str
+
+
+# Filters by the kind of values that they make, what of these takes a place that holds, and the arguments that some know, each
+# with its kind and how often in forty it is given.
+PIPES: Dict[str, List[Pipe]] = {
+    "text": [Pipe(name, "text") for name in ("upper", "upper", "lower", "lower", "trim", "trim", "reverse", "slice")] + [Pipe("join", "texts")] * 2,
+    "number": [*(Pipe("length", takes) for takes in ("text", "array", "array", "map")), *(Pipe("abs", "number"),) * 3, Pipe("int", "number"),
+               Pipe("int", "digits")],
+    "array": [Pipe(name, "array") for name in ("reverse", "sort", "unique", "slice")],
+    "item": [*(Pipe(name, "array") for name in ("first", "last", "nth")), Pipe("get", "map"), Pipe("get", "map")],
+    "none_such": [Pipe(name, "text") for name in ("title", "nosuch", "Upper", "escape", "safe", "count")],
+}
+HELD: Dict[str, Callable[[Shape], bool]] = {
+    "array": lambda shape: isinstance(shape, tuple), "map": lambda shape: isinstance(shape, dict),
+    "texts": lambda shape: isinstance(shape, tuple) and shape[1] in ("text", "number", "truth"),
+}
+ARGUMENTS: Dict[str, List[Tuple[str, str, int]]] = {
+    "join": [("sep", "text", 30)], "nth": [("n", "index", 39)], "slice": [("start", "bound", 24), ("end", "bound", 24)],
+    "get": [("key", "key", 39), ("default", "any", 30)],
+}
+
+
+def piped(kind: str) -> Maker:
+    """What draws filters that make values of a kind."""
+    return lambda drawn, scope, depth: drawn.piped(scope, depth, kind)
+
+
 # What is made of expressions, by the kind of its values: how often each is drawn, and how.
-Maker = Callable[[Drawn, Scope, int], Said]
 MADE: Dict[str, List[Tuple[int, Maker]]] = {
     "truth": [(4, Drawn.joined), (3, Drawn.denied), (8, Drawn.compared), (3, Drawn.contained), (2, Drawn.defined)],
-    "number": [(20, Drawn.counted), (5, Drawn.opposite), (6, Drawn.power), (1, Drawn.glued)],
+    "number": [(20, Drawn.counted), (5, Drawn.opposite), (6, Drawn.power), (1, Drawn.glued), (20, piped("number"))],
+    "text": [(60, piped("text")), (1, piped("none_such"))],
+    "array": [(1, piped("array"))],
+    "item": [(1, piped("item"))],
 }
-SHOWN = ["number", "number", "number", "truth", "text", "any"]
+SHOWN = ["number", "number", "truth", "text", "text", "array", "item", "any"]
 
 
 def page(seed: int) -> Page:

@@ -4,7 +4,7 @@ its name there, and any of them can be turned on alone: `answer(template, names,
 A function changes one step of jinja2: `template` the text and the names before they are read, `settings` the environment,
 `prints` a value before it is shown, `escapes` an escaped text, `looks` what a path leads to, `repeats` what any loop goes over,
 `loops` what one by one name does, `pairs` what one by two does, `joins` what an `or` or an `and` is, `compares`, `holds` and
-`counts` what a sign makes of values, and `reads` the parser.
+`counts` what a sign makes of values, `filters` what a filter makes of one, `named` which filters there are, and `reads` the parser.
 """
 from __future__ import annotations
 
@@ -22,6 +22,7 @@ from jinja2.visitor import NodeTransformer
 from markupsafe import Markup, escape
 
 LEVELS, SYMBOLS, NUMBERS = 64, 128, 2**64
+NO_NAMES = "and false in is loop none not or true".split()
 COMMENT_OR_TAG = re.compile(r"\{#.*?#\}|\{\{.*?\}\}|\{%.*?%\}", re.S)
 QUOTED = re.compile(r"""("[^"]*"|'[^']*')""")
 SYMBOL = re.compile(r"[\w.]+|[=!<>]=|//|\*\*|\S", re.A)
@@ -200,6 +201,122 @@ def counted(sign: str, *values: Any) -> int:
     return int(call(*map(held, values)).number)
 
 
+# Filters.
+
+Arguments = Dict[str, Any]
+Filter = Callable[[Any, Arguments], Any]
+# What Rust's `trim` takes away.
+WHITE = "\t\n\v\f\r \x85\xa0\u1680" + "".join(map(chr, range(0x2000, 0x200B))) + "\u2028\u2029\u202f\u205f\u3000"
+
+
+def of_kind(*kinds: type) -> Callable[[Any], Any]:
+    """What hands on a value of these kinds, and refuses any other. A truth value is no number."""
+    def taken(value: Any) -> Any:
+        if not isinstance(value, kinds) or isinstance(value, bool):
+            raise Refused
+        return value
+    return taken
+
+
+an_array, a_map, a_text, a_number, of_length = of_kind(list), of_kind(dict), of_kind(str), of_kind(int), of_kind(str, list, dict)
+
+
+def needed(given: Arguments, name: str) -> Any:
+    """An argument that has to be there."""
+    if name not in given:
+        raise Refused
+    return given[name]
+
+
+def within_type(type_name: str, value: Any) -> int:
+    """A number of a type of Rust."""
+    return int(second.read(type_name, held(value)).number)
+
+
+def at_place(items: List[Any], place: int) -> Any:
+    """The item at a place, counted from the end where it is below 0, or undefined."""
+    return items[place] if -len(items) <= place < len(items) else jinja2.Undefined()
+
+
+def sliced(value: Any, given: Arguments) -> Any:
+    """The items or characters between two bounds."""
+    start, end = (within_type("i128", given[name]) if name in given else None for name in ("start", "end"))
+    return of_kind(str, list)(value)[start:end]
+
+
+def got(value: Any, given: Arguments) -> Any:
+    """What a map has at a key, or what stands in for it."""
+    pairs, key = a_map(value), a_text(needed(given, "key"))
+    return pairs[key] if key in pairs else needed(given, "default")
+
+
+def without_sign(value: Any, given: Arguments) -> int:
+    """A number without its sign."""
+    return int(second.negate(held(value)).number) if a_number(value) < 0 else int(value)
+
+
+def joined_of(item: Any) -> str:
+    """What is joined of an item."""
+    return str(item) if isinstance(item, str) else str(truth(of_kind(int, bool)(item) if not isinstance(item, bool) else item))
+
+
+def texts_joined(value: Any, given: Arguments) -> str:
+    """The items of an array with a text between them."""
+    return str(a_text(given.get("sep", ""))).join(map(joined_of, an_array(value)))
+
+
+def meant(value: Any) -> Any:
+    """What a value means."""
+    return second.meaning(held(value))
+
+
+def first_ones(value: Any, given: Arguments) -> List[Any]:
+    """Of the items that mean the same the first alone."""
+    return [item for at, item in enumerate(an_array(value)) if meant(item) not in map(meant, value[:at])]
+
+
+def whole(value: Any, given: Arguments) -> int:
+    """The number that a value is, or that a text writes."""
+    if not isinstance(value, str):
+        return int(a_number(value))
+    if not second.PLACE.fullmatch(value) or int(value) >= NUMBERS:
+        raise Refused
+    return int(value)
+
+
+FILTERS: Dict[str, Filter] = {
+    "length": lambda value, given: len(of_length(value)),
+    "first": lambda value, given: at_place(an_array(value), 0),
+    "last": lambda value, given: at_place(an_array(value), -1),
+    "nth": lambda value, given: at_place(an_array(value), within_type("usize", needed(given, "n"))),
+    "reverse": lambda value, given: str(value)[::-1] if isinstance(value, str) else an_array(value)[::-1],
+    "slice": sliced,
+    "get": got,
+    "abs": without_sign,
+    "upper": lambda value, given: str(a_text(value)).upper(),
+    "lower": lambda value, given: str(a_text(value)).lower(),
+    "trim": lambda value, given: str(a_text(value)).strip(WHITE),
+    "join": texts_joined,
+    "sort": lambda value, given: sorted(an_array(value), key=meant),
+    "unique": first_ones,
+    "int": whole,
+}
+
+
+@reason("filters", "named")
+def known(word: str) -> str:
+    """There are those of the table alone."""
+    if word not in FILTERS:
+        raise Refused
+    return word
+
+
+@reason("filters", "filters")
+def piped(word: str, value: Any, given: Arguments) -> Any:
+    """They make what those of the table make, of arguments with names."""
+    return FILTERS[word](value, given)
+
+
 # The template.
 
 
@@ -215,7 +332,7 @@ def symbols(template: str, names: Names) -> Tuple[str, Names]:
     """Texts have no backslash and no end of their mark, there are few symbols, and numbers may begin with zeros."""
     for tag in COMMENT_OR_TAG.findall(template):
         said = QUOTED.sub("\0", tag[2:-2].removeprefix("-").removesuffix("-"))
-        expression = re.sub(r"\A\s*(if|elif|for\s.*?\sin)\s|\|.*", "", said, flags=re.S)
+        expression = re.sub(r"\A\s*(if|elif|for\s.*?\sin)\s|\|\s*(safe|escape)\s*\Z", "", said, flags=re.S)
         is_read = len(SYMBOL.findall(expression)) <= SYMBOLS and not re.search("[\"']", said) and "\\" not in tag
         if not is_read and not tag.startswith("{#"):
             raise Refused
@@ -228,12 +345,13 @@ class Ours(Parser):
 
     def parse_tuple(self, simplified: bool = False, with_condexpr: bool = True, extra_end_rules: Any = None,
                     explicit_parentheses: bool = False, **more: Any) -> Any:
-        """An expression, and behind one that is shown a filter of the whole."""
+        """An expression, and behind one that is shown `safe` or `escape`, of the whole."""
         if simplified:  # the names of a loop
             return super().parse_tuple(simplified, with_condexpr, extra_end_rules, explicit_parentheses, **more)
-        read = self.parse_or()
-        is_filtered = with_condexpr and not explicit_parentheses and self.stream.current.type == "pipe"
-        return self.parse_filter(read) if is_filtered else read
+        read, pipe = self.parse_or(), self.stream.current
+        if not with_condexpr or explicit_parentheses or not self.stream.skip_if("pipe"):
+            return read
+        return nodes.Filter(read, self.stream.expect("name").value, [], [], None, None, lineno=pipe.lineno)
 
     def parse_compare(self) -> nodes.Expr:
         """A sum, alone or with one comparison or question."""
@@ -249,12 +367,45 @@ class Ours(Parser):
         return nodes.Compare(left, [nodes.Operand(sign, self.parse_math1())], lineno=at.lineno)
 
     def parse_pow(self) -> nodes.Expr:
+        """What products are made of: an opposite, and filters behind it. `safe` and `escape` are none of these."""
+        read = self.parse_opposite()
+        while self.stream.current.type == "pipe" and not self.stream.look().test_any("name:safe", "name:escape"):
+            lineno = next(self.stream).lineno
+            name = self.stream.expect("name").value
+            given = self.parse_given() if self.stream.skip_if("lparen") else {}
+            read = nodes.Filter(read, name, [], [nodes.Keyword(*it, lineno=lineno) for it in given.items()], None, None, lineno=lineno)
+        return read
+
+    def parse_given(self) -> Dict[str, nodes.Expr]:
+        """Arguments by their names, of which the last counts, up to the parenthesis behind them."""
+        given: Dict[str, nodes.Expr] = {}
+        while given or not self.stream.skip_if("rparen"):
+            name = self.stream.expect("name")
+            if name.value in NO_NAMES:
+                self.fail("no name", name.lineno)
+            self.stream.expect("assign")
+            given[name.value] = self.parse_value()
+            if self.stream.skip_if("rparen"):
+                break
+            self.stream.expect("comma")
+        return given
+
+    def parse_value(self) -> nodes.Expr:
+        """The value of an argument: what stands alone, or a number with a `-`."""
+        token = self.stream.current
+        if self.stream.skip_if("sub"):
+            return nodes.Neg(nodes.Const(self.stream.expect("integer").value), lineno=token.lineno)
+        if token.type not in ("name", "string", "integer"):
+            self.fail("no value", token.lineno)
+        return self.parse_postfix(self.parse_primary())
+
+    def parse_opposite(self) -> nodes.Expr:
         """What stands alone, maybe with a power, whose exponent may be one; and a `-` before all of it."""
         lineno = self.stream.current.lineno
         if self.stream.skip_if("sub"):
-            return nodes.Neg(self.parse_pow(), lineno=lineno)
+            return nodes.Neg(self.parse_opposite(), lineno=lineno)
         base = self.parse_postfix(self.parse_primary())
-        return nodes.Pow(base, self.parse_pow(), lineno=lineno) if self.stream.skip_if("pow") else base
+        return nodes.Pow(base, self.parse_opposite(), lineno=lineno) if self.stream.skip_if("pow") else base
 
     def parse_primary(self, **more: Any) -> nodes.Expr:
         """A number has 64 bits."""
@@ -270,9 +421,9 @@ def digits_first(template: str, names: Names) -> Tuple[str, Names]:
     return in_tags(lambda tag: re.sub(r"\.([0-9]+[A-Za-z_]\w*)", r'["\1"]', tag), template), names
 
 
-@reason("True, False and None", "template")
+@reason("names of jinja2", "template")
 def capitals(template: str, names: Names) -> Tuple[str, Names]:
-    """They are names."""
+    """True, False and None are names as any other."""
     words = {"True": "True_", "False": "False_", "None": "None_"}
     named = in_tags(lambda tag: re.sub(r"(?<![.\w])(True|False|None)\b", lambda word: words[word[0]], tag), template)
     return named, {words.get(name, name): value for name, value in names.items()}
@@ -323,12 +474,22 @@ ALL = frozenset(REASONS)
 
 
 class Hooks(NodeTransformer):
-    """A template's tree in which loops, paths and what signs make go by the environment's own filters."""
+    """A template's tree in which loops, paths, filters and what signs make go by the environment's own filters."""
+
+    def __init__(self, name: Callable[[str], bool]) -> None:
+        self.is_ours = name
 
     def visit_For(self, node: nodes.For) -> nodes.Node:
         self.generic_visit(node)
         node.iter = called(node.iter, "paired" if isinstance(node.target, nodes.Tuple) else "looped")
         return node
+
+    def visit_Filter(self, node: nodes.Filter) -> nodes.Node:
+        self.generic_visit(node)
+        if node.name in ("safe", "escape") or not self.is_ours(node.name):
+            return node
+        given = [nodes.Const(node.name), *node.args]
+        return nodes.Filter(node.node, "filtered", given, node.kwargs, node.dyn_args, node.dyn_kwargs, lineno=node.lineno)
 
     def visit_Getattr(self, node: nodes.Getattr) -> nodes.Node:
         return self.led(node)
@@ -385,7 +546,7 @@ class Changed(jinja2.Environment):
         super().__init__(autoescape=True, optimized=False, finalize=jinja2.pass_context(lambda _, value: self.shown(value)))
         self.reasons, self.met = reasons, set[str]()
         self.filters.update(escape=self.shown, safe=self.as_printed, looped=self.looped, paired=self.paired, front=self.front,
-                            made=self.made, joined=self.joined)
+                            made=self.made, joined=self.joined, filtered=self.filtered)
         for name, change in self.of_step("settings"):
             change(self)
 
@@ -443,6 +604,29 @@ class Changed(jinja2.Environment):
                 self.met.update([] if is_same else [name])
         return SIGNS[step][sign](first, *others)
 
+    def is_known(self, word: str) -> bool:
+        """Whether a filter is called here, and not where jinja2 looks it up. What there is not is refused."""
+        self.changed("named", word)
+        if "filters" in self.reasons and word not in PLAIN.filters:
+            self.met.add("filters")
+        return "filters" in self.reasons or word in PLAIN.filters
+
+    @jinja2.pass_context
+    def filtered(self, context: Any, value: Any, word: str, /, *by_place: Any, **given: Any) -> Any:
+        """What a filter makes of a value. Arguments by their place are those of jinja2 alone."""
+        def theirs() -> Any:
+            return self.call_filter(word, value, by_place, given, context, context.eval_ctx)
+        for name, change in [] if by_place else self.of_step("filters"):
+            is_same = False
+            try:
+                made = change(word, value, given)
+                with contextlib.suppress(*NO_PAGE, AttributeError):
+                    is_same = repr(theirs()) == repr(made)
+                return made
+            finally:
+                self.met.update([] if is_same else [name])
+        return theirs()
+
     def front(self, value: Any) -> Any:
         """The front of a path."""
         return NoneAtFront() if value is None and "a path from none" in self.reasons else value
@@ -484,7 +668,7 @@ class Changed(jinja2.Environment):
                 self.met.add(name)
         if isinstance(read, jinja2.TemplateSyntaxError):
             raise read
-        return Hooks().visit(read)  # type: ignore[no-any-return]
+        return Hooks(self.is_known).visit(read)  # type: ignore[no-any-return]
 
 
 NO_PAGE = (Refused, jinja2.TemplateError, TypeError, ValueError, ArithmeticError, SyntaxError, RecursionError)

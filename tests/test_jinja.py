@@ -175,9 +175,9 @@ class Same(unittest.TestCase):
         self.assertGreater(len(met), 14, met)
 
     def test_by_hand(self) -> None:
-        """ninety templates by hand: pages, mails, feeds, settings of programs, tables of numbers, deals and dates"""
+        """a hundred templates by hand: pages, mails, feeds, settings of programs, tables of numbers, deals and dates"""
         cases = list(by_hand())
-        self.assertGreaterEqual(len({case.name.split(" over ")[0] for case in cases}), 90)
+        self.assertGreaterEqual(len({case.name.split(" over ")[0] for case in cases}), 100)
         with Program() as program, ThreadPoolExecutor(os.cpu_count()) as pool:
             for told in pool.map(lambda case: difference(case, program.shows(case.page)), cases):
                 with self.subTest((told or "").partition(" differs")[0]):

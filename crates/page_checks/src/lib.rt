@@ -12,4 +12,6 @@ mod hostile;
 #[cfg(test)]
 mod pages;
 #[cfg(test)]
+mod piped;
+#[cfg(test)]
 mod shop;

@@ -248,8 +248,6 @@ fn what_is_no_template_is_refused(rt: HostRuntime) {
                 "This is not read"
             ),
             refused(alloc, "{{ a b }}", "This is not read"),
-            refused(alloc, "{{ a | upper }}", "This is not read"),
-            refused(alloc, "{{ a | safe | safe }}", "This is not read"),
             refused(alloc, "{% if a %}", "This is not read"),
             refused(alloc, "{% if a %}{% endfor %}", "This is not read"),
             refused(alloc, "{% endif %}", "This is not read"),
