@@ -256,8 +256,10 @@ def without_sign(value: Any, given: Arguments) -> int:
 
 
 def joined_of(item: Any) -> str:
-    """What is joined of an item."""
-    return str(item) if isinstance(item, str) else str(truth(of_kind(int, bool)(item) if not isinstance(item, bool) else item))
+    """What is joined of an item: a text, a number or a truth value as it prints."""
+    if not isinstance(item, (str, int)):
+        raise Refused
+    return str(truth(item))
 
 
 def texts_joined(value: Any, given: Arguments) -> str:

@@ -25,7 +25,7 @@ SHOP = """<!doctype html>
 <li title="Sencha">Sencha: sold out</li>
 </ul>
 
-<address>1 &quot;High&quot; Street</address>
+<address>1 &quot;High&quot; Street; 2 Low Street</address>
 """
 
 
@@ -105,6 +105,14 @@ class Refused(Rendered):
         self.refused(self.page("{{ a }}{{ a.b }}", {"a": 1}), "error: FOLDER/page.html: Nothing is found at `a.b`\n")
         self.refused(self.page("{{ a }}{% for x in a %}{% endfor %}", {"a": 1}),
                      "error: FOLDER/page.html: What is found at `a` is no array\n")
+
+    def test_filters(self) -> None:
+        """a filter that there is not has a report, and what one refuses is told in its words"""
+        done = self.page("<p>\n  é{{ a | title }}</p>\n", {"a": "b"})
+        self.refused(done, "error: There is no such filter\n --> FOLDER/page.html:2:4\n  |\n2 |   é{{ a | title }}</p>\n  |    ^^\n")
+        self.refused(self.page("{{ a }}{% for x in a | sort %}{% endfor %}", {"a": "b"}),
+                     "error: FOLDER/page.html: Invalid type for the value, expected `&[Value]` but got `string`\n")
+        self.refused(self.page("{{ a }}{{ a | first }}", {"a": []}), "error: FOLDER/page.html: Nothing is found at `a | first`\n")
 
     def test_bad_document(self) -> None:
         """a document that is not JSON, or holds what no value is, is refused"""

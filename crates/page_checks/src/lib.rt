@@ -15,3 +15,5 @@ mod pages;
 mod piped;
 #[cfg(test)]
 mod shop;
+#[cfg(test)]
+mod unpiped;
