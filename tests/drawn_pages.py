@@ -16,7 +16,8 @@ Scope = Dict[str, Shape]
 
 HOSTILE = ["<script>alert(1)</script>", '"', "'", "&", "&amp;", "&#39;", "&lt", "<", ">", "</p>", "<!--", "-->", "]]>", '"><b>',
            "' onload='x", "{{ a }}", "{% if a %}", "{# a #}", "\0", "\u2028", "\u2029", "\ufeff", "\r\n", "\t", "`", "=", "/", "\\",
-           "\x1b[31m", "\x7f", "<svg/onload=x>", "javascript:x", "<a href='", "%7B%7B", "&NewLine;", "&#x22;", "<\u200b", "￿", "é", "日本", "😀"]
+           "\x1b[31m", "\x7f", "\x1f ", "\xa0", "\u2003\x85", "<svg/onload=x>", "javascript:x", "<a href='",
+           "%7B%7B", "&NewLine;", "&#x22;", "<\u200b", "￿", "é", "日本", "😀"]
 WORDS = ["tea", "cup", "of", "the", "High Street", "Zürich", "42", "", " ", "a b", "100%", "true", "none"]
 KINDS = ["text", "text", "text", "number", "number", "truth", "none", "any"]
 KEYS = ["id", "name", "title", "price", "tags", "k", "b2", "_x", "items", "keys", "real", "upper"]
@@ -101,7 +102,8 @@ class Drawn:
         if isinstance(shape, dict):
             return {key: self.value(part) for key, part in shape.items()}
         if isinstance(shape, tuple):
-            return [self.value(shape[1]) for _ in range(self.chance.choice([0, 1, 2, 2, 3]))]
+            parts = [self.value(shape[1]) for _ in range(self.chance.choice([0, 1, 2, 2, 3]))]
+            return parts + parts[:self.once_in(4)]  # unique is to find one again
         kinds: Dict[str, Callable[[], Any]] = {"text": self.text, "number": self.integer, "truth": lambda: bool(self.once_in(2)), "none": lambda: None}
         return kinds[shape]() if shape in kinds else None
 
@@ -265,7 +267,7 @@ class Drawn:
 
     def compared(self, scope: Scope, depth: int) -> Said:
         """A comparison, mostly of one kind, and often of a value with itself."""
-        sign, kind = self.chance.choice(["==", "!=", "<", "<=", ">", ">="]), self.chance.choice(["number", "number", "text", "any"])
+        sign, kind = self.chance.choice(["==", "!=", "<", "<=", ">", ">="]), self.chance.choice(["number", "number", "text", "item", "any"])
         first = self.expression(scope, kind, depth)
         return self.two(sign, first, first if self.once_in(5) else self.expression(scope, kind, depth))
 
@@ -300,9 +302,9 @@ class Drawn:
         return self.two("**", self.alone(scope, "number"), exponent)
 
     def piped(self, scope: Scope, depth: int, kind: str) -> Said:
-        """What a filter makes that makes values of that kind. One in forty is of a value of any kind."""
+        """What a filter makes that makes values of that kind. One in sixty is of a value of any kind."""
         pipe = self.chance.choice(PIPES[kind])
-        taken = "any" if self.once_in(40) else pipe.takes
+        taken = "any" if self.once_in(60) else pipe.takes
         if taken not in HELD:
             return self.through(scope, self.expression(scope, taken, depth), pipe.name)
         found = [(place, shape) for place, shape in (self.place(scope, 100) for _ in range(30)) if HELD[taken](shape)]
@@ -318,7 +320,7 @@ class Drawn:
         drawn = ARGUMENTS.get(name, [])
         given = [(key, self.argument(scope, keys, kind)) for key, kind, times in drawn if self.chance.randrange(40) < times]
         if self.once_in(30):
-            key, kind, _ = self.chance.choice([*drawn, ("x", "any", 1), ("loop", "any", 1)])
+            key, kind, _ = self.chance.choice([*drawn, *[("x", "any", 1)] * 9, ("loop", "any", 1)])
             given.insert(self.chance.randint(0, len(given)), (key, self.argument(scope, keys, kind)))
         words = [word for key, value in given for word in (",", key, "=", value)][1:]
         if words and self.once_in(40):
@@ -331,7 +333,7 @@ class Drawn:
         if kind == "key":
             return f'"{self.chance.choice(keys)}"'
         if kind == "index":
-            return self.chance.choice(["0", "0", "1", "1", "1", "2", "2", "-0", "99"])
+            return self.chance.choice(["0", "0", "0", "0", "-0", "1", "1", "1", "2", "99"])
         if kind == "bound":
             return self.chance.choice(["0", "1", "1", "2", "-1", "-1", "- 2", "-3", "5", "-18446744073709551615"])
         return self.alone(scope, kind).text
@@ -373,7 +375,7 @@ PIPES: Dict[str, List[Pipe]] = {
     "number": [*(Pipe("length", takes) for takes in ("text", "array", "array", "map")), *(Pipe("abs", "number"),) * 3, Pipe("int", "number"),
                Pipe("int", "digits")],
     "array": [Pipe(name, "array") for name in ("reverse", "sort", "unique", "slice")],
-    "item": [*(Pipe(name, "array") for name in ("first", "last", "nth")), Pipe("get", "map"), Pipe("get", "map")],
+    "item": [*(Pipe(name, "array") for name in ("first", "last", "nth", "nth")), Pipe("get", "map"), Pipe("get", "map")],
     "none_such": [Pipe(name, "text") for name in ("title", "nosuch", "Upper", "escape", "safe", "count")],
 }
 HELD: Dict[str, Callable[[Shape], bool]] = {
@@ -394,7 +396,7 @@ def piped(kind: str) -> Maker:
 # What is made of expressions, by the kind of its values: how often each is drawn, and how.
 MADE: Dict[str, List[Tuple[int, Maker]]] = {
     "truth": [(4, Drawn.joined), (3, Drawn.denied), (8, Drawn.compared), (3, Drawn.contained), (2, Drawn.defined)],
-    "number": [(20, Drawn.counted), (5, Drawn.opposite), (6, Drawn.power), (1, Drawn.glued), (20, piped("number"))],
+    "number": [(18, Drawn.counted), (5, Drawn.opposite), (6, Drawn.power), (1, Drawn.glued), (24, piped("number"))],
     "text": [(60, piped("text")), (1, piped("none_such"))],
     "array": [(1, piped("array"))],
     "item": [(1, piped("item"))],
