@@ -1,21 +1,28 @@
 -- What is not marked is shown with no special byte but the `&` of an entity.
-use Rattle.std.specs.Prelude.{◌≡◌, ◌||◌, ◌==◌, ◌/◌, ◌%◌, ℕ, zero, suc, ℤ, pos, negsuc, Bool, true, false, List, [], ◌∷◌, Ok, Err, refl}
+use Rattle.std.specs.Prelude.{◌≡◌, ◌||◌, ◌==◌, ◌/◌, ◌%◌, ℕ, zero, suc, ℤ, pos, negsuc, Bool, true, false, List, [], ◌∷◌, Result, Ok, Err, refl}
 use Rattle.std.proofs.Common.{sym, subst, ◌∙◌, arith}
 use Rattle.std.proofs.lemmas.Bool.{cond_both, agree_below_at}
 use Rattle.std.specs.List.{list_any}
 use Rattle.std.specs.Fmt.{digits, digits_onto, digit_glyph, decimal, signed_decimal}
 use Rattle.tera.proofs.PageLaws.{shown_plainly}
+use Rattle.tera.specs.Arithmetic.{and_then}
 use Rattle.tera.specs.Entities.{SpecialBeginEntities}
 use Rattle.tera.specs.Escaping.{is_special}
 use Rattle.tera.specs.Form.{Form}
 use Rattle.tera.specs.InPage.{ShowsInPage}
 use Rattle.tera.specs.InTurn.{ShownInTurn}
 use Rattle.tera.specs.Printed.{printed_truth}
+use Rattle.tera.specs.Refusal.{Refusal}
+use Rattle.tera.specs.State.{State}
 use Rattle.tera.specs.Tree.{undefined, none, truth, number, text, bytes, array, object}
 use Rattle.tera_page.proofs.Fronts.{never}
-use Rattle.tera_page.specs.Headline.{BringsNoTag, ShowsPlainly, is_marked, is_safe_text}
+use Rattle.tera_filters.specs.Filters.{filtered}
+use Rattle.tera_filters.specs.Marks.{is_safe_text}
+use Rattle.tera_filters.specs.declared.filter.Filter.{Filter}
+use Rattle.tera_page.specs.Headline.{BringsNoTag, ShowsPlainly, is_marked}
 use Rattle.tera_page.specs.Rendering.{IsPageOf, Piece, Pieces, ShowsPiece, verbatim, value}
-use Rattle.tera_page.specs.Template.{in_page, as_printed}
+use Rattle.tera_page.specs.Template.{Argument, Expression, in_page, as_printed, piped}
+use Rattle.tera_page.specs.Values.{arguments, value_of}
 
 neither : (a b : Bool) → a || b ≡ false → (a ≡ false) × (b ≡ false)
 neither true b e = absurd (cc)
@@ -76,5 +83,15 @@ all_plainly (piece ∷ ps) page (first, rest, shows, later, whole) =
 pub brings_no_tag : (pieces : Pieces) (page : List ℕ) → IsPageOf pieces page → BringsNoTag pieces page
 brings_no_tag (Ok ps) page is = (ps, refl, all_plainly ps page is)
 brings_no_tag (Err refusal) page is = absurd is
+
+made_from : (value : Result Form Refusal) (next : Form → Result Form Refusal) (made : Form) → and_then value next ≡ Ok made
+    → (v : Form) × (next v ≡ Ok made)
+made_from (Ok v) next made is = (v, is)
+made_from (Err refusal) next made is = absurd (cc)
+
+-- what a filter is given of what it stands behind
+pub filter_given : (filter : Filter) (e : Expression) (given : List Argument) (state : State) (made : Form)
+    → value_of (piped filter e given) state ≡ Ok made → (v : Form) × (filtered filter v (arguments state given) ≡ Ok made)
+filter_given filter e given state made is = made_from (value_of e state) (λ v. filtered filter v (arguments state given)) made is
 
 pub ruleset laws = (unmarked_plain, brings_no_tag)

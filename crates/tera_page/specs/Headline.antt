@@ -1,22 +1,10 @@
 -- What a page brings that is not marked safe.
 use Rattle.std.specs.Prelude.{◌≡◌, ℕ, Bool, true, false, List, Ok}
 use Rattle.tera.specs.Entities.{SpecialBeginEntities}
-use Rattle.tera.specs.Form.{Form}
 use Rattle.tera.specs.InTurn.{ShownInTurn}
-use Rattle.tera.specs.Tree.{undefined, none, truth, number, text, bytes, array, object}
+use Rattle.tera_filters.specs.Marks.{is_safe_text}
 use Rattle.tera_page.specs.Rendering.{Piece, Pieces, ShowsPiece, verbatim, value}
 use Rattle.tera_page.specs.Template.{in_page, as_printed}
-
--- a text with a safe flag
-abbrev pub is_safe_text : Form → Bool
-is_safe_text undefined = false
-is_safe_text none = false
-is_safe_text (truth b) = false
-is_safe_text (number n) = false
-is_safe_text (text t) = t.safe
-is_safe_text (bytes bs) = false
-is_safe_text (array xs) = false
-is_safe_text (object ps) = false
 
 -- the template's own text, a value that it shows as it prints, and a text with a safe flag
 abbrev pub is_marked : Piece → Bool

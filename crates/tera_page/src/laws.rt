@@ -1,10 +1,18 @@
 //! What pages bring. Each function here does nothing: its clauses are the law.
-ghost use Rattle.std.specs.Prelude.{◌≡◌, ◌++◌, ℕ, false, List, Some, length, slice_get};
+ghost use Rattle.std.specs.Prelude.{◌≡◌, ◌++◌, ℕ, false, true, List, Ok, Some, length, slice_get};
 ghost use Rattle.tera.specs.Entities.{SpecialBeginEntities};
+ghost use Rattle.tera.specs.Form.{Form};
+ghost use Rattle.tera.specs.InPage.{ShowsInPage};
 ghost use Rattle.tera.specs.State.{State};
+ghost use Rattle.tera_filters.specs.Marks.{makes};
+ghost use Rattle.tera_filters.specs.declared.filter.Filter.{Filter};
 ghost use Rattle.tera_page.specs.Headline.{BringsNoTag, is_marked};
 ghost use Rattle.tera_page.specs.Rendering.{IsPageOf, Names, Piece, Pieces, ShowsPiece, turn_names};
 ghost use Rattle.tera_page.specs.Rendering.{turns, under};
+ghost use Rattle.tera_page.specs.Template.{Argument, Expression, piped};
+ghost use Rattle.tera_page.specs.Values.{value_of};
+
+use tera_filters::laws::made_texts_are_not_safe;
 
 /// What a page shows of a value brings none of `<`, `>`, `"` and `'`, and no `&` but that of an
 /// entity, unless the template shows the value as it prints, or it is a text with a safe flag. So
@@ -25,3 +33,15 @@ pub fn turns_are_those_of_the_parts()
         → slice_get owns i ≡ Some own
         → slice_get (turns state owns) i ≡ Some (under state (own ++ turn_names i (length owns))) }
 {}
+
+/// A text that a filter makes is not safe: what a page shows of it brings no tag, whatever is safe
+/// in what it is made of.
+pub fn made_texts_bring_no_tag()
+    ensures { (filter : Filter) (e : Expression) (given : List Argument) (state : State)
+        (made : Form) (shown : List ℕ) → makes filter ≡ true
+        → value_of (piped filter e given) state ≡ Ok made → ShowsInPage made shown
+        → SpecialBeginEntities shown }
+{
+    values_bring_no_tag();
+    made_texts_are_not_safe();
+}
