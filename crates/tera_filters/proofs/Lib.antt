@@ -1,6 +1,10 @@
+mod Cut
+mod Distinct
 mod FirstOnes
 mod Given
+mod Gives
 mod Joining
 mod Joined
+mod Replaced
 mod Sorts
 mod Unmarked

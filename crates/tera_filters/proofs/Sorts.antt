@@ -1,11 +1,11 @@
 -- A list in order that keeps those that tie as they stood is the one that the definition gives.
-use Rattle.std.specs.Prelude.{◌≡◌, ⊤, suc, ◌+◌, Bool, true, false, cond, not, ◌&&◌, List, [], ◌∷◌, refl}
+use Rattle.std.specs.Prelude.{◌≡◌, ⊤, zero, suc, ◌+◌, Bool, true, false, cond, not, ◌&&◌, List, [], ◌∷◌, refl}
 use Rattle.std.specs.Cmp.{IsStrictWeakOrder}
 use Rattle.std.specs.List.{AllByRecursion, filter}
 use Rattle.std.specs.List.Sorted.{IsSortedBy, IsStableBy, ties}
 use Rattle.std.proofs.Common.{ap, sym, subst, ◌∙◌, get_or, arith}
-use Rattle.std.proofs.lemmas.List.Sorted.{ranks_by}
-use Rattle.std.specs.List.Sorted.{IsSorted, IsStable}
+use Rattle.std.proofs.lemmas.List.Sorted.{IsPermutation-cons, IsPermutation-middle, IsPermutation-trans, ranks_by}
+use Rattle.std.specs.List.Sorted.{IsPermutation, IsSorted, IsStable}
 use Rattle.std.specs.Ordering.{on}
 use Rattle.tera.proofs.OrderLaws.{compare_total}
 use Rattle.tera.specs.Form.{Form}
@@ -93,6 +93,30 @@ module _ {X : Type 0} (lt : X → X → Bool) (o : IsStrictWeakOrder lt) where
   order_rises [] = tt
   order_rises (x ∷ xs) = placed_rises x (in_order lt xs) (order_rises xs)
 
+  sorted_where_rises : (xs : List X) → Rises xs → IsSortedBy lt xs
+  sorted_where_rises [] up k d from below = absurd (omega (arith, below))
+  sorted_where_rises (x ∷ []) up k d from below = absurd (omega (arith, below))
+  sorted_where_rises (x ∷ y ∷ ys) up zero d from below = up.0.0
+  sorted_where_rises (x ∷ y ∷ ys) up (suc k) d from below =
+      let next : suc k + 1 ≡ suc (k + 1) = omega arith in
+      subst (λ n. lt (get_or (x ∷ y ∷ ys) n d) (get_or (y ∷ ys) k d) ≡ false) (sym next)
+      (sorted_where_rises (y ∷ ys) up.1 k d (omega arith) (omega (arith, below)))
+
+  placed_moves : (x : X) (ys : List X) → IsPermutation (x ∷ ys) (placed lt x ys)
+  placed_moves x [] = record { moves = []; below = tt; is = refl }
+  placed_moves x (y ∷ ys) =
+      elim (lt y x) as (λ b. IsPermutation (x ∷ y ∷ ys) (cond b (y ∷ placed lt x ys) (x ∷ y ∷ ys))) [
+        | true ↦ IsPermutation-trans (x ∷ y ∷ ys) (y ∷ x ∷ ys) (y ∷ placed lt x ys) (IsPermutation-middle (x ∷ []) y ys)
+            (IsPermutation-cons y (x ∷ ys) (placed lt x ys) (placed_moves x ys))
+        | false ↦ record { moves = []; below = tt; is = refl }
+      ]
+
+  order_moves : (xs : List X) → IsPermutation xs (in_order lt xs)
+  order_moves [] = record { moves = []; below = tt; is = refl }
+  order_moves (x ∷ xs) =
+      IsPermutation-trans (x ∷ xs) (x ∷ in_order lt xs) (placed lt x (in_order lt xs))
+      (IsPermutation-cons x xs (in_order lt xs) (order_moves xs)) (placed_moves x (in_order lt xs))
+
   -- what ties with two makes them tie
   no_third : (x y z : X) → lt y x ≡ true → ties lt z x ≡ true → ties lt z y ≡ true → false ≡ true
   no_third x y z less one other =
@@ -140,6 +164,18 @@ module _ {X : Type 0} (lt : X → X → Bool) (o : IsStrictWeakOrder lt) where
   sorted_is xs ys up stable =
       one_order ys (in_order lt xs) (rises_where_sorted ys up) (order_rises xs) (λ w. stable w ∙ sym (order_stable w xs))
 
+pub forms_rise : (xs : List Form) → IsSorted (on meaning compare) (in_order is_less xs)
+forms_rise xs =
+    let ranks = ranks_by compare_total meaning in sorted_where_rises is_less ranks (in_order is_less xs) (order_rises is_less ranks xs)
+
+pub forms_stay : (xs : List Form) → IsStable (on meaning compare) xs (in_order is_less xs)
+forms_stay xs x = order_stable is_less (ranks_by compare_total meaning) x xs
+
+pub forms_move : (xs : List Form) → IsPermutation xs (in_order is_less xs)
+forms_move xs = order_moves is_less (ranks_by compare_total meaning) xs
+
 pub sorted_forms : (xs ys : List Form) → IsSorted (on meaning compare) ys → IsStable (on meaning compare) xs ys
     → ys ≡ in_order is_less xs
 sorted_forms xs ys up stable = sorted_is is_less (ranks_by compare_total meaning) xs ys up stable
+
+pub ruleset laws = (forms_rise, forms_stay, forms_move, sorted_forms)

@@ -71,9 +71,12 @@ is_less x y = is_lt (compare (meaning x) (meaning y))
 abbrev pub sort_of : Form → Result Form Refusal
 sort_of value = each_ok (λ xs. array (items (in_order is_less xs))) (as_items value)
 
--- whether some value means the same
+-- whether two values mean the same, and whether some value means the same as one
+abbrev pub mean_same : Form → Form → Bool
+mean_same x y = same (meaning x) (meaning y)
+
 abbrev pub has_same : List Form → Form → Bool
-has_same xs x = list_any (λ y. same (meaning x) (meaning y)) xs
+has_same xs x = list_any (mean_same x) xs
 
 -- the values behind others before which none that means the same stands
 abbrev pub first_ones : List Form → List Form → List Form

@@ -1,8 +1,10 @@
 pub mod Arguments
 pub mod Arrays
+pub mod Defaults
 pub mod Filters
 pub mod Marks
 pub mod Numbers
+pub mod Parts
 pub mod Sorting
 pub mod Texts
 pub mod Words

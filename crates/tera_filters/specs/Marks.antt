@@ -7,7 +7,7 @@ use Rattle.tera_filters.specs.declared.filter.Filter.TheVariants.{Length, First,
 use Rattle.tera_filters.specs.declared.filter.Filter.TheVariants.{Reverse, Slice, Get, Abs}
 use Rattle.tera_filters.specs.declared.filter.Filter.TheVariants.{Upper, Lower, Trim, Join}
 use Rattle.tera_filters.specs.declared.filter.Filter.TheVariants.{Sort, Unique}
-use Rattle.tera_filters.specs.declared.filter.Filter.TheVariants.{Int}
+use Rattle.tera_filters.specs.declared.filter.Filter.TheVariants.{Int, Default, Replace, Truncate}
 
 -- whether a value is a text with a safe flag
 abbrev pub is_marked : Form → Bool
@@ -36,3 +36,6 @@ makes Join = true
 makes Sort = true
 makes Unique = true
 makes Int = true
+makes Default = false
+makes Replace = true
+makes Truncate = true

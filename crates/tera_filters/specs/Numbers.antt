@@ -8,7 +8,7 @@ use Rattle.tera.specs.Lookup.{name_of}
 use Rattle.tera.specs.Path.{place}
 use Rattle.tera.specs.Read.{number_in}
 use Rattle.tera.specs.Refusal.{Refusal, message, not_a_number}
-use Rattle.tera.specs.Tree.{undefined, none, truth, number, text, bytes, array, object}
+use Rattle.tera.specs.Tree.{number, text}
 use Rattle.tera.specs.View.{integer}
 
 -- a value that is a number, without its sign. One that is not below 0 keeps its kind
@@ -25,12 +25,7 @@ no_integer t = message (codes "`" ++ (t ++ codes "` is no integer"))
 
 -- the number that a value is, or that the digits of a text write: one below 2^64
 abbrev pub int_of : Form → Result Form Refusal
-int_of undefined = Err (not_a_number (name_of undefined))
-int_of none = Err (not_a_number (name_of none))
-int_of (truth b) = Err (not_a_number (name_of (truth b)))
 int_of (number n) = Ok (number n)
 int_of (text t) =
     ok_or (option_map (λ n. integer u64 (pos n)) (place t.spelled)) (no_integer t.spelled)
-int_of (bytes bs) = Err (not_a_number (name_of (bytes bs)))
-int_of (array xs) = Err (not_a_number (name_of (array xs)))
-int_of (object ps) = Err (not_a_number (name_of (object ps)))
+int_of value = Err (not_a_number (name_of value))

@@ -10,7 +10,7 @@ use Rattle.tera.specs.Lookup.{name_of}
 use Rattle.tera.specs.Printed.{printed_truth}
 use Rattle.tera.specs.Refusal.{Refusal, wrong_kind}
 use Rattle.tera.specs.Taken.{as_items, as_text}
-use Rattle.tera.specs.Tree.{undefined, none, truth, number, text, bytes, array, object}
+use Rattle.tera.specs.Tree.{truth, number, text}
 use Rattle.tera.specs.View.{marked}
 use Rattle.tera_filters.specs.Arguments.{or_else}
 
@@ -35,14 +35,10 @@ not_joinable actual =
 
 -- what is joined of an item: the text of a truth value, a number or a text
 abbrev pub joinable : Form → Result (List ℕ) Refusal
-joinable undefined = Err (not_joinable (name_of undefined))
-joinable none = Err (not_joinable (name_of none))
 joinable (truth b) = Ok (printed_truth b)
 joinable (number n) = Ok (signed_decimal n.value)
 joinable (text t) = Ok t.spelled
-joinable (bytes bs) = Err (not_joinable (name_of (bytes bs)))
-joinable (array xs) = Err (not_joinable (name_of (array xs)))
-joinable (object ps) = Err (not_joinable (name_of (object ps)))
+joinable value = Err (not_joinable (name_of value))
 
 -- items, each behind a separator, and items with a separator between them; or the first refusal
 abbrev pub joined_on : List ℕ → List Form → Result (List ℕ) Refusal

@@ -5,7 +5,7 @@ use Rattle.tera_filters.specs.declared.filter.Filter.TheVariants.{Length, First,
 use Rattle.tera_filters.specs.declared.filter.Filter.TheVariants.{Reverse, Slice, Get, Abs}
 use Rattle.tera_filters.specs.declared.filter.Filter.TheVariants.{Upper, Lower, Trim, Join}
 use Rattle.tera_filters.specs.declared.filter.Filter.TheVariants.{Sort, Unique}
-use Rattle.tera_filters.specs.declared.filter.Filter.TheVariants.{Int}
+use Rattle.tera_filters.specs.declared.filter.Filter.TheVariants.{Int, Default, Replace, Truncate}
 
 abbrev pub word_of : Filter → List ℕ
 word_of Length = codes "length"
@@ -23,3 +23,6 @@ word_of Join = codes "join"
 word_of Sort = codes "sort"
 word_of Unique = codes "unique"
 word_of Int = codes "int"
+word_of Default = codes "default"
+word_of Replace = codes "replace"
+word_of Truncate = codes "truncate"

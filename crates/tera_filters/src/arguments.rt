@@ -1,6 +1,6 @@
 //! What filters take of their named arguments.
 ghost use Rattle.std.specs.Prelude.{◌≡◌, pos, IfOk, IfErr, IsOk, Ok};
-ghost use Rattle.std.specs.Option.{option_copied};
+ghost use Rattle.std.specs.Option.{option_copied, option_map};
 ghost use Rattle.tera.specs.Conversion.{IntegerType, converted};
 ghost use Rattle.tera.specs.Errors.{Refuses};
 ghost use Rattle.tera.specs.Lookup.{attr};
@@ -41,6 +41,8 @@ pub(crate) fn bound(alloc: Global, arguments: &Kwargs, name: &str) -> TeraResult
         optional (converted IntegerType.i128) arguments.now name.now ≡ Ok bound) }
     ensures err { IfErr result
         (Refuses (optional (converted IntegerType.i128) arguments.now name.now)) }
+    ensures succeeds { IsOk (optional (converted IntegerType.i128) arguments.now name.now)
+        → IsOk result }
 {
     arguments.get::<i128>(alloc, name)
 }
@@ -66,6 +68,7 @@ fn optional_text<'a>(
     ensures ok { IfOk result (λ text.
         optional as_text arguments.now name.now ≡ Ok (option_copied text)) }
     ensures err { IfErr result (Refuses (optional as_text arguments.now name.now)) }
+    ensures succeeds { IsOk (optional as_text arguments.now name.now) → IsOk result }
 {
     arguments.get::<&str>(alloc, name)
 }
@@ -81,9 +84,40 @@ pub(crate) fn text_or<'a>(
         or_else as_text arguments.now name.now otherwise.now ≡ Ok text.now) }
     ensures err { IfErr result
         (Refuses (or_else as_text arguments.now name.now otherwise.now)) }
+    ensures succeeds { IsOk (or_else as_text arguments.now name.now otherwise.now)
+        → IsOk result }
 {
     match optional_text(alloc, arguments, name)? {
         Some(text) => Ok(text),
+        None => Ok(otherwise),
+    }
+}
+
+// The place that an argument is, which may be left out.
+fn optional_place(alloc: Global, arguments: &Kwargs, name: &str) -> TeraResult<Option<usize>>
+    ensures ok { IfOk result (λ n. optional (converted IntegerType.usize) arguments.now name.now
+        ≡ Ok (option_map (λ n. pos n) n)) }
+    ensures err { IfErr result
+        (Refuses (optional (converted IntegerType.usize) arguments.now name.now)) }
+{
+    arguments.get::<usize>(alloc, name)
+}
+
+/// The place that an argument is, or another where it is left out.
+pub(crate) fn place_or(
+    alloc: Global,
+    arguments: &Kwargs,
+    name: &str,
+    otherwise: usize,
+) -> TeraResult<usize>
+    ensures ok { IfOk result (λ n.
+        or_else (converted IntegerType.usize) arguments.now name.now (pos otherwise)
+        ≡ Ok (pos n)) }
+    ensures err { IfErr result
+        (Refuses (or_else (converted IntegerType.usize) arguments.now name.now (pos otherwise))) }
+{
+    match optional_place(alloc, arguments, name)? {
+        Some(n) => Ok(n),
         None => Ok(otherwise),
     }
 }

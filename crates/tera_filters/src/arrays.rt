@@ -110,6 +110,17 @@ pub fn slice(alloc: Global, value: &Value, arguments: &Kwargs) -> TeraResult<Val
 pub fn get(alloc: Global, value: &Value, arguments: &Kwargs) -> TeraResult<Value>
     ensures ok { IfOk result (λ v. get_of value.now arguments.now ≡ Ok v) }
     ensures err { IfErr result (Refuses (get_of value.now arguments.now)) }
+    ensures succeeds { (made : Form) → get_of value.now arguments.now ≡ Ok made
+        → iterable_in made ≡ false → IsOk result }
+{
+    held_at(alloc, value, arguments)?.clone(alloc)
+}
+
+// What `get` answers a copy of.
+fn held_at<'a>(alloc: Global, value: &'a Value, arguments: &'a Kwargs) -> TeraResult<&'a Value>
+    ensures ok { IfOk result (λ held. get_of value.now arguments.now ≡ Ok held.now) }
+    ensures err { IfErr result (Refuses (get_of value.now arguments.now)) }
+    ensures succeeds { IsOk (get_of value.now arguments.now) → IsOk result }
 {
     if value.as_map().is_none() {
         return Err(no_map(alloc, value));
@@ -117,7 +128,7 @@ pub fn get(alloc: Global, value: &Value, arguments: &Kwargs) -> TeraResult<Value
     let key = needed_text(alloc, arguments, "key")?;
     let default = argument(alloc, arguments, "default")?;
     match value.get_attr(key).or(default) {
-        Some(held) => held.clone(alloc),
+        Some(held) => Ok(held),
         None => Err(no_key(alloc, key)),
     }
 }

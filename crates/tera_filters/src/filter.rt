@@ -5,8 +5,10 @@ ghost use Rattle.tera_filters.specs.Filters.{filtered};
 ghost use Rattle.tera_filters.specs.Words.{word_of};
 
 use crate::arrays::{first, get, last, length, nth, reverse, slice};
+use crate::defaults::default;
 use crate::numbers::{abs, int};
 use crate::ordered::{sort, unique};
+use crate::parts::{replace, truncate};
 use crate::texts::{join, lower, trim, upper};
 use std::alloc::Global;
 use tera::{Kwargs, TeraResult, Value};
@@ -44,6 +46,12 @@ pub enum Filter {
     Unique,
     /// The number that a value is, or that a text writes.
     Int,
+    /// A value, or the argument `value` where it is undefined.
+    Default,
+    /// A text with `to` in the place of each `from`.
+    Replace,
+    /// At most `length` characters of a text, and `end` where there are more.
+    Truncate,
 }
 
 impl Filter {
@@ -68,6 +76,9 @@ impl Filter {
             "sort" => Some(Filter::Sort),
             "unique" => Some(Filter::Unique),
             "int" => Some(Filter::Int),
+            "default" => Some(Filter::Default),
+            "replace" => Some(Filter::Replace),
+            "truncate" => Some(Filter::Truncate),
             _ => None,
         }
     }
@@ -96,6 +107,9 @@ impl Filter {
             Filter::Sort => sort(alloc, value),
             Filter::Unique => unique(alloc, value),
             Filter::Int => int(alloc, value),
+            Filter::Default => default(alloc, value, arguments),
+            Filter::Replace => replace(alloc, value, arguments),
+            Filter::Truncate => truncate(alloc, value, arguments),
         }
     }
 }

@@ -1,10 +1,11 @@
 //! Filters that make texts. None of these is marked safe.
-ghost use Rattle.std.specs.Prelude.{◌≡◌, ◌++◌, ℕ, List, IfOk, IfErr, OnOk, Ok, is_ok};
+ghost use Rattle.std.specs.Prelude.{◌≡◌, ◌++◌, ℕ, List, [], IfOk, IfErr, IsOk, OnOk, Ok, is_ok};
 ghost use Rattle.std.specs.String.{string_bytes};
 ghost use Rattle.tera.specs.Errors.{Refuses};
 ghost use Rattle.tera.specs.Growing.{grown_bytes};
+ghost use Rattle.tera.specs.Taken.{as_items};
 ghost use Rattle.tera_filters.specs.Texts.{join_of, joinable, joined, joined_on, lower_of};
-ghost use Rattle.tera_filters.specs.Texts.{trim_of, upper_of};
+ghost use Rattle.tera_filters.specs.Texts.{made, trim_of, upper_of};
 
 use crate::arguments::text_or;
 use crate::refused::not_joinable;
@@ -39,10 +40,11 @@ pub fn lower(alloc: Global, value: &Value) -> TeraResult<Value>
 
 /// A text without the white space at its ends. The answer is not marked safe.
 ///
-/// Refuses and takes memory as [`upper`] does.
+/// Refuses and takes memory as [`upper`] does, and none for an empty answer.
 pub fn trim(alloc: Global, value: &Value) -> TeraResult<Value>
     ensures ok { IfOk result (λ v. trim_of value.now ≡ Ok v) }
     ensures err { IfErr result (Refuses (trim_of value.now)) }
+    ensures empty { trim_of value.now ≡ Ok (made []) → IsOk result }
 {
     let text = text_of(alloc, value)?;
     Value::normal_string(alloc, text.trim())
@@ -54,10 +56,12 @@ pub fn trim(alloc: Global, value: &Value) -> TeraResult<Value>
 /// Refuses what is no array with ``Invalid type for the value, expected `&[Value]` but got `N` ``;
 /// then a separator that is no text; and then the first item of another kind, with ``Only strings,
 /// numbers and bools can be joined. This is a `N` ``. N is the name of the kind, and the last blank
-/// of each is left out. Takes memory as [`upper`] does.
+/// of each is left out. Takes memory as [`upper`] does, and none where there is no item.
 pub fn join(alloc: Global, value: &Value, arguments: &Kwargs) -> TeraResult<Value>
     ensures ok { IfOk result (λ v. join_of value.now arguments.now ≡ Ok v) }
     ensures err { IfErr result (Refuses (join_of value.now arguments.now)) }
+    ensures empty { as_items value.now ≡ Ok [] → IsOk (join_of value.now arguments.now)
+        → IsOk result }
 {
     let items = items_of(alloc, value)?;
     let between = text_or(alloc, arguments, "sep", "")?;
@@ -68,6 +72,7 @@ pub fn join(alloc: Global, value: &Value, arguments: &Kwargs) -> TeraResult<Valu
 fn joined(alloc: Global, items: &[Value], between: &str) -> TeraResult<String>
     ensures ok { IfOk result (λ text. joined between.now items.now ≡ Ok (string_bytes text)) }
     ensures err { IfErr result (Refuses (joined between.now items.now)) }
+    ensures empty { items.now ≡ [] → IsOk result }
 {
     let mut out = Growing::new(alloc);
     let Some((first, others)) = items.split_first() else {
