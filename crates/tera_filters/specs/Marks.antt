@@ -10,15 +10,15 @@ use Rattle.tera_filters.specs.declared.filter.Filter.TheVariants.{Sort, Unique}
 use Rattle.tera_filters.specs.declared.filter.Filter.TheVariants.{Int, Default, Replace, Truncate}
 
 -- whether a value is a text with a safe flag
-abbrev pub is_marked : Form → Bool
-is_marked undefined = false
-is_marked none = false
-is_marked (truth b) = false
-is_marked (number n) = false
-is_marked (text t) = t.safe
-is_marked (bytes bs) = false
-is_marked (array xs) = false
-is_marked (object ps) = false
+abbrev pub is_safe_text : Form → Bool
+is_safe_text undefined = false
+is_safe_text none = false
+is_safe_text (truth b) = false
+is_safe_text (number n) = false
+is_safe_text (text t) = t.safe
+is_safe_text (bytes bs) = false
+is_safe_text (array xs) = false
+is_safe_text (object ps) = false
 
 abbrev pub makes : Filter → Bool
 makes Length = true

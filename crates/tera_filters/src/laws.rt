@@ -8,7 +8,7 @@ ghost use Rattle.tera.specs.Meaning.{meaning};
 ghost use Rattle.tera.specs.Order.{compare};
 ghost use Rattle.tera_filters.specs.Arrays.{first_ones, has_same, is_less, mean_same};
 ghost use Rattle.tera_filters.specs.Filters.{filtered};
-ghost use Rattle.tera_filters.specs.Marks.{is_marked, makes};
+ghost use Rattle.tera_filters.specs.Marks.{is_safe_text, makes};
 ghost use Rattle.tera_filters.specs.Sorting.{in_order};
 ghost use Rattle.tera_filters.specs.declared.filter.Filter.{Filter};
 
@@ -17,7 +17,7 @@ ghost use Rattle.tera_filters.specs.declared.filter.Filter.{Filter};
 #[tactic(auto, using(crate::proofs::Unmarked::made_is_not_marked))]
 pub fn made_texts_are_not_safe()
     ensures { (filter : Filter) (value arguments made : Form) → makes filter ≡ true
-        → filtered filter value arguments ≡ Ok made → is_marked made ≡ false }
+        → filtered filter value arguments ≡ Ok made → is_safe_text made ≡ false }
 {}
 
 /// What `sort` makes of items are these items, each as often. None of them is less than the one
