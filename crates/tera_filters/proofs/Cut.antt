@@ -44,6 +44,7 @@ longer bs left end made count text some off is =
           absurd (some (ap length none))
     ]
 
--- where no character is left a turn earlier, none is left
-pub none_left : (all : List ℕ) (turn count : ℕ) → turn ≤ count → [] ≡ drop turn all → [] ≡ drop count all
-none_left all turn count more none = sym (drop_all count all (omega (arith, ap length none, length-drop turn all)))
+-- where nothing is left a turn earlier, that is what is left
+pub still_none : (all left : List ℕ) (turn count : ℕ) → turn ≤ count → left ≡ [] → left ≡ drop turn all → left ≡ drop count all
+still_none all left turn count more none off =
+    none ∙ sym (drop_all count all (omega (arith, ap length (sym none ∙ off), length-drop turn all)))

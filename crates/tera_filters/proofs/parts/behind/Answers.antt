@@ -3,7 +3,7 @@ use Rattle.std.proofs.lemmas.List.{drop-drop, nil_from_length}
 use Rattle.std.proofs.lemmas.Str.{IsUtf8-past_char, chars-nil, chars_past_char}
 use Rattle.std.specs.Str.{IsUtf8, chars}
 use Rattle.std.specs.Str.Iter.{chars_rest}
-use Rattle.tera_filters.proofs.Cut.{none_left}
+use Rattle.tera_filters.proofs.Cut.{still_none}
 use Rattle.tera_filters.proofs.parts.behind.Goals as goal
 use Rattle.tera_filters.proofs.parts.behind.Goals.{else-loop-turn-test, then-loop-turn-test+in_default}
 
@@ -29,6 +29,6 @@ returns c =
       | then-loop-turn-test+in_default w ↦
           let (empty, same) = w.in_default.ensures.steps.0 in
           let none = ap chars (nil_from_length _ empty) ∙ chars-nil in
-          ap chars (c.as_str.ensures ∙ ap chars_rest (w.rest-is ∙ same)) ∙ none
-          ∙ none_left all c.loop-turn.turn c.args.count (omega arith) (sym none ∙ behind)
+          ap chars (c.as_str.ensures ∙ ap chars_rest (w.rest-is ∙ same))
+          ∙ still_none all _ c.loop-turn.turn c.args.count (omega arith) none behind
     ]
