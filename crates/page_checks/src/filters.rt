@@ -7,27 +7,38 @@ use tera_filters::Filter;
 use tera_json::from_json;
 
 // What the filter of that word makes.
-fn filtered(alloc: Global, word: &str, value: &str, arguments: &str) -> TeraResult<Value> {
+fn applied(alloc: Global, word: &str, value: &Value, arguments: &str) -> TeraResult<Value> {
     let Some(filter) = Filter::named(word) else {
         return Err(Error::message_of(alloc, &["no filter"]));
     };
     let Some(arguments) = from_json(alloc, HashState::fixed(), arguments)?.into_map() else {
         return Err(Error::message_of(alloc, &["no arguments"]));
     };
+    filter.apply(alloc, value, &Kwargs::new(arguments))
+}
+
+// The same of a value that is written in JSON.
+fn filtered(alloc: Global, word: &str, value: &str, arguments: &str) -> TeraResult<Value> {
     let value = from_json(alloc, HashState::fixed(), value)?;
-    filter.apply(alloc, &value, &Kwargs::new(arguments))
+    applied(alloc, word, &value, arguments)
 }
 
 // The text of that, or what its refusal says behind a mark.
-fn told(alloc: Global, word: &str, value: &str, arguments: &str) -> String {
-    match filtered(alloc, word, value, arguments) {
+fn told(alloc: Global, made: TeraResult<Value>) -> String {
+    match made {
         Ok(made) => made.to_text(alloc).unwrap_or(String::new(alloc)),
         Err(error) => { format!(in alloc; "refused: {error}").unwrap_or(String::new(alloc)) }
     }
 }
 
 fn gives(alloc: Global, word: &str, value: &str, arguments: &str, wanted: &str) -> Seen {
-    let found = told(alloc, word, value, arguments);
+    let found = told(alloc, filtered(alloc, word, value, arguments));
+    same(alloc, found.as_str(), wanted)
+}
+
+// The same of the undefined value, which JSON cannot write.
+fn gives_of_undefined(alloc: Global, word: &str, arguments: &str, wanted: &str) -> Seen {
+    let found = told(alloc, applied(alloc, word, &Value::undefined(), arguments));
     same(alloc, found.as_str(), wanted)
 }
 
@@ -71,6 +82,37 @@ fn filters_give(rt: HostRuntime) {
             ),
             gives(alloc, "unique", "[3, 1, 3, 1, 2]", "{}", "[3, 1, 2]"),
             gives(alloc, "int", "\"12\"", "{}", "12"),
+            gives_of_undefined(alloc, "default", "{\"value\": 8}", "8"),
+            gives(alloc, "default", "7", "{\"value\": 8}", "7"),
+            gives(alloc, "default", "null", "{\"value\": 8}", ""),
+            gives(
+                alloc,
+                "replace",
+                "\"a-b-c\"",
+                "{\"from\": \"-\", \"to\": \"+\"}",
+                "a+b+c"
+            ),
+            gives(
+                alloc,
+                "replace",
+                "\"h\u{e9}\"",
+                "{\"from\": \"\", \"to\": \"-\"}",
+                "-h-\u{e9}-"
+            ),
+            gives(
+                alloc,
+                "truncate",
+                "\"h\u{e9}llo\"",
+                "{\"length\": 2}",
+                "h\u{e9}\u{2026}"
+            ),
+            gives(
+                alloc,
+                "truncate",
+                "\"h\u{e9}llo\"",
+                "{\"length\": 5, \"end\": \"!\"}",
+                "h\u{e9}llo"
+            ),
         ],
     );
 }
@@ -117,6 +159,47 @@ fn filters_refuse(rt: HostRuntime) {
                 "refused: Only strings, numbers and bools can be joined. This is a `array`",
             ),
             gives(alloc, "int", "\"1x\"", "{}", "refused: `1x` is no integer"),
+            gives_of_undefined(
+                alloc,
+                "default",
+                "{}",
+                "refused: Missing keyword argument `value`"
+            ),
+            gives(
+                alloc,
+                "default",
+                "7",
+                "{}",
+                "refused: Missing keyword argument `value`"
+            ),
+            gives(
+                alloc,
+                "replace",
+                "7",
+                "{}",
+                "refused: Invalid type for the value, expected `&str` but got `i64`",
+            ),
+            gives(
+                alloc,
+                "replace",
+                "\"a\"",
+                "{\"from\": \"a\"}",
+                "refused: Missing keyword argument `to`"
+            ),
+            gives(
+                alloc,
+                "truncate",
+                "\"a\"",
+                "{\"length\": -1}",
+                "refused: Value `-1` is out of range for `usize`"
+            ),
+            gives(
+                alloc,
+                "truncate",
+                "\"a\"",
+                "{\"end\": 1}",
+                "refused: Invalid type for the value, expected `&str` but got `i64`",
+            ),
             gives(
                 alloc,
                 "abs",
