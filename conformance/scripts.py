@@ -27,7 +27,7 @@ ESCAPES = {plain: "\\" + short for short, plain in reference.SHORT_ESCAPES.items
 BYTES = [b"", b"\0", b"\xff", b"hi", "é漢".encode(), b"\xf0\x9f\x98", b"\xed\xa0\x80", b"\xc0\xaf", b"\xe6\xbca", b"\n"]
 UTF8_PARTS = ["é".encode(), "😀".encode()] + [
     bytes([byte]) for byte in b"a<\x80\x8f\x90\x9f\xa0\xbf\xc1\xc2\xdf\xe0\xe1\xed\xee\xef\xf0\xf1\xf4\xf5"]
-KEPT = "get path attr item slice reverse add sub mul rem floor_div pow negate read mark_safe".split()
+KEPT = [word for word, (form, _) in reference.CALLS.items() if form.endswith(">")]
 SKIPPED = [b"", b" ", b"\t \t", b"# set a 1", b" \t# \xff\xfe", b"#"]
 SYNTAX = b"\"\"\\[]{},:-> \t\r_sxu0189afnt#\0+.\x0b\xc3\xff"
 BAD_LINES = [

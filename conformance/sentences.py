@@ -19,7 +19,7 @@ RULES: Dict[str, List[str]] = {
     "operands": ["At least one stands between the call's word and its first operand"],
     "behind": ["Behind a literal, a text or a bound stands a blank or the end of the line.",
                "At least one stands between the call's word and its first operand"],
-    "arrow": ["`get`, `path`, `attr`, `item`, `slice`, `reverse`, `add` to `pow`, `negate`, `read` and `mark_safe` may end in"],
+    "arrow": ["`get`, `path`, `attr`, `item`, `slice`, `reverse`,"],
     "name": ["A name is an ASCII letter or `_`"],
     "type": ["| `read TYPE NAME` |"],
     "bound": ["A bound is `_` where there is none"],

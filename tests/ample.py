@@ -28,19 +28,29 @@ def literals(count):
     }
 
 
+def calls(*forms):
+    """The words of the calls whose operands are of one of these forms."""
+    return [word for word, (form, _) in second.CALLS.items() if form in forms]
+
+
+# of one name, which they leave as it is; of two
+OF_ONE = [word for word in calls("v", "v>", "Cn", "Cn>") if word not in ("remove", "mark_safe")]
+OF_TWO = calls("vv", "vv>")
+
+
 def asked(name, others, numbers):
     """Each line of a name, and each of two with the others; what is found with a number, or the name itself, is kept too."""
-    yield from (f"{verb} {name}" for verb in "has get len truthy fields walk kind is_safe print escape negate reverse".split())
-    yield from (f"{verb} {name} -> kept" for verb in ("get", "reverse", "negate", "mark_safe"))
+    yield from (f"{verb} {name}" for verb in OF_ONE)
+    yield from (f"{verb} {name} -> kept" for verb in calls("v>", "Cn>"))
     yield from (f"read {kind} {name}{into}" for kind in TYPES for into in ("", " -> kept"))
     yield from (f"slice {name} {bounds}{into}" for bounds in ("_ _ _", "_ _ -1", "1 -1 2") for into in ("", " -> kept"))
     for text in ("", "k0999", "999.1", "0", "t0"):
         yield from (f'{verb} {name} "{text}"{into}' for verb in ("path", "attr") for into in ("", " -> kept"))
     for other in others:
-        for verb in "eq cmp try_cmp contains item add sub mul rem floor_div pow".split():
+        for verb in OF_TWO:
             yield f"{verb} {name} {other}"
     for other in (name, *numbers):
-        yield from (f"{verb} {name} {other} -> kept" for verb in "item add sub mul rem floor_div pow".split())
+        yield from (f"{verb} {name} {other} -> kept" for verb in calls("vv>"))
 
 
 def last_parts(count):

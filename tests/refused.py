@@ -38,8 +38,9 @@ ASKS = ["has l", "len m", "truthy m", "fields m", "fields l", "walk m", "walk l"
 MANY = ", ".join(f'"n{number:02}": [{number}, s"x"]' for number in range(60, 0, -1))
 CHANGES = ["remove n", "remove absent", "extend {}", f'extend {{{MANY}, "t": "another text, longer than twenty bytes"}}',
            "mark_safe t", "set l [[[1]]]", 'set m {"k": 1, "j": "no less than twenty bytes", "k": 2}']
-# no line of these takes memory, wherever the script stands
-FREE = ("has", "len", "truthy", "kind", "is_safe", "eq", "cmp", "try_cmp", "remove")
+# of the calls that keep nothing, those that may take memory; no line of the others does, wherever the script stands
+TAKES = ("set", "extend", "contains", "print", "escape", "fields", "walk")
+FREE = [word for word, (form, _) in second.CALLS.items() if not form.endswith(">") and word not in TAKES]
 # nor does one of these that is not refused, and keeps what it finds nowhere
 FREE_IF_GIVEN = ("contains", "negate", "read", "mark_safe", *second.OPERATORS)
 # nor does one of the program that begins so and keeps nothing: what it finds or prints is lent to the reply
@@ -142,5 +143,5 @@ class Runs:
         word, answer = line.split()[0], self.whole[at]
         found = self.whole[at - 1] if "-> " in line else answer  # the line before finds the same, and keeps nothing
         shows = word in ("print", "escape", "fields", "walk") and answer not in ("text ", "fields []", "walk []")
-        copies = word in ("get", "path", "attr", "item", "slice", "reverse") and '"' in found
+        copies = second.CALLS[word][0].endswith(">") and '"' in found
         return (shows or copies) and not self.is_lent(line) or answer.startswith("error: ")

@@ -369,18 +369,22 @@ class Lists(unittest.TestCase):
 
 # ---- what lines say, by their Debug
 
+def named(word):
+    """The variant of a call's word."""
+    return word.title().replace("_", "")
+
+
 ONE, TWO = 'of: "a"', 'left: "a", right: "b"'
 CALLS = [
     ("get a -> b", 'Get { name: "a" }', "b"), ("get a", 'Get { name: "a" }'), ("has a", 'Has { name: "a" }'),
     ("set a 7u64", 'Set { name: "a", value: Value { inner: U64(7) } }'), ("remove a", 'Remove { name: "a" }'),
-    ("mark_safe a", f"MarkSafe {{ {ONE} }}"), ("mark_safe a -> b", f"MarkSafe {{ {ONE} }}", "b"), ("len a", f"Len {{ {ONE} }}"),
-    ("truthy a", f"Truthy {{ {ONE} }}"), ("kind a", f"Kind {{ {ONE} }}"), ("is_safe a", f"IsSafe {{ {ONE} }}"),
-    ("print a", f"Print {{ {ONE} }}"), ("escape a", f"Escape {{ {ONE} }}"), ("fields a", f"Fields {{ {ONE} }}"), ("walk a", f"Walk {{ {ONE} }}"),
+    *((f"{word} a", f"{named(word)} {{ {ONE} }}") for word, (form, _) in second.CALLS.items() if form in ("v", "v>")),
+    ("mark_safe a -> b", f"MarkSafe {{ {ONE} }}", "b"),
     ("eq a b", f"Equal {{ {TWO} }}"), ("cmp a b", f"Compare {{ {TWO} }}"), ("try_cmp a b", f"TryCompare {{ {TWO} }}"),
     ("contains a b", f'Contains {{ {ONE}, needle: "b" }}'), ('path a "b.0"', f'Path {{ {ONE}, path: "b.0" }}'),
     ('attr a "\u00e9\\""', f'Attr {{ {ONE}, attr: "\u00e9\\"" }}'), ("item a b", f'Item {{ {ONE}, item: "b" }}'),
-    ("slice a -1 _ 2", f"Slice {{ {ONE}, start: Some(-1), end: None, step: Some(2) }}"), ("reverse a", f"Reverse {{ {ONE} }}"),
-    *((f"{word} a b", f"Binary {{ op: {word.title().replace('_', '')}, {TWO} }}") for word in second.OPERATORS),
+    ("slice a -1 _ 2", f"Slice {{ {ONE}, start: Some(-1), end: None, step: Some(2) }}"),
+    *((f"{word} a b", f"Binary {{ op: {named(word)}, {TWO} }}") for word in second.OPERATORS),
     ("negate a -> c", f"Negate {{ {ONE} }}", "c"),
     *((f"read {name} a", f"Read {{ {ONE}, to: {name.title()} }}") for name in second.TYPES)]
 # the names of a context stand in the order of their bytes
