@@ -298,6 +298,19 @@ class Hostile(unittest.TestCase):
         self.assertEqual([event[0] for event in found], ["p", "text", "/p"] * len(values))
         self.assertEqual({tuple(name for name, _ in event[1]) for event in found[::3]}, {("title", "class", "id", "lang")})
 
+    def test_filters(self) -> None:
+        """the same of texts that filters turn around, change, join and hand on"""
+        row = "{% for t in texts %}<p title=\"{{ t | reverse }}\" class='{{ t | lower }}' id=\"{{ ab | join(sep=t) }}\" "
+        row += "lang='{{ empty | get(key=\"k\", default=t) }}'>.{{ t | slice(start=0) | upper | escape }}.</p>{% endfor %}"
+        texts, wanted = self.texts(), list[Tuple[Any, ...]]()
+        for text in texts:
+            parts = [("title", text[::-1]), ("class", text.lower()), ("id", f"a{text}b"), ("lang", text)]
+            wanted += [("p", parts), ("text", f".{text.upper()}."), ("/p",)]
+        names = {"texts": texts, "ab": ["a", "b"], "empty": {}}
+        with Program() as program:
+            page = program.shows(Page(row, names))
+        self.assertEqual(Events(page or "").events, wanted)
+
     def test_told(self) -> None:
         """a text that is marked safe, and each entity that is put back, is told"""
         texts = self.texts()
