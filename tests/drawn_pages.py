@@ -316,7 +316,7 @@ class Drawn:
         return self.through(scope, said, pipe.name, [*shape, *shape, "k"] if isinstance(shape, dict) else KEYS)
 
     def through(self, scope: Scope, said: Said, name: str, keys: List[str] = KEYS) -> Said:
-        """A filter behind an expression, and mostly one argument or two where it knows some."""
+        """A filter behind an expression, and mostly an argument or two where it knows some. One in forty of these is none."""
         drawn = ARGUMENTS.get(name, [])
         given = [(key, self.argument(scope, keys, kind)) for key, kind, times in drawn if self.chance.randrange(40) < times]
         if self.once_in(30):
@@ -329,9 +329,11 @@ class Drawn:
         return Said(self.row(self.within(said, PIPED), "|", name, *braced), PIPED)
 
     def argument(self, scope: Scope, keys: List[str], kind: str) -> str:
-        """What an argument is given: once in ten a place of any kind."""
+        """What an argument of that kind is given: inside of a loop often its turn."""
         if kind == "key":
             return f'"{self.chance.choice(keys)}"'
+        if kind in ("index", "bound") and "loop.index0" in scope and self.once_in(3):
+            return "loop.index0"
         if kind == "index":
             return self.chance.choice(["0", "0", "0", "0", "-0", "1", "1", "1", "2", "99"])
         if kind == "bound":
