@@ -189,8 +189,6 @@ class Drawn:
         over = self.chance.choice([*[place] * 30, f"({self.blank()}{place})", f"{place} or {place}", self.expression(scope, "any", 1).text])
         if kind is tuple and self.once_in(6):
             over = self.through(scope, Said(place, ALONE), self.chance.choice(PIPES["array"]).name).text
-        if not is_by_two and "," in over:
-            over = place
         said = [self.tag(f"for {bound} in {over}"), self.parts(inner, depth - 1), self.otherwise(scope, depth), self.tag("endfor")]
         return "".join(said)
 

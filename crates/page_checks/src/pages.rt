@@ -89,6 +89,12 @@ fn pairs_are_repeated(rt: HostRuntime) {
                 "{% for title, count in a %}{{ title }}{% endfor %}{{ count }}",
                 "b3"
             ),
+            refused(alloc, "{% for k, in a %}{% endfor %}", "This is not read"),
+            refused(
+                alloc,
+                "{% for k v, w in a %}{% endfor %}",
+                "This is not read"
+            ),
             refused(
                 alloc,
                 "{% for k, v in words %}{% endfor %}",

@@ -140,6 +140,26 @@ fn arguments_have_names(rt: HostRuntime) {
                 "-18446744073709551615"
             ),
             shows(alloc, "{{ a | get(key='c', default='<') }}", "&lt;"),
+            shows(
+                alloc,
+                "{% for w in words | slice(start=0, end=1) %}{{ w }}{% endfor %}",
+                "x"
+            ),
+            shows(
+                alloc,
+                "{% for w in a | get(key=',', default=words) %}{{ w }}{% endfor %}",
+                "xy"
+            ),
+            shows(
+                alloc,
+                "{% for k, v in no_prices | get(key=',', default=a) %}{{ k }}{{ v.1 }}{% endfor %}",
+                "by"
+            ),
+            refused(
+                alloc,
+                "{% for w in ',' %}{% endfor %}",
+                "What is found at `','` is no array"
+            ),
             shows(alloc, "{{ 'abcd' | slice(start=1, start=2) }}", "cd"),
             shows(
                 alloc,

@@ -254,24 +254,37 @@ fn bound_in(text: &str) -> Option<(Bound<'_>, &str)>
     ensures proper { IfSome result (λ bound. IsBound (bound_of bound.0)) }
     ensures binds { IfSome result (λ bound. Binds (bound_of bound.0) text.now bound.1.now) }
 {
-    match cut_at(text, ",") {
-        None => {
-            let (name, rest) = next_word(text);
-            if is_name(name) {
-                Some((Bound::Item(name), rest))
-            } else {
-                None
-            }
-        }
-        Some((left, right)) => {
-            let key = only_word(left)?;
-            let (value, rest) = next_word(right);
-            if is_name(key) && is_name(value) {
-                Some((Bound::Pair(key, value), rest))
-            } else {
-                None
-            }
-        }
+    match pair_in(text) {
+        Some(bound) => Some(bound),
+        None => item_in(text),
+    }
+}
+
+// The two names that a loop binds, and what stands behind them.
+fn pair_in(text: &str) -> Option<(Bound<'_>, &str)>
+    ensures proper { IfSome result (λ bound. IsBound (bound_of bound.0)) }
+    ensures binds { IfSome result (λ bound. Binds (bound_of bound.0) text.now bound.1.now) }
+{
+    let (left, right) = cut_at(text, ",")?;
+    let key = only_word(left)?;
+    let (value, rest) = next_word(right);
+    if is_name(key) && is_name(value) {
+        Some((Bound::Pair(key, value), rest))
+    } else {
+        None
+    }
+}
+
+// The one name that a loop binds, and what stands behind it.
+fn item_in(text: &str) -> Option<(Bound<'_>, &str)>
+    ensures proper { IfSome result (λ bound. IsBound (bound_of bound.0)) }
+    ensures binds { IfSome result (λ bound. Binds (bound_of bound.0) text.now bound.1.now) }
+{
+    let (name, rest) = next_word(text);
+    if is_name(name) {
+        Some((Bound::Item(name), rest))
+    } else {
+        None
     }
 }
 
