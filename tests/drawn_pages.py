@@ -229,7 +229,7 @@ class Drawn:
         literals: Dict[str, Callable[[], str]] = {
             "number": lambda: self.chance.choice(ODD_NUMBERS if self.once_in(40) else NUMBERS),
             "truth": lambda: self.chance.choice(["true", "false"]), "none": lambda: "none",
-            "digits": lambda: self.chance.choice(DIGITS)}
+            "digits": lambda: self.chance.choice(DIGITS), "gone": lambda: self.place(scope, 2)[0]}
         return Said(literals.get(kind, self.literal)(), ALONE)
 
     def literal(self) -> str:
@@ -371,11 +371,13 @@ class Pipe(NamedTuple):
 # Filters by the kind of values that they make, what of these takes a place that holds, and the arguments that some know, each
 # with its kind and how often in forty it is given.
 PIPES: Dict[str, List[Pipe]] = {
-    "text": [Pipe(name, "text") for name in ("upper", "upper", "lower", "lower", "trim", "trim", "reverse", "slice")] + [Pipe("join", "texts")] * 2,
+    "text": [Pipe(name, "text") for name in ("upper", "upper", "lower", "lower", "trim", "trim", "reverse", "slice", "replace", "truncate")]
+    + [Pipe("join", "texts")] * 2,
     "number": [*(Pipe("length", takes) for takes in ("text", "array", "array", "map")), *(Pipe("abs", "number"),) * 3, Pipe("int", "number"),
                Pipe("int", "digits")],
     "array": [Pipe(name, "array") for name in ("reverse", "sort", "unique", "slice")],
-    "item": [*(Pipe(name, "array") for name in ("first", "last", "nth", "nth")), Pipe("get", "map"), Pipe("get", "map")],
+    "item": [*(Pipe(name, "array") for name in ("first", "last", "nth", "nth")), Pipe("get", "map"), Pipe("get", "map"),
+             Pipe("default", "gone"), Pipe("default", "gone")],
     "none_such": [Pipe(name, "text") for name in ("title", "nosuch", "Upper", "escape", "safe", "count")],
 }
 HELD: Dict[str, Callable[[Shape], bool]] = {
@@ -384,7 +386,8 @@ HELD: Dict[str, Callable[[Shape], bool]] = {
 }
 ARGUMENTS: Dict[str, List[Tuple[str, str, int]]] = {
     "join": [("sep", "text", 30)], "nth": [("n", "index", 39)], "slice": [("start", "bound", 24), ("end", "bound", 24)],
-    "get": [("key", "key", 39), ("default", "any", 30)],
+    "get": [("key", "key", 39), ("default", "any", 30)], "default": [("value", "any", 39)],
+    "replace": [("from", "text", 39), ("to", "text", 39)], "truncate": [("length", "index", 30), ("end", "text", 20)],
 }
 
 

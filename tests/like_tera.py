@@ -277,6 +277,23 @@ def first_ones(value: Any, given: Arguments) -> List[Any]:
     return [item for at, item in enumerate(an_array(value)) if meant(item) not in map(meant, value[:at])]
 
 
+def defaulted(value: Any, given: Arguments) -> Any:
+    """What stands in for undefined, which has to be there for each value."""
+    other = needed(given, "value")
+    return other if isinstance(value, Undefined) else value
+
+
+def replaced(value: Any, given: Arguments) -> str:
+    """A text with another in the place of each that is one."""
+    return str(a_text(value)).replace(a_text(needed(given, "from")), a_text(needed(given, "to")))
+
+
+def truncated(value: Any, given: Arguments) -> str:
+    """So many characters of a text, and an end where there are more."""
+    text, length, end = str(a_text(value)), within_type("usize", given.get("length", 255)), str(a_text(given.get("end", "…")))
+    return text if len(text) <= length else text[:length] + end
+
+
 def whole(value: Any, given: Arguments) -> int:
     """The number that a value is, or that a text writes."""
     if not isinstance(value, str):
@@ -302,6 +319,9 @@ FILTERS: Dict[str, Filter] = {
     "sort": lambda value, given: sorted(an_array(value), key=meant),
     "unique": first_ones,
     "int": whole,
+    "default": defaulted,
+    "replace": replaced,
+    "truncate": truncated,
 }
 
 
@@ -673,7 +693,7 @@ class Changed(jinja2.Environment):
         return Hooks(self.is_known).visit(read)  # type: ignore[no-any-return]
 
 
-NO_PAGE = (Refused, jinja2.TemplateError, TypeError, ValueError, ArithmeticError, SyntaxError, RecursionError)
+NO_PAGE = (Refused, jinja2.TemplateError, TypeError, ValueError, ArithmeticError, AssertionError, SyntaxError, RecursionError)
 PLAIN = jinja2.Environment(autoescape=True)
 
 
