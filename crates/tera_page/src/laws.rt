@@ -34,8 +34,8 @@ pub fn turns_are_those_of_the_parts()
         → slice_get (turns state owns) i ≡ Some (under state (own ++ turn_names i (length owns))) }
 {}
 
-/// A text that a filter makes is not safe: what a page shows of it brings no tag, whatever is safe
-/// in what it is made of.
+/// A text that a filter makes is not safe, whatever is safe in what it is made of. So what a page
+/// shows of it brings no tag, unless the template shows it as it prints.
 pub fn made_texts_bring_no_tag()
     ensures { (filter : Filter) (e : Expression) (given : List Argument) (state : State)
         (made : Form) (shown : List ℕ) → makes filter ≡ true

@@ -34,7 +34,8 @@ use tera::{Context, Map, TeraResult, Value, show_in_page};
 /// one name over no array with ``What is found at `E` is no array``, and by two over no map with
 /// ``What is found at `E` is no map``. Refuses what an operator of an expression refuses, in the
 /// words of [`tera::value::number::calculate`], `negate` and `contains`, and what a filter refuses,
-/// in those of [`crate::Filter::apply`]. In a condition, what is not found is false.
+/// in those of [`crate::Filter::apply`]. A condition that is a place
+/// alone is false where nothing is found.
 ///
 /// Takes memory for the page, for a key that is a text, for what filters make and are given, and
 /// for the words of a refusal; want of it is answered by `Out of memory`.

@@ -30,7 +30,7 @@ pub const LEVELS: usize = 64;
 /// thing that it does not read, or at the end; `More than 64 levels` at a tag inside as many
 /// others; `More than 128 words and signs` where a longer expression stands; and `There is no such
 /// filter` where one is named that there is not. Takes memory; want of it, `Out of memory`, is
-/// answered in the place of all else.
+/// answered in the place of all else. No clause says which of these is due when.
 pub fn parse(alloc: Global, text: &str) -> TeraResult<Template<'_>>
     ensures ok { IfOk result (λ template. Spells (tree_of template) text.now) }
     ensures err { IfErr result (IsSyntaxError [] text.now) }
