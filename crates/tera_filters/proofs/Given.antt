@@ -1,5 +1,5 @@
 -- What is taken of arguments, and what is refused of them.
-use Rattle.std.specs.Prelude.{◌≡◌, ℕ, List, Option, Some, None, Result, Ok, Err, MatchOption, refl}
+use Rattle.std.specs.Prelude.{◌≡◌, ℕ, List, Option, Some, None, Result, Ok, Err, IsOk, MatchOption, refl}
 use Rattle.std.specs.Option.{IsSomeAnd, option_map}
 use Rattle.std.proofs.Common.{ap, sym, subst}
 use Rattle.tera.specs.Arithmetic.{and_then, each_ok}
@@ -41,6 +41,11 @@ module _ {X : Type 0} (taken : Form → Result X Refusal) where
       → Refuses (where_there taken given) e
   denied_where_there None e is = elim is [ ]
   denied_where_there (Some v) e is = denied_each (taken v) e is
+
+-- where a step behind one gives something, that one does
+pub first_gives : {X Y : Type 0} (r : Result X Refusal) (next : X → Result Y Refusal) (y : Y) → and_then r next ≡ Ok y → IsOk r
+first_gives (Ok x) next y is = refl
+first_gives (Err refusal) next y is = absurd (cc)
 
 -- what a step behind one that gave something refuses, and what is made of a step that refuses
 pub refuses_next : {X Y : Type 0} (r : Result X Refusal) (next : X → Result Y Refusal) (x : X) (e : Error) → r ≡ Ok x

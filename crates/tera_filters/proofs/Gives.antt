@@ -1,6 +1,9 @@
 -- What is so of all that a step makes is so of what is answered.
 use Rattle.std.specs.Prelude.{◌≡◌, ℕ, Bool, List, [], codes, pos, nat_abs, Option, Some, None, Result, Ok, Err}
 use Rattle.std.specs.Option.{ok_or, option_map}
+use Rattle.std.specs.Str.{trim}
+use Rattle.std.specs.StrCase.Lower.{str_to_lowercase}
+use Rattle.std.specs.StrCase.Upper.{str_to_uppercase}
 use Rattle.std.proofs.Common.{subst}
 use Rattle.tera.specs.Arithmetic.{and_then, each_ok}
 use Rattle.tera.specs.Conversion.{IntegerType, converted}
@@ -9,7 +12,7 @@ use Rattle.tera.specs.Refusal.{Refusal}
 use Rattle.tera.specs.Taken.{as_items, as_text}
 use Rattle.tera_filters.specs.Arguments.{needed, or_else}
 use Rattle.tera_filters.specs.Parts.{ellipsis, replace_of, replaced, truncate_of, truncated}
-use Rattle.tera_filters.specs.Texts.{join_of, joined, made}
+use Rattle.tera_filters.specs.Texts.{join_of, joined, lower_of, made, trim_of, upper_of}
 
 module _ (test : Form → Bool) (b : Bool) where
   pub each_is : {X : Type 0} (f : X → Form) → ((x : X) → test (f x) ≡ b) → (r : Result X Refusal) (v : Form) → each_ok f r ≡ Ok v
@@ -32,6 +35,15 @@ module _ (test : Form → Bool) (b : Bool) where
 
 -- the same of the texts that these filters make
 module _ (test : Form → Bool) (b : Bool) (all : (t : List ℕ) → test (made t) ≡ b) (value arguments v : Form) where
+  pub upper_is : upper_of value ≡ Ok v → test v ≡ b
+  upper_is is = each_is test b (λ t. made (str_to_uppercase t)) (λ t. all (str_to_uppercase t)) (as_text value) v is
+
+  pub lower_is : lower_of value ≡ Ok v → test v ≡ b
+  lower_is is = each_is test b (λ t. made (str_to_lowercase t)) (λ t. all (str_to_lowercase t)) (as_text value) v is
+
+  pub trim_is : trim_of value ≡ Ok v → test v ≡ b
+  trim_is is = each_is test b (λ t. made (trim t)) (λ t. all (trim t)) (as_text value) v is
+
   pub join_is : join_of value arguments ≡ Ok v → test v ≡ b
   join_is is =
       then_is test b (as_items value)

@@ -1,3 +1,4 @@
+mod Answered
 mod Cut
 mod Distinct
 mod FirstOnes

@@ -1,15 +1,15 @@
 -- What std's `replace` makes of a text is what the definition gives.
-use Rattle.std.specs.Prelude.{◌≡◌, ◌<◌, ◌≤◌, ◌+◌, ◌++◌, ℕ, zero, suc, cond, true, false, List, [], ◌∷◌, length, take, drop, Option, Some, None, refl}
+use Rattle.std.specs.Prelude.{◌≡◌, ◌≢◌, ◌<◌, ◌≤◌, ◌+◌, ◌++◌, ℕ, zero, suc, cond, true, false, List, [], ◌∷◌, length, take, drop, Option, Some, None, refl}
 use Rattle.std.specs.Str.Replace.{ContinuesAfterMatch, ReplacesMatches}
 use Rattle.std.specs.Char.{encode_utf8}
 use Rattle.std.specs.Str.{IsUtf8, chars}
 use Rattle.std.specs.Str.Pattern.{FindsText, LacksTextAt}
 use Rattle.std.proofs.Common.{ap, sym, subst, ◌∙◌, inl, inr, arith, Bor}
 use Rattle.std.proofs.lemmas.Bool.{and_from, and_parts, eq-eqb, eqb-true, false_from_ne_true}
-use Rattle.std.proofs.lemmas.List.{append-nil, drop_all, nil_from_length, take_all}
+use Rattle.std.proofs.lemmas.List.{append-nil, drop_all, nil_from_length, drop_at, take_all, take_at}
 use Rattle.std.proofs.lemmas.Str.{IsUtf8-past_char, chars-nil, chars_past_char}
 use Rattle.tera.specs.Lookup.{begins_with}
-use Rattle.tera_filters.specs.Parts.{around, in_place, replaced}
+use Rattle.tera_filters.specs.Parts.{NotBefore, around, in_place, replaced}
 
 -- what a text that is looked for finds, and what stays the same of it
 abbrev Finds : Bor (List ℕ) → List ℕ → Option (ℕ × ℕ) → Type 0
@@ -46,7 +46,7 @@ module _ (to : List ℕ) (first : ℕ) (others : List ℕ) where
   passed_over (x ∷ xs) ys = passed_over xs ys
 
   -- what stands before the first place where it is stays
-  stays : (a : ℕ) (s : List ℕ) → ((i : ℕ) → i < a → LacksTextAt (first ∷ others) s i)
+  stays : (a : ℕ) (s : List ℕ) → NotBefore (first ∷ others) a s
       → in_place to first others 0 s ≡ take a s ++ in_place to first others 0 (drop a s)
   stays zero s lacks = refl
   stays (suc a) [] lacks = refl
@@ -61,9 +61,9 @@ module _ (to : List ℕ) (first : ℕ) (others : List ℕ) where
       (begins_again (first ∷ others) rest)
       ∙ ap (λ l. to ++ l) (passed_over others rest)
 
-  none_there : (s : List ℕ) → ((i : ℕ) → i ≤ length s → LacksTextAt (first ∷ others) s i) → in_place to first others 0 s ≡ s
+  none_there : (s : List ℕ) → NotBefore (first ∷ others) (length s) s → in_place to first others 0 s ≡ s
   none_there s lacks =
-      stays (length s) s (λ i below. lacks i (omega (arith, below)))
+      stays (length s) s lacks
       ∙ ap (λ l. take (length s) s ++ in_place to first others 0 l) (drop_all (length s) s (omega arith))
       ∙ append-nil (take (length s) s) ∙ take_all (length s) s (omega arith)
 
@@ -76,7 +76,9 @@ module _ (to : List ℕ) (first : ℕ) (others : List ℕ) where
 
   put_in_place : (n : ℕ) (p : Bor (List ℕ)) (s out : List ℕ) → p.now ≡ first ∷ others → Made to n p s out
       → out ≡ in_place to first others 0 s
-  put_in_place zero p s out is (found, same) = same ∙ sym (none_there s (subst (λ f. FindsText f s None) is found))
+  put_in_place zero p s out is (found, same) =
+      let lacks = subst (λ f. FindsText f s None) is found in
+      same ∙ sym (none_there s (λ i below. lacks i (omega (arith, below))))
   put_in_place (suc n) p s out is (a, b, q, rest, found, keeps, continues, made) =
       let (lacks, has) = subst (λ f. FindsText f s (Some (a, b))) is found in
       let each : (t l : List ℕ) → Made to n q t l → l ≡ in_place to first others 0 t = λ t l. put_in_place n q t l (keeps ∙ is) in
@@ -85,7 +87,7 @@ module _ (to : List ℕ) (first : ℕ) (others : List ℕ) where
       ∙ ap (λ l. take a s ++ l) (gives_place (drop b s)))
 
 -- an empty text is found at the front
-at_front : (a : ℕ) (s : List ℕ) → ((i : ℕ) → i < a → LacksTextAt [] s i) → a ≡ 0
+at_front : (a : ℕ) (s : List ℕ) → NotBefore [] a s → a ≡ 0
 at_front zero s lacks = refl
 at_front (suc a) s lacks = absurd (lacks 0 (omega arith) s refl)
 
@@ -117,3 +119,18 @@ pub replaces : (to from : List ℕ) (n : ℕ) (p : Bor (List ℕ)) (s out : List
     → Made to n p s out → out ≡ replaced to from s
 replaces to [] n p s out is utf8 made = put_around to n p s out is utf8 made
 replaces to (first ∷ others) n p s out is utf8 made = put_in_place to first others n p s out is made
+
+-- a text in which it stands nowhere, and one in which it stands somewhere first
+pub nowhere : (to from text : List ℕ) → from ≢ [] → NotBefore from (length text) text → replaced to from text ≡ text
+nowhere to [] text some lacks = absurd (some refl)
+nowhere to (first ∷ others) text some lacks = none_there to first others text lacks
+
+pub first_place : (to from left right : List ℕ) → from ≢ [] → NotBefore from (length left) (left ++ (from ++ right))
+    → replaced to from (left ++ (from ++ right)) ≡ left ++ (to ++ replaced to from right)
+first_place to [] left right some lacks = absurd (some refl)
+first_place to (first ∷ others) left right some lacks =
+    let rest = (first ∷ others) ++ right in
+    stays to first others (length left) (left ++ rest) lacks
+    ∙ ap (λ l. l ++ in_place to first others 0 (drop (length left) (left ++ rest))) (take_at left rest (length left) refl)
+    ∙ ap (λ l. left ++ in_place to first others 0 l) (drop_at left rest (length left) refl)
+    ∙ ap (λ l. left ++ l) (gives_place to first others right)

@@ -81,7 +81,7 @@ made_is_not_marked Join value arguments v makes is = join_is is_safe_text false 
 made_is_not_marked Sort value arguments v makes is =
     each_is is_safe_text false (λ xs. array (items (in_order is_less xs))) (λ xs. refl) (as_items value) v is
 made_is_not_marked Unique value arguments v makes is =
-    each_is is_safe_text false (λ xs. array (items (first_ones [] xs))) (λ xs. refl) (as_items value) v is
+    each_is is_safe_text false (λ xs. array (items (first_ones xs))) (λ xs. refl) (as_items value) v is
 made_is_not_marked Int value arguments v makes is = int_unmarked value v is
 made_is_not_marked Default value arguments v makes is = absurd (cc)
 made_is_not_marked Replace value arguments v makes is = replace_is is_safe_text false (λ t. refl) value arguments v is

@@ -1,7 +1,7 @@
 -- What filters make of arrays and of maps.
 use Rattle.std.specs.Prelude.{ℕ, ◌-◌, List, [], ◌∷◌, ◌++◌, length, codes, slice_get, pos}
-use Rattle.std.specs.Prelude.{Bool, if◌then◌else◌, Option, None, Result, unwrap_or}
-use Rattle.std.specs.List.{list_any}
+use Rattle.std.specs.Prelude.{Bool, not, Option, None, Result, unwrap_or}
+use Rattle.std.specs.List.{filter, list_any}
 use Rattle.std.specs.Option.{ok_or, option_map, option_or}
 use Rattle.std.specs.Ordering.{is_lt}
 use Rattle.tera.specs.Arithmetic.{and_then, each_ok}
@@ -78,12 +78,10 @@ mean_same x y = same (meaning x) (meaning y)
 abbrev pub has_same : List Form → Form → Bool
 has_same xs x = list_any (mean_same x) xs
 
--- the values behind others before which none that means the same stands
-abbrev pub first_ones : List Form → List Form → List Form
-first_ones before [] = []
-first_ones before (x ∷ xs) =
-    if has_same before x then first_ones (before ++ x ∷ []) xs
-    else x ∷ first_ones (before ++ x ∷ []) xs
+-- the values of which no earlier one means the same
+abbrev pub first_ones : List Form → List Form
+first_ones [] = []
+first_ones (x ∷ xs) = x ∷ filter (λ y. not (mean_same x y)) (first_ones xs)
 
 abbrev pub unique_of : Form → Result Form Refusal
-unique_of value = each_ok (λ xs. array (items (first_ones [] xs))) (as_items value)
+unique_of value = each_ok (λ xs. array (items (first_ones xs))) (as_items value)

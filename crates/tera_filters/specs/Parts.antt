@@ -1,6 +1,6 @@
 -- What filters make of parts of texts. No text that they make is marked safe.
-use Rattle.std.specs.Prelude.{ℕ, zero, suc, pos, nat_abs, nat_lt, if◌then◌else◌, List, [], ◌∷◌}
-use Rattle.std.specs.Prelude.{◌++◌, length, take, codes, Result}
+use Rattle.std.specs.Prelude.{◌<◌, ◌≢◌, ℕ, zero, suc, pos, nat_abs, nat_lt, if◌then◌else◌, List}
+use Rattle.std.specs.Prelude.{[], ◌∷◌, ◌++◌, length, take, drop, codes, Result}
 use Rattle.std.specs.Char.{encode_utf8}
 use Rattle.std.specs.Str.{chars, encode_utf8_all}
 use Rattle.tera.specs.Arithmetic.{and_then, each_ok}
@@ -31,6 +31,10 @@ module _ (to : List ℕ) where
   abbrev pub replaced : List ℕ → List ℕ → List ℕ
   replaced [] t = around (chars t)
   replaced (first ∷ others) t = in_place first others zero t
+
+-- a text stands at none of the first n places of another
+abbrev pub NotBefore : List ℕ → ℕ → List ℕ → Type 0
+NotBefore part n t = (i : ℕ) → i < n → (rest : List ℕ) → drop i t ≢ part ++ rest
 
 -- a text with the argument `to` in the place of each argument `from`
 abbrev pub replace_of : Form → Form → Result Form Refusal

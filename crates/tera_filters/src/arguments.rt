@@ -99,6 +99,8 @@ fn optional_place(alloc: Global, arguments: &Kwargs, name: &str) -> TeraResult<O
         ≡ Ok (option_map (λ n. pos n) n)) }
     ensures err { IfErr result
         (Refuses (optional (converted IntegerType.usize) arguments.now name.now)) }
+    ensures succeeds { IsOk (optional (converted IntegerType.usize) arguments.now name.now)
+        → IsOk result }
 {
     arguments.get::<usize>(alloc, name)
 }
@@ -115,6 +117,9 @@ pub(crate) fn place_or(
         ≡ Ok (pos n)) }
     ensures err { IfErr result
         (Refuses (or_else (converted IntegerType.usize) arguments.now name.now (pos otherwise))) }
+    ensures succeeds { IsOk
+        (or_else (converted IntegerType.usize) arguments.now name.now (pos otherwise))
+        → IsOk result }
 {
     match optional_place(alloc, arguments, name)? {
         Some(n) => Ok(n),

@@ -34,13 +34,16 @@ pub fn length(alloc: Global, value: &Value) -> TeraResult<Value>
 /// The first item of an array, undefined where it has none.
 ///
 /// Refuses every other value with ``Invalid type for the value, expected `&[Value]` but got `N` ``,
-/// N being the name of its kind, without the last blank. Takes memory for the copy of the item and
-/// for the text of the refusal; want of it, `Out of memory`, is answered in the place of either.
+/// N being the name of its kind, without the last blank. Takes memory for the copy of the item, as
+/// [`Value::clone`] does, and for the text of the refusal; want of it, `Out of memory`, is answered
+/// in the place of either.
 pub fn first(alloc: Global, value: &Value) -> TeraResult<Value>
     ensures ok { IfOk result (λ v. first_of value.now ≡ Ok v) }
     ensures err { IfErr result (Refuses (first_of value.now)) }
     ensures succeeds { (made : Form) → first_of value.now ≡ Ok made → iterable_in made ≡ false
         → IsOk result }
+    ensures empty { (made : Form) → first_of value.now ≡ Ok made
+        → truthy_in (meaning made) ≡ false → IsOk result }
 {
     copy_of(alloc, items_of(alloc, value)?.first())
 }
@@ -53,6 +56,8 @@ pub fn last(alloc: Global, value: &Value) -> TeraResult<Value>
     ensures err { IfErr result (Refuses (last_of value.now)) }
     ensures succeeds { (made : Form) → last_of value.now ≡ Ok made → iterable_in made ≡ false
         → IsOk result }
+    ensures empty { (made : Form) → last_of value.now ≡ Ok made
+        → truthy_in (meaning made) ≡ false → IsOk result }
 {
     copy_of(alloc, items_of(alloc, value)?.last())
 }
@@ -67,6 +72,8 @@ pub fn nth(alloc: Global, value: &Value, arguments: &Kwargs) -> TeraResult<Value
     ensures err { IfErr result (Refuses (nth_of value.now arguments.now)) }
     ensures succeeds { (made : Form) → nth_of value.now arguments.now ≡ Ok made
         → iterable_in made ≡ false → IsOk result }
+    ensures empty { (made : Form) → nth_of value.now arguments.now ≡ Ok made
+        → truthy_in (meaning made) ≡ false → IsOk result }
 {
     let items = items_of(alloc, value)?;
     let n = needed_place(alloc, arguments, "n")?;
@@ -94,6 +101,8 @@ pub fn reverse(alloc: Global, value: &Value) -> TeraResult<Value>
 pub fn slice(alloc: Global, value: &Value, arguments: &Kwargs) -> TeraResult<Value>
     ensures ok { IfOk result (λ v. slice_of value.now arguments.now ≡ Ok v) }
     ensures err { IfErr result (Refuses (slice_of value.now arguments.now)) }
+    ensures empty { (made : Form) → slice_of value.now arguments.now ≡ Ok made
+        → truthy_in (meaning made) ≡ false → IsOk result }
 {
     let start = bound(alloc, arguments, "start")?;
     let end = bound(alloc, arguments, "end")?;
@@ -112,6 +121,8 @@ pub fn get(alloc: Global, value: &Value, arguments: &Kwargs) -> TeraResult<Value
     ensures err { IfErr result (Refuses (get_of value.now arguments.now)) }
     ensures succeeds { (made : Form) → get_of value.now arguments.now ≡ Ok made
         → iterable_in made ≡ false → IsOk result }
+    ensures empty { (made : Form) → get_of value.now arguments.now ≡ Ok made
+        → truthy_in (meaning made) ≡ false → IsOk result }
 {
     held_at(alloc, value, arguments)?.clone(alloc)
 }
@@ -137,6 +148,8 @@ fn held_at<'a>(alloc: Global, value: &'a Value, arguments: &'a Kwargs) -> TeraRe
 fn cut(alloc: Global, value: &Value, start: Option<i128>, end: Option<i128>) -> TeraResult<Value>
     ensures ok { IfOk result (λ v. sliced value.now start end None ≡ Ok v) }
     ensures err { IfErr result (Refuses (sliced value.now start end None)) }
+    ensures empty { (made : Form) → sliced value.now start end None ≡ Ok made
+        → truthy_in (meaning made) ≡ false → IsOk result }
 {
     slices_have_one_answer();
     value.slice(alloc, start, end, None)

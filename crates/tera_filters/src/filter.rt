@@ -1,6 +1,9 @@
 //! The filters by their words.
-ghost use Rattle.std.specs.Prelude.{◌≡◌, ◌≢◌, IfOk, IfErr, MatchOption, Ok};
+ghost use Rattle.std.specs.Prelude.{◌≡◌, ◌≢◌, false, IfOk, IfErr, IsOk, MatchOption, None, Ok};
 ghost use Rattle.tera.specs.Errors.{Refuses};
+ghost use Rattle.tera.specs.Form.{Form};
+ghost use Rattle.tera.specs.Meaning.{meaning};
+ghost use Rattle.tera.specs.Read.{iterable_in, text_in, truthy_in};
 ghost use Rattle.tera_filters.specs.Filters.{filtered};
 ghost use Rattle.tera_filters.specs.Words.{word_of};
 
@@ -86,10 +89,15 @@ impl Filter {
     /// What the filter makes of a value and of named arguments. It passes over an argument that it
     /// does not know.
     ///
-    /// Refuses as the function of the filter does, and takes the memory that that takes.
+    /// Refuses as the function of the filter does, and takes the memory that that takes. An answer
+    /// that has no parts takes none, nor does an empty one that is no text.
     pub fn apply(self, alloc: Global, value: &Value, arguments: &Kwargs) -> TeraResult<Value>
         ensures ok { IfOk result (λ v. filtered self value.now arguments.now ≡ Ok v) }
         ensures err { IfErr result (Refuses (filtered self value.now arguments.now)) }
+        ensures succeeds { (made : Form) → filtered self value.now arguments.now ≡ Ok made
+            → iterable_in made ≡ false → IsOk result }
+        ensures empty { (made : Form) → filtered self value.now arguments.now ≡ Ok made
+            → truthy_in (meaning made) ≡ false → text_in made ≡ None → IsOk result }
     {
         match self {
             Filter::Length => length(alloc, value),

@@ -2,13 +2,15 @@
 ghost use Rattle.std.specs.List.{IsDistinct};
 ghost use Rattle.std.specs.List.Sorted.{IsPermutation, IsSorted, IsStable};
 ghost use Rattle.std.specs.Ordering.{on};
-ghost use Rattle.std.specs.Prelude.{◌≡◌, [], List, false, true, Ok};
+ghost use Rattle.std.specs.Prelude.{◌≡◌, ◌≢◌, ◌++◌, ℕ, List, [], ◌∷◌, length, if◌then◌else◌};
+ghost use Rattle.std.specs.Prelude.{false, true, Ok};
 ghost use Rattle.tera.specs.Form.{Form};
 ghost use Rattle.tera.specs.Meaning.{meaning};
 ghost use Rattle.tera.specs.Order.{compare};
 ghost use Rattle.tera_filters.specs.Arrays.{first_ones, has_same, is_less, mean_same};
 ghost use Rattle.tera_filters.specs.Filters.{filtered};
 ghost use Rattle.tera_filters.specs.Marks.{is_safe_text, makes};
+ghost use Rattle.tera_filters.specs.Parts.{NotBefore, replaced};
 ghost use Rattle.tera_filters.specs.Sorting.{in_order};
 ghost use Rattle.tera_filters.specs.declared.filter.Filter.{Filter};
 
@@ -32,10 +34,24 @@ pub fn sorted_items_are_in_order()
 {}
 
 /// No two of the values that `unique` makes of items mean the same, and what means the same as one
-/// of the items means the same as one of them.
+/// of the items means the same as one of them. An item behind others is put last, where none of
+/// them means the same.
 #[tactic(auto, using(crate::proofs::Distinct::all_distinct, crate::proofs::Distinct::one_for_each))]
 pub fn unique_items_are_distinct()
-    ensures distinct { (xs : List Form) → IsDistinct mean_same (first_ones [] xs) }
-    ensures covers { (xs : List Form) (x : Form)
-        → has_same (first_ones [] xs) x ≡ has_same xs x }
+    ensures distinct { (xs : List Form) → IsDistinct mean_same (first_ones xs) }
+    ensures covers { (xs : List Form) (x : Form) → has_same (first_ones xs) x ≡ has_same xs x }
+    ensures next { (xs : List Form) (x : Form) → first_ones (xs ++ x ∷ [])
+        ≡ (if has_same xs x then first_ones xs else first_ones xs ++ x ∷ []) }
+{}
+
+/// What `replace` makes of a text in which `from` stands nowhere is that text. Of any other it is
+/// what stands before the first `from`, then `to`, and then what it makes of what stands behind. An
+/// empty `from` is no part of this.
+#[tactic(auto, using(crate::proofs::Replaced::nowhere, crate::proofs::Replaced::first_place))]
+pub fn texts_are_replaced_from_the_left()
+    ensures nowhere { (to from text : List ℕ) → from ≢ [] → NotBefore from (length text) text
+        → replaced to from text ≡ text }
+    ensures first { (to from left right : List ℕ) → from ≢ []
+        → NotBefore from (length left) (left ++ (from ++ right))
+        → replaced to from (left ++ (from ++ right)) ≡ left ++ (to ++ replaced to from right) }
 {}

@@ -4,10 +4,12 @@ ghost use Rattle.std.specs.BTreeSet.{insert_key};
 ghost use Rattle.std.specs.List.{list_any};
 ghost use Rattle.std.specs.List.Sorted.{IsStrictlySortedBy};
 ghost use Rattle.std.specs.Ordering.{on};
-ghost use Rattle.std.specs.Prelude.{◌≡◌, ◌++◌, [], ◌∷◌, if◌then◌else◌, IfOk, IfErr, OnOk, Ok};
+ghost use Rattle.std.specs.Prelude.{◌≡◌, ◌++◌, [], ◌∷◌, if◌then◌else◌, IfOk, IfErr, IsOk, OnOk};
+ghost use Rattle.std.specs.Prelude.{Ok};
 ghost use Rattle.tera.specs.Errors.{IsOutOfMemory, Refuses};
 ghost use Rattle.tera.specs.Meaning.{meaning};
 ghost use Rattle.tera.specs.Order.{compare};
+ghost use Rattle.tera.specs.Taken.{as_items};
 ghost use Rattle.tera_filters.specs.Arrays.{first_ones, is_less, sort_of, unique_of};
 ghost use Rattle.tera_filters.specs.Sorting.{in_order};
 
@@ -22,10 +24,11 @@ use tera::{TeraResult, Value};
 /// Refuses every other value with ``Invalid type for the value, expected `&[Value]` but got `N` ``,
 /// N being the name of its kind, without the last blank. Takes memory for the copies of the items,
 /// to sort more than 20 of them, and for the text of the refusal; want of it, `Out of memory`, is
-/// answered in the place of either.
+/// answered in the place of either. No items take none.
 pub fn sort(alloc: Global, value: &Value) -> TeraResult<Value>
     ensures ok { IfOk result (λ v. sort_of value.now ≡ Ok v) }
     ensures err { IfErr result (Refuses (sort_of value.now)) }
+    ensures empty { as_items value.now ≡ Ok [] → IsOk result }
 {
     let items = items_of(alloc, value)?;
     Ok(Value::of_array(sorted(alloc, items)?))
@@ -35,10 +38,12 @@ pub fn sort(alloc: Global, value: &Value) -> TeraResult<Value>
 /// flag.
 ///
 /// Refuses as [`sort`] does. Takes memory for the copies of the items, and for those that are known
-/// to stand before one; want of it, `Out of memory`, is answered in the place of either.
+/// to stand before one; want of it, `Out of memory`, is answered in the place of either. No items
+/// take none.
 pub fn unique(alloc: Global, value: &Value) -> TeraResult<Value>
     ensures ok { IfOk result (λ v. unique_of value.now ≡ Ok v) }
     ensures err { IfErr result (Refuses (unique_of value.now)) }
+    ensures empty { as_items value.now ≡ Ok [] → IsOk result }
 {
     let items = items_of(alloc, value)?;
     Ok(Value::of_array(first_ones(alloc, items)?))
@@ -48,6 +53,7 @@ pub fn unique(alloc: Global, value: &Value) -> TeraResult<Value>
 fn sorted(alloc: Global, items: &[Value]) -> TeraResult<Vec<Value>>
     ensures ok { IfOk result (λ made. made.items ≡ in_order is_less items.now) }
     ensures err { IfErr result IsOutOfMemory }
+    ensures empty { items.now ≡ [] → IsOk result }
 {
     let mut made = copies(alloc, items)?;
     made.sort()?;
@@ -58,6 +64,7 @@ fn sorted(alloc: Global, items: &[Value]) -> TeraResult<Vec<Value>>
 fn copies(alloc: Global, items: &[Value]) -> TeraResult<Vec<Value>>
     ensures ok { IfOk result (λ made. made.items ≡ items.now) }
     ensures err { IfErr result IsOutOfMemory }
+    ensures empty { items.now ≡ [] → IsOk result }
 {
     let mut made = Vec::with_capacity(alloc, items.len())?;
     for item in items {
@@ -68,8 +75,9 @@ fn copies(alloc: Global, items: &[Value]) -> TeraResult<Vec<Value>>
 
 // Copies of the items before which none that means the same stands.
 fn first_ones(alloc: Global, items: &[Value]) -> TeraResult<Vec<Value>>
-    ensures ok { IfOk result (λ made. made.items ≡ first_ones [] items.now) }
+    ensures ok { IfOk result (λ made. made.items ≡ first_ones items.now) }
     ensures err { IfErr result IsOutOfMemory }
+    ensures empty { items.now ≡ [] → IsOk result }
 {
     let mut seen = BTreeSet::new(alloc);
     let mut made = Vec::new(alloc);

@@ -2,7 +2,8 @@
 ghost use Rattle.std.specs.Prelude.{◌≡◌, IfOk, IfErr, IsOk, Ok, false};
 ghost use Rattle.std.specs.Option.{option_copied};
 ghost use Rattle.tera.specs.Errors.{IsOutOfMemory, Refuses};
-ghost use Rattle.tera.specs.Read.{iterable_in};
+ghost use Rattle.tera.specs.Meaning.{meaning};
+ghost use Rattle.tera.specs.Read.{iterable_in, truthy_in};
 ghost use Rattle.tera.specs.Taken.{as_items, as_text};
 ghost use Rattle.tera_filters.specs.Arrays.{or_undefined};
 
@@ -39,6 +40,8 @@ pub(crate) fn copy_of(alloc: Global, item: Option<&Value>) -> TeraResult<Value>
     ensures ok { IfOk result (λ v. or_undefined (option_copied item.entry) ≡ v) }
     ensures err { IfErr result IsOutOfMemory }
     ensures succeeds { iterable_in (or_undefined (option_copied item.entry)) ≡ false
+        → IsOk result }
+    ensures empty { truthy_in (meaning (or_undefined (option_copied item.entry))) ≡ false
         → IsOk result }
 {
     match item {

@@ -20,3 +20,9 @@ returns-clause-err c =
     (Refuses (sliced c.args.value.now c.args.start c.args.end None))
     (λ e is. subst (λ outcome. Refuses outcome e)
     (c.slices_have_one_answer.ensures.only c.args.value.now c.args.start c.args.end None is.0 is.1) is.2) c.slice.ensures.err
+
+pub returns-clause-empty : goal.returns-clause-empty
+returns-clause-empty c made is empty =
+    c.slice.ensures.empty made
+    (subst (λ outcome. IsSliced c.args.value.now c.args.start c.args.end None outcome) is
+    (c.slices_have_one_answer.ensures.answered c.args.value.now c.args.start c.args.end None)) empty

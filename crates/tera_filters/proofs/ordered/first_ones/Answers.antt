@@ -7,7 +7,7 @@ use Rattle.tera.proofs.FindLaws.{find_first}
 use Rattle.tera.proofs.OrderLaws.{compare_total}
 use Rattle.tera.specs.Meaning.{meaning}
 use Rattle.tera.specs.Order.{compare}
-use Rattle.tera_filters.proofs.FirstOnes.{held_where_same, keeps_all, one_more}
+use Rattle.tera_filters.proofs.FirstOnes.{all_seen, held_where_same, one_more}
 use Rattle.tera_filters.proofs.ordered.first_ones.Goals as goal
 
 pub loop-item-preserved : goal.loop-item-preserved
@@ -28,5 +28,5 @@ loop-item-preserved c =
 
 pub returns-clause-ok : goal.returns-clause-ok
 returns-clause-ok c =
-    keeps_all c.args.items.now c.loop-item.item-index c.loop-item.made.items (omega (arith, c.loop-item-test.false))
+    all_seen c.args.items.now c.loop-item.item-index c.loop-item.made.items (omega (arith, c.loop-item-test.false))
     c.loop-item.invariant.kept
