@@ -23,10 +23,10 @@ is_text v = is_some (text_in v)
 
 -- a value with parts is none without, and a text is no other value
 pub has_parts : {P : Type 0} (v : Form) → iterable_in v ≡ true → iterable_in v ≡ false → P
-has_parts v yes no = absurd (let wrong = sym yes ∙ no in cc)
+has_parts v has plain = absurd (let wrong = sym has ∙ plain in cc)
 
 pub is_a_text : {P : Type 0} (v : Form) → is_text v ≡ true → text_in v ≡ None → P
-is_a_text v yes no = absurd (let wrong = sym yes ∙ ap is_some no in cc)
+is_a_text v is other = absurd (let wrong = sym is ∙ ap is_some other in cc)
 
 pub reversed_has_parts : (value v : Form) → reversed value ≡ Ok v → iterable_in v ≡ true
 reversed_has_parts undefined v is = absurd (cc)
