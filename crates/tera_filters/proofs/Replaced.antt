@@ -1,5 +1,5 @@
 -- What std's `replace` makes of a text is what the definition gives.
-use Rattle.std.specs.Prelude.{◌≡◌, ◌≢◌, ◌<◌, ◌≤◌, ◌+◌, ◌++◌, ℕ, zero, suc, cond, true, false, List, [], ◌∷◌, length, take, drop, Option, Some, None, refl}
+use Rattle.std.specs.Prelude.{◌≡◌, ◌≢◌, ◌+◌, ◌++◌, ℕ, zero, suc, cond, true, false, List, [], ◌∷◌, length, take, drop, Option, Some, None, refl}
 use Rattle.std.specs.Str.Replace.{ContinuesAfterMatch, ReplacesMatches}
 use Rattle.std.specs.Char.{encode_utf8}
 use Rattle.std.specs.Str.{IsUtf8, chars}

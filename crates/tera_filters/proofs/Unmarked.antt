@@ -1,5 +1,5 @@
 -- No text that a filter makes is marked.
-use Rattle.std.specs.Prelude.{◌≡◌, true, false, [], reverse, Ok, ℤ, pos, negsuc, neg_ℤ, refl}
+use Rattle.std.specs.Prelude.{◌≡◌, true, false, reverse, Ok, ℤ, pos, negsuc, neg_ℤ, refl}
 use Rattle.std.specs.Option.{option_and_then}
 use Rattle.std.specs.Str.{chars, encode_utf8_all, trim}
 use Rattle.std.specs.StrCase.Lower.{str_to_lowercase}
