@@ -9,7 +9,7 @@ use Rattle.std.proofs.lemmas.Str.{IsCharBoundary-start, IsCharBoundary-after_asc
 use Rattle.std.specs.Str.{IsUtf8, IsCharBoundary}
 use Rattle.std.specs.List.{list_all}
 use Rattle.tera_page.specs.Grammar.{DashFirst, DashLast, LeftOut, Mark, Marked, NoneOpens, begins_blank, closing}
-use Rattle.tera_page.specs.Words.{AreBlanks, is_blank}
+use Rattle.tera_page.specs.Words.{AreBlanks, NotBefore, is_blank}
 use Rattle.tera_page.specs.Grammar.{leaves_out, opening, opens, opens_dashed, value_mark, tag_mark, comment_mark}
 use Rattle.tera_page.specs.Tokens.{begins}
 
@@ -211,10 +211,10 @@ none_out true = refl
 none_out false = refl
 
 pub marked_there : (mark : Mark) (text before front inner behind ahead said after rest : List ℕ) (first last : Bool) → text ≡ before ++ front
-    → front ≡ opening mark ++ (inner ++ (closing mark ++ behind)) → behind ≡ after ++ rest → (0 < length text → begins text ≡ true)
-    → AreBlanks before → DashFirst first inner ahead → DashLast last ahead said → LeftOut last after → (last ≡ true → begins_blank rest ≡ false)
+    → front ≡ opening mark ++ (inner ++ (closing mark ++ behind)) → NotBefore (closing mark) (length inner) (inner ++ (closing mark ++ behind))
+    → behind ≡ after ++ rest → (0 < length text → begins text ≡ true) → AreBlanks before → DashFirst first inner ahead → DashLast last ahead said → LeftOut last after → (last ≡ true → begins_blank rest ≡ false)
     → Marked mark said text rest
-marked_there mark text before front inner behind ahead said after rest first last parts is out starts blanks dash dash_too left all =
+marked_there mark text before front inner behind ahead said after rest first last parts is none out starts blanks dash dash_too left all =
     let whole : text ≡ before ++ (opening mark ++ (inner ++ (closing mark ++ (after ++ rest)))) =
     parts ∙ ap (λ l. before ++ l) (is ∙ ap (λ l. opening mark ++ (inner ++ (closing mark ++ l))) out) in
     record {
@@ -225,6 +225,7 @@ marked_there mark text before front inner behind ahead said after rest first las
       trims_before = first;
       trims_after = last;
       whole = whole;
+      first = subst (λ l. NotBefore (closing mark) (length inner) (inner ++ (closing mark ++ l))) out none;
       left = dash;
       right = dash_too;
       out_before = left_out mark text before inner (after ++ rest) ahead first whole starts blanks dash;

@@ -5,7 +5,7 @@ use Rattle.tera_page.specs.Expressions.{Writes}
 use Rattle.tera_page.specs.Template as tree
 use Rattle.tera_page.specs.Template.{Bound, Showing, Part, Parts, Written, in_page, as_printed}
 use Rattle.tera_page.specs.Template.{item, pair}
-use Rattle.tera_page.specs.Words.{AreBlanks, IsNext, Words, is_blank, is_name}
+use Rattle.tera_page.specs.Words.{AreBlanks, IsNext, NotBefore, Words, is_blank, is_name}
 
 -- ---- marks
 
@@ -78,8 +78,8 @@ abbrev pub begins_blank : List ℕ → Bool
 begins_blank [] = false
 begins_blank (b ∷ bytes) = is_blank b
 
--- the text is two marks and what is said between them, and then the rest. A `-` inside of a mark
--- leaves out all blanks outside of it
+-- the text is two marks and what is said between them, and then the rest. The first closing mark
+-- ends it. A `-` inside of a mark leaves out all blanks outside of it
 pub record Marked (mark : Mark) (said text rest : List ℕ) : Type 0 where
   pub before : List ℕ
   pub inner : List ℕ
@@ -88,6 +88,7 @@ pub record Marked (mark : Mark) (said text rest : List ℕ) : Type 0 where
   pub trims_before : Bool
   pub trims_after : Bool
   pub whole : text ≡ before ++ (opening mark ++ (inner ++ (closing mark ++ (after ++ rest))))
+  pub first : NotBefore (closing mark) (length inner) (inner ++ (closing mark ++ (after ++ rest)))
   pub left : DashFirst trims_before inner ahead
   pub right : DashLast trims_after ahead said
   pub out_before : LeftOut trims_before before

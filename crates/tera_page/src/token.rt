@@ -8,7 +8,7 @@ ghost use Rattle.tera_page.specs.Grammar.{leaves_out, opening, opens, opens_dash
 ghost use Rattle.tera_page.specs.Tokens.{IsBareTag, IsForTag, IsLastRun, SpellsToken, begins};
 ghost use Rattle.tera_page.specs.Tokens.{mark_of, tag_of};
 ghost use Rattle.tera_page.specs.View.{bound_of, showing_of};
-ghost use Rattle.tera_page.specs.Words.{AreBlanks, is_blank};
+ghost use Rattle.tera_page.specs.Words.{AreBlanks, NotBefore, is_blank};
 
 use crate::tree::{Bound, Showing};
 use crate::word::{
@@ -107,10 +107,12 @@ fn marked(text: &str, mark: Mark) -> Option<(&str, &str)>
     }
 }
 
-// What stands between two marks at the front of a text, and behind them.
+// What stands between a mark at the front of a text and the first that closes it, and behind them.
 fn between(text: &str, mark: Mark) -> Option<(&str, &str)>
-    ensures { IfSome result (λ found. text.now
+    ensures whole { IfSome result (λ found. text.now
         ≡ opening (mark_of mark) ++ (found.0.now ++ (closing (mark_of mark) ++ found.1.now))) }
+    ensures first { IfSome result (λ found. NotBefore (closing (mark_of mark))
+        (length found.0.now) (found.0.now ++ (closing (mark_of mark) ++ found.1.now))) }
 {
     cut_at(behind(text, opening(mark))?, closing(mark))
 }

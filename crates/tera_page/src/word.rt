@@ -3,9 +3,9 @@ ghost use Rattle.std.specs.Prelude.{◌≡◌, ◌++◌, ◌≤◌, ◌<◌, [],
 ghost use Rattle.std.specs.Prelude.{slice_index, true, false};
 ghost use Rattle.std.specs.List.{list_all};
 ghost use Rattle.tera_page.specs.Grammar.{begins_blank};
-ghost use Rattle.tera_page.specs.Words.{AreBlanks, IsNext, IsPlace, Words, are_elements, is_blank};
-ghost use Rattle.tera_page.specs.Words.{is_loop_name, is_name, is_name_byte, is_name_start};
-ghost use Rattle.tera_page.specs.Words.{is_word_of_language, place_text};
+ghost use Rattle.tera_page.specs.Words.{AreBlanks, IsNext, IsPlace, NotBefore, Words, are_elements};
+ghost use Rattle.tera_page.specs.Words.{is_blank, is_loop_name, is_name, is_name_byte};
+ghost use Rattle.tera_page.specs.Words.{is_name_start, is_word_of_language, place_text};
 ghost use Rattle.tera_page.specs.View.{place_of};
 
 use crate::tree::Place;
@@ -32,7 +32,8 @@ pub(crate) fn is_name_byte(byte: u8) -> bool
 
 /// What stands before a mark, and what stands after it, where it stands in the text first.
 pub(crate) fn cut_at<'a>(text: &'a str, mark: &'static str) -> Option<(&'a str, &'a str)>
-    ensures { IfSome result (λ cut. text.now ≡ cut.0.now ++ (mark.now ++ cut.1.now)) }
+    ensures whole { IfSome result (λ cut. text.now ≡ cut.0.now ++ (mark.now ++ cut.1.now)) }
+    ensures first { IfSome result (λ cut. NotBefore mark.now (length cut.0.now) text.now) }
 {
     text.split_once(mark)
 }
