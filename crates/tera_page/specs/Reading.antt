@@ -1,6 +1,6 @@
 -- What the clauses of the reader cite.
 use Rattle.std.specs.Prelude.{◌≡◌, ◌⊎◌, ℕ, List, [], codes, Option, None, Some}
-use Rattle.tera.specs.Errors.{Raises}
+use Rattle.tera.specs.Errors.{IsOutOfMemory, Raises}
 use Rattle.tera.specs.Refusal.{syntax_error}
 use Rattle.tera.specs.types.Error.{Error}
 use Rattle.tera.specs.types.Span.{Span}
@@ -11,6 +11,8 @@ use Rattle.tera_page.specs.Template as tree
 use Rattle.tera_page.specs.Template.{Bound, Parts, Written}
 use Rattle.tera_page.specs.Tokens.{tag_of}
 use Rattle.tera_page.specs.View.{part_of, parts_of}
+use Rattle.tera_page.specs.declared.fault.Fault.{Fault}
+use Rattle.tera_page.specs.declared.fault.Fault.TheVariants.{Memory, Bad, Deep, Long, Unnamed}
 use Rattle.tera_page.specs.declared.syntax.End.{End}
 use Rattle.tera_page.specs.declared.syntax.End.TheVariants.{If, For}
 use Rattle.tera_page.specs.declared.syntax.Section.{Section}
@@ -42,6 +44,14 @@ IsSyntaxError file source e =
     ⊎ (ShowsIn (codes "More than 64 levels") file source e
     ⊎ (ShowsIn (codes "More than 128 words and signs") file source e
     ⊎ ShowsIn (codes "There is no such filter") file source e))
+
+-- the message that each fault shows, or want of memory
+abbrev pub Tells : Fault → List ℕ → List ℕ → Error → Type 0
+Tells Memory file source e = IsOutOfMemory e
+Tells (Bad at) file source e = ShowsIn (codes "This is not read") file source e
+Tells (Deep at) file source e = ShowsIn (codes "More than 64 levels") file source e
+Tells (Long at) file source e = ShowsIn (codes "More than 128 words and signs") file source e
+Tells (Unnamed at) file source e = ShowsIn (codes "There is no such filter") file source e
 
 -- parts end with the text, or at a tag, behind which is the rest
 abbrev pub StopsAt : Option Tag → List ℕ → List ℕ → Type 0

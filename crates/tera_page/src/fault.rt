@@ -1,7 +1,7 @@
 //! Why a text is no template.
 ghost use Rattle.std.specs.Prelude.{◌≡◌, IfOk, IfErr};
 ghost use Rattle.tera.specs.Errors.{IsOutOfMemory};
-ghost use Rattle.tera_page.specs.Reading.{IsSyntaxError, ShowsAt, ShowsIn};
+ghost use Rattle.tera_page.specs.Reading.{IsSyntaxError, ShowsAt, ShowsIn, Tells};
 ghost use Rattle.tera_page.specs.declared.fault.Fault.TheVariants.{Memory};
 
 use crate::word::past_blanks;
@@ -49,6 +49,7 @@ impl Fault<'_> {
     /// The error of a text of that file that is no template, with a report that shows the place.
     pub(crate) fn into_error(self, alloc: Global, file: &str, source: &str) -> Error
         ensures shows { IsSyntaxError file.now source.now result }
+        ensures tells { Tells self.entry file.now source.now result }
         ensures memory { self.entry ≡ Memory → IsOutOfMemory result }
     {
         match self {
