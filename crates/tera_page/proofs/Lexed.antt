@@ -4,7 +4,7 @@ use Rattle.std.proofs.Common.{ap, rules, subst, sym, ◌∙◌}
 use Rattle.std.proofs.lemmas.List.{append_assoc}
 use Rattle.tera_page.proofs.Fronts.{both}
 use Rattle.std.specs.List.{list_all}
-use Rattle.tera_page.specs.Symbols.{AreSymbols, Symbol}
+use Rattle.tera_page.specs.Symbols.{AreSymbols, BeginWith, Symbol}
 use Rattle.tera_page.specs.Words.{AreBlanks, is_blank}
 
 blanks_more : (bs cs : List ℕ) → AreBlanks bs → AreBlanks cs → AreBlanks (bs ++ cs)
@@ -18,6 +18,19 @@ pub symbols_behind : (ss : List Symbol) (before text rest : List ℕ) → AreBla
     → AreSymbols ss text
 symbols_behind [] before text rest blanks is some = subst AreBlanks (sym is) (blanks_more before rest blanks some)
 symbols_behind (s ∷ ss) before text rest blanks is (more, inner, later, more_blanks, same, spelled, others) = (
+  before ++ more,
+  inner,
+  later,
+  blanks_more before more blanks more_blanks,
+  is ∙ ap (λ l. before ++ l) same ∙ sym (append_assoc before more inner),
+  spelled,
+  others,
+)
+
+-- a text begins with the same symbols behind blanks
+pub begins_behind : (ss : List Symbol) (before text rest : List ℕ) → AreBlanks before → text ≡ before ++ rest → BeginWith ss rest → BeginWith ss text
+begins_behind [] before text rest blanks is some = tt
+begins_behind (s ∷ ss) before text rest blanks is (more, inner, later, more_blanks, same, spelled, others) = (
   before ++ more,
   inner,
   later,

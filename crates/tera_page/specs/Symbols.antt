@@ -1,6 +1,6 @@
 -- Which bytes spell the words and signs of an expression.
-use Rattle.std.specs.Prelude.{◌≡◌, ◌||◌, ◌==◌, ◌&&◌, ◌<◌, not, ℕ, Bool, true, false, IsTrue, List}
-use Rattle.std.specs.Prelude.{[], ◌∷◌, ◌++◌, length, codes}
+use Rattle.std.specs.Prelude.{◌≡◌, ⊤, ◌||◌, ◌==◌, ◌&&◌, ◌<◌, not, ℕ, Bool, true, false, IsTrue}
+use Rattle.std.specs.Prelude.{List, [], ◌∷◌, ◌++◌, length, codes}
 use Rattle.std.specs.List.{list_all}
 use Rattle.tera_page.specs.Words.{AreBlanks, is_name_byte}
 
@@ -101,3 +101,14 @@ AreSymbols [] text = AreBlanks text
 AreSymbols (s ∷ ss) text =
     (before inner rest : List ℕ) × AreBlanks before × (text ≡ before ++ inner)
     × IsSymbol s inner rest × AreSymbols ss rest
+
+-- the text begins with these symbols, with blanks before each
+abbrev pub BeginWith : List Symbol → List ℕ → Type 0
+BeginWith [] text = ⊤
+BeginWith (s ∷ ss) text =
+    (before inner rest : List ℕ) × AreBlanks before × (text ≡ before ++ inner)
+    × IsSymbol s inner rest × BeginWith ss rest
+
+-- the text begins with more than n symbols
+abbrev pub HasMore : ℕ → List ℕ → Type 0
+HasMore n text = (ss : List Symbol) × (n < length ss) × BeginWith ss text

@@ -1,11 +1,12 @@
 //! The words and signs that an expression is made of.
-ghost use Rattle.std.specs.Prelude.{◌≡◌, ◌++◌, ◌≤◌, ◌<◌, ℕ, List, true, false, IfOk, IfSome};
+ghost use Rattle.std.specs.Prelude.{◌≡◌, ◌++◌, ◌≤◌, ◌<◌, ℕ, List, true, false, IfOk, IfErr, IfSome};
 ghost use Rattle.std.specs.Prelude.{drop, length, map, slice_index};
 ghost use Rattle.std.specs.List.{list_all};
-ghost use Rattle.tera_page.specs.Symbols.{AreSymbols, IsQuoted, IsSymbol, IsWord, begins_word};
-ghost use Rattle.tera_page.specs.Symbols.{is_plain, is_word_byte};
+ghost use Rattle.tera_page.specs.Symbols.{AreSymbols, HasMore, IsQuoted, IsSymbol, IsWord};
+ghost use Rattle.tera_page.specs.Symbols.{begins_word, is_plain, is_word_byte};
 ghost use Rattle.tera_page.specs.Symbols;
 ghost use Rattle.tera_page.specs.Tokens.{IsSigned, sign_of, symbol_of};
+ghost use Rattle.tera_page.specs.declared.symbol.Unread.TheVariants.{Long};
 
 use crate::word::{behind, cut_at, is_name_byte, past_blanks};
 use std::alloc::{AllocError, AllocFailed, Global};
@@ -86,19 +87,21 @@ impl<T: Drop> From<AllocFailed<T>> for Unread {
     }
 }
 
-/// The symbols that a text is made of.
+/// The symbols that a text is made of, where there are no more than may be.
 pub(crate) fn symbols_in(alloc: Global, text: &str) -> Result<Vec<Symbol<'_>>, Unread>
-    ensures { IfOk result (λ found. AreSymbols (map symbol_of found.items) text.now) }
+    ensures ok { IfOk result (λ found. AreSymbols (map symbol_of found.items) text.now) }
+    ensures few { IfOk result (λ found. length found.items ≤ 128) }
+    ensures long { IfErr result (λ why. why ≡ Long → HasMore 128 text.now) }
 {
     let mut found = Vec::new(alloc);
     let (_, mut rest) = past_blanks(text);
     'symbols: while !rest.is_empty() {
-        if found.len() >= SYMBOLS {
-            return Err(Unread::Long);
-        }
         let Some((symbol, after)) = take_symbol(rest) else {
             return Err(Unread::Bad);
         };
+        if found.len() >= SYMBOLS {
+            return Err(Unread::Long);
+        }
         found.push(symbol)?;
         let (_, next) = past_blanks(after);
         rest = next;
