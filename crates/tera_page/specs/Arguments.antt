@@ -1,15 +1,28 @@
 -- Which symbols spell what stands alone, and the arguments of a filter.
-use Rattle.std.specs.Prelude.{◌≡◌, ℕ, pos, true, false, IsTrue, List, [], ◌∷◌, Option, None, Some}
-use Rattle.std.specs.Prelude.{Ok}
+use Rattle.std.specs.Prelude.{◌≡◌, ◌≢◌, ⊤, ℕ, pos, true, false, IsTrue, List, [], ◌∷◌, Option}
+use Rattle.std.specs.Prelude.{None, Some, Ok}
 use Rattle.tera.specs.Arithmetic.{negated}
 use Rattle.tera.specs.Form.{Form}
 use Rattle.tera.specs.Integer.{u64}
 use Rattle.tera.specs.Path.{place}
 use Rattle.tera.specs.Tree as form
+use Rattle.tera_filters.specs.Words.{word_of}
+use Rattle.tera_filters.specs.declared.filter.Filter.{Filter}
 use Rattle.tera_page.specs.Symbols as symbol
 use Rattle.tera_page.specs.Symbols.{Sign, Symbol, sign, quoted, word}
 use Rattle.tera_page.specs.Template.{Argument, Operand, Place, constant, found_at}
 use Rattle.tera_page.specs.Words.{IsPlace, is_name, place_text}
+
+-- the first symbol is no word, or there is none
+abbrev pub BeginsNoWord : List Symbol → Type 0
+BeginsNoWord [] = ⊤
+BeginsNoWord (word w ∷ ss) = ⊥
+BeginsNoWord (_ ∷ ss) = ⊤
+
+-- the first symbol is a word, and the name of no filter
+abbrev pub NamesNone : List Symbol → Type 0
+NamesNone (word w ∷ ss) = (filter : Filter) → w ≢ word_of filter
+NamesNone _ = ⊥
 
 -- what a word of the language is the value of
 abbrev pub constant_of : Sign → Option Form

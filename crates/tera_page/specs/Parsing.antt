@@ -1,5 +1,6 @@
 -- What the clauses of the reader of expressions cite.
 use Rattle.std.specs.Prelude.{◌≤◌, List, map, length}
+use Rattle.tera_page.specs.Arguments.{BeginsNoWord, NamesNone}
 use Rattle.tera_page.specs.Expressions as grammar
 use Rattle.tera_page.specs.Expressions.{Reads}
 use Rattle.tera_page.specs.Symbols as symbol
@@ -10,6 +11,8 @@ use Rattle.tera_page.specs.declared.level.Level.TheVariants as level
 use Rattle.tera_page.specs.declared.level.Row.{Row}
 use Rattle.tera_page.specs.declared.level.Row.TheVariants as row
 use Rattle.tera_page.specs.declared.symbol.Symbol.{Symbol}
+use Rattle.tera_page.specs.declared.symbol.Unread.{Unread}
+use Rattle.tera_page.specs.declared.symbol.Unread.TheVariants.{Bad, Unnamed}
 use Rattle.tera_page.specs.declared.tree.Expression.{Expression}
 
 abbrev pub level_of : Level → grammar.Level
@@ -33,6 +36,12 @@ row_level row.Products = grammar.products
 
 abbrev pub symbols_of : List Symbol → List symbol.Symbol
 symbols_of ss = map symbol_of ss
+
+-- no word is first, or one that is the name of no filter
+abbrev pub IsNoFilter : List Symbol → Unread → Type 0
+IsNoFilter ss Bad = BeginsNoWord (symbols_of ss)
+IsNoFilter ss Unnamed = NamesNone (symbols_of ss)
+IsNoFilter ss _ = ⊥
 
 -- the first symbols were read as that, and no more are left than there were
 abbrev pub IsRead : grammar.Level → List Symbol → Expression → List Symbol → Type 0

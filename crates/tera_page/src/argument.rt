@@ -1,12 +1,13 @@
 //! Reads what stands alone, and filters with their arguments.
-ghost use Rattle.std.specs.Prelude.{◌≡◌, ◌∷◌, ◌≤◌, ◌<◌, IfOk, IfSome, Some, length};
+ghost use Rattle.std.specs.Prelude.{◌≡◌, [], ◌∷◌, ◌≤◌, ◌<◌, IfOk, IfErr, IfSome, Some, length};
 ghost use Rattle.tera_filters.specs.Words.{word_of};
-ghost use Rattle.tera_page.specs.Arguments.{AreArguments, AreListed, IsArgument, IsGiven};
-ghost use Rattle.tera_page.specs.Arguments.{IsOperand, constant_of};
-ghost use Rattle.tera_page.specs.Parsing.{symbols_of};
+ghost use Rattle.tera_page.specs.Arguments.{AreArguments, AreListed, BeginsNoWord, IsArgument};
+ghost use Rattle.tera_page.specs.Arguments.{IsGiven, IsOperand, constant_of};
+ghost use Rattle.tera_page.specs.Parsing.{IsNoFilter, symbols_of};
 ghost use Rattle.tera_page.specs.Symbols;
 ghost use Rattle.tera_page.specs.Tokens.{sign_of, symbol_of};
 ghost use Rattle.tera_page.specs.View.{argument_of, arguments_of, operand_of};
+ghost use Rattle.tera_page.specs.declared.symbol.Unread.TheVariants.{Bad};
 
 use crate::level::behind;
 use crate::symbol::{Sign, Symbol, Unread};
@@ -25,6 +26,7 @@ pub(crate) fn filter_in<'a, 's>(
     ensures first { IfOk result (λ found. symbols_of symbols.now
         ≡ Symbols.word (word_of found.0) ∷ symbols_of found.1.now) }
     ensures shorter { IfOk result (λ found. length found.1.now < length symbols.now) }
+    ensures err { IfErr result (IsNoFilter symbols.now) }
 {
     let (word, rest) = word_in(symbols)?;
     match Filter::named(word) {
@@ -175,6 +177,7 @@ pub(crate) fn word_in<'a, 's>(
     ensures first { IfOk result (λ found. symbols_of symbols.now
         ≡ Symbols.word found.0.now ∷ symbols_of found.1.now) }
     ensures shorter { IfOk result (λ found. length found.1.now < length symbols.now) }
+    ensures err { IfErr result (λ why. (why ≡ Bad) × BeginsNoWord (symbols_of symbols.now)) }
 {
     let (first, rest) = first_of(symbols)?;
     match first {
@@ -190,6 +193,7 @@ pub(crate) fn first_of<'a, 's>(
     ensures first { IfOk result
         (λ found. symbols_of symbols.now ≡ symbol_of found.0 ∷ symbols_of found.1.now) }
     ensures shorter { IfOk result (λ found. length found.1.now < length symbols.now) }
+    ensures err { IfErr result (λ why. (why ≡ Bad) × (symbols_of symbols.now ≡ [])) }
 {
     match symbols.split_first() {
         Some((first, rest)) => Ok((*first, rest)),
