@@ -212,7 +212,8 @@ none_out false = refl
 
 pub marked_there : (mark : Mark) (text before front inner behind ahead said after rest : List ℕ) (first last : Bool) → text ≡ before ++ front
     → front ≡ opening mark ++ (inner ++ (closing mark ++ behind)) → NotBefore (closing mark) (length inner) (inner ++ (closing mark ++ behind))
-    → behind ≡ after ++ rest → (0 < length text → begins text ≡ true) → AreBlanks before → DashFirst first inner ahead → DashLast last ahead said → LeftOut last after → (last ≡ true → begins_blank rest ≡ false)
+    → behind ≡ after ++ rest → (0 < length text → begins text ≡ true)
+    → AreBlanks before → DashFirst first inner ahead → DashLast last ahead said → LeftOut last after → (last ≡ true → begins_blank rest ≡ false)
     → Marked mark said text rest
 marked_there mark text before front inner behind ahead said after rest first last parts is none out starts blanks dash dash_too left all =
     let whole : text ≡ before ++ (opening mark ++ (inner ++ (closing mark ++ (after ++ rest)))) =

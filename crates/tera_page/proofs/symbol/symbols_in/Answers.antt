@@ -1,5 +1,5 @@
 -- With blanks around them.
-use Rattle.std.proofs.Common.{◌≡◌, ◌≤◌, ◌∷◌, ◌++◌, [], append-nil, ap, length, map, refl, subst, sym, ◌∙◌, arith, rules}
+use Rattle.std.proofs.Common.{◌≤◌, ◌∷◌, ◌++◌, [], append-nil, ap, length, map, refl, subst, sym, ◌∙◌, arith, rules}
 use Rattle.std.proofs.lemmas.List.{length-append, length-map}
 use Rattle.tera_page.proofs.Lexed.{begins_behind, none_there, pushed, symbols_behind}
 use Rattle.tera_page.proofs.symbol.symbols_in.Goals as goal

@@ -18,8 +18,9 @@ pub returns-else-last-clause-marked : goal.returns-else-last-clause-marked
 returns-else-last-clause-marked c starts =
     marked_there (mark_of c.args.mark) c.args.text.now c.past_blanks.result.0.now c.past_blanks.result.1.now c.in_ok-inner.inner.now
     c.in_ok-inner.behind.now c.dash_first.result.1.now c.dash_last-last.result.1.now [] c.in_ok-inner.behind.now c.dash_first.result.0
-    c.dash_last-last.result.0 c.past_blanks.ensures.whole c.in_ok-inner.ensures.whole c.in_ok-inner.ensures.first refl starts c.past_blanks.ensures.blanks c.dash_first.ensures
-    c.dash_last-last.ensures (none_out c.dash_last-last.result.0) (λ yes. never c.dash_last-last.result.0 c.if-last.false yes)
+    c.dash_last-last.result.0 c.past_blanks.ensures.whole c.in_ok-inner.ensures.whole c.in_ok-inner.ensures.first refl starts
+    c.past_blanks.ensures.blanks c.dash_first.ensures c.dash_last-last.ensures (none_out c.dash_last-last.result.0)
+    (λ yes. never c.dash_last-last.result.0 c.if-last.false yes)
 
 pub returns-then-last-clause-shorter : goal.returns-then-last-clause-shorter
 returns-then-last-clause-shorter c =
