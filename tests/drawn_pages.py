@@ -174,6 +174,16 @@ class Drawn:
         """An `else` with its parts, or none."""
         return self.tag("else") + self.parts(scope, depth - 1) if self.once_in(2) else ""
 
+    def setting(self, scope: Scope, depth: int) -> str:
+        """A name that is set, which the parts behind it know."""
+        name = self.chance.choice([*(f"{letter}{self.number}" for letter in LOOSE), *(name for name in scope if name not in loop_names())])
+        place, shape = self.place(scope)
+        if self.once_in(2):
+            shape = self.chance.choice(["number", "truth", "any"])
+            place = self.expression(scope, shape, 2).text
+        scope[name] = shape
+        return self.tag(f"set {name}{self.blank()}={self.blank()}{place}")
+
     def loop(self, scope: Scope, depth: int) -> str:
         """A loop, nearly always over an array, or by two names over a map."""
         is_by_two = self.once_in(4)
@@ -189,7 +199,7 @@ class Drawn:
         over = self.chance.choice([*[place] * 30, f"({self.blank()}{place})", f"{place} or {place}", self.expression(scope, "any", 1).text])
         if kind is tuple and self.once_in(6):
             over = self.through(scope, Said(place, ALONE), self.chance.choice(PIPES["array"]).name).text
-        said = [self.tag(f"for {bound} in {over}"), self.parts(inner, depth - 1), self.otherwise(scope, depth), self.tag("endfor")]
+        said = [self.tag(f"for {bound} in {over}"), self.parts(inner, depth - 1), self.otherwise({**scope}, depth), self.tag("endfor")]
         return "".join(said)
 
     def place(self, scope: Scope, missing: int = 60) -> Tuple[str, Shape]:
@@ -357,7 +367,7 @@ Maker = Callable[[Drawn, Scope, int], Said]
 # The parts of templates: how often each is drawn, whether it holds others, and how it is drawn.
 PARTS: List[Tuple[int, bool, Callable[[Drawn, Scope, int], str]]] = [
     (30, False, Drawn.plain), (35, False, Drawn.show), (25, False, Drawn.question), (5, False, Drawn.comment), (14, True, Drawn.choice),
-    (16, True, Drawn.loop),
+    (16, True, Drawn.loop), (8, False, Drawn.setting),
 ]
 
 

@@ -4,7 +4,8 @@ its name there, and any of them can be turned on alone: `answer(template, names,
 A function changes one step of jinja2: `template` the text and the names before they are read, `settings` the environment,
 `prints` a value before it is shown, `escapes` an escaped text, `looks` what a path leads to, `repeats` what any loop goes over,
 `loops` what one by one name does, `pairs` what one by two does, `joins` what an `or` or an `and` is, `compares`, `holds` and
-`counts` what a sign makes of values, `filters` what a filter makes of one, `named` which filters there are, and `reads` the parser.
+`counts` what a sign makes of values, `filters` what a filter makes of one, `named` which filters there are, `sets` a tree in
+which names are set, and `reads` the parser.
 """
 from __future__ import annotations
 
@@ -375,6 +376,14 @@ class Ours(Parser):
             return read
         return nodes.Filter(read, self.stream.expect("name").value, [], [], None, None, lineno=pipe.lineno)
 
+    def parse_set(self) -> Union[nodes.Assign, nodes.AssignBlock]:
+        """One name, and a value that is no shown one."""
+        read = super().parse_set()
+        is_safe = isinstance(read, nodes.Assign) and isinstance(read.node, nodes.Filter) and read.node.name in ("safe", "escape")
+        if is_safe or not isinstance(read, nodes.Assign) or not isinstance(read.target, nodes.Name):
+            self.fail("no name is set", read.lineno)
+        return read
+
     def parse_compare(self) -> nodes.Expr:
         """A sum, alone or with one comparison or question."""
         left, at = self.parse_math1(), self.stream.current
@@ -455,6 +464,26 @@ def capitals(template: str, names: Names) -> Tuple[str, Names]:
 def no_names(environment: jinja2.Environment) -> None:
     """There is no name but those that are given."""
     environment.globals.clear()
+
+
+@reason("names of jinja2", "sets")
+def seen_early(tree: nodes.Template) -> bool:
+    """A name is the outer one up to where it is set, in a loop before that too. Says whether such a loop has one."""
+    loops = [*tree.find_all(nodes.For)]
+    bodies = [tree.body, *(body for loop in loops for body in (loop.body, loop.else_))]
+    asked = {name.name for loop in loops for name in loop.find_all(nodes.Name) if name.ctx == "load"}
+    names = [[*dict.fromkeys(set_in(body))] for body in bodies]
+    for body, found in zip(bodies, names):
+        body[:0] = [nodes.Assign(nodes.Name(name, "store"), nodes.Name(name, "load"), lineno=1) for name in found]
+    return any(name in asked for found in names for name in found)
+
+
+def set_in(body: List[nodes.Node]) -> List[str]:
+    """The names that a body sets, but for those of its loops."""
+    choices = [node for node in body if isinstance(node, nodes.If)]
+    inner: List[List[nodes.Node]] = [[*part] for it in choices for part in (it.body, it.elif_, it.else_)]
+    names = [it.target.name for it in body if isinstance(it, nodes.Assign) and isinstance(it.target, nodes.Name)]
+    return names + [name for part in inner for name in set_in(part)]
 
 
 @reason("blanks and line ends", "settings")
@@ -690,6 +719,7 @@ class Changed(jinja2.Environment):
                 self.met.add(name)
         if isinstance(read, jinja2.TemplateSyntaxError):
             raise read
+        self.met.update(name for name, change in self.of_step("sets") if change(read))
         return Hooks(self.is_known).visit(read)  # type: ignore[no-any-return]
 
 

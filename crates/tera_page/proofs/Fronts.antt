@@ -9,7 +9,8 @@ use Rattle.std.proofs.lemmas.Str.{IsCharBoundary-start, IsCharBoundary-after_asc
 use Rattle.std.specs.Str.{IsUtf8, IsCharBoundary}
 use Rattle.std.specs.List.{list_all}
 use Rattle.tera_page.specs.Grammar.{DashFirst, DashLast, LeftOut, Mark, Marked, NoneOpens, begins_blank, closing}
-use Rattle.tera_page.specs.Words.{AreBlanks, NotBefore, is_blank}
+use Rattle.tera_filters.specs.Parts.{NotBefore}
+use Rattle.tera_page.specs.Words.{AreBlanks, is_blank}
 use Rattle.tera_page.specs.Grammar.{leaves_out, opening, opens, opens_dashed, value_mark, tag_mark, comment_mark}
 use Rattle.tera_page.specs.Tokens.{begins}
 

@@ -5,16 +5,16 @@ use Rattle.std.proofs.lemmas.Slice.Eq.{bytes_eq-Decides}
 use Rattle.std.specs.Str.{bytes_eq}
 use Rattle.std.specs.Borrow.{Bor}
 use Rattle.std.specs.Option.{option_map, unwrap_or}
-use Rattle.tera_page.proofs.Views.{part-Comment, part-Show, part-Text}
+use Rattle.tera_page.proofs.Views.{part-Comment, part-Set, part-Show, part-Text}
 use Rattle.tera_page.specs.Expressions.{Writes}
 use Rattle.tera_page.specs.Grammar as grammar
 use Rattle.tera_page.specs.Grammar.{InTag, IsPlain, IsRun, Marked, Shows, SpellsElse, SpellsPart, SpellsTag, SpellsUpTo}
 use Rattle.tera_page.specs.Words.{IsNext}
-use Rattle.tera_page.specs.Grammar.{Tag, if_tag, for_tag, elif_tag, comment_mark, value_mark}
+use Rattle.tera_page.specs.Grammar.{Tag, if_tag, for_tag, elif_tag, set_tag, comment_mark, value_mark}
 use Rattle.tera_page.specs.Reading.{IsChoice, IsLoop, StopsAt}
 use Rattle.tera_page.specs.Template as tree
 use Rattle.tera_page.specs.Template.{Part, Parts}
-use Rattle.tera_page.specs.Tokens.{IsForTag, tag_of}
+use Rattle.tera_page.specs.Tokens.{IsForTag, IsSetTag, tag_of}
 use Rattle.tera_page.specs.View.{part_of, parts_of, showing_of, written_of}
 use Rattle.tera_page.specs.declared.token.Tag as code
 use Rattle.tera_page.specs.declared.tree.Node as node
@@ -25,6 +25,11 @@ use Rattle.tera_page.specs.declared.tree.Written as code_written
 pub for_said : (tag : Tag) (said word rest : List ℕ) → word ≡ codes "for" → IsNext said word rest → IsForTag tag rest → InTag tag said
 for_said (for_tag bound over) said word rest is next (proper, loops) = (proper, (rest, subst (λ w. IsNext said w rest) is next, loops))
 for_said tag said word rest is next none = absurd none
+
+-- what a tag says that sets a name, behind its first word
+pub set_said : (tag : Tag) (said word rest : List ℕ) → word ≡ codes "set" → IsNext said word rest → IsSetTag tag rest → InTag tag said
+set_said (set_tag name value) said word rest is next (proper, assigns) = (proper, (rest, subst (λ w. IsNext said w rest) is next, assigns))
+set_said tag said word rest is next none = absurd none
 
 some_same : (x y : Tag) → Some x ≡ Some y → x ≡ y
 some_same x y is = ap (λ o. unwrap_or o x) is
@@ -70,6 +75,11 @@ module _ (text rest : List ℕ) where
   next_show written how said writes shows =
       subst (λ p. SpellsPart p text rest) (sym (part-Show written how))
       (grammar.show (written_of written) (showing_of how) said text rest writes shows)
+
+  pub next_set : (name : Bor (List ℕ)) (written : code_written.Written) (said : List ℕ) → Writes (written_of written) said
+      → SpellsTag (set_tag name.now said) text rest → NextIs (node.Set name written)
+  next_set name written said writes tag =
+      subst (λ p. SpellsPart p text rest) (sym (part-Set name written)) (grammar.assign name.now (written_of written) said text rest writes tag)
 
   pub next_choice : (said : List ℕ) (n : node.Node) (body : List ℕ) → SpellsTag (if_tag said) text body → IsChoice said n body rest → NextIs n
   next_choice said n body tag (test, chosen, otherwise, tail, writes, view, inside, end) =

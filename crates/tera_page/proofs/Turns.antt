@@ -10,7 +10,10 @@ use Rattle.tera.specs.Errors.{Refuses}
 use Rattle.tera.specs.InTurn.{ShownInTurn}
 use Rattle.tera.specs.State.{State}
 use Rattle.tera.specs.types.Error.{Error}
-use Rattle.tera_page.specs.Rendering.{IsPageOf, Names, Piece, Pieces, ShowsPiece, each, joined, turn_names, turns, turns_from, under}
+use Rattle.tera_page.specs.Rendering.{IsPageOf, Names, Piece, Pieces, ShowsPiece, after, all_after, all_pieces, each, joined, pieces}
+use Rattle.tera_page.specs.Rendering.{turn_names, turns, turns_from, under}
+use Rattle.tera_page.specs.View.{part_of, parts_of}
+use Rattle.tera_page.specs.declared.tree.Node.{Node}
 
 -- behind some pieces, others
 abbrev pub behind : List Piece → Pieces → Pieces
@@ -95,37 +98,86 @@ next_made make state xs x i is =
     (length-map xs make)
     (next_turn state (map make xs) (make x) i (drop-map make i xs ∙ ap (map make) is ∙ ap (λ l. make x ∷ l) (sym (drop-map make (i + 1) xs))))
 
-module _ {X : Type 0} (f : X → Pieces) (xs : List X) where
-  -- the pieces up to a place were put, and with those of the rest they are all
-  abbrev pub Goes : ℕ → List ℕ → List ℕ → Type 0
-  Goes i old new =
-      (ps : List Piece) × (shown : List ℕ) × ShownInTurn ShowsPiece ps shown × (new ≡ old ++ shown)
-      × (each f xs ≡ behind ps (each f (drop i xs)))
+module _ (whole : Pieces) where
+  -- what was put is the front of some pieces, and these are left
+  abbrev pub Put : Pieces → List ℕ → List ℕ → Type 0
+  Put left old new =
+      (ps : List Piece) × (shown : List ℕ) × ShownInTurn ShowsPiece ps shown × (new ≡ old ++ shown) × (whole ≡ behind ps left)
 
-  pub goes_on : (i : ℕ) (x : X) (old new newer more : List ℕ) → drop i xs ≡ x ∷ drop (i + 1) xs → IsPageOf (f x) more
-      → newer ≡ new ++ more → Goes i old new → Goes (i + 1) old newer
-  goes_on i x old new newer more next page grows (ps, shown, turn, so_far, all) =
-      let (qs, gives, turned) = given (f x) more page in (
+  pub put_on : (first left : Pieces) (old new newer more : List ℕ) → IsPageOf first more → newer ≡ new ++ more → Put (joined first left) old new
+      → Put left old newer
+  put_on first left old new newer more page grows (ps, shown, turn, so_far, all) =
+      let (qs, gives, turned) = given first more page in (
         ps ++ qs,
         shown ++ more,
         shown_joined ShowsPiece ps qs shown more turn turned,
         grows ∙ ap (λ l. l ++ more) so_far ∙ append_assoc old shown more,
-        all ∙ ap (λ l. behind ps (each f l)) next ∙ ap (λ p. behind ps (joined p (each f (drop (i + 1) xs)))) gives
-            ∙ regrouped (each f (drop (i + 1) xs)) ps qs,
+        all ∙ ap (λ p. behind ps (joined p left)) gives ∙ regrouped left ps qs,
       )
+
+  pub put_wrong : (first left : Pieces) (old new : List ℕ) (e : Error) → Refuses first e → Put (joined first left) old new → Refuses whole e
+  put_wrong first left old new e refused (ps, shown, turn, so_far, all) =
+      subst (λ p. Refuses p e) (sym all)
+      (refuses_on (joined first left) (λ ys. Ok (ps ++ ys)) e (refuses_on first (λ ys. and_then left (λ zs. Ok (ys ++ zs))) e refused))
+
+  pub put_last : (old new : List ℕ) → Put (Ok []) old new → (shown : List ℕ) × IsPageOf whole shown × (new ≡ old ++ shown)
+  put_last old new (ps, shown, turn, so_far, all) = (
+    shown,
+    subst (λ p. IsPageOf p shown) (sym all) (subst (λ l. ShownInTurn ShowsPiece l shown) (sym (append-nil ps)) turn),
+    so_far,
+  )
+
+module _ {X : Type 0} (f : X → Pieces) (xs : List X) where
+  -- the pieces up to a place were put
+  abbrev pub Goes : ℕ → List ℕ → List ℕ → Type 0
+  Goes i old new = Put (each f xs) (each f (drop i xs)) old new
+
+  pub goes_on : (i : ℕ) (x : X) (old new newer more : List ℕ) → drop i xs ≡ x ∷ drop (i + 1) xs → IsPageOf (f x) more
+      → newer ≡ new ++ more → Goes i old new → Goes (i + 1) old newer
+  goes_on i x old new newer more next page grows so_far =
+      put_on (each f xs) (f x) (each f (drop (i + 1) xs)) old new newer more page grows
+      (subst (λ l. Put (each f xs) (each f l) old new) next so_far)
 
   pub goes_wrong : (i : ℕ) (x : X) (old new : List ℕ) (e : Error) → drop i xs ≡ x ∷ drop (i + 1) xs → Refuses (f x) e → Goes i old new
       → Refuses (each f xs) e
-  goes_wrong i x old new e next refused (ps, shown, turn, so_far, all) =
-      subst (λ p. Refuses p e) (sym (all ∙ ap (λ l. behind ps (each f l)) next))
-      (refuses_on (joined (f x) (each f (drop (i + 1) xs))) (λ ys. Ok (ps ++ ys)) e
-      (refuses_on (f x) (λ ys. and_then (each f (drop (i + 1) xs)) (λ zs. Ok (ys ++ zs))) e refused))
+  goes_wrong i x old new e next refused so_far =
+      put_wrong (each f xs) (f x) (each f (drop (i + 1) xs)) old new e refused (subst (λ l. Put (each f xs) (each f l) old new) next so_far)
 
   pub goes_last : (i : ℕ) (old new : List ℕ) → length xs ≤ i → Goes i old new
       → (shown : List ℕ) × IsPageOf (each f xs) shown × (new ≡ old ++ shown)
-  goes_last i old new past (ps, shown, turn, so_far, all) = (
-    shown,
-    subst (λ p. IsPageOf p shown) (sym (all ∙ ap (λ l. behind ps (each f l)) (drop_all i xs past)))
-        (subst (λ l. ShownInTurn ShowsPiece l shown) (sym (append-nil ps)) turn),
-    so_far,
-  )
+  goes_last i old new past so_far =
+      put_last (each f xs) old new (subst (λ l. Put (each f xs) (each f l) old new) (drop_all i xs past) so_far)
+
+module _ (nodes : List Node) (from : State) where
+  -- the parts up to a place were put, and led to this state
+  abbrev pub Steps : ℕ → State → List ℕ → List ℕ → Type 0
+  Steps i state old new =
+      Put (all_pieces (parts_of nodes) from) (all_pieces (parts_of (drop i nodes)) state) old new
+      × (all_after (parts_of nodes) from ≡ all_after (parts_of (drop i nodes)) state)
+
+  pub steps_on : (i : ℕ) (n : Node) (state later : State) (old new newer more : List ℕ) → drop i nodes ≡ n ∷ drop (i + 1) nodes
+      → IsPageOf (pieces (part_of n) state) more → newer ≡ new ++ more → later ≡ after (part_of n) state → Steps i state old new
+      → Steps (i + 1) later old newer
+  steps_on i n state later old new newer more next page grows leads (so_far, led) =
+      let rest = parts_of (drop (i + 1) nodes) in (
+        put_on (all_pieces (parts_of nodes) from) (pieces (part_of n) state) (all_pieces rest later) old new newer more page grows
+            (subst (λ s. Put (all_pieces (parts_of nodes) from) (joined (pieces (part_of n) state) (all_pieces rest s)) old new) (sym leads)
+            (subst (λ l. Put (all_pieces (parts_of nodes) from) (all_pieces (parts_of l) state) old new) next so_far)),
+        led ∙ ap (λ l. all_after (parts_of l) state) next ∙ ap (all_after rest) (sym leads),
+      )
+
+  pub steps_wrong : (i : ℕ) (n : Node) (state : State) (old new : List ℕ) (e : Error) → drop i nodes ≡ n ∷ drop (i + 1) nodes
+      → Refuses (pieces (part_of n) state) e → Steps i state old new → Refuses (all_pieces (parts_of nodes) from) e
+  steps_wrong i n state old new e next refused (so_far, led) =
+      put_wrong (all_pieces (parts_of nodes) from) (pieces (part_of n) state)
+      (all_pieces (parts_of (drop (i + 1) nodes)) (after (part_of n) state)) old new e refused
+      (subst (λ l. Put (all_pieces (parts_of nodes) from) (all_pieces (parts_of l) state) old new) next so_far)
+
+  pub steps_last : (i : ℕ) (state : State) (old new : List ℕ) → length nodes ≤ i → Steps i state old new
+      → ((shown : List ℕ) × IsPageOf (all_pieces (parts_of nodes) from) shown × (new ≡ old ++ shown)) × (state ≡ all_after (parts_of nodes) from)
+  steps_last i state old new past (so_far, led) =
+      let none = drop_all i nodes past in (
+        put_last (all_pieces (parts_of nodes) from) old new
+            (subst (λ l. Put (all_pieces (parts_of nodes) from) (all_pieces (parts_of l) state) old new) none so_far),
+        sym (led ∙ ap (λ l. all_after (parts_of l) state) none),
+      )

@@ -1,23 +1,30 @@
 -- What nodes and scopes stand for, variant by variant.
 use Rattle.std.specs.Prelude.{◌≡◌, ℕ, nat_eq, length, not, Bool, true, false, cond, List, [], ◌∷◌, Option, Some, Result, Ok, Err, Vec, refl}
-use Rattle.std.proofs.Common.{ap, rules, ◌∙◌}
+use Rattle.std.proofs.Common.{ap, rules, subst, sym, ◌∙◌}
 use Rattle.std.specs.Borrow.{Bor}
 use Rattle.std.specs.Cmp.{eq_by_cmp_equiv}
-use Rattle.std.specs.Cmp.Lexicographic.{nat_list_cmp_total}
-use Rattle.std.specs.FinMap.{get, insert, get-insert}
+use Rattle.std.specs.Cmp.Lexicographic.{nat_list_cmp_total, slice_cmp}
+use Rattle.std.specs.Ordering.{nat_cmp}
+use Rattle.std.specs.FinMap.{empty, get, get-empty, get-insert, insert}
 use Rattle.std.specs.Option.{option_or}
+use Rattle.std.specs.Result.{result_unwrap_or}
 use Rattle.std.specs.Str.{bytes_eq}
 use Rattle.std.specs.declared.alloc.Global.{Global}
 use Rattle.std.proofs.lemmas.Map.Text.{is_eq-slice_cmp}
 use Rattle.tera.specs.Form.{Form}
 use Rattle.tera.specs.Refusal.{Refusal}
-use Rattle.tera.specs.State.{State}
-use Rattle.tera.specs.Arithmetic.{and_then}
-use Rattle.tera_page.specs.Rendering.{IsPageOf, Names, all_pieces, each, joined, looped, owns, pieces, repeated, stands_for}
-use Rattle.tera_page.specs.Rendering.{turn_names, turns, under}
+use Rattle.tera.specs.State.{State, extended}
+use Rattle.tera.proofs.ExtendLaws.{get_extended}
+use Rattle.tera.proofs.StateLaws.{same_state}
+use Rattle.tera.proofs.RefusalLaws.{refuses_on}
+use Rattle.tera.specs.Errors.{Refuses}
+use Rattle.tera.specs.types.Error.{Error}
+use Rattle.tera.specs.Arithmetic.{and_then, each_ok}
+use Rattle.tera_page.specs.Rendering.{IsPageOf, Names, after, all_after, all_pieces, each, looped, owns, pieces, repeated}
+use Rattle.tera_page.specs.Rendering.{stands_for, turn_names, turns, under, value_alone}
 use Rattle.tera_page.specs.Template as tree
 use Rattle.tera_page.specs.Values.{is_true, value_of}
-use Rattle.tera_page.specs.View.{bound_of, expression_of, names_of, part_of, parts_of, showing_of, state_of, written_of}
+use Rattle.tera_page.specs.View.{bound_of, expression_of, names_of, part_of, parts_of, showing_of, state_of, state_with, written_of}
 use Rattle.tera_page.specs.declared.scope.Scope as scope
 use Rattle.tera_page.specs.declared.scope.Turn.{Turn}
 use Rattle.tera_page.specs.declared.tree.Bound.{Bound}
@@ -31,6 +38,20 @@ state-Item name value outer = search (rules, scope.the_lemmas)
 
 pub state-Turn : (turn : Bor Turn) (outer : Bor scope.Scope) → state_of (scope.Turn turn outer) ≡ under (state_of outer.now) (names_of turn.now)
 state-Turn turn outer = search (rules, scope.the_lemmas)
+
+pub state-Set : (names : Bor State) (outer : Bor scope.Scope) → state_of (scope.Set names outer) ≡ state_with outer.now (Some names.now)
+state-Set names outer = search (rules, scope.the_lemmas)
+
+-- where none is set
+pub none_set : (state : State) → extended state empty ≡ state
+none_set state =
+    same_state (extended state empty) state (λ name.
+    get_extended state empty name ∙ ap (λ o. option_or o (get state name)) (get-empty (slice_cmp nat_cmp) name))
+
+-- the value of a name, where one is set and where not
+pub get_set : (names : Bor State) (outer : Bor scope.Scope) (word : List ℕ)
+    → get (state_of (scope.Set names outer)) word ≡ option_or (get names.now word) (get (state_of outer.now) word)
+get_set names outer word = ap (λ s. get s word) (state-Set names outer) ∙ get_extended (state_of outer.now) names.now word
 
 -- an item, in its turn
 pub state-turned : (name : Bor (List ℕ)) (value : Bor Form) (turn : Bor Turn) (outer around : Bor scope.Scope) (before all : ℕ)
@@ -57,6 +78,9 @@ part-Comment said = search (rules, node.the_lemmas)
 
 pub part-Show : (written : Written) (how : Showing) → part_of (node.Show written how) ≡ tree.show (written_of written) (showing_of how)
 part-Show written how = search (rules, node.the_lemmas)
+
+pub part-Set : (name : Bor (List ℕ)) (written : Written) → part_of (node.Set name written) ≡ tree.assign name.now (written_of written)
+part-Set name written = search (rules, node.the_lemmas)
 
 pub part-If : (test : Written) (chosen otherwise : Vec node.Node Global)
     → part_of (node.If test chosen otherwise) ≡ tree.choice (written_of test) (parts_of chosen.items) (parts_of otherwise.items)
@@ -86,11 +110,6 @@ get_under state name value other =
     get-insert nat_list_cmp_total state name value other
     ∙ ap (λ b. cond b (Some value) (get state other)) ((eq_by_cmp_equiv nat_list_cmp_total).symm other name ∙ is_eq-slice_cmp name other)
 
--- parts one behind the other
-pub all_each : (nodes : List node.Node) (state : State) → all_pieces (parts_of nodes) state ≡ each (λ n. pieces (part_of n) state) nodes
-all_each [] state = refl
-all_each (n ∷ nodes) state = ap (joined (pieces (part_of n) state)) (all_each nodes state)
-
 -- what a choice shows
 pub shows_choice : (held : node.Node) (test : Written) (chosen otherwise : Vec node.Node Global) (state : State) (v : Form) (b : Bool)
     → held ≡ node.If test chosen otherwise → value_of (expression_of test.expression) state ≡ Ok v → is_true v ≡ b
@@ -99,6 +118,47 @@ shows_choice held test chosen otherwise state v b is given same =
     ap (λ p. pieces p state) (ap part_of is ∙ part-If test chosen otherwise)
     ∙ ap (λ r. and_then r (λ w. cond (is_true w) (all_pieces (parts_of chosen.items) state) (all_pieces (parts_of otherwise.items) state))) given
     ∙ ap (λ t. cond t (all_pieces (parts_of chosen.items) state) (all_pieces (parts_of otherwise.items) state)) same
+
+-- where its value is refused
+pub choice_refused : (held : node.Node) (test : Written) (chosen otherwise : Vec node.Node Global) (state : State) (e : Error)
+    → held ≡ node.If test chosen otherwise → Refuses (value_of (expression_of test.expression) state) e → Refuses (pieces (part_of held) state) e
+choice_refused held test chosen otherwise state e is refused =
+    subst (λ p. Refuses (pieces p state) e) (sym (ap part_of is ∙ part-If test chosen otherwise))
+    (refuses_on (value_of (expression_of test.expression) state)
+    (λ w. cond (is_true w) (all_pieces (parts_of chosen.items) state) (all_pieces (parts_of otherwise.items) state)) e refused)
+
+pub set_refused : (held : node.Node) (name : Bor (List ℕ)) (written : Written) (state : State) (e : Error)
+    → held ≡ node.Set name written → Refuses (value_of (expression_of written.expression) state) e → Refuses (pieces (part_of held) state) e
+set_refused held name written state e is refused =
+    subst (λ p. Refuses (pieces p state) e) (sym (ap part_of is ∙ part-Set name written))
+    (refuses_on (value_of (expression_of written.expression) state) (λ w. Ok []) e refused)
+
+-- what a value shows, in a state that is the same
+pub shows_value : (held : node.Node) (written : Written) (how : Showing) (inner state : State) → held ≡ node.Show written how → inner ≡ state
+    → and_then (value_of (expression_of written.expression) inner) (value_alone (showing_of how) written.text.now) ≡ pieces (part_of held) state
+shows_value held written how inner state is same =
+    ap (λ s. and_then (value_of (expression_of written.expression) s) (value_alone (showing_of how) written.text.now)) same
+    ∙ sym (ap (λ p. pieces p state) (ap part_of is ∙ part-Show written how))
+
+-- the state behind a choice
+pub after_choice : (held : node.Node) (test : Written) (chosen otherwise : Vec node.Node Global) (state : State) (v : Form) (b : Bool)
+    → held ≡ node.If test chosen otherwise → value_of (expression_of test.expression) state ≡ Ok v → is_true v ≡ b
+    → after (part_of held) state ≡ cond b (all_after (parts_of chosen.items) state) (all_after (parts_of otherwise.items) state)
+after_choice held test chosen otherwise state v b is given same =
+    ap (λ p. after p state) (ap part_of is ∙ part-If test chosen otherwise)
+    ∙ ap (λ r. result_unwrap_or (each_ok (λ w. cond (is_true w) (all_after (parts_of chosen.items) state) (all_after (parts_of otherwise.items) state)) r)
+    state) given
+    ∙ ap (λ t. cond t (all_after (parts_of chosen.items) state) (all_after (parts_of otherwise.items) state)) same
+
+-- what a name that is set shows, and the state behind it
+pub shows_set : (held : node.Node) (name : Bor (List ℕ)) (written : Written) (state : State) (v : Form)
+    → held ≡ node.Set name written → value_of (expression_of written.expression) state ≡ Ok v
+    → (pieces (part_of held) state ≡ Ok []) × (after (part_of held) state ≡ insert state name.now v)
+shows_set held name written state v is given =
+    let part = ap part_of is ∙ part-Set name written in (
+      ap (λ p. pieces p state) part ∙ ap (λ r. and_then r (λ w. Ok [])) given,
+      ap (λ p. after p state) part ∙ ap (λ r. result_unwrap_or (each_ok (insert state name.now) r) state) given,
+    )
 
 -- what comes after both of two steps
 grouped : {X Y Z : Type 0} (r : Result X Refusal) (f : X → Result Y Refusal) (g : Y → Result Z Refusal)
@@ -117,6 +177,10 @@ module _ (held : node.Node) (bound : Bound) (over : Written) (body otherwise : V
       ≡ and_then (value_of (expression_of over.expression) state)
       (looped (bound_of bound) over.text.now (all_pieces (parts_of body.items)) (all_pieces (parts_of otherwise.items)) state)
   shows_loop = ap (λ p. pieces p state) (ap part_of is ∙ part-For bound over body otherwise)
+
+  -- it keeps to itself what is set in it
+  pub after_loop : after (part_of held) state ≡ state
+  after_loop = ap (λ p. after p state) (ap part_of is ∙ part-For bound over body otherwise)
 
   -- whose turns have these names
   pub shows_turns : (all : List Names) → loop_owns ≡ Ok all

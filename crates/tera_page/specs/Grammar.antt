@@ -1,11 +1,12 @@
 -- Which bytes spell a template.
 use Rattle.std.specs.Prelude.{◌≡◌, ◌≢◌, ◌⊎◌, ⊤, ◌||◌, ◌==◌, ◌&&◌, ◌<◌, ◌-◌, ℕ, Bool, true, false}
 use Rattle.std.specs.Prelude.{IsTrue, List, [], ◌∷◌, ◌++◌, drop, length, slice_index, codes}
+use Rattle.tera_filters.specs.Parts.{NotBefore}
 use Rattle.tera_page.specs.Expressions.{Writes}
 use Rattle.tera_page.specs.Template as tree
 use Rattle.tera_page.specs.Template.{Bound, Showing, Part, Parts, Written, in_page, as_printed}
 use Rattle.tera_page.specs.Template.{item, pair}
-use Rattle.tera_page.specs.Words.{AreBlanks, IsNext, NotBefore, Words, is_blank, is_name}
+use Rattle.tera_page.specs.Words.{AreBlanks, IsNext, Words, is_blank, is_name}
 
 -- ---- marks
 
@@ -105,6 +106,7 @@ pub data Tag : Type 0 where
   endif_tag : Tag
   for_tag : Bound → List ℕ → Tag
   endfor_tag : Tag
+  set_tag : List ℕ → List ℕ → Tag
 
 -- behind blanks stands what is bound, and then the rest; a comma, maybe in blanks, parts two names
 abbrev pub Binds : Bound → List ℕ → List ℕ → Type 0
@@ -121,6 +123,11 @@ Begins word More text = (rest : List ℕ) × IsNext text word rest × More rest
 abbrev pub Loops : Bound → List ℕ → List ℕ → Type 0
 Loops bound over text = (rest : List ℕ) × Binds bound text rest × IsNext rest (codes "in") over
 
+-- what stands behind the first word where a name is set: the name, `=`, and an expression
+abbrev pub Assigns : List ℕ → List ℕ → List ℕ → Type 0
+Assigns name value text =
+    (left : List ℕ) × Words (name ∷ []) left × (text ≡ left ++ (codes "=" ++ value))
+
 -- what a tag says between its marks
 abbrev pub Says : Tag → List ℕ → Type 0
 Says (if_tag test) said = IsNext said (codes "if") test
@@ -129,6 +136,7 @@ Says else_tag said = Words (codes "else" ∷ []) said
 Says endif_tag said = Words (codes "endif" ∷ []) said
 Says (for_tag bound over) said = Begins (codes "for") (Loops bound over) said
 Says endfor_tag said = Words (codes "endfor" ∷ []) said
+Says (set_tag name value) said = Begins (codes "set") (Assigns name value) said
 
 abbrev pub IsBound : Bound → Type 0
 IsBound (item name) = IsTrue (is_name name)
@@ -136,6 +144,7 @@ IsBound (pair key value) = IsTrue (is_name key) × IsTrue (is_name value)
 
 abbrev pub IsProper : Tag → Type 0
 IsProper (for_tag bound over) = IsBound bound
+IsProper (set_tag name value) = IsTrue (is_name name)
 IsProper _ = ⊤
 
 abbrev pub InTag : Tag → List ℕ → Type 0
@@ -177,6 +186,8 @@ mutual
         → SpellsPart (tree.comment said) whole rest
     show : (w : Written) (how : Showing) (said whole rest : List ℕ) → Writes w said
         → Shows said how whole rest → SpellsPart (tree.show w how) whole rest
+    assign : (name : List ℕ) (value : Written) (said whole rest : List ℕ) → Writes value said
+        → SpellsTag (set_tag name said) whole rest → SpellsPart (tree.assign name value) whole rest
     choice : (test : Written) (chosen otherwise : Parts) (said whole body tail rest : List ℕ)
         → Writes test said → SpellsTag (if_tag said) whole body → SpellsUpTo chosen body tail
         → SpellsElse otherwise tail rest

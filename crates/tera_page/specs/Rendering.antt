@@ -3,8 +3,9 @@ use Rattle.std.specs.Prelude.{◌≡◌, ◌+◌, ◌==◌, ◌++◌, ℕ, suc, 
 use Rattle.std.specs.Prelude.{Option, None, Some, Result, Ok, Err, if◌then◌else◌}
 use Rattle.std.specs.FinMap.{insert}
 use Rattle.std.specs.Option.{ok_or}
+use Rattle.std.specs.Result.{result_unwrap_or}
 use Rattle.std.specs.Str.{bytes_eq, trim}
-use Rattle.tera.specs.Arithmetic.{and_then}
+use Rattle.tera.specs.Arithmetic.{and_then, each_ok}
 use Rattle.tera.specs.Form.{Form}
 use Rattle.tera.specs.InPage.{ShowsInPage}
 use Rattle.tera.specs.InTurn.{ShownInTurn}
@@ -117,13 +118,33 @@ abbrev pub looped : Bound → List ℕ → (State → Pieces) → (State → Pie
 looped bound said body otherwise state v =
     and_then (owns bound said v) (repeated body otherwise state)
 
--- the pieces of a part, and of parts one behind the other
+-- the state behind a part; what is set in a loop ends with it. It is as it was where a value is
+-- refused
+abbrev mutual
+  pub after : Part → State → State
+  after (tree.text t) state = state
+  after (tree.comment t) state = state
+  after (tree.show w how) state = state
+  after (tree.assign name w) state =
+      result_unwrap_or (each_ok (insert state name) (value_of w.expression state)) state
+  after (tree.choice test chosen otherwise) state =
+      result_unwrap_or (each_ok
+      (λ v. if is_true v then all_after chosen state else all_after otherwise state)
+      (value_of test.expression state)) state
+  after (tree.loop bound over body otherwise) state = state
+
+  pub all_after : Parts → State → State
+  all_after tree.no_parts state = state
+  all_after (tree.part p ps) state = all_after ps (after p state)
+
+-- the pieces of a part, and of parts one behind the other, each in the state behind the one before
 abbrev mutual
   pub pieces : Part → State → Pieces
   pieces (tree.text t) state = Ok (verbatim t ∷ [])
   pieces (tree.comment t) state = Ok []
   pieces (tree.show w how) state =
       and_then (value_of w.expression state) (value_alone how w.text)
+  pieces (tree.assign name w) state = and_then (value_of w.expression state) (λ v. Ok [])
   pieces (tree.choice test chosen otherwise) state =
       and_then (value_of test.expression state)
       (λ v. if is_true v then all_pieces chosen state else all_pieces otherwise state)
@@ -133,7 +154,7 @@ abbrev mutual
 
   pub all_pieces : Parts → State → Pieces
   all_pieces tree.no_parts state = Ok []
-  all_pieces (tree.part p ps) state = joined (pieces p state) (all_pieces ps state)
+  all_pieces (tree.part p ps) state = joined (pieces p state) (all_pieces ps (after p state))
 
 -- what a piece shows
 abbrev pub ShowsPiece : Piece → List ℕ → Type 0

@@ -61,13 +61,15 @@ pub data Bound : Type 0 where
   item : List ℕ → Bound
   pair : List ℕ → List ℕ → Bound
 
--- a text; a comment; a value that is shown; what is taken where a value is true, and where not;
--- what is repeated in each turn of a loop, and what is taken where it has none
+-- a text; a comment; a value that is shown; a name that is set to a value; what is taken where a
+-- value is true, and where not; what is repeated in each turn of a loop, and what is taken where it
+-- has none
 mutual
   pub data Part : Type 0 where
     text : List ℕ → Part
     comment : List ℕ → Part
     show : Written → Showing → Part
+    assign : List ℕ → Written → Part
     choice : Written → Parts → Parts → Part
     loop : Bound → Written → Parts → Parts → Part
 

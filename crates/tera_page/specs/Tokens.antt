@@ -1,11 +1,12 @@
 -- What the clauses of the reader's private functions cite.
-use Rattle.std.specs.Prelude.{◌≡◌, ◌||◌, ◌++◌, ℕ, Bool, false, List, [], codes}
+use Rattle.std.specs.Prelude.{◌≡◌, ◌||◌, ◌++◌, ℕ, Bool, false, IsTrue, List, [], codes}
 use Rattle.tera_page.specs.Grammar as grammar
 use Rattle.tera_page.specs.Grammar.{IsRun, Marked, Shows, SpellsTag, comment_mark}
 use Rattle.tera_page.specs.Grammar.{leaves_out, opens}
 use Rattle.tera_page.specs.Symbols as symbol
 use Rattle.tera_page.specs.Symbols.{begins_word, spelled}
 use Rattle.tera_page.specs.View.{bound_of, showing_of}
+use Rattle.tera_page.specs.Words.{is_name}
 use Rattle.tera_page.specs.declared.symbol.Sign.{Sign}
 use Rattle.tera_page.specs.declared.symbol.Sign.TheVariants as sign
 use Rattle.tera_page.specs.declared.symbol.Symbol.{Symbol}
@@ -14,7 +15,7 @@ use Rattle.tera_page.specs.declared.symbol.Symbol.TheVariants as code
 use Rattle.tera_page.specs.declared.token.Mark.{Mark}
 use Rattle.tera_page.specs.declared.token.Mark.TheVariants as mark
 use Rattle.tera_page.specs.declared.token.Tag.{Tag}
-use Rattle.tera_page.specs.declared.token.Tag.TheVariants.{If, Elif, Else, EndIf, For, EndFor}
+use Rattle.tera_page.specs.declared.token.Tag.TheVariants.{If, Elif, Else, EndIf, For, EndFor, Set}
 use Rattle.tera_page.specs.declared.token.Token.{Token}
 use Rattle.tera_page.specs.declared.token.Token.TheVariants as token
 
@@ -25,6 +26,7 @@ tag_of Else = grammar.else_tag
 tag_of EndIf = grammar.endif_tag
 tag_of (For bound over) = grammar.for_tag (bound_of bound) over.now
 tag_of EndFor = grammar.endfor_tag
+tag_of (Set name value) = grammar.set_tag name.now value.now
 
 -- the text is the token, and then the rest
 abbrev pub SpellsToken : Token → List ℕ → List ℕ → Type 0
@@ -61,6 +63,12 @@ abbrev pub IsForTag : grammar.Tag → List ℕ → Type 0
 IsForTag (grammar.for_tag bound over) text =
     grammar.IsBound bound × grammar.Loops bound over text
 IsForTag _ text = ⊥
+
+-- what stands behind `set` is that of the tag
+abbrev pub IsSetTag : grammar.Tag → List ℕ → Type 0
+IsSetTag (grammar.set_tag name value) text =
+    IsTrue (is_name name) × grammar.Assigns name value text
+IsSetTag _ text = ⊥
 
 abbrev pub sign_of : Sign → symbol.Sign
 sign_of sign.Open = symbol.opens

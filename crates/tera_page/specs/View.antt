@@ -1,10 +1,10 @@
 -- The tree of `specs/Template.antt` that a node stands for, and the state that a scope reads.
-use Rattle.std.specs.Prelude.{List, [], ◌∷◌, map, codes}
-use Rattle.std.specs.FinMap.{insert}
+use Rattle.std.specs.Prelude.{List, [], ◌∷◌, map, codes, Option, unwrap_or}
+use Rattle.std.specs.FinMap.{empty, insert}
 use Rattle.std.specs.Option.{option_copied}
 use Rattle.tera.specs.Form.{Form}
 use Rattle.tera.specs.Operation.{operator_of}
-use Rattle.tera.specs.State.{State}
+use Rattle.tera.specs.State.{State, extended}
 use Rattle.tera_page.specs.Rendering.{Names, under}
 use Rattle.tera_page.specs.Template as tree
 use Rattle.tera_page.specs.declared.tree.Argument.{Argument}
@@ -89,6 +89,7 @@ abbrev pub node_step : Node-F tree.Part → tree.Part
 node_step (Node-F.Text shown) = tree.text shown.now
 node_step (Node-F.Comment said) = tree.comment said.now
 node_step (Node-F.Show written how) = tree.show (written_of written) (showing_of how)
+node_step (Node-F.Set name written) = tree.assign name.now (written_of written)
 node_step (Node-F.If test chosen otherwise) =
     tree.choice (written_of test) (tree.parts chosen.items) (tree.parts otherwise.items)
 node_step (Node-F.For bound over body otherwise) =
@@ -109,14 +110,19 @@ names_of turn =
     (codes "loop.index", turn.index) ∷ (codes "loop.index0", turn.index0)
     ∷ (codes "loop.first", turn.first) ∷ (codes "loop.last", turn.last) ∷ []
 
--- the names of a context, and those of the loops around
+-- the names of a context, those of the loops around, and those that were set
 abbrev pub scope_step : Scope-F State → State
 scope_step (Scope-F.Context context) = context.now
 scope_step (Scope-F.Turn turn outer) = under outer.now (names_of turn.now)
 scope_step (Scope-F.Item name value outer) = insert outer.now name.now value.now
+scope_step (Scope-F.Set names outer) = extended outer.now names.now
 
 abbrev pub state_of : Scope → State
 state_of = fold-Scope State scope_step
+
+-- what a scope reads, and then the names that were set in it, if there are any
+abbrev pub state_with : Scope → Option State → State
+state_with scope names = extended (state_of scope) (unwrap_or names empty)
 
 abbrev pub form_of : Held → Form
 form_of (Lent value) = value.now

@@ -1,7 +1,6 @@
 -- Which bytes spell words, names and places.
-use Rattle.std.specs.Prelude.{◌≡◌, ◌≢◌, ◌⊎◌, ⊤, ◌||◌, ◌==◌, ◌&&◌, ◌<◌, not, ℕ, Bool, true, false}
-use Rattle.std.specs.Prelude.{IsTrue, List, [], ◌∷◌, ◌++◌, codes, drop, Option, None, Some}
-use Rattle.std.specs.Prelude.{if◌then◌else◌}
+use Rattle.std.specs.Prelude.{◌≡◌, ◌⊎◌, ⊤, ◌||◌, ◌==◌, ◌&&◌, not, ℕ, Bool, true, false, IsTrue}
+use Rattle.std.specs.Prelude.{List, [], ◌∷◌, ◌++◌, codes, Option, None, Some, if◌then◌else◌}
 use Rattle.std.specs.Char.{is_ascii_alphabetic, is_ascii_alphanumeric}
 use Rattle.std.specs.List.{list_all, list_any}
 use Rattle.std.specs.Str.{bytes_eq}
@@ -28,10 +27,6 @@ IsNext text word rest =
 abbrev pub Words : List (List ℕ) → List ℕ → Type 0
 Words [] text = AreBlanks text
 Words (word ∷ words) text = (rest : List ℕ) × IsNext text word rest × Words words rest
-
--- the mark begins at none of the first n places
-abbrev pub NotBefore : List ℕ → ℕ → List ℕ → Type 0
-NotBefore mark n text = (i : ℕ) → i < n → (rest : List ℕ) → drop i text ≢ mark ++ rest
 
 -- ---- names and places
 

@@ -1,5 +1,6 @@
 //! What pages bring. Each function here does nothing: its clauses are the law.
 ghost use Rattle.std.specs.Prelude.{◌≡◌, ◌++◌, ℕ, false, true, List, Ok, Some, length, slice_get};
+ghost use Rattle.std.specs.FinMap.{insert};
 ghost use Rattle.tera.specs.Entities.{SpecialBeginEntities};
 ghost use Rattle.tera.specs.Form.{Form};
 ghost use Rattle.tera.specs.InPage.{ShowsInPage};
@@ -7,9 +8,10 @@ ghost use Rattle.tera.specs.State.{State};
 ghost use Rattle.tera_filters.specs.Marks.{makes};
 ghost use Rattle.tera_filters.specs.declared.filter.Filter.{Filter};
 ghost use Rattle.tera_page.specs.Headline.{BringsNoTag, is_marked};
-ghost use Rattle.tera_page.specs.Rendering.{IsPageOf, Names, Piece, Pieces, ShowsPiece, turn_names};
-ghost use Rattle.tera_page.specs.Rendering.{turns, under};
-ghost use Rattle.tera_page.specs.Template.{Argument, Expression, piped};
+ghost use Rattle.tera_page.specs.Rendering.{IsPageOf, Names, Piece, Pieces, ShowsPiece};
+ghost use Rattle.tera_page.specs.Rendering.{all_pieces, joined, pieces, turn_names, turns, under};
+ghost use Rattle.tera_page.specs.Template.{Argument, Bound, Expression, Parts, Written, assign};
+ghost use Rattle.tera_page.specs.Template.{loop, part, piped};
 ghost use Rattle.tera_page.specs.Values.{value_of};
 
 use tera_filters::laws::made_texts_are_not_safe;
@@ -32,6 +34,18 @@ pub fn turns_are_those_of_the_parts()
     ensures each { (state : State) (owns : List Names) (own : Names) (i : ℕ)
         → slice_get owns i ≡ Some own
         → slice_get (turns state owns) i ≡ Some (under state (own ++ turn_names i (length owns))) }
+{}
+
+/// A name that is set stands for its value in all that follows, up to the end of the loop around:
+/// behind a loop the state is what it was before it.
+pub fn set_names_stand_for_their_values()
+    ensures stands { (name : List ℕ) (value : Written) (rest : Parts) (state : State) (v : Form)
+        → value_of value.expression state ≡ Ok v
+        → all_pieces (part (assign name value) rest) state
+        ≡ all_pieces rest (insert state name v) }
+    ensures ends { (bound : Bound) (over : Written) (body otherwise rest : Parts) (state : State)
+        → all_pieces (part (loop bound over body otherwise) rest) state
+        ≡ joined (pieces (loop bound over body otherwise) state) (all_pieces rest state) }
 {}
 
 /// A text that a filter makes is not safe, whatever is safe in what it is made of. So what a page

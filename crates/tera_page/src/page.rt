@@ -1,6 +1,7 @@
 //! The page of a template.
 ghost use Rattle.std.specs.Prelude.{◌≡◌, ◌++◌, ℕ, List, IfOk, IfErr, Ok, OnOk, IsTrue, length};
-ghost use Rattle.std.specs.Prelude.{nat_eq, not};
+ghost use Rattle.std.specs.Prelude.{nat_eq, not, unwrap_or};
+ghost use Rattle.std.specs.FinMap.{empty, insert};
 ghost use Rattle.std.specs.String.{string_bytes};
 ghost use Rattle.tera.specs.Arithmetic.{and_then};
 ghost use Rattle.tera.specs.Errors.{IsOutOfMemory, Refuses};
@@ -8,13 +9,14 @@ ghost use Rattle.tera.specs.Form.{Form};
 ghost use Rattle.tera.specs.Growing.{grown_bytes};
 ghost use Rattle.tera.specs.State.{State};
 ghost use Rattle.tera_page.specs.Headline.{BringsNoTag};
-ghost use Rattle.tera_page.specs.Rendering.{IsPageOf, Names, Pieces, ShowsPiece, all_pieces, each};
-ghost use Rattle.tera_page.specs.Rendering.{items_of, looped, named_items, named_pairs, owns};
-ghost use Rattle.tera_page.specs.Rendering.{pairs_of, pieces, turns, value_alone};
+ghost use Rattle.tera_page.specs.Rendering.{IsPageOf, Names, Pieces, ShowsPiece, after, all_after};
+ghost use Rattle.tera_page.specs.Rendering.{all_pieces, each, items_of, looped, named_items};
+ghost use Rattle.tera_page.specs.Rendering.{named_pairs, owns, pairs_of, pieces, turns};
+ghost use Rattle.tera_page.specs.Rendering.{value_alone};
 ghost use Rattle.tera_page.specs.Rendering;
 ghost use Rattle.tera_page.specs.Values.{is_true, value_of};
 ghost use Rattle.tera_page.specs.View.{bound_of, expression_of, part_of, parts_of, showing_of};
-ghost use Rattle.tera_page.specs.View.{state_of, tree_of, written_of};
+ghost use Rattle.tera_page.specs.View.{state_of, state_with, tree_of, written_of};
 
 use crate::laws::values_bring_no_tag;
 use crate::refused::{no_array_at, no_map_at, nothing_at};
@@ -23,11 +25,12 @@ use crate::tree::{Bound, Expression, Node, Showing, Template, Written};
 use crate::value::value_of;
 use std::alloc::Global;
 use tera::sink::{Growing, Sink};
+use tera::value::HashState;
 use tera::{Context, Map, TeraResult, Value, show_in_page};
 
-/// The page of a template, whose names stand for what the context holds, and inside a loop for its
-/// items and turns. A value is shown as it prints, escaped unless it is safe: what is not marked
-/// safe brings no tag, and ends no quoted attribute.
+/// The page of a template, whose names stand for what the context holds and the template sets, and
+/// inside a loop for its items and turns. A value is shown as it prints, escaped unless it is safe:
+/// what is not marked safe brings no tag, and ends no quoted attribute.
 ///
 /// Refuses the first expression E that is shown or looped over and stands for nothing, or for
 /// undefined, with ``Nothing is found at `E` ``, without the last blank. Refuses the first loop by
@@ -52,13 +55,13 @@ pub fn render<'a>(
 {
     values_bring_no_tag();
     let mut page = Growing::new(alloc);
-    put_nodes(alloc, template.nodes(), &Scope::Context(context), &mut page)?;
+    put_body(alloc, template.nodes(), &Scope::Context(context), &mut page)?;
     Ok(page.into_text())
 }
 
-// Puts parts, one behind the other.
+// Puts parts, which keep to themselves what they set.
 #[cycle(put)]
-fn put_nodes<'a, 't>(
+fn put_body<'a, 't>(
     alloc: Global,
     nodes: &'a [Node<'t>],
     scope: &'a Scope<'a>,
@@ -69,39 +72,73 @@ fn put_nodes<'a, 't>(
         × (grown_bytes page.new ≡ grown_bytes page.old ++ shown)) }
     ensures err { IfErr result (Refuses (all_pieces (parts_of nodes.now) (state_of scope.now))) }
 {
+    let mut names = None;
+    put_nodes(alloc, nodes, scope, &mut names, page)
+}
+
+// Puts parts, one behind the other, and sets names.
+#[cycle(put)]
+fn put_nodes<'a, 't>(
+    alloc: Global,
+    nodes: &'a [Node<'t>],
+    scope: &'a Scope<'a>,
+    names: &mut Option<Context>,
+    page: &mut Growing,
+) -> TeraResult<()>
+    ensures ok { OnOk result ((shown : List ℕ)
+        × IsPageOf (all_pieces (parts_of nodes.now) (state_with scope.now names.old)) shown
+        × (grown_bytes page.new ≡ grown_bytes page.old ++ shown)) }
+    ensures after { OnOk result (state_with scope.now names.new
+        ≡ all_after (parts_of nodes.now) (state_with scope.now names.old)) }
+    ensures err { IfErr result
+        (Refuses (all_pieces (parts_of nodes.now) (state_with scope.now names.old))) }
+{
     for node in nodes {
-        put_node(alloc, node, scope, page)?;
+        put_node(alloc, node, scope, names, page)?;
     }
     Ok(())
 }
 
-// Puts a part.
+// Puts a part, or sets a name.
 #[cycle(put)]
 fn put_node<'a, 't>(
     alloc: Global,
     node: &'a Node<'t>,
     scope: &'a Scope<'a>,
+    names: &mut Option<Context>,
     page: &mut Growing,
 ) -> TeraResult<()>
     ensures ok { OnOk result ((shown : List ℕ)
-        × IsPageOf (pieces (part_of node.now) (state_of scope.now)) shown
+        × IsPageOf (pieces (part_of node.now) (state_with scope.now names.old)) shown
         × (grown_bytes page.new ≡ grown_bytes page.old ++ shown)) }
-    ensures err { IfErr result (Refuses (pieces (part_of node.now) (state_of scope.now))) }
+    ensures after { OnOk result (state_with scope.now names.new
+        ≡ after (part_of node.now) (state_with scope.now names.old)) }
+    ensures err { IfErr result
+        (Refuses (pieces (part_of node.now) (state_with scope.now names.old))) }
 {
     match node {
         Node::Text(text) => Ok(page.put(*text)?),
         Node::Comment(_) => Ok(()),
-        Node::Show { written, how } => put_written(alloc, written, *how, scope, page),
+        Node::Show { written, how } => {
+            let inner = inside(scope, &*names);
+            put_written(alloc, written, *how, &inner, page)
+        }
+        Node::Set { name, written } => {
+            let inner = inside(scope, &*names);
+            let value = value_of(alloc, &written.expression, &inner)?.into_value(alloc)?;
+            set_name(alloc, *name, value, scope.hasher(), names)
+        }
         Node::If {
             test,
             then,
             otherwise,
         } => {
-            let holds = is_true(alloc, &test.expression, scope)?;
+            let inner = inside(scope, &*names);
+            let holds = is_true(alloc, &test.expression, &inner)?;
             if holds {
-                put_nodes(alloc, then.as_slice(), scope, page)
+                put_nodes(alloc, then.as_slice(), scope, names, page)
             } else {
-                put_nodes(alloc, otherwise.as_slice(), scope, page)
+                put_nodes(alloc, otherwise.as_slice(), scope, names, page)
             }
         }
         Node::For {
@@ -110,11 +147,49 @@ fn put_node<'a, 't>(
             body,
             otherwise,
         } => {
-            if put_turns(alloc, *bound, over, body.as_slice(), scope, page)? {
+            let inner = inside(scope, &*names);
+            if put_turns(alloc, *bound, over, body.as_slice(), &inner, page)? {
                 Ok(())
             } else {
-                put_nodes(alloc, otherwise.as_slice(), scope, page)
+                put_body(alloc, otherwise.as_slice(), &inner, page)
             }
+        }
+    }
+}
+
+// A scope with the names that were set in it, if there are any.
+#[tactic(auto, using(crate::proofs::Views::none_set))]
+fn inside<'a>(scope: &'a Scope<'a>, names: &'a Option<Context>) -> Scope<'a>
+    ensures { state_of result ≡ state_with scope.now names.now }
+{
+    match names {
+        Some(names) => Scope::Set {
+            names,
+            outer: scope,
+        },
+        None => *scope,
+    }
+}
+
+// Sets a name, of which the first makes the context.
+fn set_name(
+    alloc: Global,
+    name: &str,
+    value: Value,
+    state: HashState,
+    names: &mut Option<Context>,
+) -> TeraResult<()>
+    ensures ok { OnOk result
+        (unwrap_or names.new empty ≡ insert (unwrap_or names.old empty) name.now value) }
+    ensures err { IfErr result IsOutOfMemory }
+{
+    match names {
+        Some(held) => held.insert_value(name, value),
+        None => {
+            let mut held = Context::with_hasher(alloc, state);
+            held.insert_value(name, value)?;
+            *names = Some(held);
+            Ok(())
         }
     }
 }
@@ -183,7 +258,7 @@ fn put_each<'a, 't>(
             value: &*value,
             outer: &around,
         };
-        put_nodes(alloc, &*body, &inner, page)?;
+        put_body(alloc, &*body, &inner, page)?;
     }
     Ok(())
 }
@@ -225,7 +300,7 @@ fn put_pairs<'a, 't>(
             value: &*value,
             outer: &outer,
         };
-        put_nodes(alloc, &*body, &inner, page)?;
+        put_body(alloc, &*body, &inner, page)?;
         at = at.saturating_add(1);
     }
     Ok(())

@@ -8,9 +8,10 @@ ghost use Rattle.tera_page.specs.Values.{found, led};
 ghost use Rattle.tera_page.specs.View.{names_of, place_of, state_of};
 
 use crate::tree::Place;
+use tera::value::HashState;
 use tera::{Context, Value};
 
-/// The names of a context, and those of the loops around.
+/// The names of a context, those of the loops around, and those that were set.
 #[derive(Clone, Copy)]
 pub(crate) enum Scope<'a> {
     /// The names of a context.
@@ -26,6 +27,23 @@ pub(crate) enum Scope<'a> {
         value: &'a Value,
         outer: &'a Scope<'a>,
     },
+    /// The names that were set in a part, which hide outer ones.
+    Set {
+        names: &'a Context,
+        outer: &'a Scope<'a>,
+    },
+}
+
+impl Scope<'_> {
+    /// The state that names are hashed under.
+    pub(crate) fn hasher(&self) -> HashState {
+        match self {
+            Scope::Context(context) => context.hasher(),
+            Scope::Turn { outer, .. } => outer.hasher(),
+            Scope::Item { outer, .. } => outer.hasher(),
+            Scope::Set { names, .. } => names.hasher(),
+        }
+    }
 }
 
 /// What the names of a turn of a loop stand for.
@@ -98,6 +116,10 @@ fn named<'a>(scope: &'a Scope<'a>, name: &str) -> Option<&'a Value>
                 named(*outer, name)
             }
         }
+        Scope::Set { names, outer } => match names.get(name) {
+            Some(held) => Some(held),
+            None => named(*outer, name),
+        },
     }
 }
 

@@ -172,6 +172,10 @@ fn read_tag<'a>(
             let (node, rest) = read_for(alloc, bound, said, from, rest, levels)?;
             Ok(Step::Node(node, rest))
         }
+        Tag::Set(name, said) => {
+            let written = written_in(alloc, said, from)?;
+            Ok(Step::Node(Node::Set { name, written }, rest))
+        }
         other => Ok(Step::Stop(other, rest)),
     }
 }

@@ -2,13 +2,14 @@
 ghost use Rattle.std.specs.Prelude.{◌≡◌, ◌++◌, ◌-◌, ◌≤◌, ◌<◌, ◌∷◌, [], ℕ, List, IfSome, IfNone};
 ghost use Rattle.std.specs.Prelude.{true, false, cond, take, drop, codes, length, slice_index};
 ghost use Rattle.std.specs.Option.{IsSomeAnd};
+ghost use Rattle.tera_filters.specs.Parts.{NotBefore};
 ghost use Rattle.tera_page.specs.Grammar.{Binds, DashFirst, DashLast, Filtered, InTag, IsBound};
 ghost use Rattle.tera_page.specs.Grammar.{IsPlain, Marked, NoneOpens, closing, filter_of};
 ghost use Rattle.tera_page.specs.Grammar.{leaves_out, opening, opens, opens_dashed};
-ghost use Rattle.tera_page.specs.Tokens.{IsBareTag, IsForTag, IsLastRun, SpellsToken, begins};
-ghost use Rattle.tera_page.specs.Tokens.{mark_of, tag_of};
+ghost use Rattle.tera_page.specs.Tokens.{IsBareTag, IsForTag, IsLastRun, IsSetTag, SpellsToken};
+ghost use Rattle.tera_page.specs.Tokens.{begins, mark_of, tag_of};
 ghost use Rattle.tera_page.specs.View.{bound_of, showing_of};
-ghost use Rattle.tera_page.specs.Words.{AreBlanks, NotBefore, is_blank};
+ghost use Rattle.tera_page.specs.Words.{AreBlanks, is_blank};
 
 use crate::tree::{Bound, Showing};
 use crate::word::{
@@ -24,6 +25,7 @@ pub(crate) enum Tag<'a> {
     EndIf,
     For(Bound<'a>, &'a str),
     EndFor,
+    Set(&'a str, &'a str),
 }
 
 /// The next thing in a template.
@@ -233,6 +235,8 @@ fn tag_in(inner: &str) -> Option<Tag<'_>>
         Some(Tag::Elif(rest))
     } else if verb == "for" {
         for_in(rest)
+    } else if verb == "set" {
+        set_in(rest)
     } else {
         bare_tag(verb, rest)
     }
@@ -246,6 +250,19 @@ fn for_in(text: &str) -> Option<Tag<'_>>
     let (between, rest) = next_word(rest);
     if between == "in" {
         Some(Tag::For(bound, rest))
+    } else {
+        None
+    }
+}
+
+// What a `set` tag says behind its first word.
+fn set_in(text: &str) -> Option<Tag<'_>>
+    ensures { IfSome result (λ tag. IsSetTag (tag_of tag) text.now) }
+{
+    let (left, said) = cut_at(text, "=")?;
+    let name = only_word(left)?;
+    if is_name(name) {
+        Some(Tag::Set(name, said))
     } else {
         None
     }

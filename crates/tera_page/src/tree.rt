@@ -117,6 +117,11 @@ pub enum Node<'a> {
         written: Written<'a>,
         how: Showing,
     },
+    /// A name that is set to a value, up to the end of the loop around, or of the template.
+    Set {
+        name: &'a str,
+        written: Written<'a>,
+    },
     /// What is taken where a value is true, and where it is not.
     If {
         test: Written<'a>,

@@ -32,6 +32,17 @@ impl Held<'_> {
             Held::Made(value) => value,
         }
     }
+
+    /// The value, of which a lent one is copied.
+    pub(crate) fn into_value(self, alloc: Global) -> TeraResult<Value>
+        ensures ok { IfOk result (λ value. value ≡ form_of self.entry) }
+        ensures err { IfErr result IsOutOfMemory }
+    {
+        match self {
+            Held::Lent(value) => Ok(value.clone(alloc)?),
+            Held::Made(value) => Ok(value),
+        }
+    }
 }
 
 /// What an expression stands for. What is found is lent. The second of two is looked at only where
@@ -95,10 +106,8 @@ fn arguments<'a, 't>(
     let mut held = Map::new(alloc);
     for argument in given {
         let key = CowStr::Borrowed(argument.name).to_key(alloc)?;
-        held.insert(
-            key,
-            standing(&argument.value, &*scope).value().clone(alloc)?,
-        )?;
+        let value = standing(&argument.value, &*scope).into_value(alloc)?;
+        held.insert(key, value)?;
     }
     Ok(Kwargs::new(held))
 }

@@ -2,10 +2,11 @@
 ghost use Rattle.std.specs.Prelude.{◌≡◌, ◌++◌, ◌≤◌, ◌<◌, [], ◌∷◌, ℕ, IfSome, length, take};
 ghost use Rattle.std.specs.Prelude.{slice_index, true, false};
 ghost use Rattle.std.specs.List.{list_all};
+ghost use Rattle.tera_filters.specs.Parts.{NotBefore};
 ghost use Rattle.tera_page.specs.Grammar.{begins_blank};
-ghost use Rattle.tera_page.specs.Words.{AreBlanks, IsNext, IsPlace, NotBefore, Words, are_elements};
-ghost use Rattle.tera_page.specs.Words.{is_blank, is_loop_name, is_name, is_name_byte};
-ghost use Rattle.tera_page.specs.Words.{is_name_start, is_word_of_language, place_text};
+ghost use Rattle.tera_page.specs.Words.{AreBlanks, IsNext, IsPlace, Words, are_elements, is_blank};
+ghost use Rattle.tera_page.specs.Words.{is_loop_name, is_name, is_name_byte, is_name_start};
+ghost use Rattle.tera_page.specs.Words.{is_word_of_language, place_text};
 ghost use Rattle.tera_page.specs.View.{place_of};
 
 use crate::tree::Place;

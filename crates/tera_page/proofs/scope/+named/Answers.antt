@@ -2,7 +2,7 @@
 use Rattle.std.proofs.Common.{Some, cond, ap, sym, ◌∙◌}
 use Rattle.std.specs.FinMap.{get}
 use Rattle.std.specs.Option.{option_copied, option_or}
-use Rattle.tera_page.proofs.Views.{get_names, get_under, state-Item, state-Turn}
+use Rattle.tera_page.proofs.Views.{get_names, get_set, get_under, state-Item, state-Turn}
 use Rattle.tera_page.proofs.scope.+named.Goals as goal
 use Rattle.tera_page.specs.View.{names_of, state_of}
 
@@ -41,3 +41,18 @@ returns-else-eq t c =
     ∙ ap (λ s. get s name) (state-Item c.in-Item.bound c.in-Item.value c.in-Item.outer)
     ∙ get_under (state_of c.in-Item.outer.now) c.in-Item.bound.now c.in-Item.value.now name
     ∙ ap (λ b. cond b (Some c.in-Item.value.now) (get (state_of c.in-Item.outer.now) name)) (sym c.eq.ensures ∙ c.if-eq.false))
+
+pub returns-in-Some-get : goal.returns-in-Some-get
+returns-in-Some-get t c =
+    let name = c.args.name.now in
+    sym (ap (λ s. get (state_of s) name) c.in-Set.is
+    ∙ get_set c.in-Set.names c.in-Set.outer name
+    ∙ ap (λ o. option_or o (get (state_of c.in-Set.outer.now) name)) c.in-Some-get.ensures)
+
+pub returns-in-None-get : goal.returns-in-None-get
+returns-in-None-get t c =
+    let name = c.args.name.now in
+    c.named-in-None-get.ensures
+    ∙ sym (ap (λ s. get (state_of s) name) c.in-Set.is
+    ∙ get_set c.in-Set.names c.in-Set.outer name
+    ∙ ap (λ o. option_or o (get (state_of c.in-Set.outer.now) name)) c.in-None-get.ensures)

@@ -1,7 +1,7 @@
 -- By the lemmas on what is spelled one thing behind the other.
 use Rattle.std.proofs.Common.{◌≡◌, ◌<◌, true, length, ◌++◌, ◌∷◌, [], inl, inr, refl, ap, sym, subst, ◌∙◌, arith, rules}
 use Rattle.std.proofs.lemmas.Result.{IfOk-weaker}
-use Rattle.tera_page.proofs.Spelled.{else_elif, ends_at, next_choice, next_comment, next_loop, next_show, next_text, plain_left, spelled_more}
+use Rattle.tera_page.proofs.Spelled.{else_elif, ends_at, next_choice, next_comment, next_loop, next_set, next_show, next_text, plain_left, spelled_more}
 use Rattle.tera_page.proofs.Views.{part-For, part-If}
 use Rattle.tera_page.proofs.syntax.+read.Goals as goal
 use Rattle.tera_page.specs.Grammar as grammar
@@ -116,6 +116,11 @@ pub read_tag-returns-in_ok-node-in-For-clause-step : goal.read_tag-returns-in_ok
 read_tag-returns-in_ok-node-in-For-clause-step t c spells =
     next_loop c.args.from.now c.in_ok-node-in-For.rest.now (bound_of c.in-For.bound) c.in-For.said.now c.in_ok-node-in-For.node c.args.rest.now
     (subst (λ t. SpellsTag (tag_of t) c.args.from.now c.args.rest.now) c.in-For.is spells) c.in_ok-node-in-For.ensures.read
+
+pub read_tag-returns-in_ok-written-in-Set-clause-step : goal.read_tag-returns-in_ok-written-in-Set-clause-step
+read_tag-returns-in_ok-written-in-Set-clause-step t c spells =
+    next_set c.args.from.now c.args.rest.now c.in-Set.name c.in_ok-written-in-Set.written c.in-Set.said.now c.in_ok-written-in-Set.ensures
+    (subst (λ t. SpellsTag (tag_of t) c.args.from.now c.args.rest.now) c.in-Set.is spells)
 
 pub read_nodes-parts-init : goal.read_nodes-parts-init
 read_nodes-parts-init t c =
