@@ -36,8 +36,8 @@ pub fn turns_are_those_of_the_parts()
         → slice_get (turns state owns) i ≡ Some (under state (own ++ turn_names i (length owns))) }
 {}
 
-/// A name that is set stands for its value in all that follows, up to the end of the loop around:
-/// behind a loop the state is what it was before it.
+/// A name that is set stands for its value in all that follows, up to the end of the turn around
+/// it: behind a loop the state is what it was before it.
 pub fn set_names_stand_for_their_values()
     ensures stands { (name : List ℕ) (value : Written) (rest : Parts) (state : State) (v : Form)
         → value_of value.expression state ≡ Ok v

@@ -117,7 +117,7 @@ pub enum Node<'a> {
         written: Written<'a>,
         how: Showing,
     },
-    /// A name that is set to a value, up to the end of the loop around, or of the template.
+    /// A name that is set to a value, up to the end of the turn around it, or of the template.
     Set {
         name: &'a str,
         written: Written<'a>,
