@@ -1,3 +1,4 @@
+mod Followed
 mod Fronts
 mod Lexed
 mod Plainly

@@ -37,21 +37,32 @@ ShowsAt message file source span e =
 abbrev pub ShowsIn : List ℕ → List ℕ → List ℕ → Error → Type 0
 ShowsIn message file source e = (span : Span) × ShowsAt message file source span e
 
+-- the messages of what is no template
+abbrev pub not_read : List ℕ
+not_read = codes "This is not read"
+
+abbrev pub too_deep : List ℕ
+too_deep = codes "More than 64 levels"
+
+abbrev pub too_long : List ℕ
+too_long = codes "More than 128 words and signs"
+
+abbrev pub no_filter : List ℕ
+no_filter = codes "There is no such filter"
+
 -- what no template is refused with, where it stands in this file
 abbrev pub IsSyntaxError : List ℕ → List ℕ → Error → Type 0
 IsSyntaxError file source e =
-    ShowsIn (codes "This is not read") file source e
-    ⊎ (ShowsIn (codes "More than 64 levels") file source e
-    ⊎ (ShowsIn (codes "More than 128 words and signs") file source e
-    ⊎ ShowsIn (codes "There is no such filter") file source e))
+    ShowsIn not_read file source e ⊎ (ShowsIn too_deep file source e
+    ⊎ (ShowsIn too_long file source e ⊎ ShowsIn no_filter file source e))
 
 -- the message that each fault shows, or want of memory
 abbrev pub Tells : Fault → List ℕ → List ℕ → Error → Type 0
 Tells Memory file source e = IsOutOfMemory e
-Tells (Bad at) file source e = ShowsIn (codes "This is not read") file source e
-Tells (Deep at) file source e = ShowsIn (codes "More than 64 levels") file source e
-Tells (Long at) file source e = ShowsIn (codes "More than 128 words and signs") file source e
-Tells (Unnamed at) file source e = ShowsIn (codes "There is no such filter") file source e
+Tells (Bad at) file source e = ShowsIn not_read file source e
+Tells (Deep at) file source e = ShowsIn too_deep file source e
+Tells (Long at) file source e = ShowsIn too_long file source e
+Tells (Unnamed at) file source e = ShowsIn no_filter file source e
 
 -- parts end with the text, or at a tag, behind which is the rest
 abbrev pub StopsAt : Option Tag → List ℕ → List ℕ → Type 0

@@ -95,19 +95,20 @@ IsSymbol (quoted t) text rest = IsQuoted t text rest
 IsSymbol (sign s) text rest =
     (text ≡ spelled s ++ rest) × (begins_word (spelled s) ≡ true → begins_word rest ≡ false)
 
+-- the text is these symbols, with blanks before each, and then a rest that is such
+abbrev pub SymbolsAnd : (List ℕ → Type 0) → List Symbol → List ℕ → Type 0
+SymbolsAnd Rest [] text = Rest text
+SymbolsAnd Rest (s ∷ ss) text =
+    (before inner rest : List ℕ) × AreBlanks before × (text ≡ before ++ inner)
+    × IsSymbol s inner rest × SymbolsAnd Rest ss rest
+
 -- the text is these symbols, with blanks before, between and after them
 abbrev pub AreSymbols : List Symbol → List ℕ → Type 0
-AreSymbols [] text = AreBlanks text
-AreSymbols (s ∷ ss) text =
-    (before inner rest : List ℕ) × AreBlanks before × (text ≡ before ++ inner)
-    × IsSymbol s inner rest × AreSymbols ss rest
+AreSymbols ss text = SymbolsAnd AreBlanks ss text
 
 -- the text begins with these symbols, with blanks before each
 abbrev pub BeginWith : List Symbol → List ℕ → Type 0
-BeginWith [] text = ⊤
-BeginWith (s ∷ ss) text =
-    (before inner rest : List ℕ) × AreBlanks before × (text ≡ before ++ inner)
-    × IsSymbol s inner rest × BeginWith ss rest
+BeginWith ss text = SymbolsAnd (λ rest. ⊤) ss text
 
 -- the text begins with more than n symbols
 abbrev pub HasMore : ℕ → List ℕ → Type 0

@@ -81,3 +81,8 @@ mutual
 abbrev pub parts : List Part → Parts
 parts [] = no_parts
 parts (p ∷ ps) = part p (parts ps)
+
+-- parts, and behind them others
+abbrev pub followed : Parts → Parts → Parts
+followed no_parts rest = rest
+followed (part p ps) rest = part p (followed ps rest)

@@ -1,5 +1,6 @@
 //! What pages bring. Each function here does nothing: its clauses are the law.
-ghost use Rattle.std.specs.Prelude.{◌≡◌, ◌++◌, ℕ, false, true, List, Ok, Some, length, slice_get};
+ghost use Rattle.std.specs.Prelude.{◌≡◌, ◌++◌, ℕ, false, true, List, Ok, Some, if◌then◌else◌};
+ghost use Rattle.std.specs.Prelude.{length, slice_get};
 ghost use Rattle.std.specs.FinMap.{insert};
 ghost use Rattle.tera.specs.Entities.{SpecialBeginEntities};
 ghost use Rattle.tera.specs.Form.{Form};
@@ -11,8 +12,8 @@ ghost use Rattle.tera_page.specs.Headline.{BringsNoTag, is_marked};
 ghost use Rattle.tera_page.specs.Rendering.{IsPageOf, Names, Piece, Pieces, ShowsPiece};
 ghost use Rattle.tera_page.specs.Rendering.{all_pieces, joined, pieces, turn_names, turns, under};
 ghost use Rattle.tera_page.specs.Template.{Argument, Bound, Expression, Parts, Written, assign};
-ghost use Rattle.tera_page.specs.Template.{loop, part, piped};
-ghost use Rattle.tera_page.specs.Values.{value_of};
+ghost use Rattle.tera_page.specs.Template.{choice, followed, loop, part, piped};
+ghost use Rattle.tera_page.specs.Values.{is_true, value_of};
 
 use tera_filters::laws::made_texts_are_not_safe;
 
@@ -46,6 +47,14 @@ pub fn set_names_stand_for_their_values()
     ensures ends { (bound : Bound) (over : Written) (body otherwise rest : Parts) (state : State)
         → all_pieces (part (loop bound over body otherwise) rest) state
         ≡ joined (pieces (loop bound over body otherwise) state) (all_pieces rest state) }
+{}
+
+/// A choice is the parts that it takes, in its place: what these set stands behind it.
+pub fn choices_are_what_they_take()
+    ensures { (test : Written) (chosen otherwise rest : Parts) (state : State) (v : Form)
+        → value_of test.expression state ≡ Ok v
+        → all_pieces (part (choice test chosen otherwise) rest) state
+        ≡ all_pieces (followed (if is_true v then chosen else otherwise) rest) state }
 {}
 
 /// A text that a filter makes is not safe, whatever is safe in what it is made of. So what a page

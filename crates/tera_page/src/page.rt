@@ -40,8 +40,8 @@ use tera::{Context, Map, TeraResult, Value, show_in_page};
 /// in those of [`crate::Filter::apply`]. A condition that is a place
 /// alone is false where nothing is found.
 ///
-/// Takes memory for the page, for a key that is a text, for what filters make and are given, and
-/// for the words of a refusal; want of it is answered by `Out of memory`.
+/// Takes memory for the page, for a key that is a text, for what is set, for what filters make and
+/// are given, and for the words of a refusal; want of it is answered by `Out of memory`.
 pub fn render<'a>(
     alloc: Global,
     template: &'a Template<'_>,

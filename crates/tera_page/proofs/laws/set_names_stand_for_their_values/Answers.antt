@@ -1,15 +1,12 @@
 -- By the definition, on the pieces that are left.
-use Rattle.std.specs.Prelude.{◌≡◌, [], Ok, Err, refl}
+use Rattle.std.specs.Prelude.{[], Ok, refl}
 use Rattle.std.specs.FinMap.{insert}
 use Rattle.std.specs.Result.{result_unwrap_or}
 use Rattle.std.proofs.Common.{◌∙◌, ap}
 use Rattle.tera.specs.Arithmetic.{and_then, each_ok}
+use Rattle.tera_page.proofs.Followed.{alone}
 use Rattle.tera_page.proofs.laws.set_names_stand_for_their_values.Goals as goal
-use Rattle.tera_page.specs.Rendering.{Pieces, all_pieces, joined}
-
-alone : (pieces : Pieces) → joined (Ok []) pieces ≡ pieces
-alone (Ok ps) = refl
-alone (Err refusal) = refl
+use Rattle.tera_page.specs.Rendering.{all_pieces, joined}
 
 pub returns : goal.returns
 returns c = record {
