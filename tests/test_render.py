@@ -100,19 +100,28 @@ class Refused(Rendered):
         deep = "{% if a %}" * 65
         self.assertRegex(self.page(deep, {}).err, rb"\Aerror: More than 64 levels\n --> [^\n]+/page.html:1:641\n")
 
+    def told(self, template: str, data: Any, message: str, place: str, line: str) -> None:
+        """Tries that a template has no page, for the reason and at the place that its report shows."""
+        row, column = place.split(":")
+        shown = f"{row} | {line}\n  | {' ' * (int(column) - 1)}^^\n"
+        self.refused(self.page(template, data), f"error: {message}\n --> FOLDER/page.html:{place}\n  |\n{shown}")
+
     def test_place_without_a_value(self) -> None:
-        """a place where nothing is found is refused behind what was shown before it"""
-        self.refused(self.page("{{ a }}{{ a.b }}", {"a": 1}), "error: FOLDER/page.html: Nothing is found at `a.b`\n")
-        self.refused(self.page("{{ a }}{% for x in a %}{% endfor %}", {"a": 1}),
-                     "error: FOLDER/page.html: What is found at `a` is no array\n")
+        """a place where nothing is found is refused behind what was shown before it, with a report"""
+        line = "{{ a }}{{ a.b }}"
+        self.told(line, {"a": 1}, "Nothing is found at `a.b`", "1:8", line)
+        self.told(f"<p>\n  é{line}", {"a": 1}, "Nothing is found at `a.b`", "2:11", f"  é{line}")
+        line = "{{ a }}{% for x in a %}{% endfor %}"
+        self.told(line, {"a": 1}, "What is found at `a` is no array", "1:8", line)
+        self.told("{% if a %}\n{% elif 1 // b %}{% endif %}", {"a": 0, "b": 0}, "Cannot divide by 0", "2:1", "{% elif 1 // b %}{% endif %}")
+        self.told("{% set x = -a %}", {"a": "b"}, "Only numbers can be negated. This is a `string`", "1:1", "{% set x = -a %}")
 
     def test_filters(self) -> None:
         """a filter that there is not has a report, and what one refuses is told in its words"""
-        done = self.page("<p>\n  é{{ a | title }}</p>\n", {"a": "b"})
-        self.refused(done, "error: There is no such filter\n --> FOLDER/page.html:2:4\n  |\n2 |   é{{ a | title }}</p>\n  |    ^^\n")
-        self.refused(self.page("{{ a }}{% for x in a | sort %}{% endfor %}", {"a": "b"}),
-                     "error: FOLDER/page.html: Invalid type for the value, expected `&[Value]` but got `string`\n")
-        self.refused(self.page("{{ a }}{{ a | first }}", {"a": []}), "error: FOLDER/page.html: Nothing is found at `a | first`\n")
+        self.told("<p>\n  é{{ a | title }}</p>\n", {"a": "b"}, "There is no such filter", "2:4", "  é{{ a | title }}</p>")
+        line = "{{ a }}{% for x in a | sort %}{% endfor %}"
+        self.told(line, {"a": "b"}, "Invalid type for the value, expected `&[Value]` but got `string`", "1:8", line)
+        self.told("{{ a }}{{ a | first }}", {"a": []}, "Nothing is found at `a | first`", "1:8", "{{ a }}{{ a | first }}")
 
     def test_bad_document(self) -> None:
         """a document that is not JSON, or holds what no value is, is refused"""

@@ -14,6 +14,8 @@ mod pages;
 #[cfg(test)]
 mod piped;
 #[cfg(test)]
+mod places;
+#[cfg(test)]
 mod set;
 #[cfg(test)]
 mod shop;

@@ -4,8 +4,8 @@ use std::alloc::Global;
 use tera::{Context, Key, Map, TeraResult, Value};
 use tera_page::{parse, render};
 
-// A shop: a name, a map with a map in it, two arrays, and values that are false.
-fn shop(alloc: Global) -> TeraResult<Context> {
+/// A shop: a name, a map with a map in it, two arrays, and values that are false.
+pub fn shop(alloc: Global) -> TeraResult<Context> {
     let mut context = Context::new(alloc);
     context.insert("title", "Tea & <Cakes>")?;
     context.insert_value("markup", Value::safe_string(alloc, "<b>")?)?;

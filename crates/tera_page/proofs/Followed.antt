@@ -8,12 +8,12 @@ use Rattle.tera_page.specs.Template.{Parts, followed, no_parts, part}
 
 pub alone : (shown : Pieces) → joined (Ok []) shown ≡ shown
 alone (Ok ps) = refl
-alone (Err refusal) = refl
+alone (Err failure) = refl
 
 joined_in_turn : (p q r : Pieces) → joined (joined p q) r ≡ joined p (joined q r)
-joined_in_turn (Err refusal) q r = refl
-joined_in_turn (Ok xs) (Err refusal) r = refl
-joined_in_turn (Ok xs) (Ok ys) (Err refusal) = refl
+joined_in_turn (Err failure) q r = refl
+joined_in_turn (Ok xs) (Err failure) r = refl
+joined_in_turn (Ok xs) (Ok ys) (Err failure) = refl
 joined_in_turn (Ok xs) (Ok ys) (Ok zs) = ap (λ l. Ok l) (append_assoc xs ys zs)
 
 in_turn : (ps rest : Parts) (state : State) → all_pieces (followed ps rest) state ≡ joined (all_pieces ps state) (all_pieces rest (all_after ps state))

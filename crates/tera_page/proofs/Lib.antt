@@ -1,8 +1,11 @@
+mod Failing
 mod Followed
 mod Fronts
 mod Lexed
+mod Parts
 mod Plainly
 mod Rows
 mod Spelled
+mod Taken
 mod Turns
 mod Views

@@ -82,7 +82,7 @@ all_plainly (piece ∷ ps) page (first, rest, shows, later, whole) =
 
 pub brings_no_tag : (pieces : Pieces) (page : List ℕ) → IsPageOf pieces page → BringsNoTag pieces page
 brings_no_tag (Ok ps) page is = (ps, refl, all_plainly ps page is)
-brings_no_tag (Err refusal) page is = absurd is
+brings_no_tag (Err failure) page is = absurd is
 
 made_from : (value : Result Form Refusal) (next : Form → Result Form Refusal) (made : Form) → and_then value next ≡ Ok made
     → (v : Form) × (next v ≡ Ok made)

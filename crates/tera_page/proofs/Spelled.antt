@@ -70,28 +70,28 @@ module _ (text rest : List ℕ) where
   pub next_comment : (said : Bor (List ℕ)) → Marked comment_mark said.now text rest → NextIs (node.Comment said)
   next_comment said is = subst (λ p. SpellsPart p text rest) (sym (part-Comment said)) (grammar.comment said.now text rest is)
 
-  pub next_show : (written : code_written.Written) (how : code_showing.Showing) (said : List ℕ) → Writes (written_of written) said
+  pub next_show : (written : code_written.Written) (how : code_showing.Showing) (said : List ℕ) → Writes (written_of written) said text
       → Shows said (showing_of how) text rest → NextIs (node.Show written how)
   next_show written how said writes shows =
       subst (λ p. SpellsPart p text rest) (sym (part-Show written how))
       (grammar.show (written_of written) (showing_of how) said text rest writes shows)
 
-  pub next_set : (name : Bor (List ℕ)) (written : code_written.Written) (said : List ℕ) → Writes (written_of written) said
+  pub next_set : (name : Bor (List ℕ)) (written : code_written.Written) (said : List ℕ) → Writes (written_of written) said text
       → SpellsTag (set_tag name.now said) text rest → NextIs (node.Set name written)
   next_set name written said writes tag =
       subst (λ p. SpellsPart p text rest) (sym (part-Set name written)) (grammar.assign name.now (written_of written) said text rest writes tag)
 
-  pub next_choice : (said : List ℕ) (n : node.Node) (body : List ℕ) → SpellsTag (if_tag said) text body → IsChoice said n body rest → NextIs n
+  pub next_choice : (said : List ℕ) (n : node.Node) (body : List ℕ) → SpellsTag (if_tag said) text body → IsChoice said text n body rest → NextIs n
   next_choice said n body tag (test, chosen, otherwise, tail, writes, view, inside, end) =
       subst (λ p. SpellsPart p text rest) (sym view) (grammar.choice test chosen otherwise said text body tail rest writes tag inside end)
 
   pub next_loop : (bound : tree.Bound) (said : List ℕ) (n : node.Node) (body : List ℕ) → SpellsTag (for_tag bound said) text body
-      → IsLoop bound said n body rest → NextIs n
+      → IsLoop bound said text n body rest → NextIs n
   next_loop bound said n body tag (over, repeated, otherwise, tail, writes, view, inside, end) =
       subst (λ p. SpellsPart p text rest) (sym view) (grammar.loop bound over repeated otherwise said text body tail rest writes tag inside end)
 
 -- an `elif` and what it begins
-pub else_elif : (said : List ℕ) (n : node.Node) (left text rest : List ℕ) → SpellsTag (elif_tag said) left text → IsChoice said n text rest
+pub else_elif : (said : List ℕ) (n : node.Node) (left text rest : List ℕ) → SpellsTag (elif_tag said) left text → IsChoice said left n text rest
     → SpellsElse (parts_of (n ∷ [])) left rest
 else_elif said n left text rest tag (test, chosen, otherwise, tail, writes, view, inside, end) =
     subst (λ p. SpellsElse (tree.part p tree.no_parts) left rest) (sym view)

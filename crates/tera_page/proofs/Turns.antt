@@ -4,28 +4,27 @@ use Rattle.std.proofs.Common.{ap, sym, subst, ◌∙◌, get_or, arith}
 use Rattle.std.proofs.lemmas.List.{append-nil, append_assoc, drop_all, drop_more, drop-map, length-map}
 use Rattle.std.specs.Option.{option_map}
 use Rattle.tera.proofs.InTurnLaws.{shown_joined}
-use Rattle.tera.proofs.RefusalLaws.{refuses_on}
-use Rattle.tera.specs.Arithmetic.{and_then}
-use Rattle.tera.specs.Errors.{Refuses}
 use Rattle.tera.specs.InTurn.{ShownInTurn}
 use Rattle.tera.specs.State.{State}
-use Rattle.tera.specs.types.Error.{Error}
-use Rattle.tera_page.specs.Rendering.{IsPageOf, Names, Piece, Pieces, ShowsPiece, after, all_after, all_pieces, each, joined, pieces}
+use Rattle.tera_page.proofs.Failing.{fails_on}
+use Rattle.tera_page.specs.Failures.{Fails}
+use Rattle.tera_page.specs.Rendering.{Grows, IsPageOf, Names, Piece, Pieces, ShowsPiece, after, all_after, all_pieces, each, joined, on, pieces}
 use Rattle.tera_page.specs.Rendering.{turn_names, turns, turns_from, under}
 use Rattle.tera_page.specs.View.{part_of, parts_of}
+use Rattle.tera_page.specs.declared.failed.Failed.{Failed}
 use Rattle.tera_page.specs.declared.tree.Node.{Node}
 
 -- behind some pieces, others
 abbrev pub behind : List Piece → Pieces → Pieces
-behind ps rest = and_then rest (λ ys. Ok (ps ++ ys))
+behind ps rest = on rest (λ ys. Ok (ps ++ ys))
 
 regrouped : (r : Pieces) (ps qs : List Piece) → behind ps (behind qs r) ≡ behind (ps ++ qs) r
 regrouped (Ok ys) ps qs = ap (λ l. Ok l) (sym (append_assoc ps qs ys))
-regrouped (Err refusal) ps qs = refl
+regrouped (Err failure) ps qs = refl
 
 given : (p : Pieces) (shown : List ℕ) → IsPageOf p shown → (qs : List Piece) × (p ≡ Ok qs) × ShownInTurn ShowsPiece qs shown
 given (Ok qs) shown is = (qs, refl, is)
-given (Err refusal) shown is = absurd is
+given (Err failure) shown is = absurd is
 
 -- a place behind which something is left, or nothing
 pub left_within : {X : Type 0} (i : ℕ) (xs : List X) (x : X) (rest : List X) → drop i xs ≡ x ∷ rest → i < length xs
@@ -115,12 +114,12 @@ module _ (whole : Pieces) where
         all ∙ ap (λ p. behind ps (joined p left)) gives ∙ regrouped left ps qs,
       )
 
-  pub put_wrong : (first left : Pieces) (old new : List ℕ) (e : Error) → Refuses first e → Put (joined first left) old new → Refuses whole e
-  put_wrong first left old new e refused (ps, shown, turn, so_far, all) =
-      subst (λ p. Refuses p e) (sym all)
-      (refuses_on (joined first left) (λ ys. Ok (ps ++ ys)) e (refuses_on first (λ ys. and_then left (λ zs. Ok (ys ++ zs))) e refused))
+  pub put_wrong : (first left : Pieces) (old new : List ℕ) (failed : Failed) → Fails first failed → Put (joined first left) old new → Fails whole failed
+  put_wrong first left old new failed is (ps, shown, turn, so_far, all) =
+      subst (λ p. Fails p failed) (sym all)
+      (fails_on (joined first left) (λ ys. Ok (ps ++ ys)) failed (fails_on first (λ ys. on left (λ zs. Ok (ys ++ zs))) failed is))
 
-  pub put_last : (old new : List ℕ) → Put (Ok []) old new → (shown : List ℕ) × IsPageOf whole shown × (new ≡ old ++ shown)
+  pub put_last : (old new : List ℕ) → Put (Ok []) old new → Grows whole old new
   put_last old new (ps, shown, turn, so_far, all) = (
     shown,
     subst (λ p. IsPageOf p shown) (sym all) (subst (λ l. ShownInTurn ShowsPiece l shown) (sym (append-nil ps)) turn),
@@ -138,13 +137,13 @@ module _ {X : Type 0} (f : X → Pieces) (xs : List X) where
       put_on (each f xs) (f x) (each f (drop (i + 1) xs)) old new newer more page grows
       (subst (λ l. Put (each f xs) (each f l) old new) next so_far)
 
-  pub goes_wrong : (i : ℕ) (x : X) (old new : List ℕ) (e : Error) → drop i xs ≡ x ∷ drop (i + 1) xs → Refuses (f x) e → Goes i old new
-      → Refuses (each f xs) e
-  goes_wrong i x old new e next refused so_far =
-      put_wrong (each f xs) (f x) (each f (drop (i + 1) xs)) old new e refused (subst (λ l. Put (each f xs) (each f l) old new) next so_far)
+  pub goes_wrong : (i : ℕ) (x : X) (old new : List ℕ) (failed : Failed) → drop i xs ≡ x ∷ drop (i + 1) xs → Fails (f x) failed → Goes i old new
+      → Fails (each f xs) failed
+  goes_wrong i x old new failed next is so_far =
+      put_wrong (each f xs) (f x) (each f (drop (i + 1) xs)) old new failed is (subst (λ l. Put (each f xs) (each f l) old new) next so_far)
 
   pub goes_last : (i : ℕ) (old new : List ℕ) → length xs ≤ i → Goes i old new
-      → (shown : List ℕ) × IsPageOf (each f xs) shown × (new ≡ old ++ shown)
+      → Grows (each f xs) old new
   goes_last i old new past so_far =
       put_last (each f xs) old new (subst (λ l. Put (each f xs) (each f l) old new) (drop_all i xs past) so_far)
 
@@ -166,15 +165,15 @@ module _ (nodes : List Node) (from : State) where
         led ∙ ap (λ l. all_after (parts_of l) state) next ∙ ap (all_after rest) (sym leads),
       )
 
-  pub steps_wrong : (i : ℕ) (n : Node) (state : State) (old new : List ℕ) (e : Error) → drop i nodes ≡ n ∷ drop (i + 1) nodes
-      → Refuses (pieces (part_of n) state) e → Steps i state old new → Refuses (all_pieces (parts_of nodes) from) e
-  steps_wrong i n state old new e next refused (so_far, led) =
+  pub steps_wrong : (i : ℕ) (n : Node) (state : State) (old new : List ℕ) (failed : Failed) → drop i nodes ≡ n ∷ drop (i + 1) nodes
+      → Fails (pieces (part_of n) state) failed → Steps i state old new → Fails (all_pieces (parts_of nodes) from) failed
+  steps_wrong i n state old new failed next is (so_far, led) =
       put_wrong (all_pieces (parts_of nodes) from) (pieces (part_of n) state)
-      (all_pieces (parts_of (drop (i + 1) nodes)) (after (part_of n) state)) old new e refused
+      (all_pieces (parts_of (drop (i + 1) nodes)) (after (part_of n) state)) old new failed is
       (subst (λ l. Put (all_pieces (parts_of nodes) from) (all_pieces (parts_of l) state) old new) next so_far)
 
   pub steps_last : (i : ℕ) (state : State) (old new : List ℕ) → length nodes ≤ i → Steps i state old new
-      → ((shown : List ℕ) × IsPageOf (all_pieces (parts_of nodes) from) shown × (new ≡ old ++ shown)) × (state ≡ all_after (parts_of nodes) from)
+      → Grows (all_pieces (parts_of nodes) from) old new × (state ≡ all_after (parts_of nodes) from)
   steps_last i state old new past (so_far, led) =
       let none = drop_all i nodes past in (
         put_last (all_pieces (parts_of nodes) from) old new

@@ -106,8 +106,8 @@ pub data Reads : Level → Expression → List Symbol → List Symbol → Type 0
   alone_one : (o : Operand) (s : Symbol) (rest : List Symbol) → IsOperand o s
       → Reads alone (operand o) (s ∷ rest) rest
 
--- that is said, and its expression is written by it
-abbrev pub Writes : Written → List ℕ → Type 0
-Writes written said =
-    (written.text ≡ said)
+-- that is said in a tag, which begins the text, and the expression is written by it
+abbrev pub Writes : Written → List ℕ → List ℕ → Type 0
+Writes written said text =
+    (written.text ≡ said) × (written.from ≡ text)
     × ((ss : List Symbol) × AreSymbols ss said × Reads ors written.expression ss [])

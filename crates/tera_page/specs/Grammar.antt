@@ -184,16 +184,17 @@ mutual
         → SpellsPart (tree.text run) whole rest
     comment : (said whole rest : List ℕ) → Marked comment_mark said whole rest
         → SpellsPart (tree.comment said) whole rest
-    show : (w : Written) (how : Showing) (said whole rest : List ℕ) → Writes w said
+    show : (w : Written) (how : Showing) (said whole rest : List ℕ) → Writes w said whole
         → Shows said how whole rest → SpellsPart (tree.show w how) whole rest
-    assign : (name : List ℕ) (value : Written) (said whole rest : List ℕ) → Writes value said
-        → SpellsTag (set_tag name said) whole rest → SpellsPart (tree.assign name value) whole rest
+    assign : (name : List ℕ) (value : Written) (said whole rest : List ℕ)
+        → Writes value said whole → SpellsTag (set_tag name said) whole rest
+        → SpellsPart (tree.assign name value) whole rest
     choice : (test : Written) (chosen otherwise : Parts) (said whole body tail rest : List ℕ)
-        → Writes test said → SpellsTag (if_tag said) whole body → SpellsUpTo chosen body tail
-        → SpellsElse otherwise tail rest
+        → Writes test said whole → SpellsTag (if_tag said) whole body
+        → SpellsUpTo chosen body tail → SpellsElse otherwise tail rest
         → SpellsPart (tree.choice test chosen otherwise) whole rest
     loop : (bound : Bound) (over : Written) (repeated otherwise : Parts)
-        (said whole body tail rest : List ℕ) → Writes over said
+        (said whole body tail rest : List ℕ) → Writes over said whole
         → SpellsTag (for_tag bound said) whole body → SpellsUpTo repeated body tail
         → SpellsEnd endfor_tag otherwise tail rest
         → SpellsPart (tree.loop bound over repeated otherwise) whole rest
@@ -211,8 +212,8 @@ mutual
     last : (ps : Parts) (text rest : List ℕ) → SpellsEnd endif_tag ps text rest
         → SpellsElse ps text rest
     elif : (test : Written) (chosen others : Parts) (said text body tail rest : List ℕ)
-        → Writes test said → SpellsTag (elif_tag said) text body → SpellsUpTo chosen body tail
-        → SpellsElse others tail rest
+        → Writes test said text → SpellsTag (elif_tag said) text body
+        → SpellsUpTo chosen body tail → SpellsElse others tail rest
         → SpellsElse (tree.part (tree.choice test chosen others) tree.no_parts) text rest
 
 -- the text is these parts

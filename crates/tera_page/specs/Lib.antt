@@ -1,5 +1,6 @@
 pub mod Arguments
 pub mod Expressions
+pub mod Failures
 pub mod Grammar
 pub mod Headline
 pub mod Parsing

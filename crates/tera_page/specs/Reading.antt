@@ -71,8 +71,8 @@ StopsAt (Some tag) left rest = SpellsTag (tag_of tag) left rest
 
 abbrev pub IsSection : Section → List ℕ → Type 0
 IsSection read text =
-    (left : List ℕ) × SpellsUpTo (parts_of read.nodes.items) text left
-    × StopsAt read.stop left read.rest.now
+    SpellsUpTo (parts_of read.nodes.items) text read.at.now
+    × StopsAt read.stop read.at.now read.rest.now
 
 abbrev pub IsStep : Step → List ℕ → Type 0
 IsStep (step.Node node rest) text = SpellsPart (part_of node) text rest.now
@@ -88,16 +88,16 @@ abbrev pub IsLastStep : Step → Type 0
 IsLastStep (step.Node node rest) = rest.now ≡ []
 IsLastStep (step.Stop tag rest) = ⊥
 
--- the node is what its tag began, and the text is what stands behind the tag, and then the rest
-abbrev pub IsChoice : List ℕ → Node → List ℕ → List ℕ → Type 0
-IsChoice said node text rest =
-    (test : Written) × (chosen otherwise : Parts) × (tail : List ℕ) × Writes test said
+-- the node is what its tag begins, of that text from the tag on, and then comes the rest
+abbrev pub IsChoice : List ℕ → List ℕ → Node → List ℕ → List ℕ → Type 0
+IsChoice said from node text rest =
+    (test : Written) × (chosen otherwise : Parts) × (tail : List ℕ) × Writes test said from
     × (part_of node ≡ tree.choice test chosen otherwise) × SpellsUpTo chosen text tail
     × SpellsElse otherwise tail rest
 
-abbrev pub IsLoop : Bound → List ℕ → Node → List ℕ → List ℕ → Type 0
-IsLoop bound said node text rest =
-    (over : Written) × (repeated otherwise : Parts) × (tail : List ℕ) × Writes over said
+abbrev pub IsLoop : Bound → List ℕ → List ℕ → Node → List ℕ → List ℕ → Type 0
+IsLoop bound said from node text rest =
+    (over : Written) × (repeated otherwise : Parts) × (tail : List ℕ) × Writes over said from
     × (part_of node ≡ tree.loop bound over repeated otherwise) × SpellsUpTo repeated text tail
     × SpellsEnd grammar.endfor_tag otherwise tail rest
 

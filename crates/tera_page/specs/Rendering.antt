@@ -19,7 +19,7 @@ use Rattle.tera.specs.Refusal.{Refusal, message}
 use Rattle.tera.specs.State.{State}
 use Rattle.tera.specs.Tree.{number, truth}
 use Rattle.tera_page.specs.Template as tree
-use Rattle.tera_page.specs.Template.{Bound, Showing, Part, Parts, item, pair}
+use Rattle.tera_page.specs.Template.{Bound, Showing, Part, Parts, Written, item, pair}
 use Rattle.tera_page.specs.Values.{is_there, is_true, value_of}
 
 -- what is said of what an expression stands for, by its text without blanks around it
@@ -36,25 +36,45 @@ no_map_at said = message (codes "What is found at `" ++ (trim said ++ codes "` i
 abbrev pub there : List ℕ → Form → Result Form Refusal
 there said value = if is_there value then Ok value else Err (nothing_at said)
 
+-- why there is no page, and the template from the tag on that is refused
+pub record Failure : Type 0 where
+  pub from : List ℕ
+  pub why : Refusal
+
+-- what an expression is for, or why it is refused, which is told at its tag
+abbrev pub placed : {X : Type 0} → Written → Result X Refusal → Result X Failure
+placed w (Ok x) = Ok x
+placed w (Err refusal) = Err (record { from = w.from; why = refusal })
+
+-- what comes of the first, or why that is refused
+abbrev pub on : {X Y : Type 0} → Result X Failure → (X → Result Y Failure) → Result Y Failure
+on (Ok x) next = next x
+on (Err failure) next = Err failure
+
+-- what is refused, wherever it stands
+abbrev pub unplaced : {X : Type 0} → Result X Failure → Result X Refusal
+unplaced (Ok x) = Ok x
+unplaced (Err failure) = Err failure.why
+
 -- one piece of a page: a text of the template, or a value
 pub data Piece : Type 0 where
   verbatim : List ℕ → Piece
   value : Showing → Form → Piece
 
--- pieces one behind the other, or the first refusal
+-- pieces one behind the other, or the first failure
 abbrev pub Pieces : Type 0
-Pieces = Result (List Piece) Refusal
+Pieces = Result (List Piece) Failure
 
 abbrev pub joined : Pieces → Pieces → Pieces
-joined first rest = and_then first (λ xs. and_then rest (λ ys. Ok (xs ++ ys)))
+joined first rest = on first (λ xs. on rest (λ ys. Ok (xs ++ ys)))
 
 abbrev pub each : {X : Type 0} → (X → Pieces) → List X → Pieces
 each f [] = Ok []
 each f (x ∷ xs) = joined (f x) (each f xs)
 
--- a value, alone
-abbrev pub value_alone : Showing → List ℕ → Form → Pieces
-value_alone how said v = and_then (there said v) (λ it. Ok (value how it ∷ []))
+-- the value that is shown
+abbrev pub shown_value : Written → State → Result Form Failure
+shown_value w state = placed w (and_then (value_of w.expression state) (there w.text))
 
 -- the items of an array
 abbrev pub items_of : List ℕ → Form → Result (List Form) Refusal
@@ -113,10 +133,10 @@ abbrev pub repeated : (State → Pieces) → (State → Pieces) → State → Li
 repeated body otherwise state [] = otherwise state
 repeated body otherwise state (own ∷ owns) = each body (turns state (own ∷ owns))
 
--- what a loop over a value shows
-abbrev pub looped : Bound → List ℕ → (State → Pieces) → (State → Pieces) → State → Form → Pieces
-looped bound said body otherwise state v =
-    and_then (owns bound said v) (repeated body otherwise state)
+-- the names of each turn of a loop over what an expression stands for
+abbrev pub loop_names : Bound → Written → State → Result (List Names) Failure
+loop_names bound over state =
+    placed over (and_then (value_of over.expression state) (owns bound over.text))
 
 -- the state behind a part; what is set in a loop ends with it. It is as it was where a value is
 -- refused
@@ -142,15 +162,14 @@ abbrev mutual
   pub pieces : Part → State → Pieces
   pieces (tree.text t) state = Ok (verbatim t ∷ [])
   pieces (tree.comment t) state = Ok []
-  pieces (tree.show w how) state =
-      and_then (value_of w.expression state) (value_alone how w.text)
-  pieces (tree.assign name w) state = and_then (value_of w.expression state) (λ v. Ok [])
+  pieces (tree.show w how) state = on (shown_value w state) (λ v. Ok (value how v ∷ []))
+  pieces (tree.assign name w) state = on (placed w (value_of w.expression state)) (λ v. Ok [])
   pieces (tree.choice test chosen otherwise) state =
-      and_then (value_of test.expression state)
+      on (placed test (value_of test.expression state))
       (λ v. if is_true v then all_pieces chosen state else all_pieces otherwise state)
   pieces (tree.loop bound over body otherwise) state =
-      and_then (value_of over.expression state)
-      (looped bound over.text (all_pieces body) (all_pieces otherwise) state)
+      on (loop_names bound over state)
+      (repeated (all_pieces body) (all_pieces otherwise) state)
 
   pub all_pieces : Parts → State → Pieces
   all_pieces tree.no_parts state = Ok []
@@ -165,4 +184,9 @@ ShowsPiece (value tree.as_printed v) shown = Prints (layout v) shown
 -- the page of some pieces, which are not refused
 abbrev pub IsPageOf : Pieces → List ℕ → Type 0
 IsPageOf (Ok ps) page = ShownInTurn ShowsPiece ps page
-IsPageOf (Err refusal) page = ⊥
+IsPageOf (Err failure) page = ⊥
+
+-- the page of some pieces was put behind what stood there
+abbrev pub Grows : Pieces → List ℕ → List ℕ → Type 0
+Grows pieces old new =
+    (page : List ℕ) × IsPageOf pieces page × (new ≡ old ++ page)

@@ -46,9 +46,10 @@ pub data Expression : Type 0 where
   two : Binary → Expression → Expression → Expression
   piped : Filter → Expression → List Argument → Expression
 
--- an expression, and the text that it is written in
+-- an expression, the text that it is written in, and the template from the tag around it on
 pub record Written : Type 0 where
   pub text : List ℕ
+  pub from : List ℕ
   pub expression : Expression
 
 -- how a value is shown: as a page shows it, or as it prints

@@ -75,7 +75,11 @@ expression_of (Piped' filter p e given) =
 
 abbrev pub written_of : Written → tree.Written
 written_of written =
-    record { text = written.text.now; expression = expression_of written.expression }
+    record {
+      text = written.text.now;
+      from = written.from.now;
+      expression = expression_of written.expression;
+    }
 
 abbrev pub showing_of : Showing → tree.Showing
 showing_of InPage = tree.in_page

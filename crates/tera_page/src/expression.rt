@@ -17,14 +17,22 @@ use std::alloc::Global;
 use tera::scalars::BinaryOp;
 use tera_filters::Filter;
 
-/// The expression that a text writes.
-pub(crate) fn read_written(alloc: Global, text: &str) -> Result<Written<'_>, Unread>
-    ensures { IfOk result (λ written. Writes (written_of written) text.now) }
+/// The expression that a text writes, in the tag that begins `from`.
+pub(crate) fn read_written<'a>(
+    alloc: Global,
+    text: &'a str,
+    from: &'a str,
+) -> Result<Written<'a>, Unread>
+    ensures { IfOk result (λ written. Writes (written_of written) text.now from.now) }
 {
     let symbols = symbols_in(alloc, text)?;
     let (expression, rest) = read(alloc, Level::Ors, symbols.as_slice())?;
     if rest.is_empty() {
-        Ok(Written { text, expression })
+        Ok(Written {
+            text,
+            from,
+            expression,
+        })
     } else {
         Err(Unread::Bad)
     }

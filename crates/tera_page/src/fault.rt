@@ -4,7 +4,7 @@ ghost use Rattle.tera.specs.Errors.{IsOutOfMemory};
 ghost use Rattle.tera_page.specs.Reading.{IsSyntaxError, ShowsAt, ShowsIn, Tells};
 ghost use Rattle.tera_page.specs.declared.fault.Fault.TheVariants.{Memory};
 
-use crate::word::past_blanks;
+use crate::place::span;
 use std::alloc::{AllocError, AllocFailed, Global};
 use tera::{Error, ErrorKind, ReportError, Span, TeraResult};
 
@@ -86,31 +86,6 @@ fn report(
     let message = String::from_str(alloc, message)?;
     let report = ReportError::new(alloc, message, file, source, place)?;
     Ok(Error::new(ErrorKind::SyntaxError(Box::new(alloc, report)?)))
-}
-
-// Where the rest of a source begins, behind blanks that its mark leaves out: its line, counted from
-// 1, its column in characters, counted from 0, and two bytes, or none at the end.
-fn span(source: &str, at: &str) -> Span {
-    let (_, at) = past_blanks(at);
-    let start = source.len().saturating_sub(at.len());
-    let width = at.len().min(2);
-    let mut line = 1usize;
-    let mut column = 0usize;
-    for character in source.get(..start).unwrap_or("").chars() {
-        if character == '\n' {
-            line = line.saturating_add(1);
-            column = 0;
-        } else {
-            column = column.saturating_add(1);
-        }
-    }
-    Span {
-        start_line: line,
-        start_col: column,
-        end_line: line,
-        end_col: column.saturating_add(width),
-        range: start..start.saturating_add(width),
-    }
 }
 
 fn out_of_memory() -> Error

@@ -6,20 +6,24 @@
 
 mod argument;
 mod expression;
+mod failed;
 mod fault;
 pub mod laws;
 mod level;
 mod page;
+mod place;
 mod refused;
 mod scope;
+mod set;
 mod symbol;
 mod syntax;
 mod token;
 mod tree;
 mod value;
 mod word;
+mod written;
 
-pub use page::render;
+pub use page::{render, render_named};
 pub use syntax::{parse, parse_named};
 pub use tera_filters::Filter;
 pub use tree::{

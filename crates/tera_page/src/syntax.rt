@@ -1,5 +1,5 @@
 //! Reads templates: what a text spells as a tree, or where it spells none.
-ghost use Rattle.std.specs.Prelude.{◌≡◌, ◌<◌, ◌≤◌, [], ℕ, List, IfOk, IfErr, IfSome, IsTrue};
+ghost use Rattle.std.specs.Prelude.{◌≡◌, ◌<◌, ◌≤◌, [], IfOk, IfErr, IfSome, IsTrue};
 ghost use Rattle.std.specs.Prelude.{MatchResult, None, Some, length};
 ghost use Rattle.std.specs.Option.{option_map};
 ghost use Rattle.std.specs.Result.{IsOkAnd};
@@ -137,11 +137,12 @@ fn read_node<'a>(alloc: Global, text: &'a str, levels: usize) -> Result<Step<'a>
     }
 }
 
-// The expression that a text writes, which stands in what begins `from`.
+// The expression that a text writes, in the tag that begins `from`.
 fn written_in<'a>(alloc: Global, said: &'a str, from: &'a str) -> Result<Written<'a>, Fault<'a>>
-    ensures { IfOk result (λ written. Writes (written_of written) said.now) }
+    ensures { IfOk result (λ written.
+        Writes (written_of written) said.now from.now) }
 {
-    match read_written(alloc, said) {
+    match read_written(alloc, said, from) {
         Ok(written) => Ok(written),
         Err(Unread::Memory) => Err(Fault::Memory),
         Err(Unread::Bad) => Err(Fault::Bad(from)),
@@ -191,7 +192,7 @@ fn read_if<'a>(
     levels: usize,
 ) -> Result<(Node<'a>, &'a str), Fault<'a>>
     ensures read { IfOk result
-        (λ read. IsChoice said.now read.0 text.now read.1.now) }
+        (λ read. IsChoice said.now from.now read.0 text.now read.1.now) }
     ensures within { IfOk result (λ read. length read.1.now ≤ length text.now) }
 {
     if levels == 0 {
@@ -226,7 +227,8 @@ fn read_for<'a>(
     levels: usize,
 ) -> Result<(Node<'a>, &'a str), Fault<'a>>
     ensures read { IfOk result
-        (λ read. IsLoop (bound_of bound.entry) said.now read.0 text.now read.1.now) }
+        (λ read. IsLoop (bound_of bound.entry) said.now from.now read.0 text.now
+        read.1.now) }
     ensures within { IfOk result (λ read. length read.1.now ≤ length text.now) }
 {
     if levels == 0 {
@@ -260,8 +262,8 @@ fn read_else<'a>(
     rest: &'a str,
     levels: usize,
 ) -> Result<(Vec<Node<'a>>, &'a str), Fault<'a>>
-    ensures spells { IfOk result (λ read. (left : List ℕ) → StopsAt stop.entry left rest.now
-        → SpellsElse (parts_of read.0.items) left read.1.now) }
+    ensures spells { IfOk result (λ read. StopsAt stop.entry at.now rest.now
+        → SpellsElse (parts_of read.0.items) at.now read.1.now) }
     ensures within { IfOk result (λ read. length read.1.now ≤ length rest.now) }
 {
     let Some(next) = elif(stop) else {
@@ -302,8 +304,8 @@ fn read_end<'a>(
     rest: &'a str,
     levels: usize,
 ) -> Result<(Vec<Node<'a>>, &'a str), Fault<'a>>
-    ensures spells { IfOk result (λ read. (left : List ℕ) → StopsAt stop.entry left rest.now
-        → SpellsEnd (end_tag end) (parts_of read.0.items) left read.1.now) }
+    ensures spells { IfOk result (λ read. StopsAt stop.entry at.now rest.now
+        → SpellsEnd (end_tag end) (parts_of read.0.items) at.now read.1.now) }
     ensures within { IfOk result (λ read. length read.1.now ≤ length rest.now) }
 {
     if is_end(end, stop) {

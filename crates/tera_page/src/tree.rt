@@ -80,10 +80,14 @@ pub enum Expression<'a> {
     Piped(Filter, Box<Expression<'a>>, Vec<Argument<'a>>),
 }
 
-/// An expression, and the text that it is written in.
+/// An expression, and where it is written.
 #[derive(Debug, Drop)]
 pub struct Written<'a> {
+    /// The text that it is written in.
     pub text: &'a str,
+    /// The template from the tag around it on, for what is told where it is refused.
+    pub from: &'a str,
+    /// What it is made of.
     pub expression: Expression<'a>,
 }
 

@@ -5,7 +5,7 @@ use Rattle.tera.specs.Outcome.{is_want}
 use Rattle.tera.specs.Refusal.{Tells}
 use Rattle.tera.specs.types.Error.{Error}
 use Rattle.tera_render.specs.declared.fault.Fault.{Fault}
-use Rattle.tera_render.specs.declared.fault.Fault.TheVariants.{NoMemory, NoTemplate, Refused}
+use Rattle.tera_render.specs.declared.fault.Fault.TheVariants.{NoMemory, NoPage, Refused}
 use Rattle.tera_render.specs.declared.fault.Fault.TheVariants.{Unread}
 
 -- whether the error is want of memory
@@ -25,12 +25,12 @@ IsNamedLine name e bytes =
 abbrev pub IsTold : Fault → List ℕ → Type 0
 IsTold (Unread name) bytes = bytes ≡ codes "error: cannot read " ++ (name.now ++ codes "\n")
 IsTold NoMemory bytes = bytes ≡ codes "error: Out of memory\n"
-IsTold (NoTemplate e) bytes = IsLine e bytes
+IsTold (NoPage e) bytes = IsLine e bytes
 IsTold (Refused name e) bytes = IsNamedLine name.now e bytes
 
 -- 1 where the template or the document was not there to be judged
 abbrev pub status_of : Fault → ℕ
 status_of (Unread name) = 1
 status_of NoMemory = 1
-status_of (NoTemplate e) = 2
+status_of (NoPage e) = 2
 status_of (Refused name e) = 2

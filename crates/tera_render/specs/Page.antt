@@ -3,15 +3,15 @@ use Rattle.std.specs.Prelude.{◌≡◌, ◌⊎◌, ⊤, ℕ, List, Option, Some
 use Rattle.std.specs.FinMap.{empty}
 use Rattle.std.specs.String.{string_bytes}
 use Rattle.std.specs.declared.alloc.Global.{Global}
-use Rattle.tera.specs.Errors.{Refuses}
 use Rattle.tera.specs.State.{State}
+use Rattle.tera_page.specs.Failures.{Reports}
 use Rattle.tera_page.specs.Grammar.{Spells}
 use Rattle.tera_page.specs.Reading.{IsSyntaxError}
 use Rattle.tera_page.specs.Rendering.{IsPageOf, all_pieces}
 use Rattle.tera_page.specs.Template.{Parts}
 use Rattle.tera_render.specs.Names.{AreNames, RefusesNames}
 use Rattle.tera_render.specs.declared.fault.Fault.{Fault}
-use Rattle.tera_render.specs.declared.fault.Fault.TheVariants.{NoMemory, NoTemplate, Refused}
+use Rattle.tera_render.specs.declared.fault.Fault.TheVariants.{NoMemory, NoPage, Refused}
 use Rattle.tera_render.specs.declared.fault.Fault.TheVariants.{Unread as unread}
 use Rattle.tera_render.specs.declared.fault.Unread.{Unread}
 use Rattle.tera_render.specs.declared.fault.Unread.TheVariants.{Failed}
@@ -25,10 +25,10 @@ IsPage text names page =
 abbrev pub IsFaultOf : List ℕ → List ℕ → State → Fault → Type 0
 IsFaultOf name text names (unread of) = ⊥
 IsFaultOf name text names NoMemory = ⊤
-IsFaultOf name text names (NoTemplate e) = IsSyntaxError name text e
-IsFaultOf name text names (Refused of e) =
-    (of.now ≡ name) × (template : Parts) × Spells template text
-    × Refuses (all_pieces template names) e
+IsFaultOf name text names (NoPage e) =
+    IsSyntaxError name text e
+    ⊎ ((template : Parts) × Spells template text × Reports name text (all_pieces template names) e)
+IsFaultOf name text names (Refused of e) = ⊥
 
 -- what names give where they are read
 abbrev pub Gave : Type 1
@@ -38,7 +38,7 @@ Gave = List ℕ → Result (String Global) Unread → Type 0
 abbrev pub GivesNoText : Gave → List ℕ → Fault → Type 0
 GivesNoText gave name (unread of) = (of.now ≡ name) × gave name (Err Failed)
 GivesNoText gave name NoMemory = ⊤
-GivesNoText gave name (NoTemplate e) = ⊥
+GivesNoText gave name (NoPage e) = ⊥
 GivesNoText gave name (Refused of e) = ⊥
 
 -- the names of the document of a name, or no names
@@ -51,7 +51,7 @@ abbrev pub GivesNoNames : Gave → Option (List ℕ) → Fault → Type 0
 GivesNoNames gave None fault = ⊥
 GivesNoNames gave (Some name) (unread of) = GivesNoText gave name (unread of)
 GivesNoNames gave (Some name) NoMemory = ⊤
-GivesNoNames gave (Some name) (NoTemplate e) = ⊥
+GivesNoNames gave (Some name) (NoPage e) = ⊥
 GivesNoNames gave (Some name) (Refused of e) =
     (of.now ≡ name) × (text : String Global) × gave name (Ok text)
     × RefusesNames (string_bytes text) e

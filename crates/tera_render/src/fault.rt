@@ -2,7 +2,7 @@
 ghost use Rattle.std.specs.Prelude.{◌≡◌, true, false};
 ghost use Rattle.tera.specs.Sink.{Puts};
 ghost use Rattle.tera_render.specs.Faults.{IsLine, IsNamedLine, IsTold, wants};
-ghost use Rattle.tera_render.specs.declared.fault.Fault.TheVariants.{NoMemory, NoTemplate, Refused};
+ghost use Rattle.tera_render.specs.declared.fault.Fault.TheVariants.{NoMemory, NoPage, Refused};
 
 use tera::sink::Sink;
 use tera::words::put_all;
@@ -24,25 +24,25 @@ pub(crate) enum Fault<'a> {
     Unread(&'a str),
     /// No memory was found.
     NoMemory,
-    /// The template is none; the error has a report of it.
-    NoTemplate(Error),
-    /// What stands in the text of that name is refused.
+    /// The text is no template, or that has no page; the error has a report of the place.
+    NoPage(Error),
+    /// What stands in the document of that name is refused.
     Refused(&'a str, Error),
 }
 
-/// Why there is no page where a text is no template: this error, or that no memory was found.
-pub(crate) fn no_template<'a>(error: Error) -> Fault<'a>
+/// Why a template is none, or has no page: this error, or that no memory was found.
+pub(crate) fn no_page<'a>(error: Error) -> Fault<'a>
     ensures want { wants error ≡ true → result ≡ NoMemory }
-    ensures other { wants error ≡ false → result ≡ NoTemplate error }
+    ensures other { wants error ≡ false → result ≡ NoPage error }
 {
     if is_want(&error) {
         Fault::NoMemory
     } else {
-        Fault::NoTemplate(error)
+        Fault::NoPage(error)
     }
 }
 
-/// Why there is no page where the text of a name is refused: this error, or that no memory was
+/// Why there is no page where the document of a name is refused: this error, or that no memory was
 /// found.
 pub(crate) fn refused<'a>(name: &'a str, error: Error) -> Fault<'a>
     ensures want { wants error ≡ true → result ≡ NoMemory }
@@ -69,7 +69,7 @@ pub(crate) fn put_fault<E: Sink>(fault: &Fault<'_>, err: &mut E) -> Result<(), E
     match fault {
         Fault::Unread(name) => put_all(&["error: cannot read ", *name, "\n"], err),
         Fault::NoMemory => err.put("error: Out of memory\n"),
-        Fault::NoTemplate(error) => put_line(error, err),
+        Fault::NoPage(error) => put_line(error, err),
         Fault::Refused(name, error) => put_named(*name, error, err),
     }
 }

@@ -3,14 +3,14 @@ ghost use Rattle.std.specs.Prelude.{IfOk, IfErr};
 ghost use Rattle.std.specs.String.{string_bytes};
 ghost use Rattle.tera_render.specs.Page.{IsFaultOf, IsPage};
 
-use crate::fault::{Fault, no_template, refused};
+use crate::fault::{Fault, no_page};
 use std::alloc::Global;
 use tera::Context;
-use tera_page::{parse_named, render};
+use tera_page::{parse_named, render_named};
 
 /// The page of the template that the text of that name spells, over the names.
 ///
-/// Refuses what is no template, with a report, and what rendering it refuses.
+/// Refuses what is no template, and what has no page, with a report of the place.
 pub(crate) fn page_of<'a>(
     alloc: Global,
     name: &'a str,
@@ -22,10 +22,10 @@ pub(crate) fn page_of<'a>(
 {
     let template = match parse_named(alloc, name, text) {
         Ok(template) => template,
-        Err(error) => return Err(no_template(error)),
+        Err(error) => return Err(no_page(error)),
     };
-    match render(alloc, &template, names) {
+    match render_named(alloc, name, text, &template, names) {
         Ok(page) => Ok(page),
-        Err(error) => Err(refused(name, error)),
+        Err(error) => Err(no_page(error)),
     }
 }

@@ -122,6 +122,6 @@ fn tell_fault<E: Sink>(fault: &Fault<'_>, err: &mut E) -> u8
     let _ = put_fault(fault, err);
     match fault {
         Fault::Unread(_) | Fault::NoMemory => 1,
-        Fault::NoTemplate(_) | Fault::Refused(_, _) => 2,
+        Fault::NoPage(_) | Fault::Refused(_, _) => 2,
     }
 }

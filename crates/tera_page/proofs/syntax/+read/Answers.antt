@@ -11,7 +11,8 @@ use Rattle.tera_page.specs.Tokens.{IsLastRun, SpellsToken, tag_of}
 use Rattle.tera_page.specs.View.{bound_of, parts_of, written_of}
 
 pub read_else-returns-clause-spells : goal.read_else-returns-clause-spells
-read_else-returns-clause-spells t c left stops =
+read_else-returns-clause-spells t c stops =
+    let left = c.args.at.now in
     let node = c.in_ok-node.node in
     let said = c.in-Some.next.now in
     let rest = c.in_ok-node.rest.now in
@@ -22,23 +23,25 @@ read_else-returns-clause-spells t c left stops =
 
 pub read_else-returns-in_default-clause-spells : goal.read_else-returns-in_default-clause-spells
 read_else-returns-in_default-clause-spells t c =
-    IfOk-weaker c.read_end.result _ _ (λ read ends left stops. grammar.last (parts_of read.0.items) left read.1.now (ends left stops))
+    IfOk-weaker c.read_end.result _ _ (λ read ends stops. grammar.last (parts_of read.0.items) c.args.at.now read.1.now (ends stops))
     c.read_end.ensures.spells
 
 pub read_end-returns-then-is_end-clause-spells : goal.read_end-returns-then-is_end-clause-spells
-read_end-returns-then-is_end-clause-spells t c left stops =
+read_end-returns-then-is_end-clause-spells t c stops =
+    let left = c.args.at.now in
     let rest = c.args.rest.now in
     let tag = ends_at c.args.stop (end_tag c.args.end) left rest (c.is_end.ensures c.if-is_end.true) stops in
     subst (λ l. SpellsEnd (end_tag c.args.end) (parts_of l) left rest) (sym c.new.ensures.items) (grammar.ended (end_tag c.args.end) left rest tag)
 
 pub read_end-returns-then-is_end-2-clause-spells : goal.read_end-returns-then-is_end-2-clause-spells
-read_end-returns-then-is_end-2-clause-spells t c left stops =
+read_end-returns-then-is_end-2-clause-spells t c stops =
+    let left = c.args.at.now in
     let read = c.in_ok-nodes.field-0 in
     let yes : c.is_else.result ≡ true = search rules in
     let tag = ends_at c.args.stop else_tag left c.args.rest.now (c.is_else.ensures yes) stops in
-    let (over, inside, at_end) = c.in_ok-nodes.ensures.ok in
-    grammar.otherwise (end_tag c.args.end) (parts_of read.nodes.items) left c.args.rest.now over read.rest.now tag inside
-    (ends_at read.stop (end_tag c.args.end) over read.rest.now (c.is_end-2.ensures c.if-is_end-2.true) at_end)
+    let (inside, at_end) = c.in_ok-nodes.ensures.ok in
+    grammar.otherwise (end_tag c.args.end) (parts_of read.nodes.items) left c.args.rest.now read.at.now read.rest.now tag inside
+    (ends_at read.stop (end_tag c.args.end) read.at.now read.rest.now (c.is_end-2.ensures c.if-is_end-2.true) at_end)
 
 pub read_node-returns-in-Run-clause-ok : goal.read_node-returns-in-Run-clause-ok
 read_node-returns-in-Run-clause-ok t c =
@@ -78,29 +81,29 @@ read_node-returns-in_err-written-in-Show-clause-plain t c plain some =
 pub read_for-returns-clause-read : goal.read_for-returns-clause-read
 read_for-returns-clause-read t c =
     let f = c.in_ok-nodes.field-0 in
-    let (tail, inside, stops) = c.in_ok-nodes.ensures.ok in (
+    let (inside, stops) = c.in_ok-nodes.ensures.ok in (
       written_of c.in_ok-over.over,
       parts_of f.nodes.items,
       parts_of c.in_ok-otherwise.otherwise.items,
-      tail,
+      f.at.now,
       c.in_ok-over.ensures,
       part-For c.args.bound c.in_ok-over.over f.nodes c.in_ok-otherwise.otherwise,
       inside,
-      c.in_ok-otherwise.ensures.spells tail stops,
+      c.in_ok-otherwise.ensures.spells stops,
     )
 
 pub read_if-returns-clause-read : goal.read_if-returns-clause-read
 read_if-returns-clause-read t c =
     let f = c.in_ok-nodes.field-0 in
-    let (tail, inside, stops) = c.in_ok-nodes.ensures.ok in (
+    let (inside, stops) = c.in_ok-nodes.ensures.ok in (
       written_of c.in_ok-test.test,
       parts_of f.nodes.items,
       parts_of c.in_ok-otherwise.otherwise.items,
-      tail,
+      f.at.now,
       c.in_ok-test.ensures,
       part-If c.in_ok-test.test f.nodes c.in_ok-otherwise.otherwise,
       inside,
-      c.in_ok-otherwise.ensures.spells tail stops,
+      c.in_ok-otherwise.ensures.spells stops,
     )
 
 pub read_node-returns-in-Tag-clause-plain : goal.read_node-returns-in-Tag-clause-plain

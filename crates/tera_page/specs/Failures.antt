@@ -1,0 +1,42 @@
+-- What is told where there is no page.
+use Rattle.std.specs.Prelude.{◌≡◌, ◌⊎◌, ◌-◌, ◌++◌, ℕ, false, List, [], None, Result, Ok, Err}
+use Rattle.std.specs.Prelude.{length}
+use Rattle.tera.specs.Errors.{IsOutOfMemory, States}
+use Rattle.tera.specs.Refusal.{Refusal, Tells, rendering_error, stated}
+use Rattle.tera.specs.types.Error.{Error}
+use Rattle.tera.specs.types.Span.{Span}
+use Rattle.tera_page.specs.Grammar.{begins_blank}
+use Rattle.tera_page.specs.Rendering.{Failure, Pieces}
+use Rattle.tera_page.specs.Words.{AreBlanks}
+use Rattle.tera_page.specs.declared.failed.Failed.{Failed}
+
+-- why a call does not give what it is to give: what is refused, and where; or want of memory
+abbrev pub Fails : {X : Type 0} → Result X Failure → Failed → Type 0
+Fails (Ok x) failed = IsOutOfMemory failed.error
+Fails (Err failure) failed =
+    IsOutOfMemory failed.error
+    ⊎ (States (stated failure.why) None failed.error × (failed.from.now ≡ failure.from))
+
+-- the span begins where the rest of a source does, behind the blanks there
+abbrev pub BeginsAt : List ℕ → List ℕ → Span → Type 0
+BeginsAt source rest span =
+    (blanks left : List ℕ) × AreBlanks blanks × (begins_blank left ≡ false)
+    × (rest ≡ blanks ++ left) × (span.range.start ≡ length source - length left)
+
+-- the error is a report that tells a refusal, at the rest of the source of that file
+abbrev pub ReportsAt : List ℕ → List ℕ → List ℕ → Refusal → Error → Type 0
+ReportsAt file source rest refusal e =
+    (words : List ℕ) × (span : Span) × Tells refusal words × BeginsAt source rest span
+    × States (rendering_error (record {
+      message = words;
+      file = file;
+      source = source;
+      span = span;
+      notes = [];
+    })) None e
+
+-- the error of what has no page: a report of what is refused, where it stands; or want of memory
+abbrev pub Reports : List ℕ → List ℕ → Pieces → Error → Type 0
+Reports file source (Ok ps) e = IsOutOfMemory e
+Reports file source (Err failure) e =
+    IsOutOfMemory e ⊎ ReportsAt file source failure.from (stated failure.why) e
