@@ -27,6 +27,7 @@ from tools.packages.given import python_with
 
 ESCAPED = "&lt;b&gt;A &amp; B&lt;/b&gt;\n"
 LANGUAGES = {"C": ["cc", "-std=c11", "-x", "c"], "C++": ["c++", "-std=c++17", "-x", "c++"]}
+NO_SETUPTOOLS = "there is no python3-setuptools with python3-wheel"
 STRICT = ["-Wall", "-Wextra", "-Werror", "-pedantic"]
 WORK = os.path.join(tempfile.gettempdir(), f"packages-{os.getpid()}")
 
@@ -47,6 +48,12 @@ def needs(*commands):
     for it in commands:
         if not shutil.which(it):
             raise unittest.SkipTest(f"there is no `{it}`")
+
+
+def needing(*commands):
+    """Skips each test of a class where one of these commands is not there."""
+    lacking = " and ".join(f"no `{it}`" for it in commands if not shutil.which(it))
+    return unittest.skipIf(lacking, f"there is {lacking}")
 
 
 def environment(**more):
@@ -150,17 +157,13 @@ class Symbols(unittest.TestCase):
         self.assertIn(f"SONAME               {link.SONAME}\n", said("objdump", "-p", f"{built.library()}/libtera.so"))
 
 
+@unittest.skipUnless(python_with("setuptools", "wheel"), NO_SETUPTOOLS)
 class Python(unittest.TestCase):
     SHOWN = """import doctest, tera
 runner = doctest.DocTestRunner()
 for each in doctest.DocTestFinder().find(tera, "tera", False, vars(tera)):
     runner.run(each)
 print(tera.__file__, tera.__version__, runner.failures, runner.tries > 5)"""
-
-    @classmethod
-    def setUpClass(cls):
-        if not python_with("setuptools", "wheel"):
-            raise unittest.SkipTest("there is no python3-setuptools with python3-wheel")
 
     def environment_of(self, name, *words):
         """A new environment of Python, and its folder."""
@@ -192,10 +195,10 @@ print(tera.__file__, tera.__version__, runner.failures, runner.tries > 5)"""
         self.assertRegex(os.path.basename(package("python", "*.whl")), rf"^tera_values-{Versions.VERSION}-py3-none-linux_x86_64\.whl$")
 
 
+@needing("cargo")
 class Rust(unittest.TestCase):
     @classmethod
     def setUpClass(cls):
-        needs("cargo")
         cls.folder = folder("crate")
         said("tar", "-xf", package("rust", "*.crate"), "--strip-components=1", folder=cls.folder)
 
@@ -211,10 +214,10 @@ class Rust(unittest.TestCase):
         self.assertEqual(said("cargo", "run", "-q", "--offline", "--example", "page", folder=self.folder), ESCAPED)
 
 
+@needing("dpkg-deb", "pkg-config", "cc", "c++")
 class Debian(unittest.TestCase):
     @classmethod
     def setUpClass(cls):
-        needs("dpkg-deb", "pkg-config", "cc", "c++")
         cls.root = folder("debian")
         said("dpkg", "-x", package("debian", "*.deb"), cls.root)
         cls.prefix = f"{cls.root}/usr"
@@ -244,6 +247,15 @@ class Debian(unittest.TestCase):
             with self.subTest(language):
                 self.assertEqual(said(self.compiled(language, *self.asked("--variable=archive"))), ESCAPED)
                 self.assertEqual(said(self.compiled(language, "-static", *self.asked("--static", "--libs"))), ESCAPED)
+
+    def test_the_manual_page_compiles_a_program_by_its_lines(self):
+        lines = re.findall(r"(?m)^cc page\.c .*", read("docs/man/libtera.3"))
+        self.assertEqual(len(lines), 2)
+        shutil.copy(f"{self.prefix}/share/doc/libtera/examples/escape.c", f"{WORK}/page.c")
+        for line in lines:
+            with self.subTest(line):
+                said("sh", "-c", f"{line} -Wl,-rpath,{self.lib} -o page", PKG_CONFIG_PATH=f"{self.lib}/pkgconfig")
+                self.assertEqual(said(f"{WORK}/page"), ESCAPED)
 
     def test_what_is_installed_is_of_this_version(self):
         self.assertEqual(self.asked("--modversion"), [Versions.VERSION])
@@ -330,7 +342,7 @@ class WithoutTheKit(unittest.TestCase):
 
     def test_python(self):
         if not python_with("setuptools", "wheel"):
-            raise unittest.SkipTest("there is no python3-setuptools with python3-wheel")
+            raise unittest.SkipTest(NO_SETUPTOOLS)
         if subprocess.run(["/usr/bin/env", "PATH=/usr/bin:/bin", "python3", "-c", "import ensurepip"], capture_output=True).returncode:
             raise unittest.SkipTest("there is no python3-venv")
         self.follows("Python", "python", ESCAPED)
