@@ -277,6 +277,16 @@ class Debian(unittest.TestCase):
         said("tar", "-xf", package("prefix", "*.tar.gz"), "--strip-components=1", folder=folder("prefix"))
         said("diff", "-r", "--no-dereference", self.prefix, f"{WORK}/prefix")
 
+    def test_the_tar_is_used_as_its_page_says(self):
+        home = folder("home")
+        said("tar", "-xf", package("prefix", "*.tar.gz"), "--strip-components=1", folder=home)
+        page = f"{home}/share/doc/libtera"
+        runs, names = re.findall(r"(?ms)^```sh\n(.*?)^```", read_at(f"{page}/README.md"))
+        told = said("sh", "-e", "-c", names + runs.replace("/tmp/value", f"{home}/value"), folder=page)
+        self.assertEqual(told, f'{read("examples/first.answers")}"<b>A & B</b>"\n{ESCAPED}')
+        for link in re.findall(r"\b[A-Z]+\.md", "".join(read_at(f"{page}/{name}") for name in ("README.md", "BORDER.md", "SCRIPT.md"))):
+            self.assertTrue(os.path.exists(f"{page}/{link}"), link)
+
     def test_each_file_has_its_sum(self):
         control = folder("control")
         said("dpkg", "-e", package("debian", "*.deb"), control)
@@ -428,6 +438,12 @@ class Arguments(unittest.TestCase):
                 done = built.ran(f"{TOP}/bindings/{command}", *words)
                 self.assertEqual((done.returncode, done.stdout), (2, b""))
                 self.assertIn(b"frob", done.stderr)
+
+    def test_what_a_package_lacks_is_named_first(self):
+        done = built.ran(sys.executable, "-B", "-m", "tools.packages", "--to", f"{WORK}/none", "--library", built.library(),
+                         "--program", built.installed_program(), "rust", env={"PATH": folder("without-cargo")})
+        self.assertEqual((done.returncode, done.stderr.splitlines()[:2]),
+                         (1, [b"package: rust: will not be made: it needs `cargo`", b"package: rust: not made: it needs `cargo`"]))
 
     def test_what_is_not_here_is_named_and_not_installed(self):
         bare = folder("bare")

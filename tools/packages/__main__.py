@@ -22,6 +22,7 @@ from tools.packages.record import said
 
 KINDS: Dict[str, Callable[[Given, str], List[str]]] = {
     "python": python.make, "rust": rust.make, "debian": prefix.make_debian, "prefix": prefix.make_tar}
+LACKS: Dict[str, Callable[[], str]] = {"python": python.lacks, "rust": rust.lacks, "debian": prefix.lacks}
 
 
 def tell(line: str) -> None:
@@ -71,13 +72,17 @@ def main() -> int:
     unknown = [kind for kind in asked.kinds if kind not in KINDS]
     if unknown:
         words.error(f"the kinds are {', '.join(KINDS)}, and not {', '.join(unknown)}")
+    kinds = asked.kinds or [*KINDS]
+    for kind, lacked in [(kind, LACKS.get(kind, str)()) for kind in kinds]:
+        if lacked:
+            tell(f"{kind}: will not be made: it needs {lacked}")
     if asked.prove and not is_proved():
         return 1
     to = os.path.abspath(asked.to)
     clear(to)
     epoch = int(said("git", "log", "-1", "--format=%ct") or time.time())
     with tempfile.TemporaryDirectory() as work:
-        return make(Given(asked.library, asked.program, epoch, work), to, asked.kinds or [*KINDS])
+        return make(Given(asked.library, asked.program, epoch, work), to, kinds)
 
 
 if __name__ == "__main__":

@@ -14,7 +14,7 @@ from tools.packages.given import TOP, Failed, Given, copy, filled, read, write
 
 LIB = "lib/x86_64-linux-gnu"
 MODULE = "lib/python3/dist-packages/tera"
-DOCUMENTS = ("README.md", "docs/SCRIPT.md", "docs/BORDER.md", "docs/PACKAGES.md")
+DOCUMENTS = ("bindings/debian/README.md", "docs/SCRIPT.md", "docs/BORDER.md", "docs/PACKAGES.md")
 EXAMPLES = ("bindings/c/escape.c", "bindings/c/session.c", "bindings/c/value.c", "bindings/python/page.py", "examples/first.replay", "examples/tour.replay")
 # the manual pages
 MANUAL = ("tera.1", "libtera.3")
@@ -82,10 +82,15 @@ def read_bytes(path: str) -> bytes:
         return file.read()
 
 
+def lacks() -> str:
+    """What the package for Debian needs and is not here, or nothing."""
+    return "" if shutil.which("dpkg-deb") else "`dpkg-deb`"
+
+
 def make_debian(given: Given, to: str) -> List[str]:
     """Makes the package for Debian, and returns its name."""
-    if not shutil.which("dpkg-deb"):
-        raise Failed("the package for Debian needs `dpkg-deb`")
+    if lacks():
+        raise Failed(f"it needs {lacks()}")
     root = f"{given.work}/debian"
     lay_out(given, f"{root}/usr")
     paths = [path for path in files(root) if not os.path.islink(f"{root}/{path}")]

@@ -31,11 +31,16 @@ def lay_out(given: Given, folder: str) -> None:
         copy(f"{given.library}/{name}", f"{folder}/{name}")
 
 
+def lacks() -> str:
+    """What it needs and is not here, or nothing."""
+    return "" if python_with("setuptools", "wheel") else "Debian's python3-setuptools and python3-wheel"
+
+
 def make(given: Given, to: str) -> List[str]:
     """Makes the source package, and the wheel out of what that holds; returns their names."""
     python = python_with("setuptools", "wheel")
     if python is None:
-        raise Failed("the wheel needs Debian's python3-setuptools and python3-wheel")
+        raise Failed(f"it needs {lacks()}")
     folder = f"{given.work}/python"
     lay_out(given, folder)
     source = given.run([python, "-c", MAKES.format("sdist"), to], folder).split()[-1]

@@ -15,10 +15,15 @@ def sources() -> List[str]:
     return sorted(os.path.relpath(path, f"{TOP}/bindings/rust") for paths in found for path in paths)
 
 
+def lacks() -> str:
+    """What it needs and is not here, or nothing."""
+    return "" if shutil.which("cargo") else "`cargo`"
+
+
 def make(given: Given, to: str) -> List[str]:
     """Makes the crate, which `cargo package` builds from what it packed; returns its name."""
-    if not shutil.which("cargo"):
-        raise Failed("the crate needs `cargo`")
+    if lacks():
+        raise Failed(f"it needs {lacks()}")
     folder = f"{given.work}/rust"
     for name in ("Cargo.toml", "build.rs", "README.md", *sources()):
         copy(f"{TOP}/bindings/rust/{name}", f"{folder}/{name}")
