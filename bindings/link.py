@@ -8,7 +8,7 @@ import sys
 import tempfile
 from typing import List
 
-SONAME = "libtera.so.0"  # its number is the first part of the version
+SONAME = "libtera.so.0.2"  # the parts of the version with which calls may change: before 1.0.0 the second too
 
 
 def exports(header: str) -> List[str]:

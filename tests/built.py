@@ -14,6 +14,7 @@ import fcntl
 import functools
 import importlib.util
 import os
+import runpy
 import shutil
 import subprocess
 import sys
@@ -30,7 +31,7 @@ from tools.packages.given import PROGRAM
 # Debian's packages of commands that have another name
 PACKAGES = {"cc": "gcc", "c++": "g++"}
 # The library for C, and what it is made of.
-MADE = ["libtera.a", "libtera.so", "libtera.so.0", "tera.h"]
+MADE = ["libtera.a", "libtera.so", runpy.run_path(f"{TOP}/bindings/link.py")["SONAME"], "tera.h"]
 MADE_OF = ["crates/tera_c/out/libtera_c.a", "include/tera.h", "bindings/build", "bindings/link.py"]
 ROOM = tempfile.TemporaryDirectory(prefix="built-")
 
