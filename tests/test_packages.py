@@ -293,6 +293,13 @@ class Debian(unittest.TestCase):
         said("dpkg", "-e", package("debian", "*.deb"), control)
         said("md5sum", "--quiet", "-c", f"{control}/md5sums", folder=self.root)
 
+    def test_what_python_keeps_goes_with_the_package(self):
+        control, root = folder("control-of-removal"), folder("removed")
+        said("dpkg", "-e", package("debian", "*.deb"), control)
+        os.makedirs(f"{root}/usr/lib/python3/dist-packages/tera/__pycache__")
+        said(f"{control}/prerm", "remove", DPKG_ROOT=root)
+        self.assertEqual(os.listdir(f"{root}/usr/lib/python3/dist-packages/tera"), [])
+
     def test_the_manual_pages_have_no_warning(self):
         pages = sorted(glob.glob(f"{self.prefix}/share/man/man*/*.gz"))
         self.assertEqual([*map(os.path.basename, pages)], ["tera.1.gz", "libtera.3.gz"])

@@ -100,6 +100,7 @@ def make_debian(given: Given, to: str) -> List[str]:
     write(f"{root}/DEBIAN/control", filled("debian/control.in", VERSION=given.version, SIZE=str(size), GLIBC=glibc))
     write(f"{root}/DEBIAN/md5sums", "".join(sums))
     write(f"{root}/DEBIAN/triggers", "activate-noawait ldconfig\n")
+    copy(f"{TOP}/bindings/debian/prerm", f"{root}/DEBIAN/prerm", 0o755)
     name = f"libtera_{given.version}_amd64.deb"
     given.run(["dpkg-deb", "--root-owner-group", "--build", root, f"{to}/{name}"], TOP)
     return [name]
