@@ -4,14 +4,19 @@
 . "$(dirname "$0")/common.sh"
 build_over pages tera_report tera_meaning tera_scalars tera_values tera_conversions tera_arguments tera_context tera tera_filters tera_page
 
+# The instructions of a page, by that way.
+taken() {
+    once=$(instructions "$program" "$1" "$2" 1)
+    more=$(instructions "$program" "$1" "$2" 5)
+    echo $(((more - once) / 4))
+}
+
 for page in short long; do
     [ "$("$program" calls "$page" 1)" = "$("$program" render "$page" 1)" ] || { echo "the pages differ" >&2; exit 1; }
-    for by in calls render; do
-        once=$(instructions "$program" "$by" "$page" 1)
-        more=$(instructions "$program" "$by" "$page" 5)
-        cell "$page" "$by" $(((more - once) / 4))
-        eval "$by=$(((more - once) / 4))"
-    done
-    cell "$page" "ratio" "$(awk -v a="$render" -v b="$calls" 'BEGIN { printf("%.2f", a / b) }')"
+    calls=$(taken calls "$page")
+    render=$(taken render "$page")
+    cell "$page" calls "$calls"
+    cell "$page" render "$render"
+    cell "$page" ratio "$(each "$render" "$calls")"
 done
 show "instructions a page"
