@@ -19,12 +19,14 @@ import shutil
 import subprocess
 import sys
 import tempfile
+import time
 import unittest
-from typing import Any, Iterator, Mapping, NamedTuple
+from typing import Any, Callable, Iterator, Mapping, NamedTuple
 
 sys.dont_write_bytecode = True  # no folder beside the sources
 TOP = os.path.dirname(os.path.dirname(os.path.abspath(__file__)))
 sys.path[:0] = [path for path in (TOP, f"{TOP}/bindings/python") if path not in sys.path]
+sys.path.append(f"{TOP}/tools")  # where the pages' modules find what they read files with
 from tools import kit, prove
 from tools.packages.given import PROGRAM
 
@@ -33,6 +35,8 @@ PACKAGES = {"cc": "gcc", "c++": "g++"}
 # The library for C, and what it is made of.
 MADE = ["libtera.a", "libtera.so", runpy.run_path(f"{TOP}/bindings/link.py")["SONAME"], "tera.h"]
 MADE_OF = ["crates/tera_c/out/libtera_c.a", "include/tera.h", "bindings/build", "bindings/link.py"]
+# What is no file of the repository.
+NOT_OURS = ("out", ".git", ".qr", "__pycache__")
 ROOM = tempfile.TemporaryDirectory(prefix="built-")
 
 
@@ -114,6 +118,16 @@ def made(*words: str, env: Mapping[str, str] = {}) -> None:
         raise NotMade(f"{' '.join(words)}: status {done.status}\n{said}")
 
 
+def comes_true(seconds: float, holds: Callable[[], bool]) -> bool:
+    """Whether it holds within so many seconds. Asks ten times a second."""
+    until = time.monotonic() + seconds
+    while time.monotonic() < until:
+        if holds():
+            return True
+        time.sleep(0.1)
+    return False
+
+
 @functools.lru_cache(None)
 def program(name: str) -> str:
     """The path of a crate's proved program."""
@@ -167,7 +181,7 @@ def refusing() -> str:
 
 def clone(to: str) -> str:
     """Copies the repository, without what was built in it."""
-    return str(shutil.copytree(TOP, to, ignore=shutil.ignore_patterns("out", ".git", ".qr", "__pycache__")))
+    return str(shutil.copytree(TOP, to, ignore=shutil.ignore_patterns(*NOT_OURS)))
 
 
 def main() -> None:

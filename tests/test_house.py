@@ -1,26 +1,25 @@
 """The rules of the house, without the prover: each is a test, which tells each place that breaks it."""
-from __future__ import annotations
-
 import collections
 import functools
 import itertools
 import os
+import pathlib
 import random
 import re
-import subprocess
 import unittest
-from typing import Callable, Counter, Dict, Iterator, List, NamedTuple, Set, Tuple
+from collections.abc import Callable, Iterator
+from typing import Any
 
 import built  # it finds the package
 import calls as memory_calls
 from conformance import reference
 from conformance.scripts import Maker
+from pages.sources import Crate, crates_listed, read_crate
 from tools import words
-from tools.source import functions_of, imports_of, read
+from tools.source import flat, functions_of, imports_of, read
 
 FILE_LINES = 400
 WIDTHS = {"src": 100, "specs": 100, "proofs": 160}
-LAWS = re.compile(r"\w*Laws$")
 WORD = re.compile(r"[\w'-]+")
 MACRO = re.compile(r"#\[macro_export\]\s*macro_rules! (\w+)")
 # functions without a wrong body: most lend a part, of which no other body compiles
@@ -29,12 +28,11 @@ NO_BODY = {
     "SessionDrop::drop", "ExpectationDisplay::fmt", "fill", "search_lent"}
 
 
-def rule(places: Callable[[House], Iterator[str]]) -> Callable[[House], None]:
+def rule(places: Callable[[Any], Iterator[str]]) -> Callable[[Any], None]:
     """A test of a rule that gives each place which breaks it."""
     @functools.wraps(places)
-    def test(self: House) -> None:
-        found = dict.fromkeys(places(self))
-        if found:
+    def test(self: unittest.TestCase) -> None:
+        if found := dict.fromkeys(places(self)):
             self.fail("\n".join(["", *found]))
     return test
 
@@ -45,44 +43,40 @@ def found(pattern: str, text: str) -> str:
     return place[1] if place else ""
 
 
-def files() -> List[str]:
-    """The files that git tracks or would track."""
-    words = ["git", "ls-files", "--cached", "--others", "--exclude-standard"]
-    if os.path.exists(".git"):
-        found = subprocess.run(words, capture_output=True, text=True, check=True).stdout.split("\n")
-    else:
-        walks = [it for it in os.walk(".") if "out" not in it[0].split("/")]
-        found = [os.path.relpath(f"{at}/{it}", ".") for at, _, names in walks for it in names]
-    return sorted(it for it in found if it and os.path.isfile(it))
+def files() -> list[str]:
+    """The files of the repository, but what is built."""
+    found = []
+    for at, folders, names in os.walk("."):
+        folders[:] = [it for it in folders if it not in built.NOT_OURS]
+        found += [os.path.relpath(f"{at}/{it}") for it in names]
+    return sorted(found)
 
 
 os.chdir(built.TOP)
-FILES = files()
+FILES, CRATES = files(), {it.name: it for it in crates_listed()}
 
 
-def below(*folders: str, end: str = "", crate: str = r"\w+") -> List[str]:
+def below(*folders: str, end: str = "", crate: str = r"\w+") -> list[str]:
     """The files of these folders of a crate ('src', 'specs', ..), or of those of all crates, with that end."""
     place = re.compile(rf"crates/{crate}/(?:{'|'.join(folders)})/")
     return [it for it in FILES if place.match(it) and it.endswith(end)]
 
 
-def words_told_to_keep(page: str) -> Set[str]:
+def words_told_to_keep(page: str) -> set[str]:
     """The words that the language's page lets end in a name for what is found; those from `add` to `pow` are operators."""
     told = found(r"(?s)\n- ([^.]*?) may end in\s+`-> NAME`", page)
     return set(re.findall(r"`([a-z_]+)[ `]", told + found(r"\| (`add NAME NAME`[^|]*)\|", page)))
 
 
-def words_made() -> Dict[str, bool]:
+def words_made() -> dict[str, bool]:
     """The words of the lines that tests/fuzz.py makes, each with whether a line of it had a name for what is found."""
-    made: Dict[str, bool] = collections.defaultdict(bool)
-    for line in Maker(random.Random(1)).script(3000, 0)[0]:
-        words = line.decode(errors="replace").split()
-        if words:
-            made[words[0]] |= len(words) > 2 and words[-2] == "->"
-    return made
+    made = Maker(random.Random(1)).script(3000, 0)[0]
+    lines = [line.decode(errors="replace").split() for line in made]
+    keeping = {words[0] for words in lines if len(words) > 2 and words[-2] == "->"}
+    return {words[0]: words[0] in keeping for words in lines if words}
 
 
-def comments_on_calls(keeping: Set[str]) -> Iterator[str]:
+def comments_on_calls(keeping: set[str]) -> Iterator[str]:
     """Where comments of the code do not let just those heed `->` that the specs do: that of `Step`, and those that tell of `Get`."""
     path = "crates/tera_context/src/call.rt"
     text = read(path)
@@ -126,24 +120,44 @@ def files_public(crate: str) -> Iterator[str]:
         yield from (f"Rattle.{crate}.specs.declared.{home}.{it}" for it in types)
 
 
+# the files that have lemmas
+LEMMAS = re.compile(r"(?!.*/(?:Answers|Invariants|Proof)\.antt$)(?:crates/\w+/proofs/|.*Laws\.antt$)")
 HEAD = re.compile(r"(?m)^( {0,2})(?:pub )?(?:unfoldable |abbrev |opaque )*([a-z][\w'-]*) :(?= |$)")
 NEXT = re.compile(r"(?m)^ *(?:module _|(?:pub )?ruleset |(?:pub )?(?:unfoldable |abbrev |opaque )*[^\W\d][\w'-]* :(?= |$))")
 # what makes a statement more than the type of a definition
 SAYS = re.compile(r"[≡≢<≤⊥⊎↔×]|\b(?:Is|Are|Has)[A-Z]")
 
 
-class Lemma(NamedTuple):
-    """A lemma, or what looks like one: its place and name, its statement and its proof, and the header of the module around it."""
+def homes_of(path: str, text: str) -> dict[str, str]:
+    """Where the names of this repository that a file uses come from: {name: file and name there}."""
+    types = re.findall(r"(?m)^ *(?:pub |abbrev |unfoldable )*([A-Z]\w*) :", text)
+    homes = {it: f"{path}.{it}" for it in [*(it[2] for it in HEAD.finditer(text)), *types]}
+    for it, (module, name) in imports_of(text).items():
+        if name and module.startswith(("Rattle.tera", "Rattle.uses")):
+            homes[it] = f"{module}.{name}"
+    return homes
 
-    place: str
-    name: str
-    statement: str
-    proof: str
-    module: str
+
+def spelled(name: str, statement: str, proof: str, module: str, homes: dict[str, str]) -> str:
+    """The statement with its variables numbered in the order in which they stand, those of its module's first, and with
+    the repository's own names in full. A definition is spelled with its body."""
+    text = statement.partition(":")[2]
+    if not SAYS.search(text):
+        text += re.sub(rf"(?<![\w'-]){re.escape(name)}(?![\w'-])", "itself", proof)
+    # of what the module takes only that which the statement names
+    for group in reversed(re.findall(r"[({][^(){}:]+ : [^{}]*?[)}](?= [({]| where|$)", module)):
+        if set(group[1:].partition(":")[0].split()) & set(WORD.findall(text)):
+            text = f"{group} {text}"
+    text = flat(text)
+    bound = " ".join(re.findall(r"[({]([^(){}:]+?) :", text)).split()
+    names = homes | {name: f"#{at}" for at, name in enumerate(dict.fromkeys(bound))}
+    return re.sub(WORD, lambda it: names.get(it[0], it[0]), text)
 
 
-def lemmas_of(path: str, text: str) -> Iterator[Lemma]:
-    """The lemmas of a file of proofs: what stands at its margin, or below a `module _`."""
+def lemmas_of(path: str, text: str) -> Iterator[tuple[str, str, str, str]]:
+    """The lemmas of a file of proofs, or what looks like them: what stands at its margin, or below a `module _`. Of each its place and
+    name, its text, and its statement as others would be spelled that say the same."""
+    homes = homes_of(path, text)
     for head in HEAD.finditer(text):
         above = "".join(re.findall(r"(?m)^[^ \n-].*", text[: head.start()])[-1:]) if head[1] else ""
         if head[1] and not (head[1] == "  " and above.startswith(("module _", "mutual"))):
@@ -154,69 +168,33 @@ def lemmas_of(path: str, text: str) -> Iterator[Lemma]:
         body = re.search(rf"(?m)^{head[1]}{re.escape(head[2])}(?![\w'-])(?! :)", block)
         end = body.start() if body else len(block)
         line = text.count("\n", 0, head.start()) + 1
-        yield Lemma(f"{path}:{line}", head[2], block[:end], block[end:], above)
+        said = spelled(head[2], block[:end], block[end:], above, homes)
+        yield f"{path}:{line}", head[2], block, said
 
 
-def homes_of(path: str, text: str) -> Dict[str, str]:
-    """Where the names of this repository that a file uses come from: {name: file and name there}."""
-    types = re.findall(r"(?m)^ *(?:pub |abbrev |unfoldable )*([A-Z]\w*) :", text)
-    homes = {it: f"{path}.{it}" for it in [*(it[2] for it in HEAD.finditer(text)), *types]}
-    used = {it: place for it, place in imports_of(text).items() if re.match(r"Rattle\.(?:tera|uses)", place[0])}
-    return {**homes, **{it: f"{module}.{name}" for it, (module, name) in used.items() if name}}
+LIBRARIES = "report scalars values conversions arguments context script replies".split()
+# what is given an allocator, and what may answer want of memory without one
+TAKES = re.compile(r"\balloc: Global|^(?!.*_alloc:).*->(?!.*->).*(?:TeraResult|AllocError)")
 
 
-def spelled(lemma: Lemma, homes: Dict[str, str]) -> str:
-    """The statement with its variables numbered in the order in which they stand, those of its module's first, and with
-    the repository's own names in full. A definition is spelled with its body."""
-    text = lemma.statement.partition(":")[2]
-    if not SAYS.search(text):
-        text += re.sub(rf"(?<![\w'-]){re.escape(lemma.name)}(?![\w'-])", "itself", lemma.proof)
-    # of what the module takes only that which the statement names
-    for group in reversed(re.findall(r"[({][^(){}:]+ : [^{}]*?[)}](?= [({]| where|$)", lemma.module)):
-        if set(group[1:].partition(":")[0].split()) & set(WORD.findall(text)):
-            text = f"{group} {text}"
-    text = re.sub(r"\s+", " ", text).strip()
-    bound = " ".join(re.findall(r"[({]([^(){}:]+?) :", text)).split()
-    names = {name: f"#{at}" for at, name in enumerate(dict.fromkeys(bound))}
-    return re.sub(WORD, lambda it: names.get(it[0], homes.get(it[0], it[0])), text)
-
-
-LIBRARIES = "tera_report tera_scalars tera_values tera_conversions tera_arguments tera_context tera_script tera_replies".split()
-
-
-def plain_type(text: str) -> str:
-    """A type as rows name it: without lifetimes and parameters."""
-    return re.sub(r"<.*>|'\w+ ?", "", text).strip().replace("KwargsOf", "Kwargs")
-
-
-def public_calls(crate: str) -> Iterator[Tuple[str, str]]:
+def public_calls(crate: Crate) -> Iterator[tuple[str, str]]:
     """Each public call of a library that is given an allocator, or whose answer may be want of memory, with its file."""
-    root = read(f"crates/{crate}/src/lib.rt")
-    modules = set(re.findall(r"pub mod (\w+)", root))
-    texts = {path: read(path) for path in below("src", end=".rt", crate=crate)}
-    homes = [root, *(texts[f"crates/{crate}/src/{module}.rt"] for module in modules)]
-    shown = set(re.findall(r"\w+", " ".join(re.findall(r"pub use ([^;]*);", "\n".join(homes)))))
-    for path, text in texts.items():
-        module = path.split("/src/")[1].removesuffix(".rt").split("/")[0]
-        yield from ((path, f"{macro}!") for macro in MACRO.findall(text))
-        for it in functions_of(text):
-            trait, _, kind = re.sub(r"^impl(<(?:[^<>]|<[^<>]*>)*>)? ", "", it.block).partition(" for ")
-            own = plain_type(re.split(r" where\b", kind or trait)[0])
-            # what a trait declares is called at its types, and what no public item holds by no one
-            is_seen = kind or module in modules or (own if it.block else it.name) in shown
-            answer = it.signature.rpartition("->")[2] if "->" in it.signature else ""
-            is_refused = re.search(r"TeraResult|AllocError", answer) and "_alloc: Global" not in it.signature
-            takes = re.search(r"\balloc: Global", it.signature) or is_refused
-            if it.is_public and not it.block.startswith("trait") and is_seen and takes:
-                home = (plain_type(trait) if own == "T" else own) if it.block else module
-                yield path, f"{home}::{it.name}" if it.block or module in modules else it.name
+    read_crate(crate)
+    yield from ((it.path, f"{it.name}!") for it in crate.public if it.kind == "macro")
+    for it in crate.public:
+        if it.kind == "fn" and TAKES.search(flat(it.signature)):
+            if not it.block:
+                yield it.path, it.anchor.replace(".", "::")
+            elif not it.block.is_trait:  # which is called at its types
+                owner = it.block.trait if it.block.owner in ("", "T") else it.block.owner
+                yield it.path, f"{re.sub('(Of)?<.*>', '', owner)}::{it.name}"
 
 
 # the first line of a test says what it shows, and names it
 TEST = re.compile(r'def test_\w+\(self\)[^:]*:\n +"""(.*?)"""')
 
 
-def tests_there() -> Set[str]:
+def tests_there() -> set[str]:
     """The names of all tests: the first lines of those of tests/, and those of crates with their crate."""
     named = {it for path in FILES if path.startswith("tests/") for it in TEST.findall(read(path))}
     for path in below("src", end=".rt"):
@@ -232,13 +210,11 @@ PATH = re.compile(r"^[\w.-]+(?:/[\w.*+-]+)+/?$|^[\w-]+\.(?:md|py|sh|rt|antt|c|tx
 NAME = re.compile(r"^[A-Za-z_]\w*(?:(?:::|\.)[A-Za-z_*]\w*)*$")
 
 
-def words_there() -> Set[str]:
+def words_there() -> set[str]:
     """The words of all files but documents and wrong bodies, and those of the files' names."""
-    words = set(re.findall(r"\w+", " ".join(FILES)))
-    for path in [it for it in FILES if not it.endswith(".md") and "/wrong/" not in it]:
-        with open(path, encoding="utf-8", errors="ignore") as file:
-            words.update(re.findall(r"\w+", file.read()))
-    return words
+    paths = [pathlib.Path(it) for it in FILES if not it.endswith(".md") and "/wrong/" not in it]
+    texts = [it.read_text(encoding="utf-8", errors="ignore") for it in paths]
+    return set(re.findall(r"\w+", "\n".join([*FILES, *texts])))
 
 
 def is_there(code: str) -> bool:
@@ -277,7 +253,7 @@ class House(unittest.TestCase):
                 "is in no script of script_checks or of examples/": re.search(rf"\b{word} ", tests),
                 "heeds `->` in docs/SCRIPT.md not as its spec": spec.get(word) == (word in keep),
                 "heeds `->` in tests/second.py not as its spec": spec.get(word) == told.get(word),
-                "heeds `->` in tests/fuzz.py not as its row": told.get(word) == made[word]}
+                "heeds `->` in tests/fuzz.py not as its row": told.get(word) == made.get(word, False)}
             yield from (f"`{word}` {fault}" for fault in holds if not holds[fault])
 
     @rule
@@ -289,7 +265,7 @@ class House(unittest.TestCase):
         for path in below("src", end=".rt", crate="(?:tera|uses)\\w*"):
             text, place = read(path), path.removesuffix(".rt").replace("/src/", "/wrong/")
             for it in functions_of(text):
-                is_asked = it.is_public and not it.block.startswith("trait") or "/tera_context/" in path
+                is_asked = it.is_public and it.block[:5] != "trait" or "/tera_context/" in path
                 is_law = path.endswith("laws.rt") or text[it.body : it.end] in ("{}", ";")
                 has_one = it.path in NO_BODY or f"{place}/{it.path.replace('::', '.')}" in wrong
                 if is_asked and it.clauses and not is_law and not has_one:
@@ -302,13 +278,13 @@ class House(unittest.TestCase):
         A crate imports a lower crate's proofs by its files of laws alone (docs/ARCHITECTURE.md says which these are)."""
         shared = {}
         for path in below("proofs", end="/Lib.antt"):
-            given = re.findall(r"(?m)^pub (?:mod|use) ([\w.]+)(?: as (\w+))?$", read(path))
-            shared[path.split("/")[1]] = names = {name or module.rpartition(".")[2] for module, name in given}
-            yield from (f"{path}: `{it}` is public, and is no file of laws" for it in names if not LAWS.match(it))
+            names = re.findall(r"(?m)^pub (?:mod|use) (?:[\w.]+ as |[\w.]*\.)?(\w+)$", read(path))
+            shared[path.split("/")[1]] = [it for it in names if it.endswith("Laws")]
+            others = [it for it in names if not it.endswith("Laws")]
+            yield from (f"{path}: `{it}` is public, and is no file of laws" for it in others)
         for path in below("src", "specs", "proofs"):
             for crate, file in re.findall(r"(?m)^(?:ghost )?use Rattle\.(\w+)\.proofs\.(\w+)", read(path)):
-                is_lower = crate in shared and crate != path.split("/")[1]
-                if is_lower and not (LAWS.match(file) and file in shared[crate]):
+                if crate != path.split("/")[1] and file not in shared.get(crate, [file]):
                     yield f"{path}: it imports `{crate}`'s proofs/{file}"
 
     @rule
@@ -320,7 +296,7 @@ class House(unittest.TestCase):
         used = {it for path in below("src", crate="tera") for it in items_used(read(path))}
         texts = [read(it) for it in below("specs", "proofs", crate="tera")]
         passed = set(re.findall(r"(?m)^pub use ([\w.]+)", "\n".join(texts)))
-        for crate in found(r"(?m)^tera: (.*)$", read("crates.txt")).split():
+        for crate in CRATES["tera"].uses:
             for item in items_public(crate):
                 if not any(item == it or item.startswith(f"{it}::") for it in used):
                     yield f"crates/tera does not give out `{item}`"
@@ -332,22 +308,14 @@ class House(unittest.TestCase):
 
         Each lemma is cited, and no two have one statement up to the names of variables."""
         texts = {it: re.sub(r"--.*", "", read(it)) for it in below("src", "specs", "proofs")}
-        everywhere: Counter[str] = collections.Counter()
-        for text in texts.values():
-            everywhere.update(WORD.findall(text))
+        everywhere = collections.Counter(it for text in texts.values() for it in WORD.findall(text))
         same = collections.defaultdict(list)
-        for path in below("proofs", "specs", end=".antt"):
-            is_answer = re.search(r"/(Answers|Invariants|Proof)\.antt$", path)
-            if is_answer or "/specs/" in path and not path.endswith("Laws.antt"):
-                continue
-            homes = homes_of(path, texts[path])
-            for lemma in lemmas_of(path, texts[path]):
-                if everywhere[lemma.name] <= WORD.findall(lemma.statement + lemma.proof).count(lemma.name):
-                    yield f"{lemma.place}: `{lemma.name}` is cited nowhere"
-                same[spelled(lemma, homes)].append(lemma)
-        for group in same.values():
-            if len(group) > 1:
-                yield f"one statement: {', '.join(f'{it.place} `{it.name}`' for it in group)}"
+        for path in filter(LEMMAS.match, below("proofs", "specs", end=".antt")):
+            for place, name, block, said in lemmas_of(path, texts[path]):
+                if everywhere[name] <= WORD.findall(block).count(name):
+                    yield f"{place}: `{name}` is cited nowhere"
+                same[said].append(f"{place} `{name}`")
+        yield from (f"one statement: {', '.join(it)}" for it in same.values() if len(it) > 1)
 
     @rule
     def test_memory(self) -> Iterator[str]:
@@ -357,7 +325,7 @@ class House(unittest.TestCase):
         tests/calls.py names for it; and each test that docs/TESTS.md names is there."""
         rows = {row.name.split()[0] for row in memory_calls.rows(2)}
         told = rows | set(memory_calls.ELSEWHERE) | memory_calls.FREE
-        calls, tests = [it for crate in LIBRARIES for it in public_calls(crate)], tests_there()
+        calls, tests = [it for name in LIBRARIES for it in public_calls(CRATES[f"tera_{name}"])], tests_there()
         for path, name in calls:
             if name not in told:
                 yield f"{path}: `{name}` takes memory, and tests/calls.py has no row for it"
@@ -409,7 +377,7 @@ class House(unittest.TestCase):
         """the tour of README.md is an example
 
         Each line of README's tour, with its answer and behind two blanks a remark, is that of the example."""
-        shown = found(r"\n## A tour of the language\n(?:.*\n)*?\n((?:    .*\n)+)", read("README.md"))
+        shown = found(r"## A tour of the language\n(?:.*\n)*?\n((?:    .*\n)+)", read("README.md"))
         lines, answers = (read(f"examples/tour.{it}").splitlines() for it in ("replay", "answers"))
         rows = [it[4:] for it in shown.splitlines()]
         for row, line, answer in itertools.zip_longest(rows, lines, answers, fillvalue=""):

@@ -49,10 +49,10 @@ class Interrupted(unittest.TestCase):
         env.pop("CHECK_ENDS", None)
         with open(f"{self.room}/log", "wb") as log:
             run = subprocess.Popen([f"{self.copy}/check"], env=env, stdout=log, stderr=log, start_new_session=True)
-        is_there = machine.comes_true(WAITS, lambda: any(sign in words for words in begun(mark)) or run.poll() is not None)
+        is_there = built.comes_true(WAITS, lambda: any(sign in words for words in begun(mark)) or run.poll() is not None)
         run.send_signal(number)
         self.assertTrue(is_there, f"no process with {sign}")
-        self.assertTrue(machine.comes_true(ENDS, lambda: run.poll() is not None and not begun(mark)), begun(mark))
+        self.assertTrue(built.comes_true(ENDS, lambda: run.poll() is not None and not begun(mark)), begun(mark))
         self.assertEqual(run.returncode, 128 + number)
 
     def test_start(self) -> None:

@@ -110,7 +110,7 @@ class Unproved(unittest.TestCase):
         crates, proved = prove.Crates(self.top), read(self.notes).split()
         self.assertEqual(proved[-1], "tera_cli")
         for at, crate in enumerate(proved):
-            self.assertLessEqual({*crates.uses[crate]}, {*proved[:at]})
+            self.assertLessEqual({*crates.below(crate)}, {*proved[:at]})
         self.assertEqual(self.replay(), (b"proved\n", b"", 0))
 
     def test_first_answer(self) -> None:

@@ -112,12 +112,12 @@ class Ending(WithFolder):
             with self.subTest(number):
                 run = subprocess.Popen([sys.executable, f"{TOP}/tools/ending.py", "sh", "-c", script])
                 names = [f"{self.folder}/{name}" for name in ("deaf", "orphan", "own")]
-                self.assertTrue(machine.comes_true(20, lambda: all(os.path.exists(name) and read(name) for name in names)))
+                self.assertTrue(built.comes_true(20, lambda: all(os.path.exists(name) and read(name) for name in names)))
                 began = [int(read(name)) for name in names]
                 self.addCleanup(kill_all, began)
                 run.send_signal(number)
                 self.assertEqual(run.wait(timeout=20), 128 + number)
-                self.assertTrue(machine.comes_true(5, lambda: not any(machine.words_of(pid) for pid in began)))
+                self.assertTrue(built.comes_true(5, lambda: not any(machine.words_of(pid) for pid in began)))
                 for name in names:
                     os.remove(name)
 
@@ -196,7 +196,7 @@ class Prove(WithFolder):
     def test_a_signal_stops_it_and_it_goes_on_from_there(self):
         written(self.folder, {"notes": ""})
         run = subprocess.Popen(self.words(), env=self.environment(WAITS="tera_top"), stderr=subprocess.PIPE, text=True)
-        self.assertTrue(machine.comes_true(60, lambda: "tera_top" in read(f"{self.folder}/notes")))
+        self.assertTrue(built.comes_true(60, lambda: "tera_top" in read(f"{self.folder}/notes")))
         run.send_signal(signal.SIGTERM)
         self.assertIn("make: stopped; what is proved stays so", run.communicate(timeout=20)[1])
         self.assertEqual(run.returncode, 128 + signal.SIGTERM)

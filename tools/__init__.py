@@ -2,10 +2,10 @@
 check cost, `prove` proves and builds a program, `unproved` runs one that is not proved, `clauses` lists what the libraries
 promise, `testing` runs parts of the tests by name. `machine` reads what the kernel tells of processes. tests/test_tools.py
 tries them on small made-up crates."""
-import argparse
+from argparse import ArgumentParser, RawDescriptionHelpFormatter
 
 
-def parser(says: str) -> argparse.ArgumentParser:
+def parser(says: str) -> ArgumentParser:
     """The parser of a command line, whose help begins with the words that a tool begins with."""
-    return argparse.ArgumentParser(description=says, formatter_class=argparse.RawDescriptionHelpFormatter)
+    return ArgumentParser(description=says, formatter_class=RawDescriptionHelpFormatter)
 

@@ -8,16 +8,13 @@
 A public function is one that is `pub`, in whatever module, or that a trait asks for. Blanks and line breaks do not count,
 nor does the file that a function or a definition stands in, so that what only moves is no change.
 """
-from __future__ import annotations
-
 import glob
-import itertools
 import os
 import re
 import subprocess
 import sys
 import tempfile
-from typing import Dict, Iterator, List, Optional, Tuple
+from collections.abc import Iterator
 
 sys.dont_write_bytecode = True  # no folder beside the sources
 TOP = os.path.dirname(os.path.dirname(os.path.abspath(__file__)))
@@ -27,13 +24,14 @@ from tools.source import Function, Imports, flat, functions_of, imports_of, read
 
 WORD = re.compile(r"[^\W\d][\w'-]*|◌[^\s.,{}()]*◌?")
 DEFINITION = re.compile(
-    r"(?m)^( {0,2})(?:abbrev |unfoldable |pattern )*(?:pub )?(?:abbrev |unfoldable |pattern )*(data |record |mutual)?([^\W\d][\w'-]*)(?: .*?)? :(?= |$)")
+    r"(?m)^( {0,2})(?:abbrev |unfoldable |pattern )*(?:pub )?(?:abbrev |unfoldable |pattern )*"
+    r"(data |record |mutual)?([^\W\d][\w'-]*)(?: .*?)? :(?= |$)")
 
-Place = Tuple[str, str]  # the file of a definition, as it is imported, and its name
-Told = Dict[str, Dict[str, str]]  # of functions and definitions what each clause says
+Place = tuple[str, str]  # the file of a definition, as it is imported, and its name
+Told = dict[str, dict[str, str]]  # of functions and definitions what each clause says
 
 
-def definitions_in(text: str) -> Iterator[Tuple[str, str]]:
+def definitions_in(text: str) -> Iterator[tuple[str, str]]:
     """Each definition of a file of specs: its name, and its text on one line."""
     bare = re.sub(r"(?m)^\s*--.*$|\s--\s.*$", "", text)
     heads = list(DEFINITION.finditer(bare))
@@ -41,7 +39,7 @@ def definitions_in(text: str) -> Iterator[Tuple[str, str]]:
         yield head[3], flat(bare[head.start() : end].removesuffix("abbrev mutual"))
 
 
-def named(text: str, imports: Imports, module: Optional[str]) -> Iterator[Place]:
+def named(text: str, imports: Imports, module: str | None) -> Iterator[Place]:
     """Where the words of a text may be defined: in what is imported, or in the text's own file."""
     for word in set(WORD.findall(text)):
         path, name = imports.get(word, (module, word))
@@ -55,37 +53,31 @@ class Repository:
     """The public functions and the definitions of a repository's libraries."""
 
     def __init__(self, top: str) -> None:
-        self.definitions: Dict[Place, str] = {}
-        self.imports: Dict[str, Imports] = {}
-        self.functions: Dict[str, Function] = {}
-        self.cited_by: List[Place] = []
-        names = re.findall(r"(?m)^(tera_\w+)[\w ]*:", read(f"{top}/crates.txt"))
-        found = (glob.glob(f"{top}/crates/{name}/**/*.*", recursive=True) for name in names)
-        for path in sorted(itertools.chain(*found)):
-            crate, folder, *inner = os.path.relpath(path, f"{top}/crates").split("/")
-            if folder == "specs" and path.endswith(".antt"):
-                self.read_definitions(f"Rattle.{crate}.specs.{'.'.join(inner)}".removesuffix(".antt"), read(path))
-            elif folder == "src":
-                self.read_functions(crate, read(path))
+        self.definitions: dict[Place, str] = {}
+        self.imports: dict[str, Imports] = {}
+        self.functions: dict[str, Function] = {}
+        self.cited_by: list[Place] = []
+        for path in sorted(glob.glob(f"{top}/crates/tera_*/s*/**/*.*", recursive=True)):
+            names = os.path.relpath(path, f"{top}/crates").removesuffix(".antt").split("/")
+            module, text = ".".join(["Rattle", *names]), read(path)
+            self.imports[module] = imports_of(text)
+            if names[1] == "specs":
+                for name, said in definitions_in(text):
+                    self.definitions[module, name] = said
+            for function in functions_of(text) if names[1] == "src" else ():
+                self.add(names[0], function, self.imports[module])
 
-    def read_definitions(self, module: str, text: str) -> None:
-        """Reads a file of specs/."""
-        self.imports[module] = imports_of(text)
-        self.definitions.update(((module, name), said) for name, said in definitions_in(text))
-
-    def read_functions(self, crate: str, text: str) -> None:
-        """Reads a file of src/."""
-        imports = imports_of(text)
-        for function in filter(lambda it: it.is_public, functions_of(text)):
-            name = " · ".join(filter(None, [function.block, function.signature]))
+    def add(self, crate: str, function: Function, imports: Imports) -> None:
+        """Adds a function, if others may call it, with the definitions that its clauses cite."""
+        name = " · ".join(filter(None, [function.block, function.signature]))
+        if function.is_public:
             # two crates may each have a function of that name and kind
             self.functions[name if name not in self.functions else f"{crate} · {name}"] = function
-            text = " ".join(it.text for it in function.clauses)
-            self.cited_by += named(text, imports, None)
+            self.cited_by += named(" ".join(text for _, text in function.clauses), imports, None)
 
-    def cited(self) -> Dict[Place, str]:
+    def cited(self) -> dict[Place, str]:
         """The definitions that public clauses cite, through whatever others."""
-        found: Dict[Place, str] = {}
+        found: dict[Place, str] = {}
         left = [*self.cited_by]
         while left:
             place = left.pop()
@@ -115,19 +107,22 @@ def changes(old: Told, new: Told) -> Iterator[str]:
     for name in sorted({*old, *new}):
         before, after = old.get(name), new.get(name)
         if before is None or after is None:
-            yield from listed({f"{'came' if before is None else 'went'}: {name}": before or after or {}})
+            how = "came" if before is None else "went"
+            yield from listed({f"{how}: {name}": before or after or {}})
             continue
         for head in dict.fromkeys([*before, *after]):
-            if before.get(head) != after.get(head):
-                yield f"{name}\n  - {head} {{ {before.get(head)} }}\n  + {head} {{ {after.get(head)} }}"
+            was, now = before.get(head), after.get(head)
+            if was != now:
+                yield f"{name}\n  - {head} {{ {was} }}\n  + {head} {{ {now} }}"
 
 
-def at_revision(revision: str, room: str) -> Repository:
-    """The libraries at a revision of git, which are put into a folder."""
-    words = ["git", "-C", TOP, "archive", revision, "crates", "crates.txt"]
-    made = subprocess.run(words, stdout=subprocess.PIPE, check=True)
-    subprocess.run(["tar", "-x", "-C", room], input=made.stdout, check=True)
-    return Repository(room)
+def at_revision(revision: str) -> Repository:
+    """The libraries at a revision of git."""
+    with tempfile.TemporaryDirectory(prefix="clauses-") as room:
+        words = ["git", "-C", TOP, "archive", revision, "crates"]
+        made = subprocess.run(words, stdout=subprocess.PIPE, check=True)
+        subprocess.run(["tar", "-x", "-C", room], input=made.stdout, check=True)
+        return Repository(room)
 
 
 def main() -> None:
@@ -136,12 +131,11 @@ def main() -> None:
     words.add_argument("--since", metavar="REV", help="a revision of git")
     given = words.parse_args()
     new = Repository(TOP).told()
-    if not given.since:
+    if given.since:
+        lines = list(changes(at_revision(given.since).told(), new))
+        print("\n".join([*lines, f"{len(lines)} changes"]))
+    else:
         print("\n".join(listed(new)))
-        return
-    with tempfile.TemporaryDirectory(prefix="clauses-") as room:
-        lines = list(changes(at_revision(given.since, room).told(), new))
-    print("\n".join([*lines, f"{len(lines)} changes"]))
 
 
 if __name__ == "__main__":

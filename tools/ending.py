@@ -4,8 +4,6 @@
 Where an interrupt, TERM or HUP comes, the command and all below it are told to end, and are killed two seconds later. So
 nothing is left that runs, waits or holds a lock, and the status is 128 and the signal's number.
 """
-from __future__ import annotations
-
 import contextlib
 import ctypes
 import os
@@ -13,7 +11,7 @@ import signal
 import subprocess
 import sys
 import time
-from typing import Any, List
+from typing import Any
 
 sys.dont_write_bytecode = True  # no folder beside the sources
 sys.path.insert(0, os.path.dirname(os.path.dirname(os.path.abspath(__file__))))
@@ -33,31 +31,29 @@ def ended(number: int, _: object) -> None:
     raise Ended(number)
 
 
+def heed(handler: Any = ended) -> None:
+    """From now on a signal is raised as `Ended`, or handled so."""
+    for number in SIGNALS:
+        signal.signal(number, handler)
+
+
 def end_all() -> None:
     """Ends all below, politely first, and heeds no signal any more."""
-    for number in SIGNALS:
-        signal.signal(number, signal.SIG_IGN)
-    until = time.monotonic() + PATIENCE
-    told: List[int] = []
-    while living := below(os.getpid()):
+    heed(signal.SIG_IGN)
+    until, told = time.monotonic() + PATIENCE, set[int]()
+    while living := {*below(os.getpid())}:
         is_late = time.monotonic() > until
-        for pid in living if is_late else [it for it in living if it not in told]:
+        for pid in living if is_late else living - told:
             with contextlib.suppress(ProcessLookupError):
                 os.kill(pid, signal.SIGKILL if is_late else signal.SIGTERM)
-        told += living
+        told |= living
         with contextlib.suppress(ChildProcessError):
             while os.waitpid(-1, os.WNOHANG)[0]:
                 pass
         time.sleep(0.05)
 
 
-def heed() -> None:
-    """From now on a signal is raised as `Ended`."""
-    for number in SIGNALS:
-        signal.signal(number, ended)
-
-
-def run(command: List[str], **how: Any) -> int:
+def run(command: list[str], **how: Any) -> int:
     """Runs the command, with what `Popen` is told beside, and returns its status. A signal ends it with all that it began, and is
     raised."""
     ctypes.CDLL(None).prctl(ADOPTS_ORPHANS, 1, 0, 0, 0)

@@ -5,31 +5,27 @@
 from __future__ import annotations
 
 import functools
-import importlib.machinery
-import importlib.util
 import os
+import runpy
 import shutil
 import sys
-from typing import Any, Dict, List, Optional
+import types
+from typing import Any
 
 # What is taken here of `rt`, of the module beside it that its commands share, and of its crates.
 TAKEN = {
     "rt": ("processors", "free", "rtlib"),
-    "rtlib": ("crates_below", "guarded", "lock", "PARTS", "RATTLE"),
+    "rtlib": ("crates_below", "files_of", "guarded", "lock", "PARTS", "RATTLE"),
     "a crate": ("name", "folder", "rlib", "is_static", "below", "stamp", "words", "build_static")}
 ROOM = 4_000_000_000  # the free memory, in bytes, that a check begins with
 
 
-@functools.lru_cache(None)
+@functools.cache
 def rt() -> Any:
     """The kit's `rt`, as a module."""
     path = os.path.realpath(shutil.which("rt") or "rt")
     sys.path.insert(0, os.path.dirname(path))
-    spec = importlib.util.spec_from_loader("rt", importlib.machinery.SourceFileLoader("rt", path))
-    assert spec and spec.loader
-    module = importlib.util.module_from_spec(spec)
-    spec.loader.exec_module(module)
-    return module
+    return types.SimpleNamespace(**runpy.run_path(path, run_name="rt"))
 
 
 def processors() -> int:
@@ -57,7 +53,7 @@ class Crate:
         own.is_static = False
         self.name, self.folder, self.library = str(own.name), str(own.folder), str(own.rlib)
 
-    def below(self) -> List[Crate]:
+    def below(self) -> list[Crate]:
         """The crates that it stands on, as the kit resolves them."""
         return [Crate(low) for low in self.own.below()]
 
@@ -65,22 +61,22 @@ class Crate:
         """A sum of all that a verdict on it stands on, by which the gate tells whether one still holds."""
         return str(self.own.stamp())
 
-    def folders(self) -> List[str]:
+    def folders(self) -> list[str]:
         """The folders that a check of it reads: those that a copy of it needs."""
         return [part for part in rt().rtlib.PARTS if os.path.isdir(f"{self.folder}/{part}")]
 
-    def check(self, flags: List[str], kept: Optional[str]) -> List[str]:
+    def check(self, flags: list[str], kept: str | None) -> list[str]:
         """The words of a check of a copy of the crate, over the work that is kept in a folder: no command checks a copy."""
-        words = [*rt().rtlib.guarded(), rt().rtlib.RATTLE, "check", *self.own.words(flags, keeps=False)]
         # a copy declares a function of C's, which the crate does not
-        words = [f"{it}never" if it == f"{self.name}=" else it for it in words]
-        return words + (["--incremental", kept] if kept else [])
+        own = self.own.words([*flags, *(["--incremental", kept] if kept else [])], keeps=False)
+        words = [f"{it}never" if it == f"{self.name}=" else it for it in own]
+        return [*rt().rtlib.guarded(), rt().rtlib.RATTLE, "check", *words]
 
     def is_current(self) -> bool:
         """Whether its library is there, and newer than what it is built from; no command asks that and proves nothing."""
-        walks = [walk for part in self.folders() for walk in os.walk(f"{self.folder}/{part}")]
-        made_of = [*(f"{at}/{name}" for at, _, names in walks for name in names), *(low.library for low in self.below())]
-        return os.path.isdir(self.library) and max(map(os.path.getmtime, made_of)) <= os.path.getmtime(self.library)
+        made_of = [*rt().rtlib.files_of(self.folder), *(low.library for low in self.below())]
+        times = map(os.path.getmtime, made_of)  # asked once the library is there
+        return os.path.isdir(self.library) and max(times) <= os.path.getmtime(self.library)
 
     def archive(self) -> bool:
         """Makes the static library over the libraries that the gate left; `rt lib` would prove the crate again."""
@@ -90,13 +86,13 @@ class Crate:
         return not self.own.build_static(["--jobs", "1"])
 
 
-def crates(top: str) -> Dict[str, Crate]:
+def crates(top: str) -> dict[str, Crate]:
     """The crates of a repository by their names, lowest first."""
     rt().rtlib.guarded()
     return {str(own.name): Crate(own) for own in rt().rtlib.crates_below(top)}
 
 
-def changes() -> List[str]:
+def changes() -> list[str]:
     """Each part of the kit that is taken here and is there no more."""
     crate = rt().rtlib.Crate
     own = [*dir(crate), *crate.__init__.__code__.co_names]

@@ -4,8 +4,6 @@ where COMMAND is what runs this.
 Crates are proved one after another, each after all that it stands on, as crates.txt says. What is proved stays so: nothing
 of it is proved again, and after an interrupt it goes on where it was.
 """
-from __future__ import annotations
-
 import os
 import re
 import shutil
@@ -17,6 +15,7 @@ sys.dont_write_bytecode = True  # no folder beside the sources
 TOP = os.path.dirname(os.path.dirname(os.path.realpath(__file__)))
 sys.path.insert(0, TOP)
 from tools import ending, parser
+from tools.source import read
 
 
 def is_fresh(made: str) -> bool:
@@ -30,15 +29,13 @@ class Crates:
 
     def __init__(self, top: str) -> None:
         self.folder = f"{top}/crates"
-        with open(f"{top}/crates.txt", encoding="utf-8") as lines:
-            said = re.findall(r"(?m)^([^#:\n]+):([^#\n]*)", lines.read())
-        self.heads = {head.split()[0]: head.split() for head, _ in said}
-        # those that each crate uses, without those of the kit
-        self.uses = {head.split()[0]: [it for it in uses.split() if it in self.heads] for head, uses in said}
+        said = re.findall(r"(?m)^(\w+)(.*?):(.*)", read(f"{top}/crates.txt"))
+        self.listed = {name: (kind.split(), uses.split()) for name, kind, uses in said}
 
     def below(self, name: str) -> list[str]:
         """The crates that a crate stands on, each after those that it stands on itself."""
-        return list(dict.fromkeys(it for used in self.uses[name] for it in [*self.below(used), used]))
+        used = [it for it in self.listed[name][1] if it in self.listed]
+        return list(dict.fromkeys(low for it in used for low in [*self.below(it), it]))
 
 
 class Target:
@@ -47,20 +44,21 @@ class Target:
     def __init__(self, crates: Crates, name: str, command: str) -> None:
         self.crates, self.name, self.command = crates, name, command
         self.out = f"{crates.folder}/{name}/out"
-        self.kind = "library" if "staticlib" in crates.heads[name] else "program"
+        self.kind = "library" if "staticlib" in crates.listed[name][0] else "program"
         self.made = f"{self.out}/lib{name}.a" if self.kind == "library" else f"{self.out}/{name}"
 
     def tell(self, line: str) -> None:
         """Says a line on standard error."""
-        print(f"{os.path.basename(self.command.split()[0])}: {line}", file=sys.stderr, flush=True)
+        name = os.path.basename(self.command.split()[0])
+        print(f"{name}: {line}", file=sys.stderr, flush=True)
 
-    def prove(self, name: str, left: str) -> bool:
+    def prove(self, name: str, left: int) -> bool:
         """Proves a crate, and builds the program; says whether it is proved."""
         began, log = time.monotonic(), f"{self.out}/prove/{name}.log"
-        is_program = name == self.name and self.kind == "program"
-        self.tell(f"{name}: being proved{' and built' if name == self.name else ''}; {left} left")
+        is_own = name == self.name
+        words = ["rt", "run" if is_own and self.kind == "program" else "lib"]
+        self.tell(f"{name}: being proved{' and built' if is_own else ''}; {left} left")
         with open(log, "wb") as file:
-            words = ["rt", "run" if is_program else "lib"]
             folder, none = f"{self.crates.folder}/{name}", subprocess.DEVNULL
             status = ending.run(words, cwd=folder, stdin=none, stdout=file, stderr=file)
         said, see = ("not proved", f"; see {log}") if status else ("proved", "")
@@ -70,16 +68,16 @@ class Target:
     def make(self) -> int:
         """Makes what is not made or not newer than its sources, and returns the status."""
         began, left = time.time(), [*self.crates.below(self.name), self.name]
-        counts = [f"{it} crate{'' if it == 1 else 's'}" for it in range(len(left), 0, -1)]
         os.makedirs(f"{self.out}/prove", exist_ok=True)
-        self.tell(f"{counts[0]} to prove, each of one to five minutes on an idle core of 2.7 GHz where "
-                  f"nothing of it is proved; the prover's words are in {self.out}/prove")
-        if not all(self.prove(name, count) for name, count in zip(left, counts)):
+        self.tell(
+            f"{len(left)} crates to prove, each of one to five minutes on an idle core of 2.7 GHz "
+            f"where nothing of it is proved; the prover's words are in {self.out}/prove")
+        if not all(map(self.prove, left, range(len(left), 0, -1))):
             return 1
         # a source that was edited meanwhile is newer than what was built, which may not have it
         os.utime(self.made, (began, began))
         if not is_fresh(self.made):
-            self.tell(f"a source was changed meanwhile: `{self.command}` again makes the {self.kind}")
+            self.tell(f"a source changed meanwhile: `{self.command}` again makes the {self.kind}")
             return 1
         self.tell(f"the proved {self.kind} stands, after {time.time() - began:.0f} s")
         return 0

@@ -4,8 +4,6 @@
 A word has a letter or a digit. What a script writes does not count: the parts that `./docs/build --fill` writes, and the tables
 that `bench/suite.py` prints. The pages in APART are counted by themselves.
 """
-from __future__ import annotations
-
 import os
 import re
 from collections.abc import Iterator
@@ -16,12 +14,6 @@ APART = ("docs/CONFORM.md", "docs/PACKAGES.md", "docs/PAGE.md")
 SCRIPTED = re.compile(r"(?ms)^<!-- (?:filled|printed): [^\n]* -->\n.*?^<!-- end -->$")
 BLOCK = re.compile(r"(?ms)^```.*?^```$|^(?:    [^\n]*\n)+")
 CODE = re.compile(r'``.+?``|`[^`]+`|"[^"\n]+"')
-
-
-def documents() -> list[str]:
-    """README.md, the pages of docs/ and bench/README.md."""
-    pages = sorted(f"docs/{it}" for it in os.listdir(f"{TOP}/docs") if it.endswith(".md"))
-    return ["README.md", *pages, "bench/README.md"]
 
 
 def by_hand(path: str) -> str:
@@ -36,8 +28,9 @@ def count(text: str) -> int:
 
 
 def counts() -> dict[str, int]:
-    """The words of each document."""
-    return {path: count(by_hand(path)) for path in documents()}
+    """The words of each document: README.md, the pages of docs/ and bench/README.md."""
+    pages = sorted(f"docs/{it}" for it in os.listdir(f"{TOP}/docs") if it.endswith(".md"))
+    return {it: count(by_hand(it)) for it in ["README.md", *pages, "bench/README.md"]}
 
 
 def total(counted: dict[str, int]) -> int:
