@@ -1,6 +1,6 @@
 //! Tests of what functions of templates take and give.
 mod collections;
-mod given;
+pub mod given;
 mod inputs;
 mod integers;
 mod keys;

@@ -1,15 +1,15 @@
 //! What keys print.
-use crate::held::hold;
+use crate::held::{Seen, hold};
 use crate::keys::{in_place, owned, tells};
 use crate::printed::displays;
 use std::alloc::Global;
 use tera_values::Key;
 
 // The key prints that, by `{}` at a width and with a fill.
-fn prints(alloc: Global, key: Key<'static>, wanted: &str) -> bool {
-    let is_so = displays(alloc, &key, wanted);
+fn prints(alloc: Global, key: Key<'static>, wanted: &str) -> Seen {
+    let row = displays(alloc, &key, wanted);
     drop(key);
-    is_so
+    row
 }
 
 #[test]

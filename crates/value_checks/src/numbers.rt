@@ -1,6 +1,5 @@
 //! What is computed of values, and how numbers are read and compared.
-use crate::held::hold;
-use made_values::or_undefined;
+use crate::held::{Seen, hold, is_so, same, unwanted};
 use std::alloc::Global;
 use tera_report::{Error, ErrorKind, TeraResult};
 use tera_values::number::{NotComputed, add, compute, floor_div, mul, negate, pow, rem, sub};
@@ -27,16 +26,20 @@ fn answer(alloc: Global, op: BinaryOp, left: Value, right: Value) -> TeraResult<
 }
 
 // It is that number, held in 128 bits with a sign.
-fn is(made: TeraResult<Value>, wanted: i128) -> bool {
-    let found = or_undefined(made);
-    let is_so = found.is_i128() && found.as_i128() == Some(wanted);
-    drop(found);
-    is_so
+fn is(alloc: Global, made: TeraResult<Value>, wanted: i128) -> Seen {
+    let holds = match &made {
+        Ok(found) => found.is_i128() && found.as_i128() == Some(wanted),
+        Err(_) => false,
+    };
+    let row = is_so(alloc, holds, &made, &wanted);
+    drop(made);
+    row
 }
 
 // The function of that operator gives that number at an `i64` and a `u8`.
-fn gives(alloc: Global, op: BinaryOp, left: i64, right: u8, wanted: i128) -> bool {
+fn gives(alloc: Global, op: BinaryOp, left: i64, right: u8, wanted: i128) -> Seen {
     is(
+        alloc,
         answer(alloc, op, Value::from(left), Value::from(right)),
         wanted,
     )
@@ -54,26 +57,27 @@ fn each_operator_has_its_function(rt: HostRuntime) {
             gives(alloc, BinaryOp::Rem, -7, 2, 1),
             gives(alloc, BinaryOp::FloorDiv, -7, 2, -4),
             gives(alloc, BinaryOp::Pow, -7, 2, 49),
-            BinaryOp::Rem.symbol() == "%",
+            same(alloc, &BinaryOp::Rem.symbol(), &"%"),
         ],
     );
 }
 
 // It is refused with a text in which that part stands.
-fn refusal_holds(made: TeraResult<Value>, part: &str) -> bool {
-    match made.err() {
-        Some(refused) => says_part(refused, part),
-        None => false,
+fn refusal_holds(alloc: Global, made: TeraResult<Value>, part: &str) -> Seen {
+    match made {
+        Err(refused) => says_part(alloc, refused, part),
+        Ok(found) => unwanted(alloc, found, part),
     }
 }
 
-fn says_part(refused: Error, part: &str) -> bool {
-    let is_so = match refused.kind() {
+fn says_part(alloc: Global, refused: Error, part: &str) -> Seen {
+    let holds = match refused.kind() {
         ErrorKind::Msg(told) => told.as_str().contains(part),
         _ => false,
     };
+    let row = is_so(alloc, holds, &refused, &part);
     drop(refused);
-    is_so
+    row
 }
 
 #[test]
@@ -96,10 +100,10 @@ fn arithmetic_in_i128(rt: HostRuntime) {
     hold!(
         &rt,
         [
-            is(sum, 1),
-            is(rest, -5),
-            refusal_holds(past, "Unable to perform"),
-            refusal_holds(wide, "out of range"),
+            is(alloc, sum, 1),
+            is(alloc, rest, -5),
+            refusal_holds(alloc, past, "Unable to perform"),
+            refusal_holds(alloc, wide, "out of range"),
         ],
     );
 }
@@ -117,12 +121,12 @@ fn can_negate(rt: HostRuntime) {
     hold!(
         &rt,
         [
-            refusal_holds(negated(alloc, Value::from(i128::MIN)), "overflow"),
-            is(negated(alloc, Value::from(5i64)), -5),
-            is(negated(alloc, Value::from(-5i64)), 5),
-            is(negated(alloc, Value::from(i128::MAX)), -i128::MAX),
-            is(negated(alloc, Value::from(5u128)), -5),
-            refusal_holds(negated(alloc, Value::from(u128::MAX)), "overflow"),
+            refusal_holds(alloc, negated(alloc, Value::from(i128::MIN)), "overflow"),
+            is(alloc, negated(alloc, Value::from(5i64)), -5),
+            is(alloc, negated(alloc, Value::from(-5i64)), 5),
+            is(alloc, negated(alloc, Value::from(i128::MAX)), -i128::MAX),
+            is(alloc, negated(alloc, Value::from(5u128)), -5),
+            refusal_holds(alloc, negated(alloc, Value::from(u128::MAX)), "overflow"),
         ],
     );
 }
@@ -131,33 +135,38 @@ fn can_negate(rt: HostRuntime) {
 type Read = (bool, Option<Number>, Option<u128>, Option<i64>, Option<u64>);
 
 // It is read so.
-fn reads(value: Value, wanted: Read) -> bool {
-    let is_so = is_read(&value, wanted);
+fn reads(alloc: Global, value: Value, wanted: Read) -> Seen {
+    let found = read(&value);
     drop(value);
-    is_so
+    same(alloc, &found, &wanted)
 }
 
-fn is_read(value: &Value, wanted: Read) -> bool {
-    let (is_number, number, wide, signed, unsigned) = wanted;
-    let is_known = value.is_number() == is_number && value.as_number() == number;
-    let is_small = value.as_i64() == signed && value.as_u64() == unsigned;
-    is_known && is_small && value.as_u128() == wide
+fn read(value: &Value) -> Read {
+    let (is_number, number) = (value.is_number(), value.as_number());
+    (
+        is_number,
+        number,
+        value.as_u128(),
+        value.as_i64(),
+        value.as_u64(),
+    )
 }
 
 #[test]
 fn numbers_are_read(rt: HostRuntime) {
+    let alloc = rt.alloc();
     let minus_one = (true, Some(Number::Integer(-1)), None, Some(-1), None);
     let seven = (true, Some(Number::Integer(7)), Some(7), Some(7), Some(7));
     let greatest = (true, None, Some(u128::MAX), None, None);
     hold!(
         &rt,
         [
-            reads(Value::from(u128::MAX), greatest),
-            reads(Value::from(-1i8), minus_one),
-            reads(Value::from(-1i128), minus_one),
-            reads(Value::from(7i128), seven),
-            reads(Value::from(7u8), seven),
-            reads(Value::none(), (false, None, None, None, None)),
+            reads(alloc, Value::from(u128::MAX), greatest),
+            reads(alloc, Value::from(-1i8), minus_one),
+            reads(alloc, Value::from(-1i128), minus_one),
+            reads(alloc, Value::from(7i128), seven),
+            reads(alloc, Value::from(7u8), seven),
+            reads(alloc, Value::none(), (false, None, None, None, None)),
         ],
     );
 }
@@ -170,18 +179,19 @@ fn kind_of(value: Value) -> ValueKind {
 
 #[test]
 fn numbers_are_compared(rt: HostRuntime) {
-    let (two, three) = (Number::Integer(2), Number::Integer(3));
+    let alloc = rt.alloc();
+    let (zero, two, three) = (Number::Integer(0), Number::Integer(2), Number::Integer(3));
     hold!(
         &rt,
         [
-            two == Number::Integer(2),
-            two != three,
-            two < three,
-            two.is_integer(),
-            !two.is_zero(),
-            Number::Integer(0).is_zero(),
-            kind_of(Value::from(two)) == ValueKind::I128,
-            two.as_integer() == Some(2),
+            same(alloc, &two, &Number::Integer(2)),
+            is_so(alloc, two != three, &(two, three), &"two numbers"),
+            is_so(alloc, two < three, &(two, three), &"a rising pair"),
+            is_so(alloc, two.is_integer(), &two, &"an integer"),
+            is_so(alloc, !two.is_zero(), &two, &"a number that is not 0"),
+            is_so(alloc, zero.is_zero(), &zero, &"0"),
+            same(alloc, &kind_of(Value::from(two)), &ValueKind::I128),
+            same(alloc, &two.as_integer(), &Some(2)),
         ],
     );
 }
@@ -196,15 +206,28 @@ fn quotient(left: Value, right: Value) -> Result<i128, NotComputed> {
 
 #[test]
 fn what_is_not_computed_says_why(rt: HostRuntime) {
+    let alloc = rt.alloc();
     let wide = u128::MAX;
     let outside = NotComputed::OperandOutsideI128 { operand: wide };
     let no_number = NotComputed::NotANumber { kind: "bool" };
     hold!(
         &rt,
         [
-            quotient(Value::from(-7i64), Value::from(2u128)) == Ok(-4),
-            quotient(Value::from(wide), Value::from(true)) == Err(outside),
-            quotient(Value::from(true), Value::from(wide)) == Err(no_number),
+            same(
+                alloc,
+                &quotient(Value::from(-7i64), Value::from(2u128)),
+                &Ok(-4),
+            ),
+            same(
+                alloc,
+                &quotient(Value::from(wide), Value::from(true)),
+                &Err(outside),
+            ),
+            same(
+                alloc,
+                &quotient(Value::from(true), Value::from(wide)),
+                &Err(no_number),
+            ),
         ],
     );
 }

@@ -1,44 +1,54 @@
 //! How values of every kind compare.
-use crate::held::hold;
+use crate::held::{Seen, hold, is_so};
 use made_values::{bytes, no_items, no_pairs, numbers, one_item, safe, text, two_items};
+use std::alloc::Global;
 use std::cmp::Ordering;
+use std::fmt::Debug;
 use std::process::Abort;
 use tera_values::Value;
 
-// Whether they compare so.
-fn compare<T: Ord>(left: &T, right: &T, order: Ordering) -> bool {
-    left.cmp(right) == order
-        && left.partial_cmp(right) == Some(order)
-        && (left == right) == (order == Ordering::Equal)
+// They compare so, and are equal where they do.
+fn compare<T: Ord + Debug>(alloc: Global, left: &T, right: &T, order: Ordering) -> Seen {
+    let (found, partial, are_equal) = (left.cmp(right), left.partial_cmp(right), left == right);
+    let holds = found == order && partial == Some(order) && are_equal == (order == Ordering::Equal);
+    is_so(
+        alloc,
+        holds,
+        &(left, right, found, partial, are_equal),
+        &order,
+    )
 }
 
 /// Each is less than all that follow.
-pub fn rise<T: Ord>(rt: &impl Abort, values: &[T]) {
+pub fn rise<T: Ord + Debug>(rt: &impl Abort, alloc: Global, values: &[T]) {
     for (i, left) in values.iter().enumerate() {
         for (j, right) in values.iter().enumerate() {
-            assert!(rt; compare(left, right, i.cmp(&j)), "at {i} and {j}");
+            if let Err(seen) = compare(alloc, left, right, i.cmp(&j)) {
+                panic!(rt; "at {i} and {j}: {seen}");
+            }
         }
     }
 }
 
 // No two of them are decided, which are of different ranks.
-fn are_undecided(rt: &impl Abort, values: &[Value]) {
+fn are_undecided(rt: &impl Abort, alloc: Global, values: &[Value]) {
     for (i, left) in values.iter().enumerate() {
         for (j, right) in values.iter().enumerate() {
-            assert!(rt;
-                i == j || left.try_compare(right).is_none(),
-                "at {i} and {j}"
-            );
+            let found = left.try_compare(right);
+            let holds = i == j || found.is_none();
+            if let Err(seen) = is_so(alloc, holds, &(left, right, found), &"no order") {
+                panic!(rt; "at {i} and {j}: {seen}");
+            }
         }
     }
 }
 
 /// They are equal, and both are let go.
-pub fn are_equal<T: Ord + Drop>(left: T, right: T) -> bool {
-    let is_so = compare(&left, &right, Ordering::Equal);
+pub fn are_equal<T: Ord + Debug + Drop>(alloc: Global, left: T, right: T) -> Seen {
+    let row = compare(alloc, &left, &right, Ordering::Equal);
     drop(left);
     drop(right);
-    is_so
+    row
 }
 
 #[test]
@@ -65,7 +75,7 @@ fn values_come_in_order(rt: HostRuntime) {
         Value::none(),
         Value::undefined(),
     ];
-    rise(&rt, &all);
+    rise(&rt, alloc, &all);
     drop(all);
 }
 
@@ -82,23 +92,24 @@ fn ranks_are_left_undecided(rt: HostRuntime) {
         Value::none(),
         Value::undefined(),
     ];
-    are_undecided(&rt, &all);
+    are_undecided(&rt, alloc, &all);
     drop(all);
 }
 
 #[test]
 fn integers_of_every_width_become_values(rt: HostRuntime) {
+    let alloc = rt.alloc();
     hold!(
         &rt,
         [
-            are_equal(Value::from(u8::MAX), Value::from(255u64)),
-            are_equal(Value::from(u16::MAX), Value::from(65535u64)),
-            are_equal(Value::from(u32::MAX), Value::from(4294967295u64)),
-            are_equal(Value::from(usize::MAX), Value::from(u64::MAX)),
-            are_equal(Value::from(i8::MIN), Value::from(-128i64)),
-            are_equal(Value::from(i16::MIN), Value::from(-32768i64)),
-            are_equal(Value::from(i32::MIN), Value::from(-2147483648i64)),
-            are_equal(Value::from(isize::MIN), Value::from(i64::MIN)),
+            are_equal(alloc, Value::from(u8::MAX), Value::from(255u64)),
+            are_equal(alloc, Value::from(u16::MAX), Value::from(65535u64)),
+            are_equal(alloc, Value::from(u32::MAX), Value::from(4294967295u64)),
+            are_equal(alloc, Value::from(usize::MAX), Value::from(u64::MAX)),
+            are_equal(alloc, Value::from(i8::MIN), Value::from(-128i64)),
+            are_equal(alloc, Value::from(i16::MIN), Value::from(-32768i64)),
+            are_equal(alloc, Value::from(i32::MIN), Value::from(-2147483648i64)),
+            are_equal(alloc, Value::from(isize::MIN), Value::from(i64::MIN)),
         ],
     );
 }

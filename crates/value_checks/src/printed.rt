@@ -1,5 +1,5 @@
 //! What values print: to a text, to a writer, and where a width and a fill are asked for.
-use crate::held::hold;
+use crate::held::{Seen, both, hold, is_so, same, unwanted};
 use made_values::{
     at_texts, bytes, no_items, no_pairs, one_item, printed, safe, text, two_items, with, with_item,
 };
@@ -8,17 +8,17 @@ use std::fmt::Display;
 use tera_report::sink::Room;
 use tera_values::{Key, Map, Value};
 
-/// Whether `{}` makes that of it, whatever width and fill it has.
-pub fn displays<D: Display>(alloc: Global, it: &D, wanted: &str) -> bool {
+/// `{}` makes that of it, whatever width and fill it has.
+pub fn displays<D: Display>(alloc: Global, it: &D, wanted: &str) -> Seen {
     let shown = format!(in alloc; "{it:#<60}").unwrap_or(String::new(alloc));
-    shown.as_str() == wanted
+    same(alloc, &shown.as_str(), &wanted)
 }
 
 // It displays that, and is let go.
-fn prints(alloc: Global, value: Value, wanted: &str) -> bool {
-    let is_so = displays(alloc, &value, wanted);
+fn prints(alloc: Global, value: Value, wanted: &str) -> Seen {
+    let row = displays(alloc, &value, wanted);
     drop(value);
-    is_so
+    row
 }
 
 #[test]
@@ -40,12 +40,14 @@ fn a_width_changes_nothing(rt: HostRuntime) {
 }
 
 // It writes that to a text and to a writer, and is let go.
-fn writes(alloc: Global, value: Value, wanted: &str) -> bool {
+fn writes(alloc: Global, value: Value, wanted: &str) -> Seen {
     let text = printed(alloc, &value);
     let mut out = Vec::new(alloc);
-    let is_out = value.format(&mut out).is_ok() && out.as_slice() == wanted.as_bytes();
+    let is_put = value.format(&mut out).is_ok();
     drop(value);
-    is_out && text.as_str() == wanted
+    let holds = is_put && out.as_slice() == wanted.as_bytes();
+    let is_out = is_so(alloc, holds, &str::from_utf8(out.as_slice()), &wanted);
+    both(is_out, same(alloc, &text.as_str(), &wanted))
 }
 
 #[test]
@@ -95,26 +97,28 @@ fn pairs_are_printed_in_their_order(rt: HostRuntime) {
 }
 
 // A room of so many bytes takes that text of it.
-fn fits(alloc: Global, value: &Value, wanted: &str, size: usize) -> bool {
-    match Room::new(alloc, size).ok() {
-        Some(room) => fits_room(value, wanted, room),
-        None => false,
+fn fits(alloc: Global, value: &Value, wanted: &str, size: usize) -> Seen {
+    match Room::new(alloc, size) {
+        Ok(room) => fits_room(alloc, value, wanted, room),
+        Err(refused) => unwanted(alloc, refused, wanted),
     }
 }
 
-fn fits_room(value: &Value, wanted: &str, room: Room) -> bool {
+fn fits_room(alloc: Global, value: &Value, wanted: &str, room: Room) -> Seen {
     let mut room = room;
     let is_put = value.print_into_room(&mut room).is_ok();
-    is_put && room.as_str() == wanted
+    let holds = is_put && room.as_str() == wanted;
+    is_so(alloc, holds, &room.as_str(), &wanted)
 }
 
 // It fits into a room of just as many bytes, and not into one of a byte less. It is let go.
-fn just_fits(alloc: Global, value: Value, wanted: &str) -> bool {
+fn just_fits(alloc: Global, value: Value, wanted: &str) -> Seen {
     let size = wanted.len();
-    let is_so = fits(alloc, &value, wanted, size)
-        && !fits(alloc, &value, wanted, size.saturating_sub(1));
+    let row = fits(alloc, &value, wanted, size);
+    let is_cut = fits(alloc, &value, wanted, size.saturating_sub(1)).is_err();
     drop(value);
-    is_so
+    let is_past = is_so(alloc, is_cut, &wanted, &"no room in a byte less");
+    both(row, is_past)
 }
 
 #[test]

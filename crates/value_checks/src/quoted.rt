@@ -1,4 +1,5 @@
 //! A text in an array is in the debug form that the library gives it, past ASCII too.
+use crate::held::{Seen, is_so};
 use made_values::{one_item, printed, text};
 use std::alloc::Global;
 use std::process::Abort;
@@ -23,11 +24,13 @@ fn debug_form(alloc: Global, text: &str) -> String {
 }
 
 // An array of that text prints the library's form, which is longer than the text.
-fn is_in_debug_form(alloc: Global, of: &str) -> bool {
+fn is_in_debug_form(alloc: Global, of: &str) -> Seen {
     let array = one_item(alloc, text(alloc, of));
     let found = printed(alloc, &array);
     drop(array);
-    found.len() > of.len() && found.as_str() == debug_form(alloc, of).as_str()
+    let wanted = debug_form(alloc, of);
+    let holds = found.len() > of.len() && found.as_str() == wanted.as_str();
+    is_so(alloc, holds, &found.as_str(), &wanted.as_str())
 }
 
 #[test]
@@ -35,6 +38,8 @@ fn texts_in_arrays_are_in_debug_form(rt: HostRuntime) {
     let alloc = rt.alloc();
     for number in [0, 1, 3, 0x20, 0x30, 0xD7, 0xE0, 0xFE, 0xFF, 0x1F6, 0x10FF] {
         let text = page(alloc, number);
-        assert!(rt; is_in_debug_form(alloc, text.as_str()), "page {number}");
+        if let Err(seen) = is_in_debug_form(alloc, text.as_str()) {
+            panic!(rt; "page {number}: {seen}");
+        }
     }
 }

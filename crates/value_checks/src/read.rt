@@ -1,8 +1,7 @@
 //! What is read of values.
-use crate::held::hold;
+use crate::held::{Seen, both, hold, is_so, nothing, same, unwanted};
 use made_values::{
-    at_texts, bytes, many_items, many_pairs, no_items, no_pairs, numbers, one_pair, or_undefined,
-    text,
+    at_texts, bytes, many_items, many_pairs, no_items, no_pairs, numbers, one_pair, text,
 };
 use std::alloc::Global;
 use tera_values::{Key, Value, ValueKind};
@@ -25,13 +24,12 @@ fn tests(value: &Value) -> [bool; 11] {
 }
 
 // The test at that place alone holds of it.
-fn is_only(value: &Value, place: usize) -> bool {
-    for (i, holds) in tests(value).iter().enumerate() {
-        if *holds != (i == place) {
-            return false;
-        }
+fn is_only(alloc: Global, value: &Value, place: usize) -> Seen {
+    let found = tests(value);
+    for (i, holds) in found.iter().enumerate() {
+        is_so(alloc, *holds == (i == place), &(value, found), &place)?;
     }
-    true
+    Ok(())
 }
 
 #[test]
@@ -51,17 +49,21 @@ fn tests_of_kinds(rt: HostRuntime) {
         bytes(alloc, b""),
     ];
     for (place, value) in all.iter().enumerate() {
-        assert!(rt; is_only(value, place), "at {place}");
+        if let Err(seen) = is_only(alloc, value, place) {
+            panic!(rt; "at {place}: {seen}");
+        }
     }
     drop(all);
 }
 
 // It is of that kind and name, and can be gone over or not.
-fn reads(value: Value, kind: ValueKind, name: &str, has_parts: bool) -> bool {
-    let is_so = value.kind() == kind && value.name() == name;
-    let is_gone_over = value.can_be_iterated_on();
+fn reads(alloc: Global, value: Value, wanted: (ValueKind, &str, bool)) -> Seen {
+    let (kind, name, has_parts) = wanted;
+    let found = (value.kind(), value.name(), value.can_be_iterated_on());
+    let holds = found.0 == kind && found.1 == name && found.2 == has_parts;
+    let row = is_so(alloc, holds, &found, &wanted);
     drop(value);
-    is_so && is_gone_over == has_parts
+    row
 }
 
 #[test]
@@ -70,17 +72,33 @@ fn what_is_gone_over(rt: HostRuntime) {
     hold!(
         &rt,
         [
-            reads(text(alloc, "a"), ValueKind::String, "string", true),
-            reads(bytes(alloc, b"ab"), ValueKind::Bytes, "bytes", true),
-            reads(many_items(alloc, 2), ValueKind::Array, "array", true),
-            reads(many_pairs(alloc, 3), ValueKind::Map, "map/struct", true),
-            reads(Value::from(-1i8), ValueKind::I64, "i64", false),
-            reads(Value::from(1u8), ValueKind::U64, "u64", false),
-            reads(Value::from(1i128), ValueKind::I128, "i128", false),
-            reads(Value::from(1u128), ValueKind::U128, "u128", false),
-            reads(Value::from(true), ValueKind::Bool, "bool", false),
-            reads(Value::none(), ValueKind::None, "none", false),
-            reads(Value::undefined(), ValueKind::Undefined, "undefined", false),
+            reads(alloc, text(alloc, "a"), (ValueKind::String, "string", true)),
+            reads(
+                alloc,
+                bytes(alloc, b"ab"),
+                (ValueKind::Bytes, "bytes", true),
+            ),
+            reads(
+                alloc,
+                many_items(alloc, 2),
+                (ValueKind::Array, "array", true),
+            ),
+            reads(
+                alloc,
+                many_pairs(alloc, 3),
+                (ValueKind::Map, "map/struct", true),
+            ),
+            reads(alloc, Value::from(-1i8), (ValueKind::I64, "i64", false)),
+            reads(alloc, Value::from(1u8), (ValueKind::U64, "u64", false)),
+            reads(alloc, Value::from(1i128), (ValueKind::I128, "i128", false)),
+            reads(alloc, Value::from(1u128), (ValueKind::U128, "u128", false)),
+            reads(alloc, Value::from(true), (ValueKind::Bool, "bool", false)),
+            reads(alloc, Value::none(), (ValueKind::None, "none", false)),
+            reads(
+                alloc,
+                Value::undefined(),
+                (ValueKind::Undefined, "undefined", false),
+            ),
         ],
     );
 }
@@ -122,23 +140,25 @@ fn parts_are_lent_and_handed_over(rt: HostRuntime) {
     hold!(
         &rt,
         [
-            lent(many_items(alloc, 2)) == Some(2),
-            lent(many_pairs(alloc, 3)) == Some(3),
-            items_taken(many_items(alloc, 2)) == Some(2),
-            pairs_taken(many_pairs(alloc, 3)) == Some(3),
+            same(alloc, &lent(many_items(alloc, 2)), &Some(2)),
+            same(alloc, &lent(many_pairs(alloc, 3)), &Some(3)),
+            same(alloc, &items_taken(many_items(alloc, 2)), &Some(2)),
+            same(alloc, &pairs_taken(many_pairs(alloc, 3)), &Some(3)),
         ],
     );
 }
 
 // What it holds at an item is that number, or nothing.
-fn holds_at(value: Value, at: Value, wanted: Option<i64>) -> bool {
-    let found = match value.get_at(&at) {
+fn holds_at(alloc: Global, value: Value, at: Value, wanted: Option<i64>) -> Seen {
+    let part = value.get_at(&at);
+    let found = match part {
         Some(part) => part.as_i64(),
         None => None,
     };
+    let row = is_so(alloc, found == wanted, &part, &wanted);
     drop(value);
     drop(at);
-    found == wanted
+    row
 }
 
 #[test]
@@ -148,61 +168,82 @@ fn items_are_lent(rt: HostRuntime) {
     hold!(
         &rt,
         [
-            holds_at(pairs, text(alloc, "b"), Some(6)),
-            holds_at(many_pairs(alloc, 20), text(alloc, "key é 19"), Some(19)),
+            holds_at(alloc, pairs, text(alloc, "b"), Some(6)),
             holds_at(
+                alloc,
+                many_pairs(alloc, 20),
+                text(alloc, "key é 19"),
+                Some(19),
+            ),
+            holds_at(
+                alloc,
                 one_pair(alloc, Key::U64(1), Value::from(8i64)),
                 Value::from(1i128),
                 Some(8),
             ),
-            holds_at(numbers(alloc, &[5, 6, 7]), Value::from(-1i8), Some(7)),
-            holds_at(numbers(alloc, &[5, 6, 7]), Value::from(3u8), None),
-            holds_at(numbers(alloc, &[5]), text(alloc, "0"), None),
-            holds_at(text(alloc, "5"), Value::from(0u8), None),
+            holds_at(
+                alloc,
+                numbers(alloc, &[5, 6, 7]),
+                Value::from(-1i8),
+                Some(7),
+            ),
+            holds_at(alloc, numbers(alloc, &[5, 6, 7]), Value::from(3u8), None),
+            holds_at(alloc, numbers(alloc, &[5]), text(alloc, "0"), None),
+            holds_at(alloc, text(alloc, "5"), Value::from(0u8), None),
         ],
     );
 }
 
 // It is those bytes.
-fn are_bytes(value: Value, wanted: &[u8]) -> bool {
-    let is_so = value.as_bytes() == Some(wanted);
+fn are_bytes(alloc: Global, value: Value, wanted: &[u8]) -> Seen {
+    let row = is_so(alloc, value.as_bytes() == Some(wanted), &value, &wanted);
     drop(value);
-    is_so
+    row
 }
 
 #[test]
 fn bytes_are_lent(rt: HostRuntime) {
-    assert!(rt; are_bytes(bytes(rt.alloc(), b"ab"), b"ab"));
+    let alloc = rt.alloc();
+    hold!(&rt, [are_bytes(alloc, bytes(alloc, b"ab"), b"ab")]);
 }
 
 // It is no map.
-fn is_no_map(value: Value) -> bool {
+fn is_no_map(alloc: Global, value: Value) -> Seen {
     let map = value.into_map();
-    let is_so = map.is_none();
+    let row = nothing(alloc, &map);
     drop(map);
-    is_so
+    row
 }
 
 #[test]
 fn none_is_no_map(rt: HostRuntime) {
-    assert!(rt; is_no_map(Value::none()));
+    hold!(&rt, [is_no_map(rt.alloc(), Value::none())]);
 }
 
 // An `e`, an accent of its own and four letters.
 const ACCENTED: &str = "e\u{301}cole";
 
 // The text has so many characters, and reversed it is that text, which is not safe.
-fn turns(alloc: Global, of: Value, count: usize, wanted: &str) -> bool {
-    let made = or_undefined(of.reverse(alloc));
-    let is_counted = of.len() == Some(count);
+fn turns(alloc: Global, of: Value, count: usize, wanted: &str) -> Seen {
+    let is_counted = same(alloc, &of.len(), &Some(count));
+    let is_turned = match of.reverse(alloc) {
+        Ok(made) => is_unsafe(alloc, made, wanted),
+        Err(refused) => unwanted(alloc, refused, wanted),
+    };
     drop(of);
-    let is_turned = made.as_str() == Some(wanted) && !made.is_safe();
+    both(is_counted, is_turned)
+}
+
+fn is_unsafe(alloc: Global, made: Value, wanted: &str) -> Seen {
+    let holds = made.as_str() == Some(wanted) && !made.is_safe();
+    let row = is_so(alloc, holds, &made, &wanted);
     drop(made);
-    is_counted && is_turned
+    row
 }
 
 #[test]
 fn len_and_reverse_use_chars(rt: HostRuntime) {
     let alloc = rt.alloc();
-    assert!(rt; turns(alloc, text(alloc, ACCENTED), 6, "eloc\u{301}e"));
+    let turned = "eloc\u{301}e";
+    hold!(&rt, [turns(alloc, text(alloc, ACCENTED), 6, turned)]);
 }

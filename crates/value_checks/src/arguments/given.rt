@@ -1,29 +1,39 @@
 //! What single values are made of: the kind, and the flag of a text.
 use crate::arguments::made::owned;
-use crate::held::hold;
-use made_values::{or_undefined, safe, shows, text};
+use crate::held::{Seen, both, hold, is_so, shows, unwanted};
+use made_values::{safe, text};
 use std::alloc::Global;
 use std::borrow::CowStr;
 use std::rc::RcStr;
 use tera_conversions::ToValue;
+use tera_report::TeraResult;
 use tera_values::{Key, Number, Value};
 
 // The value is held so.
-pub fn is_held(alloc: Global, value: Value, wanted: &str) -> bool {
-    let is_so = tells_held(alloc, &value, wanted);
+pub fn is_held(alloc: Global, value: Value, wanted: &str) -> Seen {
+    let row = tells_held(alloc, &value, wanted);
     drop(value);
-    is_so
+    row
 }
 
 // The value is held so, in the words of Debug, which tell the kind and the flag of each part.
-pub fn tells_held(alloc: Global, value: &Value, wanted: &str) -> bool {
+pub fn tells_held(alloc: Global, value: &Value, wanted: &str) -> Seen {
     let whole = format!(in alloc; "Value {{ inner: {wanted} }}").unwrap_or(String::new(alloc));
-    !whole.is_empty() && shows(alloc, value, whole.as_str())
+    let is_made = is_so(alloc, !whole.is_empty(), value, &wanted);
+    both(is_made, shows(alloc, value, whole.as_str()))
+}
+
+// What was made is held so.
+pub fn is_given(alloc: Global, made: TeraResult<Value>, wanted: &str) -> Seen {
+    match made {
+        Ok(value) => is_held(alloc, value, wanted),
+        Err(refused) => unwanted(alloc, refused, wanted),
+    }
 }
 
 // It gives a value that is held so.
-pub fn gives<T: ToValue>(alloc: Global, source: T, wanted: &str) -> bool {
-    is_held(alloc, or_undefined(source.to_value(alloc)), wanted)
+pub fn gives<T: ToValue>(alloc: Global, source: T, wanted: &str) -> Seen {
+    is_given(alloc, source.to_value(alloc), wanted)
 }
 
 #[test]
@@ -92,10 +102,10 @@ fn single_values_are_given(rt: HostRuntime) {
 }
 
 // A reference to it gives a value that is held so.
-fn gives_as_lent(alloc: Global, value: Value, wanted: &str) -> bool {
-    let is_so = gives(alloc, &value, wanted);
+fn gives_as_lent(alloc: Global, value: Value, wanted: &str) -> Seen {
+    let row = gives(alloc, &value, wanted);
     drop(value);
-    is_so
+    row
 }
 
 // The key that owns that text.

@@ -1,11 +1,11 @@
 //! Texts as a filter takes them, and how they are shown.
 ghost use Rattle.tera_report.specs.Errors.{IsOutOfMemory};
 
-use crate::arguments::given::is_held;
+use crate::arguments::given::is_given;
 use crate::arguments::made::owned;
 use crate::arguments::taken::{is_lent, is_owned, taken};
-use crate::held::hold;
-use made_values::{or_undefined, safe, shows, text};
+use crate::held::{Seen, both, hold, shows, unwanted};
+use made_values::{safe, text};
 use std::alloc::Global;
 use std::borrow::CowStr;
 use tera_arguments::{Autoescape, StringInput};
@@ -44,17 +44,17 @@ pub fn rendered<'a>(alloc: Global, value: &'a Value, escaping: bool) -> TeraResu
 }
 
 // It is shown as it stands, lent.
-fn stands(alloc: Global, value: Value, escaping: bool, wanted: &str) -> bool {
-    let is_so = is_lent(rendered(alloc, &value, escaping), wanted);
+fn stands(alloc: Global, value: Value, escaping: bool, wanted: &str) -> Seen {
+    let row = is_lent(alloc, rendered(alloc, &value, escaping), wanted);
     drop(value);
-    is_so
+    row
 }
 
 // Where texts are escaped, it is shown as a text of its own.
-fn is_escaped(alloc: Global, value: Value, wanted: &str) -> bool {
-    let is_so = is_owned(rendered(alloc, &value, true), wanted);
+fn is_escaped(alloc: Global, value: Value, wanted: &str) -> Seen {
+    let row = is_owned(alloc, rendered(alloc, &value, true), wanted);
     drop(value);
-    is_so
+    row
 }
 
 #[test]
@@ -73,17 +73,20 @@ fn only_unsafe_texts_are_escaped(rt: HostRuntime) {
     );
 }
 
-// Its text and its flag are these, or it is refused.
-fn compared(alloc: Global, value: &Value, text: &str, is_safe: bool) -> TeraResult<bool> {
-    let input: StringInput<'_> = taken(alloc, value)?;
-    Ok(input.as_str() == text && input.is_safe() == is_safe)
-}
-
 // Its text and its flag are these.
-fn is_input(alloc: Global, value: Value, text: &str, is_safe: bool) -> bool {
-    let is_so = compared(alloc, &value, text, is_safe).unwrap_or(false);
+fn is_input(alloc: Global, value: Value, text: &str, is_safe: bool) -> Seen {
+    let row = match taken::<Value, StringInput<'_>>(alloc, &value) {
+        Ok(input) => {
+            if input.as_str() == text && input.is_safe() == is_safe {
+                Ok(())
+            } else {
+                unwanted(alloc, input, text)
+            }
+        }
+        Err(refused) => unwanted(alloc, refused, text),
+    };
     drop(value);
-    is_so
+    row
 }
 
 #[test]
@@ -112,12 +115,12 @@ fn copied(alloc: Global, value: &Value) -> TeraResult<Value> {
 }
 
 // The copy of the text, and another one with its flag, are held so.
-fn keeps_flag(alloc: Global, value: Value, copy: &str, other: &str) -> bool {
-    let made = or_undefined(copied(alloc, &value));
-    let inheriting = or_undefined(inherited(alloc, &value, "é"));
+fn keeps_flag(alloc: Global, value: Value, copy: &str, other: &str) -> Seen {
+    let made = copied(alloc, &value);
+    let inheriting = inherited(alloc, &value, "é");
     drop(value);
-    let is_copied = is_held(alloc, made, copy);
-    is_held(alloc, inheriting, other) && is_copied
+    let is_copied = is_given(alloc, made, copy);
+    both(is_copied, is_given(alloc, inheriting, other))
 }
 
 #[test]
@@ -136,13 +139,13 @@ fn flags_are_kept(rt: HostRuntime) {
 }
 
 // Its debug text is that.
-fn input_shows(alloc: Global, value: Value, wanted: &str) -> bool {
-    let is_so = match taken::<Value, StringInput<'_>>(alloc, &value).ok() {
-        Some(input) => shows(alloc, &input, wanted),
-        None => false,
+fn input_shows(alloc: Global, value: Value, wanted: &str) -> Seen {
+    let row = match taken::<Value, StringInput<'_>>(alloc, &value) {
+        Ok(input) => shows(alloc, &input, wanted),
+        Err(refused) => unwanted(alloc, refused, wanted),
     };
     drop(value);
-    is_so
+    row
 }
 
 #[test]

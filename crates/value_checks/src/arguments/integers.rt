@@ -1,15 +1,16 @@
 //! The integer types of Rust at their ends: each takes its least and its greatest number, and
 //! refuses what is beside them and what is no number, by its own name.
 use crate::arguments::taken::{is_no, refuses, takes};
-use crate::held::hold;
+use crate::held::{Seen, both, hold};
 use std::alloc::Global;
+use std::fmt::Debug;
 use tera_arguments::ArgFromValue;
 use tera_values::Value;
 
 // What is outside the type of that name is refused, told as it prints.
-fn is_outside<'k, V, T>(alloc: Global, value: &'k V, number: &str, name: &str) -> bool
+fn is_outside<'k, V, T>(alloc: Global, value: &'k V, number: &str, name: &str) -> Seen
 where
-    T: ArgFromValue<'k, V, Output = T> + Drop,
+    T: ArgFromValue<'k, V, Output = T> + Debug + Drop,
 {
     let told = format!(in alloc; "Value `{number}` is out of range for `{name}`");
     refuses::<V, T>(alloc, value, told.unwrap_or(String::new(alloc)).as_str())
@@ -30,18 +31,18 @@ fn around(low: [i128; 2], high: [u128; 2]) -> [Value; 5] {
 
 // Of four numbers behind what is none the two in the middle are taken as those, and the others are
 // refused, as is what is none: told are these two as they print, and the name of the type.
-fn keeps_to<'k, V, T>(alloc: Global, of: &'k [V; 5], ends: [T; 2], told: [&str; 3]) -> bool
+fn keeps_to<'k, V, T>(alloc: Global, of: &'k [V; 5], ends: [T; 2], told: [&str; 3]) -> Seen
 where
-    T: ArgFromValue<'k, V, Output = T> + PartialEq + Drop,
+    T: ArgFromValue<'k, V, Output = T> + PartialEq + Debug + Drop,
 {
     let [none, below, low, high, above] = of;
     let [least, greatest] = ends;
     let [beneath, beyond, name] = told;
-    takes(alloc, low, least)
-        && takes(alloc, high, greatest)
-        && is_no::<V, T>(alloc, none, name, "none")
-        && is_outside::<V, T>(alloc, below, beneath, name)
-        && is_outside::<V, T>(alloc, above, beyond, name)
+    let are_taken = both(takes(alloc, low, least), takes(alloc, high, greatest));
+    let is_below = is_outside::<V, T>(alloc, below, beneath, name);
+    let is_above = is_outside::<V, T>(alloc, above, beyond, name);
+    let is_kept = both(is_no::<V, T>(alloc, none, name, "none"), is_below);
+    both(are_taken, both(is_kept, is_above))
 }
 
 #[test]
@@ -178,15 +179,15 @@ fn in_each_kind(number: i128) -> [Value; 4] {
 }
 
 // Each of the four is taken as that.
-fn takes_each<'k, V, T>(alloc: Global, of: &'k [V; 4], wanted: T) -> bool
+fn takes_each<'k, V, T>(alloc: Global, of: &'k [V; 4], wanted: T) -> Seen
 where
-    T: ArgFromValue<'k, V, Output = T> + PartialEq + Copy + Drop,
+    T: ArgFromValue<'k, V, Output = T> + PartialEq + Debug + Copy + Drop,
 {
     let [as_u64, as_i64, as_u128, as_i128] = of;
-    takes(alloc, as_u64, wanted)
-        && takes(alloc, as_i64, wanted)
-        && takes(alloc, as_u128, wanted)
-        && takes(alloc, as_i128, wanted)
+    takes(alloc, as_u64, wanted)?;
+    takes(alloc, as_i64, wanted)?;
+    takes(alloc, as_u128, wanted)?;
+    takes(alloc, as_i128, wanted)
 }
 
 #[test]

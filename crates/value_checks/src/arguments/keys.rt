@@ -1,25 +1,24 @@
 //! Which keys are given, and in which form.
 use crate::arguments::given::text_key;
 use crate::arguments::made::owned;
-use crate::held::hold;
-use made_values::shows;
+use crate::held::{Seen, hold, shows, unwanted};
 use std::alloc::Global;
 use std::borrow::CowStr;
 use tera_conversions::ToKey;
 use tera_values::Key;
 
 // It gives a key that is held so, in the words of Debug.
-fn gives_key<K: ToKey>(alloc: Global, source: K, wanted: &str) -> bool {
-    match source.to_key(alloc).ok() {
-        Some(key) => is_key(alloc, key, wanted),
-        None => false,
+fn gives_key<K: ToKey>(alloc: Global, source: K, wanted: &str) -> Seen {
+    match source.to_key(alloc) {
+        Ok(key) => is_key(alloc, key, wanted),
+        Err(refused) => unwanted(alloc, refused, wanted),
     }
 }
 
-fn is_key(alloc: Global, key: Key<'static>, wanted: &str) -> bool {
-    let is_so = shows(alloc, &key, wanted);
+fn is_key(alloc: Global, key: Key<'static>, wanted: &str) -> Seen {
+    let row = shows(alloc, &key, wanted);
     drop(key);
-    is_so
+    row
 }
 
 #[test]

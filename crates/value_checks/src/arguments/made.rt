@@ -1,5 +1,6 @@
 //! What is given and taken in the tests. Where memory is wanting a part is left out, so that the
 //! test which looks at it fails.
+use crate::held::{Seen, same};
 use indexmap::IndexMap;
 use std::alloc::Global;
 use std::collections::{BTreeMap, BTreeSet, HashMap};
@@ -11,10 +12,10 @@ pub fn owned(alloc: Global, of: &str) -> String {
     String::from_str(alloc, of).unwrap_or(String::new(alloc))
 }
 
-/// Whether it displays that.
-pub fn displays<D: Display>(alloc: Global, it: &D, wanted: &str) -> bool {
+/// It displays that.
+pub fn displays<D: Display>(alloc: Global, it: &D, wanted: &str) -> Seen {
     let text = format!(in alloc; "{it}").unwrap_or(String::new(alloc));
-    text.as_str() == wanted
+    same(alloc, &text.as_str(), &wanted)
 }
 
 /// A list of no item.

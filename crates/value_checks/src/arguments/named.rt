@@ -1,9 +1,10 @@
 //! Arguments by their names.
 use crate::arguments::made::owned;
 use crate::arguments::taken::{is_refused, is_that};
-use crate::held::hold;
-use made_values::{many_pairs, one_pair, safe, shows, text};
+use crate::held::{Seen, both, hold, is_so, nothing, shows, unwanted};
+use made_values::{many_pairs, one_pair, safe, text};
 use std::alloc::Global;
+use std::fmt::Debug;
 use tera_arguments::{ArgFromValue, Kwargs, KwargsIter, KwargsOf, Parts};
 use tera_report::TeraResult;
 use tera_values::{Key, Map, Value};
@@ -19,42 +20,55 @@ fn one_argument(alloc: Global, name: &'static str, value: Value) -> Kwargs {
 }
 
 // The argument of that name is taken as that, whether it has to be there or not.
-fn gets<'k, V, T>(alloc: Global, of: &'k KwargsOf<V>, name: &'k str, wanted: T) -> bool
+fn gets<'k, V, T>(alloc: Global, of: &'k KwargsOf<V>, name: &'k str, wanted: T) -> Seen
 where
     V: Parts,
-    T: ArgFromValue<'k, V, Output = T> + PartialEq + Drop,
+    T: ArgFromValue<'k, V, Output = T> + PartialEq + Debug + Drop,
 {
-    is_there(of.get::<T>(alloc, name), &wanted) && is_that(of.must_get::<T>(alloc, name), &wanted)
+    let row = is_there(alloc, of.get::<T>(alloc, name), &wanted);
+    both(row, is_that(alloc, of.must_get::<T>(alloc, name), &wanted))
 }
 
 // It is there, and is that.
-fn is_there<T: PartialEq + Drop>(got: TeraResult<Option<T>>, wanted: &T) -> bool {
-    match got.ok().flatten() {
-        Some(taken) => taken == *wanted,
-        None => false,
-    }
+fn is_there<T>(alloc: Global, got: TeraResult<Option<T>>, wanted: &T) -> Seen
+where
+    T: PartialEq + Debug + Drop,
+{
+    let holds = match &got {
+        Ok(Some(taken)) => *taken == *wanted,
+        _ => false,
+    };
+    let row = is_so(alloc, holds, &got, wanted);
+    drop(got);
+    row
 }
 
 // No argument has that name.
-fn lacks<'k, V, T>(alloc: Global, of: &'k KwargsOf<V>, name: &'k str) -> bool
+fn lacks<'k, V, T>(alloc: Global, of: &'k KwargsOf<V>, name: &'k str) -> Seen
 where
     V: Parts,
-    T: ArgFromValue<'k, V, Output = T> + Drop,
+    T: ArgFromValue<'k, V, Output = T> + Debug + Drop,
 {
-    match of.get::<T>(alloc, name).ok() {
-        Some(found) => found.is_none(),
-        None => false,
+    match of.get::<T>(alloc, name) {
+        Ok(found) => is_absent(alloc, found),
+        Err(refused) => unwanted(alloc, refused, "nothing"),
     }
 }
 
+fn is_absent<T: Debug + Drop>(alloc: Global, found: Option<T>) -> Seen {
+    let row = nothing(alloc, &found);
+    drop(found);
+    row
+}
+
 // The argument is refused with that text, whether it has to be there or not.
-fn is_denied<'k, V, T>(alloc: Global, of: &'k KwargsOf<V>, name: &'k str, text: &str) -> bool
+fn is_denied<'k, V, T>(alloc: Global, of: &'k KwargsOf<V>, name: &'k str, text: &str) -> Seen
 where
     V: Parts,
-    T: ArgFromValue<'k, V, Output = T> + Drop,
+    T: ArgFromValue<'k, V, Output = T> + Debug + Drop,
 {
-    is_refused(alloc, of.get::<T>(alloc, name), text)
-        && is_refused(alloc, of.must_get::<T>(alloc, name), text)
+    let row = is_refused(alloc, of.get::<T>(alloc, name), text);
+    both(row, is_refused(alloc, of.must_get::<T>(alloc, name), text))
 }
 
 #[test]
@@ -94,10 +108,10 @@ fn int_out_of_range_reports_range_not_type(rt: HostRuntime) {
 }
 
 // It is refused as missing.
-fn is_missing<'k, V, T>(alloc: Global, of: &'k KwargsOf<V>, name: &'k str, text: &str) -> bool
+fn is_missing<'k, V, T>(alloc: Global, of: &'k KwargsOf<V>, name: &'k str, text: &str) -> Seen
 where
     V: Parts,
-    T: ArgFromValue<'k, V, Output = T> + Drop,
+    T: ArgFromValue<'k, V, Output = T> + Debug + Drop,
 {
     is_refused(alloc, of.must_get::<T>(alloc, name), text)
 }
@@ -145,10 +159,10 @@ fn of_equal_keys_the_later_value_stands(rt: HostRuntime) {
         &rt,
         [
             gets(alloc, &same, "n", 2i64),
-            comes_as(same.iter(), &["n"]),
+            comes_as(alloc, same.iter(), &["n"]),
             gets(alloc, &apart, "n", 1i64),
             gets(alloc, &apart, "é", 2i64),
-            comes_as(apart.iter(), &["n", "é"]),
+            comes_as(alloc, apart.iter(), &["n", "é"]),
         ],
     );
     drop(same);
@@ -165,7 +179,7 @@ fn arguments_are_made_of_pairs(rt: HostRuntime) {
         &rt,
         [
             is_shown(alloc, or_none(alloc, Kwargs::from_pairs(alloc, one)), shown),
-            is_of_no_pair(Kwargs::from_pairs(alloc, none)),
+            is_of_no_pair(alloc, Kwargs::from_pairs(alloc, none)),
         ],
     );
 }
@@ -179,48 +193,51 @@ fn of_equal_keys_the_first_key_stands(rt: HostRuntime) {
     ];
     let made = or_none(alloc, Kwargs::from_pairs(alloc, pairs));
     let shown = "KwargsOf { values: Value { inner: Map({U64(7): Value { inner: U64(2) }}) } }";
-    assert!(rt; is_shown(alloc, made, shown));
+    hold!(&rt, [is_shown(alloc, made, shown)]);
 }
 
 // The arguments show that.
-pub fn is_shown(alloc: Global, of: Kwargs, wanted: &str) -> bool {
-    let is_so = shows(alloc, &of, wanted);
+pub fn is_shown(alloc: Global, of: Kwargs, wanted: &str) -> Seen {
+    let row = shows(alloc, &of, wanted);
     drop(of);
-    is_so
+    row
 }
 
 // Arguments were made, and there is none.
-fn is_of_no_pair(made: TeraResult<Kwargs>) -> bool {
-    match made.ok() {
-        Some(of) => have_names(of, &[]),
-        None => false,
+fn is_of_no_pair(alloc: Global, made: TeraResult<Kwargs>) -> Seen {
+    match made {
+        Ok(of) => have_names(alloc, of, &[]),
+        Err(refused) => unwanted(alloc, refused, "no argument"),
     }
 }
 
 // The arguments come at these names.
-pub fn have_names(of: Kwargs, names: &[&str]) -> bool {
-    let is_so = comes_as(of.iter(), names);
+pub fn have_names(alloc: Global, of: Kwargs, names: &[&str]) -> Seen {
+    let row = comes_as(alloc, of.iter(), names);
     drop(of);
-    is_so
+    row
 }
 
 // The walk gives arguments at these names, in that order, and then ends for good.
-pub fn comes_as(walk: KwargsIter<'_>, names: &[&str]) -> bool {
+pub fn comes_as(alloc: Global, walk: KwargsIter<'_>, names: &[&str]) -> Seen {
     let mut left = walk;
     for name in names {
-        match left.next() {
-            Some((key, _)) if key.as_str() == Some(*name) => {}
-            _ => return false,
-        }
+        let next = left.next();
+        let holds = match next {
+            Some((key, _)) => key.as_str() == Some(*name),
+            None => false,
+        };
+        is_so(alloc, holds, &next, name)?;
     }
-    left.next().is_none() && left.next().is_none()
+    nothing(alloc, &left.next())?;
+    nothing(alloc, &left.next())
 }
 
 #[test]
 fn a_walk_over_arguments_ends_for_good(rt: HostRuntime) {
     let alloc = rt.alloc();
     let two = arguments(alloc, many_pairs(alloc, 2));
-    assert!(rt; have_names(two, &["key é 0", "key é 1"]));
+    hold!(&rt, [have_names(alloc, two, &["key é 0", "key é 1"])]);
 }
 
 #[test]
@@ -252,12 +269,12 @@ pub fn thousand_pairs(alloc: Global) -> Kwargs {
 }
 
 // The arguments show that, and so does a copy of them.
-fn copy_shows(alloc: Global, of: Kwargs, wanted: &str) -> bool {
-    let is_shown_by_copy = match of.clone(alloc).ok() {
-        Some(copy) => is_shown(alloc, copy, wanted),
-        None => false,
+fn copy_shows(alloc: Global, of: Kwargs, wanted: &str) -> Seen {
+    let is_shown_by_copy = match of.clone(alloc) {
+        Ok(copy) => is_shown(alloc, copy, wanted),
+        Err(refused) => unwanted(alloc, refused, wanted),
     };
-    is_shown(alloc, of, wanted) && is_shown_by_copy
+    both(is_shown(alloc, of, wanted), is_shown_by_copy)
 }
 
 #[test]

@@ -2,7 +2,7 @@
 use crate::arguments::given::gives;
 use crate::arguments::made::{many_in_table, row_of, tree_of};
 use crate::arguments::named::{comes_as, have_names, is_shown, or_none, thousand_pairs};
-use crate::held::hold;
+use crate::held::{Seen, both, hold, is_so, same};
 use made_values::{or_undefined, printed, with};
 use std::alloc::Global;
 use std::collections::{BTreeMap, HashMap};
@@ -51,28 +51,29 @@ fn maps_stand_as_what_gives_them(rt: HostRuntime) {
 }
 
 // The keys of the map rise.
-fn rises(map: &Map) -> bool {
+fn rises(alloc: Global, map: &Map) -> Seen {
     let mut last: Option<&Key<'static>> = None;
     for (key, _) in map.iter() {
-        if let Some(before) = last
-            && *before >= *key
-        {
-            return false;
+        if let Some(before) = last {
+            is_so(alloc, *before < *key, &(before, key), &"rising keys")?;
         }
         last = Some(key);
     }
-    true
+    Ok(())
 }
 
 // A hashed map of so many pairs gives one of as many, whose keys rise.
-fn gives_rising(alloc: Global, count: i64) -> bool {
+fn gives_rising(alloc: Global, count: i64) -> Seen {
     let given = or_undefined(many_in_table(alloc, count).to_value(alloc));
-    let is_so = match given.as_map() {
-        Some(map) => map.len() as i128 == count as i128 && rises(map),
-        None => false,
+    let row = match given.as_map() {
+        Some(map) => both(
+            same(alloc, &(map.len() as i128), &(count as i128)),
+            rises(alloc, map),
+        ),
+        None => is_so(alloc, false, &given, &"a map"),
     };
     drop(given);
-    is_so
+    row
 }
 
 #[test]
@@ -96,9 +97,9 @@ fn arguments_come_in_their_order(rt: HostRuntime) {
     hold!(
         &rt,
         [
-            have_names(Kwargs::new(Map::new(alloc)), &[]),
-            have_names(Kwargs::new(falling(alloc)), &["b", "a"]),
-            have_names(Kwargs::new(put_again), &["b", "a"]),
+            have_names(alloc, Kwargs::new(Map::new(alloc)), &[]),
+            have_names(alloc, Kwargs::new(falling(alloc)), &["b", "a"]),
+            have_names(alloc, Kwargs::new(put_again), &["b", "a"]),
         ],
     );
 }
@@ -119,38 +120,44 @@ fn an_equal_key_keeps_its_place(rt: HostRuntime) {
     let shown = "KwargsOf { values: Value { inner: Map({Str(\"b\"): Value { inner: U64(3) }, \
         Str(\"a\"): Value { inner: U64(2) }}) } }";
     let of = with_equal_key(alloc);
-    let is_walked = comes_as(of.iter(), &["b", "a"]);
-    hold!(&rt, [is_walked, is_shown(alloc, of, shown)]);
+    hold!(
+        &rt,
+        [
+            comes_as(alloc, of.iter(), &["b", "a"]),
+            is_shown(alloc, of, shown),
+        ],
+    );
 }
 
 // The arguments come at 999, 998, .. down to 0, and are 0, 1, .. up to 999.
-fn falls(of: &Kwargs) -> bool {
+fn falls(alloc: Global, of: &Kwargs) -> Seen {
     let mut next = 999u128;
     for (key, value) in of.iter() {
-        match (key, value.as_u128()) {
-            (Key::U128(number), Some(place))
-                if *number == next && place == 999u128.wrapping_sub(next) => {}
-            _ => return false,
-        }
+        let place = 999u128.wrapping_sub(next);
+        let holds = match key {
+            Key::U128(number) => *number == next && value.as_u128() == Some(place),
+            _ => false,
+        };
+        is_so(alloc, holds, &(key, value), &(next, place))?;
         next = next.wrapping_sub(1);
     }
-    next == 0u128.wrapping_sub(1)
+    same(alloc, &next, &0u128.wrapping_sub(1))
 }
 
 #[test]
 fn many_arguments_come_in_their_order(rt: HostRuntime) {
-    let of = thousand_pairs(rt.alloc());
-    let is_so = falls(&of);
+    let alloc = rt.alloc();
+    let of = thousand_pairs(alloc);
+    hold!(&rt, [falls(alloc, &of)]);
     drop(of);
-    assert!(rt; is_so);
 }
 
 // The map prints that.
-fn prints(alloc: Global, map: Map, wanted: &str) -> bool {
+fn prints(alloc: Global, map: Map, wanted: &str) -> Seen {
     let value = Value::of_map(map);
     let text = printed(alloc, &value);
     drop(value);
-    text.as_str() == wanted
+    same(alloc, &text.as_str(), &wanted)
 }
 
 #[test]

@@ -1,11 +1,9 @@
 //! What arrays and maps are taken as: copied or lent, and lists item by item.
-use crate::arguments::given::is_held;
+use crate::arguments::given::is_given;
 use crate::arguments::made::{none_of, one_of, owned, two_of};
 use crate::arguments::taken::{is_no, one_pair_of, refuses, taken, takes};
-use crate::held::hold;
-use made_values::{
-    at_texts, bytes, no_items, no_pairs, numbers, one_item, or_undefined, text, two_items,
-};
+use crate::held::{Seen, both, hold, is_so, unwanted};
+use made_values::{at_texts, bytes, no_items, no_pairs, numbers, one_item, text, two_items};
 use std::alloc::Global;
 use tera_report::TeraResult;
 use tera_values::{Key, Map, Value};
@@ -17,36 +15,43 @@ fn copied_map(alloc: Global, value: &Value) -> TeraResult<Value> {
 }
 
 // That copy is held so.
-fn copies_map(alloc: Global, value: Value, wanted: &str) -> bool {
-    let copy = or_undefined(copied_map(alloc, &value));
+fn copies_map(alloc: Global, value: Value, wanted: &str) -> Seen {
+    let copy = copied_map(alloc, &value);
     drop(value);
-    is_held(alloc, copy, wanted)
+    is_given(alloc, copy, wanted)
 }
 
 // In the map that is lent, the first key is that text, and it has that number.
-fn lends_map(alloc: Global, value: Value, key: &str, wanted: i64) -> bool {
-    let is_so = match taken::<Value, &Map>(alloc, &value).ok() {
-        Some(map) => has_first(map, key) && has_number(map, key, wanted),
-        None => false,
+fn lends_map(alloc: Global, value: Value, key: &str, wanted: i64) -> Seen {
+    let row = match taken::<Value, &Map>(alloc, &value) {
+        Ok(map) => both(
+            has_first(alloc, map, key),
+            has_number(alloc, map, key, wanted),
+        ),
+        Err(refused) => unwanted(alloc, refused, key),
     };
     drop(value);
-    is_so
+    row
 }
 
 // The first key of the map is that text.
-fn has_first(map: &Map, key: &str) -> bool {
-    match map.get_index(0) {
+fn has_first(alloc: Global, map: &Map, key: &str) -> Seen {
+    let found = map.get_index(0);
+    let holds = match found {
         Some((first, _)) => first.as_str() == Some(key),
         None => false,
-    }
+    };
+    is_so(alloc, holds, &found, &key)
 }
 
 // In the map a text has that number.
-fn has_number(map: &Map, key: &str, wanted: i64) -> bool {
-    match map.get(&Key::Str(key)) {
-        Some(found) => found.as_i64() == Some(wanted),
+fn has_number(alloc: Global, map: &Map, key: &str, wanted: i64) -> Seen {
+    let found = map.get(&Key::Str(key));
+    let holds = match found {
+        Some(value) => value.as_i64() == Some(wanted),
         None => false,
-    }
+    };
+    is_so(alloc, holds, &found, &wanted)
 }
 
 #[test]
@@ -73,18 +78,18 @@ fn maps_are_copied_or_lent(rt: HostRuntime) {
 }
 
 // Items are lent that are equal to these.
-fn lends_items(alloc: Global, value: Value, wanted: Vec<Value>) -> bool {
-    let is_so = takes(alloc, &value, wanted.as_slice());
+fn lends_items(alloc: Global, value: Value, wanted: Vec<Value>) -> Seen {
+    let row = takes(alloc, &value, wanted.as_slice());
     drop(value);
     drop(wanted);
-    is_so
+    row
 }
 
 // It is refused where items are to be lent.
-fn has_no_items(alloc: Global, value: Value, name: &str) -> bool {
-    let is_so = is_no::<Value, &[Value]>(alloc, &value, "&[Value]", name);
+fn has_no_items(alloc: Global, value: Value, name: &str) -> Seen {
+    let row = is_no::<Value, &[Value]>(alloc, &value, "&[Value]", name);
     drop(value);
-    is_so
+    row
 }
 
 #[test]
@@ -128,10 +133,10 @@ fn lists_are_taken_item_by_item(rt: HostRuntime) {
 }
 
 // It is no list of bytes: it is refused as a value of another type than the one of that name.
-fn is_no_list(alloc: Global, value: Value, wanted: &str, name: &str) -> bool {
-    let is_so = is_no::<Value, Vec<u8>>(alloc, &value, wanted, name);
+fn is_no_list(alloc: Global, value: Value, wanted: &str, name: &str) -> Seen {
+    let row = is_no::<Value, Vec<u8>>(alloc, &value, wanted, name);
     drop(value);
-    is_so
+    row
 }
 
 #[test]

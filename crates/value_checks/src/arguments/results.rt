@@ -1,8 +1,8 @@
 //! What functions of templates answer.
-use crate::arguments::given::is_held;
+use crate::arguments::given::is_given;
 use crate::arguments::made::{displays, one_of, owned, row_of, set_of, table_of, tree_of};
-use crate::held::hold;
-use made_values::{or_undefined, safe, with};
+use crate::held::{Seen, both, hold, is_so, unwanted};
+use made_values::{safe, with};
 use std::alloc::Global;
 use std::borrow::CowStr;
 use tera_conversions::FunctionResult;
@@ -10,8 +10,8 @@ use tera_report::{Error, TeraResult};
 use tera_values::{Key, Map, Number, Value};
 
 // It answers a value that is held so.
-fn answers<F: FunctionResult>(alloc: Global, answer: F, wanted: &str) -> bool {
-    is_held(alloc, or_undefined(answer.into_result(alloc)), wanted)
+fn answers<F: FunctionResult>(alloc: Global, answer: F, wanted: &str) -> Seen {
+    is_given(alloc, answer.into_result(alloc), wanted)
 }
 
 #[test]
@@ -76,24 +76,25 @@ fn collections_are_answered(rt: HostRuntime) {
 }
 
 // The answer is an error of that text, and its cause is one of that.
-fn fails_with(alloc: Global, answer: TeraResult<Value>, text: &str, cause: &str) -> bool {
-    match answer.err() {
-        Some(error) => is_of_cause(alloc, error, text, cause),
-        None => false,
+fn fails_with(alloc: Global, answer: TeraResult<Value>, text: &str, cause: &str) -> Seen {
+    match answer {
+        Err(error) => is_of_cause(alloc, error, text, cause),
+        Ok(made) => unwanted(alloc, made, text),
     }
 }
 
 // The error is one of that text, and its cause is one of that.
-fn is_of_cause(alloc: Global, error: Error, text: &str, cause: &str) -> bool {
-    let is_so = displays(alloc, &error, text) && is_caused_by(alloc, &error, cause);
+fn is_of_cause(alloc: Global, error: Error, text: &str, cause: &str) -> Seen {
+    let row = displays(alloc, &error, text);
+    let is_caused = is_caused_by(alloc, &error, cause);
     drop(error);
-    is_so
+    both(row, is_caused)
 }
 
-fn is_caused_by(alloc: Global, error: &Error, cause: &str) -> bool {
+fn is_caused_by(alloc: Global, error: &Error, cause: &str) -> Seen {
     match error.source() {
         Some(source) => displays(alloc, source, cause),
-        None => false,
+        None => is_so(alloc, false, error, &cause),
     }
 }
 
@@ -103,5 +104,5 @@ fn errors_are_answered_as_they_are(rt: HostRuntime) {
     let cause = anyhow::anyhow!("the cause");
     let failed: TeraResult<u8> = Err(Error::chain(alloc, "no such é", cause));
     let answer = failed.into_result(alloc);
-    assert!(rt; fails_with(alloc, answer, "no such é", "the cause"));
+    hold!(&rt, [fails_with(alloc, answer, "no such é", "the cause")]);
 }

@@ -1,7 +1,7 @@
 //! What is lent of values without parts, with one and with 1,000.
 use crate::arguments::inputs::rendered;
 use crate::arguments::taken::{is_lent, taken, takes};
-use crate::held::{all, hold};
+use crate::held::{Seen, both, hold, is_so, same};
 use made_values::{many_items, many_pairs, repeated};
 use std::alloc::Global;
 use tera_values::{Map, Value};
@@ -14,13 +14,13 @@ fn many_values(alloc: Global, count: i64) -> Vec<Value> {
 }
 
 // The items of an array of so many.
-fn lends_items(alloc: Global, count: i64) -> bool {
+fn lends_items(alloc: Global, count: i64) -> Seen {
     let of = many_items(alloc, count);
     let held = many_values(alloc, count);
-    let is_so = takes(alloc, &of, held.as_slice());
+    let row = takes(alloc, &of, held.as_slice());
     drop(of);
     drop(held);
-    is_so
+    row
 }
 
 // How many pairs the map has that is lent.
@@ -32,24 +32,23 @@ fn lent_count(alloc: Global, value: &Value) -> Option<usize> {
 }
 
 // The map of so many pairs.
-fn lends_pairs(alloc: Global, count: i64) -> bool {
+fn lends_pairs(alloc: Global, count: i64) -> Seen {
     let of = many_pairs(alloc, count);
-    let is_so = of.is_map() && lent_count(alloc, &of) == of.len();
+    let is_map = is_so(alloc, of.is_map(), &of, &"a map");
+    let is_counted = same(alloc, &lent_count(alloc, &of), &of.len());
     drop(of);
-    is_so
+    both(is_map, is_counted)
 }
 
 // A text of so many characters and one more.
-fn lends_text(alloc: Global, count: usize) -> bool {
+fn lends_text(alloc: Global, count: usize) -> Seen {
     let of = repeated(alloc, 'é', count, "<");
     let text = of.as_str().unwrap_or("");
-    let rows = [
-        takes(alloc, &of, text),
-        is_lent(taken(alloc, &of), text),
-        is_lent(rendered(alloc, &of, false), text),
-    ];
+    let is_taken = takes(alloc, &of, text);
+    let is_stood = is_lent(alloc, taken(alloc, &of), text);
+    let is_shown = is_lent(alloc, rendered(alloc, &of, false), text);
     drop(of);
-    all(&rows)
+    both(is_taken, both(is_stood, is_shown))
 }
 
 #[test]

@@ -1,52 +1,60 @@
 //! What values are taken as, and what is refused. What is generic takes its value by reference, and
 //! each owner is handed to `drop`, so that no function writes out how a value ends.
-use crate::arguments::given::{is_held, tells_held};
+use crate::arguments::given::{is_given, tells_held};
 use crate::arguments::made::{displays, owned};
-use crate::held::hold;
-use made_values::{at_texts, bytes, numbers, one_item, or_undefined, safe, text, two_items};
+use crate::held::{Seen, both, hold, is_so, unwanted};
+use made_values::{at_texts, bytes, numbers, one_item, safe, text, two_items};
 use std::alloc::Global;
 use std::borrow::CowStr;
+use std::fmt::Debug;
 use tera_arguments::{ArgFromValue, StringInput};
 use tera_report::{Error, TeraResult};
 use tera_values::{Map, Number, Value};
 
 // It is taken as that.
-pub fn takes<'k, V, T>(alloc: Global, value: &'k V, wanted: T) -> bool
+pub fn takes<'k, V, T>(alloc: Global, value: &'k V, wanted: T) -> Seen
 where
-    T: ArgFromValue<'k, V, Output = T> + PartialEq + Drop,
+    T: ArgFromValue<'k, V, Output = T> + PartialEq + Debug + Drop,
 {
-    is_that(T::from_value(alloc, value), &wanted)
+    is_that(alloc, T::from_value(alloc, value), &wanted)
 }
 
 // The answer is that.
-pub fn is_that<T: PartialEq + Drop>(answer: TeraResult<T>, wanted: &T) -> bool {
-    match answer.ok() {
-        Some(taken) => taken == *wanted,
-        None => false,
-    }
+pub fn is_that<T>(alloc: Global, answer: TeraResult<T>, wanted: &T) -> Seen
+where
+    T: PartialEq + Debug + Drop,
+{
+    let holds = match &answer {
+        Ok(taken) => *taken == *wanted,
+        Err(_) => false,
+    };
+    let row = is_so(alloc, holds, &answer, wanted);
+    drop(answer);
+    row
 }
 
 // It is refused with an error of that text, which has no cause.
-pub fn refuses<'k, V, T>(alloc: Global, value: &'k V, text: &str) -> bool
+pub fn refuses<'k, V, T>(alloc: Global, value: &'k V, text: &str) -> Seen
 where
-    T: ArgFromValue<'k, V, Output = T> + Drop,
+    T: ArgFromValue<'k, V, Output = T> + Debug + Drop,
 {
     is_refused(alloc, T::from_value(alloc, value), text)
 }
 
 // The answer is an error of that text, which has no cause.
-pub fn is_refused<T: Drop>(alloc: Global, answer: TeraResult<T>, text: &str) -> bool {
-    match answer.err() {
-        Some(error) => is_alone(alloc, error, text),
-        None => false,
+pub fn is_refused<T: Debug + Drop>(alloc: Global, answer: TeraResult<T>, text: &str) -> Seen {
+    match answer {
+        Err(error) => is_alone(alloc, error, text),
+        Ok(taken) => unwanted(alloc, taken, text),
     }
 }
 
 // The error has that text and no cause.
-fn is_alone(alloc: Global, error: Error, text: &str) -> bool {
-    let is_so = displays(alloc, &error, text) && error.source().is_none();
+fn is_alone(alloc: Global, error: Error, text: &str) -> Seen {
+    let row = displays(alloc, &error, text);
+    let has_no_cause = is_so(alloc, error.source().is_none(), &error, &"no cause");
     drop(error);
-    is_so
+    both(row, has_no_cause)
 }
 
 #[test]
@@ -72,18 +80,18 @@ fn numbers_are_taken_from_any_kind(rt: HostRuntime) {
 }
 
 // A truth value is taken as itself.
-fn keeps_truth(alloc: Global, truth: bool) -> bool {
+fn keeps_truth(alloc: Global, truth: bool) -> Seen {
     let of = Value::from(truth);
-    let is_so = takes(alloc, &of, truth);
+    let row = takes(alloc, &of, truth);
     drop(of);
-    is_so
+    row
 }
 
 // It is taken as that text, lent.
-fn lends_text(alloc: Global, value: Value, wanted: &str) -> bool {
-    let is_so = takes(alloc, &value, wanted);
+fn lends_text(alloc: Global, value: Value, wanted: &str) -> Seen {
+    let row = takes(alloc, &value, wanted);
     drop(value);
-    is_so
+    row
 }
 
 #[test]
@@ -102,9 +110,9 @@ fn truth_and_texts_are_taken_as_they_are(rt: HostRuntime) {
 }
 
 // It is refused as a value of another type than the one of that name.
-pub fn is_no<'k, V, T>(alloc: Global, value: &'k V, wanted: &str, name: &str) -> bool
+pub fn is_no<'k, V, T>(alloc: Global, value: &'k V, wanted: &str, name: &str) -> Seen
 where
-    T: ArgFromValue<'k, V, Output = T> + Drop,
+    T: ArgFromValue<'k, V, Output = T> + Debug + Drop,
 {
     let text = "Invalid type for the value, expected";
     let told = format!(in alloc; "{text} `{wanted}` but got `{name}`");
@@ -120,10 +128,10 @@ pub fn taken<'k, V, T: ArgFromValue<'k, V, Output = T>>(
 }
 
 // It is taken as a text of its own, which is that.
-fn prints_as(alloc: Global, value: Value, wanted: &str) -> bool {
-    let is_so = takes(alloc, &value, owned(alloc, wanted));
+fn prints_as(alloc: Global, value: Value, wanted: &str) -> Seen {
+    let row = takes(alloc, &value, owned(alloc, wanted));
     drop(value);
-    is_so
+    row
 }
 
 #[test]
@@ -153,37 +161,39 @@ pub fn one_pair_of(alloc: Global) -> Value {
 }
 
 // The text is lent, and is that.
-pub fn is_lent(answer: TeraResult<CowStr<'_>>, wanted: &str) -> bool {
-    let is_so = match &answer {
+pub fn is_lent(alloc: Global, answer: TeraResult<CowStr<'_>>, wanted: &str) -> Seen {
+    let holds = match &answer {
         Ok(CowStr::Borrowed(text)) => *text == wanted,
         _ => false,
     };
+    let row = is_so(alloc, holds, &answer, &wanted);
     drop(answer);
-    is_so
+    row
 }
 
 // The text is one of its own, and is that.
-pub fn is_owned(answer: TeraResult<CowStr<'_>>, wanted: &str) -> bool {
-    let is_so = match &answer {
+pub fn is_owned(alloc: Global, answer: TeraResult<CowStr<'_>>, wanted: &str) -> Seen {
+    let holds = match &answer {
         Ok(CowStr::Owned(text)) => text.as_str() == wanted,
         _ => false,
     };
+    let row = is_so(alloc, holds, &answer, &wanted);
     drop(answer);
-    is_so
+    row
 }
 
 // It is taken as that text, lent.
-fn stands(alloc: Global, value: Value, wanted: &str) -> bool {
-    let is_so = is_lent(taken(alloc, &value), wanted);
+fn stands(alloc: Global, value: Value, wanted: &str) -> Seen {
+    let row = is_lent(alloc, taken(alloc, &value), wanted);
     drop(value);
-    is_so
+    row
 }
 
 // It is taken as that text, printed.
-fn is_printed(alloc: Global, value: Value, wanted: &str) -> bool {
-    let is_so = is_owned(taken(alloc, &value), wanted);
+fn is_printed(alloc: Global, value: Value, wanted: &str) -> Seen {
+    let row = is_owned(alloc, taken(alloc, &value), wanted);
     drop(value);
-    is_so
+    row
 }
 
 #[test]
@@ -203,20 +213,20 @@ fn texts_are_lent_and_other_values_printed(rt: HostRuntime) {
 }
 
 // The copy that is taken is held so.
-fn copies(alloc: Global, value: Value, wanted: &str) -> bool {
-    let copy = or_undefined(taken(alloc, &value));
+fn copies(alloc: Global, value: Value, wanted: &str) -> Seen {
+    let copy = taken(alloc, &value);
     drop(value);
-    is_held(alloc, copy, wanted)
+    is_given(alloc, copy, wanted)
 }
 
 // What is lent is held so.
-fn lends(alloc: Global, value: Value, wanted: &str) -> bool {
-    let is_so = match taken::<Value, &Value>(alloc, &value).ok() {
-        Some(lent) => tells_held(alloc, lent, wanted),
-        None => false,
+fn lends(alloc: Global, value: Value, wanted: &str) -> Seen {
+    let row = match taken::<Value, &Value>(alloc, &value) {
+        Ok(lent) => tells_held(alloc, lent, wanted),
+        Err(refused) => unwanted(alloc, refused, wanted),
     };
     drop(value);
-    is_so
+    row
 }
 
 #[test]
@@ -238,10 +248,10 @@ fn values_are_copied_or_lent(rt: HostRuntime) {
 }
 
 // It is taken as that number.
-fn is_number(alloc: Global, value: Value, wanted: i128) -> bool {
-    let is_so = takes(alloc, &value, Number::Integer(wanted));
+fn is_number(alloc: Global, value: Value, wanted: i128) -> Seen {
+    let row = takes(alloc, &value, Number::Integer(wanted));
     drop(value);
-    is_so
+    row
 }
 
 #[test]

@@ -2,9 +2,8 @@
 ghost use Rattle.std.specs.Prelude.{⊤};
 
 use crate::arguments::made::{one_of, row_of, set_of, table_of, tree_of, two_of, with_item};
-use crate::held::hold;
+use crate::held::{Seen, hold, shows, unwanted};
 use indexmap::IndexMap;
-use made_values::shows;
 use std::alloc::Global;
 use tera_arguments::Kwargs;
 use tera_conversions::{ToKey, ToValue};
@@ -62,17 +61,17 @@ fn unfit_row(alloc: Global) -> IndexMap<Unfit, Part> {
 }
 
 // It is refused with the error of that number, in the words of Debug, which tell the cause too.
-fn refuses<T: ToValue>(alloc: Global, source: T, wanted: &str) -> bool {
-    match source.to_value(alloc).err() {
-        Some(error) => is_told(alloc, error, wanted),
-        None => false,
+fn refuses<T: ToValue>(alloc: Global, source: T, wanted: &str) -> Seen {
+    match source.to_value(alloc) {
+        Err(error) => is_told(alloc, error, wanted),
+        Ok(made) => unwanted(alloc, made, wanted),
     }
 }
 
-fn is_told(alloc: Global, error: Error, wanted: &str) -> bool {
-    let is_so = shows(alloc, &error, wanted);
+fn is_told(alloc: Global, error: Error, wanted: &str) -> Seen {
+    let row = shows(alloc, &error, wanted);
     drop(error);
-    is_so
+    row
 }
 
 // A part that gives none, and two that refuse.
@@ -151,10 +150,10 @@ fn make_unfit(number: u8) -> (Unfit, Value) {
 }
 
 // The arguments are refused with that error.
-fn are_refused(alloc: Global, made: TeraResult<Kwargs>, wanted: &str) -> bool {
-    match made.err() {
-        Some(error) => is_told(alloc, error, wanted),
-        None => false,
+fn are_refused(alloc: Global, made: TeraResult<Kwargs>, wanted: &str) -> Seen {
+    match made {
+        Err(error) => is_told(alloc, error, wanted),
+        Ok(made) => unwanted(alloc, made, wanted),
     }
 }
 
