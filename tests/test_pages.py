@@ -11,6 +11,7 @@ import shutil
 import subprocess
 import sys
 import tempfile
+import time
 import tomllib
 import unittest
 import urllib.parse
@@ -321,9 +322,13 @@ class Browser:
 
     def wait(self, code):
         for _ in range(100):
-            if self.value(code):
-                return True
-            self.ask("Runtime.evaluate", expression="new Promise((done) => setTimeout(done, 50))", awaitPromise=True)
+            try:
+                if self.value(code):
+                    return True
+            except RuntimeError as came:  # a page that goes on to another has no answer
+                if not any(it in str(came) for it in ("navigated or closed", "context was destroyed", "Cannot find context")):
+                    raise
+            time.sleep(0.05)
         return False
 
     def end(self):
