@@ -235,6 +235,14 @@ class Unmade(unittest.TestCase):
 
     def test_never(self):
         pass
+
+class Lacking(unittest.TestCase):
+    @classmethod
+    def setUpClass(cls):
+        raise unittest.SkipTest("no tool")
+
+    def test_never(self):
+        pass
 """
 
 
@@ -266,7 +274,8 @@ class Testing(WithFolder):
         status, lines, text = self.ran("sample")
         self.assertEqual((status, sorted(lines[:-1]), lines[-1]), (1, [
             "FAIL sample: Bad.test_raises", "FAIL sample: What a test says", "FAIL sample: setUpClass (test_sample.Unmade)",
-            "pass sample: Good.test_holds", "skip sample: Good.test_skipped (no machine)"], "1 passed, 3 failed, 1 skipped"))
+            "pass sample: Good.test_holds", "skip sample: Good.test_skipped (no machine)",
+            "skip sample: setUpClass (test_sample.Lacking) (no tool)"], "1 passed, 3 failed, 2 skipped"))
         for said in ("a fault", "not made", "[1]"):
             self.assertIn(said, text)
 
@@ -281,7 +290,7 @@ class Testing(WithFolder):
     def test_parts_run_side_by_side(self):
         status, lines, text = self.ran("--all", "--but", "broken", "--jobs", "3", "--times", f"{self.folder}/times")
         told = [line for line in lines[:-1] if line.startswith("FAIL ")]
-        self.assertEqual((status, lines[-1]), (1, "2 passed, 4 failed, 1 skipped"))
+        self.assertEqual((status, lines[-1]), (1, "2 passed, 4 failed, 2 skipped"))
         self.assertIn("FAIL ended: it comes to its end", told)
         self.assertEqual(lines[-5:-1], [line for line in told[:4]])
         self.assertIn("a fault", text)
@@ -299,9 +308,9 @@ class Testing(WithFolder):
     def test_ci_reads_the_results(self):
         self.ran("--junit", f"{self.folder}/results.xml", "sample", "good")
         root = ElementTree.parse(f"{self.folder}/results.xml").getroot()
-        self.assertEqual((root.get("tests"), root.get("failures")), ("6", "3"))
+        self.assertEqual((root.get("tests"), root.get("failures")), ("7", "3"))
         self.assertEqual(sorted(case.get("name") for case in root if case.find("failure") is not None), ["Bad.test_raises", "What a test says", "setUpClass (test_sample.Unmade)"])
-        self.assertEqual([case.get("classname") for case in root if case.find("skipped") is not None], ["sample"])
+        self.assertEqual([case.get("classname") for case in root if case.find("skipped") is not None], ["sample", "sample"])
 
 
 class Typed(unittest.TestCase):

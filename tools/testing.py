@@ -58,7 +58,15 @@ class Told(unittest.TestResult):
 
     def addError(self, test: unittest.TestCase, err: Any) -> None:
         super().addError(test, err)
-        if not isinstance(test, unittest.TestCase):  # no test of a class or a module begins
+        self.end_whole(test)
+
+    def addSkip(self, test: unittest.TestCase, reason: str) -> None:
+        super().addSkip(test, reason)
+        self.end_whole(test)
+
+    def end_whole(self, test: unittest.TestCase) -> None:
+        """Tells a class or a module of which no test begins."""
+        if not isinstance(test, unittest.TestCase):
             self.stopTest(test)
 
     def stopTest(self, test: unittest.TestCase) -> None:
