@@ -118,6 +118,13 @@ def made(*words: str, env: Mapping[str, str] = {}) -> None:
         raise NotMade(f"{' '.join(words)}: status {done.status}\n{said}")
 
 
+def words_of(pid: int) -> list[str]:
+    """The words of a process's command; none where it has ended."""
+    with contextlib.suppress(OSError), open(f"/proc/{pid}/cmdline", encoding="utf-8", errors="replace") as file:
+        return file.read().split("\0")[:-1]
+    return []
+
+
 def comes_true(seconds: float, holds: Callable[[], bool]) -> bool:
     """Whether it holds within so many seconds. Asks ten times a second."""
     until = time.monotonic() + seconds

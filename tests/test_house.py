@@ -138,16 +138,12 @@ def homes_of(path: str, text: str) -> dict[str, str]:
     return homes
 
 
-def spelled(name: str, statement: str, proof: str, module: str, homes: dict[str, str]) -> str:
-    """The statement with its variables numbered in the order in which they stand, those of its module's first, and with
-    the repository's own names in full. A definition is spelled with its body."""
+def spelled(name: str, statement: str, proof: str, homes: dict[str, str]) -> str:
+    """The statement with its variables numbered in the order in which they stand, and with the repository's own names in
+    full. A definition is spelled with its body."""
     text = statement.partition(":")[2]
     if not SAYS.search(text):
         text += re.sub(rf"(?<![\w'-]){re.escape(name)}(?![\w'-])", "itself", proof)
-    # of what the module takes only that which the statement names
-    for group in reversed(re.findall(r"[({][^(){}:]+ : [^{}]*?[)}](?= [({]| where|$)", module)):
-        if set(group[1:].partition(":")[0].split()) & set(WORD.findall(text)):
-            text = f"{group} {text}"
     text = flat(text)
     bound = " ".join(re.findall(r"[({]([^(){}:]+?) :", text)).split()
     names = homes | {name: f"#{at}" for at, name in enumerate(dict.fromkeys(bound))}
@@ -168,7 +164,7 @@ def lemmas_of(path: str, text: str) -> Iterator[tuple[str, str, str, str]]:
         body = re.search(rf"(?m)^{head[1]}{re.escape(head[2])}(?![\w'-])(?! :)", block)
         end = body.start() if body else len(block)
         line = text.count("\n", 0, head.start()) + 1
-        said = spelled(head[2], block[:end], block[end:], above, homes)
+        said = spelled(head[2], block[:end], block[end:], homes)
         yield f"{path}:{line}", head[2], block, said
 
 

@@ -13,7 +13,6 @@ import uuid
 from typing import List
 
 import built
-from tools import machine
 
 WAITS = 120  # seconds until the place is reached
 ENDS = 5  # seconds until all has ended
@@ -28,7 +27,7 @@ def begun(mark: str) -> List[str]:
         try:
             with open(f"{folder}/environ", "rb") as file:
                 if mark.encode() in file.read():
-                    found.append(" ".join(machine.words_of(int(os.path.basename(folder)))))
+                    found.append(" ".join(built.words_of(int(os.path.basename(folder)))))
         except OSError:
             pass
     return found

@@ -146,8 +146,8 @@ class WrongBodies(unittest.TestCase):
         for name, why in {"lib/echo/says-it-otherwise": "no goal of its contract is open", "lib/echo/does-not-compile": "it does not compile",
                           "lib/echo/is-nowhere": "this stands 0 times",
                           "lib/echo/has-two-new-texts": "not read: new: 7;", "lib/echo/has-no-new-text": "not read: old: answer",
-                          "lib/echo/has-two-files": "not read: file: src/main.rt", "lib/echo/has-another-line": "not read: goal: returns by force",
-                          "lib/twice/in-the-wrong-folder": "this stands in echo"}.items():
+                          "lib/echo/has-two-files": "not read: src/main.rt", "lib/echo/has-another-line": "not read: goal: returns by force",
+                          "lib/twice/in-the-wrong-folder": "this stands 0 times there"}.items():
             self.assertIn(why, told[f"FAIL low/{name}"])
         self.assertEqual(self.again.count("as an earlier run on this machine saw"), len(refused) + 1)
 
@@ -172,7 +172,7 @@ class Kit(unittest.TestCase):
             listed = {line.split(":")[0].split()[0] for line in file if ":" in line and line[0] != "#"}
         self.assertEqual({*crates}, listed)
         for crate in crates.values():
-            self.assertIn("--crate-name", crate.check(["--jobs", "1"], None))
+            self.assertIn("--crate-name", crate.check(["--jobs", "1"]))
             self.assertLess({low.name for low in crate.below()}, listed)
         self.assertGreaterEqual(kit.lanes(), 1)
 

@@ -6,6 +6,7 @@ nothing is left that runs, waits or holds a lock, and the status is 128 and the 
 """
 import contextlib
 import ctypes
+import glob
 import os
 import signal
 import subprocess
@@ -13,13 +14,18 @@ import sys
 import time
 from typing import Any
 
-sys.dont_write_bytecode = True  # no folder beside the sources
-sys.path.insert(0, os.path.dirname(os.path.dirname(os.path.abspath(__file__))))
-from tools.machine import below
-
 ADOPTS_ORPHANS = 36  # PR_SET_CHILD_SUBREAPER: what a process below left becomes a child of this one
 PATIENCE = 2  # seconds
 SIGNALS = signal.SIGINT, signal.SIGTERM, signal.SIGHUP
+
+
+def below(pid: int) -> list[int]:
+    """The processes that a process began, and those below them, as far as the kernel tells them."""
+    found = list[int]()
+    for path in glob.glob(f"/proc/{pid}/task/*/children"):
+        with contextlib.suppress(OSError), open(path, encoding="utf-8") as file:
+            found += map(int, file.read().split())
+    return found + [inner for child in found for inner in below(child)]
 
 
 class Ended(Exception):

@@ -65,11 +65,10 @@ class Crate:
         """The folders that a check of it reads: those that a copy of it needs."""
         return [part for part in rt().rtlib.PARTS if os.path.isdir(f"{self.folder}/{part}")]
 
-    def check(self, flags: list[str], kept: str | None) -> list[str]:
-        """The words of a check of a copy of the crate, over the work that is kept in a folder: no command checks a copy."""
+    def check(self, flags: list[str]) -> list[str]:
+        """The words of a check of a copy of the crate, which no command checks."""
         # a copy declares a function of C's, which the crate does not
-        own = self.own.words([*flags, *(["--incremental", kept] if kept else [])], keeps=False)
-        words = [f"{it}never" if it == f"{self.name}=" else it for it in own]
+        words = [f"{it}never" if it == f"{self.name}=" else it for it in self.own.words(flags, keeps=False)]
         return [*rt().rtlib.guarded(), rt().rtlib.RATTLE, "check", *words]
 
     def is_current(self) -> bool:

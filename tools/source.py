@@ -15,13 +15,7 @@ HIDDEN = re.compile(r'//[^\n]*|"(?:[^"\\]|\\[\s\S])*"|\'(?:[^\'\\\n]|\\[^\'\n]+)
 ATTRIBUTES = re.compile(r"(?:^ *(?:#\[.*|//.*)\n)*\Z", re.MULTILINE)
 
 Imports = Dict[str, Tuple[str, Optional[str]]]  # of each name the crate and file, and the name there
-
-
-class Clause(NamedTuple):
-    """A clause: its word and name, and what it says."""
-
-    head: str
-    text: str
+Clause = Tuple[str, str]  # its word and name, and what it says
 
 
 class Function(NamedTuple):
@@ -93,7 +87,7 @@ def clauses_at(text: str, mask: str, at: int) -> Tuple[List[Clause], int, int]:
         clause = CLAUSE.match(mask, at)
         if clause:
             first, at = first or at, end_of(mask, clause.end() - 1)
-            clauses.append(Clause(f"{clause[1]} {clause[2]}".strip(), flat(text[clause.end() : at - 1])))
+            clauses.append((f"{clause[1]} {clause[2]}".strip(), flat(text[clause.end() : at - 1])))
         else:
             at = end_of(mask, at, "[]") if mask[at] == "[" else at + 1
     return clauses, first or at, at
