@@ -1,4 +1,6 @@
+mod Endings
 mod Failing
+mod Faults
 mod Followed
 mod Fronts
 mod Lexed

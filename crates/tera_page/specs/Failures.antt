@@ -1,13 +1,11 @@
 -- What is told where there is no page.
-use Rattle.std.specs.Prelude.{◌≡◌, ◌⊎◌, ◌-◌, ◌++◌, ℕ, false, List, [], None, Result, Ok, Err}
-use Rattle.std.specs.Prelude.{length}
+use Rattle.std.specs.Prelude.{◌≡◌, ◌⊎◌, ℕ, List, None, Result, Ok, Err}
 use Rattle.tera.specs.Errors.{IsOutOfMemory, States}
 use Rattle.tera.specs.Refusal.{Refusal, Tells, rendering_error, stated}
+use Rattle.tera.specs.Report.{Report}
 use Rattle.tera.specs.types.Error.{Error}
-use Rattle.tera.specs.types.Span.{Span}
-use Rattle.tera_page.specs.Grammar.{begins_blank}
+use Rattle.tera_page.specs.Places.{IsReportAt}
 use Rattle.tera_page.specs.Rendering.{Failure, Pieces}
-use Rattle.tera_page.specs.Words.{AreBlanks}
 use Rattle.tera_page.specs.declared.failed.Failed.{Failed}
 
 -- why a call does not give what it is to give: what is refused, and where; or want of memory
@@ -17,23 +15,11 @@ Fails (Err failure) failed =
     IsOutOfMemory failed.error
     ⊎ (States (stated failure.why) None failed.error × (failed.from.now ≡ failure.from))
 
--- the span begins where the rest of a source does, behind the blanks there
-abbrev pub BeginsAt : List ℕ → List ℕ → Span → Type 0
-BeginsAt source rest span =
-    (blanks left : List ℕ) × AreBlanks blanks × (begins_blank left ≡ false)
-    × (rest ≡ blanks ++ left) × (span.range.start ≡ length source - length left)
-
 -- the error is a report that tells a refusal, at the rest of the source of that file
 abbrev pub ReportsAt : List ℕ → List ℕ → List ℕ → Refusal → Error → Type 0
 ReportsAt file source rest refusal e =
-    (words : List ℕ) × (span : Span) × Tells refusal words × BeginsAt source rest span
-    × States (rendering_error (record {
-      message = words;
-      file = file;
-      source = source;
-      span = span;
-      notes = [];
-    })) None e
+    (words : List ℕ) × (report : Report) × Tells refusal words
+    × IsReportAt words file source rest report × States (rendering_error report) None e
 
 -- the error of what has no page: a report of what is refused, where it stands; or want of memory
 abbrev pub Reports : List ℕ → List ℕ → Pieces → Error → Type 0

@@ -4,6 +4,7 @@ pub mod Failures
 pub mod Grammar
 pub mod Headline
 pub mod Parsing
+pub mod Places
 pub mod Reading
 pub mod Rendering
 pub mod Symbols

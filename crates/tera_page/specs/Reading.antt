@@ -1,12 +1,13 @@
 -- What the clauses of the reader cite.
-use Rattle.std.specs.Prelude.{◌≡◌, ◌⊎◌, ℕ, List, [], codes, Option, None, Some}
-use Rattle.tera.specs.Errors.{IsOutOfMemory, Raises}
+use Rattle.std.specs.Prelude.{◌≡◌, ◌⊎◌, ⊤, ℕ, List, [], codes, Option, None, Some}
+use Rattle.tera.specs.Errors.{IsOutOfMemory, States}
 use Rattle.tera.specs.Refusal.{syntax_error}
+use Rattle.tera.specs.Report.{Report}
 use Rattle.tera.specs.types.Error.{Error}
-use Rattle.tera.specs.types.Span.{Span}
 use Rattle.tera_page.specs.Expressions.{Writes}
 use Rattle.tera_page.specs.Grammar as grammar
 use Rattle.tera_page.specs.Grammar.{SpellsUpTo, SpellsElse, SpellsEnd, SpellsPart, SpellsTag}
+use Rattle.tera_page.specs.Places.{EndsWith, IsReportAt}
 use Rattle.tera_page.specs.Template as tree
 use Rattle.tera_page.specs.Template.{Bound, Parts, Written}
 use Rattle.tera_page.specs.Tokens.{tag_of}
@@ -21,21 +22,16 @@ use Rattle.tera_page.specs.declared.syntax.Step.TheVariants as step
 use Rattle.tera_page.specs.declared.token.Tag.{Tag}
 use Rattle.tera_page.specs.declared.tree.Node.{Node}
 
--- the error is a report that shows the message at a place in the source of that file; or want of
--- memory
-abbrev pub ShowsAt : List ℕ → List ℕ → List ℕ → Span → Error → Type 0
-ShowsAt message file source span e =
-    Raises (syntax_error (record {
-      message = message;
-      file = file;
-      source = source;
-      span = span;
-      notes = [];
-    })) e
+-- the error is a report of the message, at the rest of the source of that file; or want of memory
+abbrev pub ShowsAt : List ℕ → List ℕ → List ℕ → List ℕ → Error → Type 0
+ShowsAt message file source rest e =
+    IsOutOfMemory e ⊎ ((report : Report) × IsReportAt message file source rest report
+    × States (syntax_error report) None e)
 
--- the same at some place
+-- the same at some place in the source
 abbrev pub ShowsIn : List ℕ → List ℕ → List ℕ → Error → Type 0
-ShowsIn message file source e = (span : Span) × ShowsAt message file source span e
+ShowsIn message file source e =
+    (rest : List ℕ) × EndsWith source rest × ShowsAt message file source rest e
 
 -- the messages of what is no template
 abbrev pub not_read : List ℕ
@@ -50,19 +46,27 @@ too_long = codes "More than 128 words and signs"
 abbrev pub no_filter : List ℕ
 no_filter = codes "There is no such filter"
 
--- what no template is refused with, where it stands in this file
+-- what no template is refused with, at its place in this source
 abbrev pub IsSyntaxError : List ℕ → List ℕ → Error → Type 0
 IsSyntaxError file source e =
     ShowsIn not_read file source e ⊎ (ShowsIn too_deep file source e
     ⊎ (ShowsIn too_long file source e ⊎ ShowsIn no_filter file source e))
 
--- the message that each fault shows, or want of memory
+-- the message that each fault shows, and where, or want of memory
 abbrev pub Tells : Fault → List ℕ → List ℕ → Error → Type 0
 Tells Memory file source e = IsOutOfMemory e
-Tells (Bad at) file source e = ShowsIn not_read file source e
-Tells (Deep at) file source e = ShowsIn too_deep file source e
-Tells (Long at) file source e = ShowsIn too_long file source e
-Tells (Unnamed at) file source e = ShowsIn no_filter file source e
+Tells (Bad at) file source e = ShowsAt not_read file source at.now e
+Tells (Deep at) file source e = ShowsAt too_deep file source at.now e
+Tells (Long at) file source e = ShowsAt too_long file source at.now e
+Tells (Unnamed at) file source e = ShowsAt no_filter file source at.now e
+
+-- a fault is one of this text, which ends with what follows there
+abbrev pub IsFaultOf : List ℕ → Fault → Type 0
+IsFaultOf text Memory = ⊤
+IsFaultOf text (Bad at) = EndsWith text at.now
+IsFaultOf text (Deep at) = EndsWith text at.now
+IsFaultOf text (Long at) = EndsWith text at.now
+IsFaultOf text (Unnamed at) = EndsWith text at.now
 
 -- parts end with the text, or at a tag, behind which is the rest
 abbrev pub StopsAt : Option Tag → List ℕ → List ℕ → Type 0

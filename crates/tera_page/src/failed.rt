@@ -4,10 +4,10 @@ ghost use Rattle.tera.specs.Errors.{IsOutOfMemory, kind_of, refusal_of};
 ghost use Rattle.tera_page.specs.Failures.{Fails, Reports, ReportsAt};
 ghost use Rattle.tera_page.specs.Rendering.{Pieces};
 
-use crate::place::span;
+use crate::place::report_at;
 use std::alloc::{AllocError, AllocFailed, Global};
 use tera::sink::Growing;
-use tera::{Error, ErrorKind, ReportError, TeraResult};
+use tera::{Error, ErrorKind, TeraResult};
 
 /// Why there is no page: the error, and the template from the tag on for which it is due. Want of
 /// memory is due for none.
@@ -79,7 +79,6 @@ fn report(alloc: Global, error: &Error, file: &str, source: &str, rest: &str) ->
 {
     let mut words = Growing::new(alloc);
     error.tell_to(&mut words)?;
-    let place = span(source, rest);
-    let report = ReportError::new(alloc, words.into_text(), file, source, &place)?;
+    let report = report_at(alloc, words.into_text(), file, source, rest)?;
     Ok(Error::new(ErrorKind::RenderingError(Box::new(alloc, report)?)))
 }

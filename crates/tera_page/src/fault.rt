@@ -1,12 +1,12 @@
 //! Why a text is no template.
 ghost use Rattle.std.specs.Prelude.{◌≡◌, IfOk, IfErr};
 ghost use Rattle.tera.specs.Errors.{IsOutOfMemory};
-ghost use Rattle.tera_page.specs.Reading.{IsSyntaxError, ShowsAt, ShowsIn, Tells};
+ghost use Rattle.tera_page.specs.Reading.{ShowsAt, Tells};
 ghost use Rattle.tera_page.specs.declared.fault.Fault.TheVariants.{Memory};
 
-use crate::place::span;
+use crate::place::report_at;
 use std::alloc::{AllocError, AllocFailed, Global};
-use tera::{Error, ErrorKind, ReportError, Span, TeraResult};
+use tera::{Error, ErrorKind, TeraResult};
 
 /// Why a text is no template, with the text from there on.
 #[derive(Drop)]
@@ -48,7 +48,6 @@ impl<T: Drop> From<AllocFailed<T>> for Fault<'_> {
 impl Fault<'_> {
     /// The error of a text of that file that is no template, with a report that shows the place.
     pub(crate) fn into_error(self, alloc: Global, file: &str, source: &str) -> Error
-        ensures shows { IsSyntaxError file.now source.now result }
         ensures tells { Tells self.entry file.now source.now result }
         ensures memory { self.entry ≡ Memory → IsOutOfMemory result }
     {
@@ -62,12 +61,11 @@ impl Fault<'_> {
     }
 }
 
-// The error that shows a message at a place.
+// The error that shows a message at the rest of a source.
 fn told(alloc: Global, message: &'static str, file: &str, source: &str, at: &str) -> Error
-    ensures { ShowsIn message.now file.now source.now result }
+    ensures { ShowsAt message.now file.now source.now at.now result }
 {
-    let place = span(source, at);
-    match report(alloc, message, file, source, &place) {
+    match report(alloc, message, file, source, at) {
         Ok(error) => error,
         Err(error) => error,
     }
@@ -78,13 +76,13 @@ fn report(
     message: &'static str,
     file: &str,
     source: &str,
-    place: &Span,
+    at: &str,
 ) -> TeraResult<Error>
-    ensures ok { IfOk result (ShowsAt message.now file.now source.now place.now) }
+    ensures ok { IfOk result (ShowsAt message.now file.now source.now at.now) }
     ensures err { IfErr result IsOutOfMemory }
 {
     let message = String::from_str(alloc, message)?;
-    let report = ReportError::new(alloc, message, file, source, place)?;
+    let report = report_at(alloc, message, file, source, at)?;
     Ok(Error::new(ErrorKind::SyntaxError(Box::new(alloc, report)?)))
 }
 

@@ -1,6 +1,6 @@
 //! What pages bring. Each function here does nothing: its clauses are the law.
 ghost use Rattle.std.specs.Prelude.{◌≡◌, ◌++◌, ℕ, false, true, List, Ok, Some, if◌then◌else◌};
-ghost use Rattle.std.specs.Prelude.{length, slice_get};
+ghost use Rattle.std.specs.Prelude.{IfErr, length, slice_get};
 ghost use Rattle.std.specs.FinMap.{insert};
 ghost use Rattle.tera.specs.Entities.{SpecialBeginEntities};
 ghost use Rattle.tera.specs.Form.{Form};
@@ -8,7 +8,9 @@ ghost use Rattle.tera.specs.InPage.{ShowsInPage};
 ghost use Rattle.tera.specs.State.{State};
 ghost use Rattle.tera_filters.specs.Marks.{makes};
 ghost use Rattle.tera_filters.specs.declared.filter.Filter.{Filter};
+ghost use Rattle.tera_page.specs.Grammar.{Spells};
 ghost use Rattle.tera_page.specs.Headline.{BringsNoTag, is_marked};
+ghost use Rattle.tera_page.specs.Places.{EndsWith};
 ghost use Rattle.tera_page.specs.Rendering.{IsPageOf, Names, Piece, Pieces, ShowsPiece};
 ghost use Rattle.tera_page.specs.Rendering.{all_pieces, joined, pieces, turn_names, turns, under};
 ghost use Rattle.tera_page.specs.Template.{Argument, Bound, Expression, Parts, Written, assign};
@@ -68,3 +70,10 @@ pub fn made_texts_bring_no_tag()
     values_bring_no_tag();
     made_texts_are_not_safe();
 }
+
+/// What is refused of a template that a text spells stands in that text, which ends with the
+/// template from that tag on.
+pub fn refusals_stand_in_the_text()
+    ensures { (parts : Parts) (text : List ℕ) (state : State) → Spells parts text
+        → IfErr (all_pieces parts state) (λ failure. EndsWith text failure.from) }
+{}

@@ -58,8 +58,8 @@ pub fn render<'a, 't>(
 }
 
 /// The page of a template that the text of a file of that name spells: what `render` answers, but
-/// what is refused is a report, which shows the tag around it in the text. The clauses say at which
-/// byte of the text that is, and not in which line and column.
+/// what is refused is a report, which shows the tag around it in the text: its line, counted from
+/// 1, its column in characters, counted from 0, and its bytes.
 ///
 /// Takes memory for the report too; want of it is answered by `Out of memory`, without a place.
 pub fn render_named<'a, 't>(

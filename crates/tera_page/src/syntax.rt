@@ -6,8 +6,9 @@ ghost use Rattle.std.specs.Result.{IsOkAnd};
 ghost use Rattle.tera.specs.Errors.{IsOutOfMemory};
 ghost use Rattle.tera_page.specs.Grammar.{IsPlain, Spells, SpellsElse, SpellsEnd, SpellsTag};
 ghost use Rattle.tera_page.specs.Grammar.{elif_tag, else_tag};
-ghost use Rattle.tera_page.specs.Reading.{IsChoice, IsLastStep, IsLoop, IsSection, IsStep};
-ghost use Rattle.tera_page.specs.Reading.{IsSyntaxError, StopsAt, end_tag, rest_of};
+ghost use Rattle.tera_page.specs.Places.{EndsWith};
+ghost use Rattle.tera_page.specs.Reading.{IsChoice, IsFaultOf, IsLastStep, IsLoop, IsSection};
+ghost use Rattle.tera_page.specs.Reading.{IsStep, IsSyntaxError, StopsAt, end_tag, rest_of};
 ghost use Rattle.tera_page.specs.declared.fault.Fault.TheVariants.{Memory};
 ghost use Rattle.tera_page.specs.Tokens.{tag_of};
 ghost use Rattle.tera_page.specs.Expressions.{Writes};
@@ -30,7 +31,8 @@ pub const LEVELS: usize = 64;
 /// thing that it does not read, or at the end; `More than 64 levels` at a tag inside as many
 /// others; `More than 128 words and signs` where a longer expression stands; and `There is no such
 /// filter` where one is named that there is not. Takes memory; want of it, `Out of memory`, is
-/// answered in the place of all else. No clause says which of these is due when.
+/// answered in the place of all else. The place is one in the text. No clause says which of these
+/// is due when, nor at which of its places.
 pub fn parse(alloc: Global, text: &str) -> TeraResult<Template<'_>>
     ensures ok { IfOk result (λ template. Spells (tree_of template) text.now) }
     ensures err { IfErr result (IsSyntaxError [] text.now) }
@@ -55,6 +57,7 @@ pub fn parse_named<'a>(alloc: Global, name: &str, text: &'a str) -> TeraResult<T
 // The template that a text spells.
 fn read_template(alloc: Global, text: &str) -> Result<Template<'_>, Fault<'_>>
     ensures ok { IfOk result (λ template. Spells (tree_of template) text.now) }
+    ensures err { IfErr result (IsFaultOf text.now) }
     ensures plain { IsPlain text.now → IfErr result (λ fault. fault ≡ Memory) }
 {
     let read = read_nodes(alloc, text, LEVELS)?;
@@ -79,6 +82,7 @@ struct Section<'a> {
 #[cycle(read)]
 fn read_nodes<'a>(alloc: Global, text: &'a str, levels: usize) -> Result<Section<'a>, Fault<'a>>
     ensures ok { IfOk result (λ read. IsSection read text.now) }
+    ensures err { IfErr result (IsFaultOf text.now) }
     ensures within { IfOk result (λ read. length read.rest.now ≤ length text.now) }
     ensures plain { IsPlain text.now
         → MatchResult result (λ read. read.stop ≡ None) (λ fault. fault ≡ Memory) }
@@ -120,6 +124,7 @@ enum Step<'a> {
 #[cycle(read)]
 fn read_node<'a>(alloc: Global, text: &'a str, levels: usize) -> Result<Step<'a>, Fault<'a>>
     ensures ok { IfOk result (λ step. IsStep step text.now) }
+    ensures err { IfErr result (IsFaultOf text.now) }
     ensures shorter { IfOk result (λ step. length (rest_of step) < length text.now) }
     ensures plain { IsPlain text.now → 0 < length text.now → IsOkAnd result IsLastStep }
 {
@@ -139,8 +144,8 @@ fn read_node<'a>(alloc: Global, text: &'a str, levels: usize) -> Result<Step<'a>
 
 // The expression that a text writes, in the tag that begins `from`.
 fn written_in<'a>(alloc: Global, said: &'a str, from: &'a str) -> Result<Written<'a>, Fault<'a>>
-    ensures { IfOk result (λ written.
-        Writes (written_of written) said.now from.now) }
+    ensures ok { IfOk result (λ written. Writes (written_of written) said.now from.now) }
+    ensures err { IfErr result (IsFaultOf from.now) }
 {
     match read_written(alloc, said, from) {
         Ok(written) => Ok(written),
@@ -162,6 +167,8 @@ fn read_tag<'a>(
 ) -> Result<Step<'a>, Fault<'a>>
     ensures step { IfOk result (λ step. SpellsTag (tag_of tag.entry) from.now rest.now
         → IsStep step from.now) }
+    ensures err { IfErr result (λ fault. SpellsTag (tag_of tag.entry) from.now rest.now
+        → IsFaultOf from.now fault) }
     ensures within { IfOk result (λ step. length (rest_of step) ≤ length rest.now) }
 {
     match tag {
@@ -193,6 +200,7 @@ fn read_if<'a>(
 ) -> Result<(Node<'a>, &'a str), Fault<'a>>
     ensures read { IfOk result
         (λ read. IsChoice said.now from.now read.0 text.now read.1.now) }
+    ensures err { IfErr result (λ fault. EndsWith from.now text.now → IsFaultOf from.now fault) }
     ensures within { IfOk result (λ read. length read.1.now ≤ length text.now) }
 {
     if levels == 0 {
@@ -229,6 +237,7 @@ fn read_for<'a>(
     ensures read { IfOk result
         (λ read. IsLoop (bound_of bound.entry) said.now from.now read.0 text.now
         read.1.now) }
+    ensures err { IfErr result (λ fault. EndsWith from.now text.now → IsFaultOf from.now fault) }
     ensures within { IfOk result (λ read. length read.1.now ≤ length text.now) }
 {
     if levels == 0 {
@@ -264,6 +273,8 @@ fn read_else<'a>(
 ) -> Result<(Vec<Node<'a>>, &'a str), Fault<'a>>
     ensures spells { IfOk result (λ read. StopsAt stop.entry at.now rest.now
         → SpellsElse (parts_of read.0.items) at.now read.1.now) }
+    ensures err { IfErr result (λ fault. StopsAt stop.entry at.now rest.now
+        → IsFaultOf at.now fault) }
     ensures within { IfOk result (λ read. length read.1.now ≤ length rest.now) }
 {
     let Some(next) = elif(stop) else {
@@ -306,6 +317,8 @@ fn read_end<'a>(
 ) -> Result<(Vec<Node<'a>>, &'a str), Fault<'a>>
     ensures spells { IfOk result (λ read. StopsAt stop.entry at.now rest.now
         → SpellsEnd (end_tag end) (parts_of read.0.items) at.now read.1.now) }
+    ensures err { IfErr result (λ fault. StopsAt stop.entry at.now rest.now
+        → IsFaultOf at.now fault) }
     ensures within { IfOk result (λ read. length read.1.now ≤ length rest.now) }
 {
     if is_end(end, stop) {
