@@ -13,7 +13,7 @@ use Rattle.tera_page.specs.Rendering.{Grows, Names, after, all_after, all_pieces
 use Rattle.tera_page.specs.Rendering.{pairs_of, pieces, placed, repeated, shown_value, there, turns, value}
 use Rattle.tera_page.specs.Template.{Bound, Parts, Showing, Written, assign, choice, item, loop, pair, show}
 use Rattle.tera_page.specs.Values.{is_true, value_of}
-use Rattle.tera_page.specs.declared.failed.Failed.{Failed}
+use Rattle.tera_page.specs.declared.failure.Failure as code
 
 -- a name that is set
 module _ (name : List ℕ) (w : Written) (state : State) where
@@ -24,7 +24,7 @@ module _ (name : List ℕ) (w : Written) (state : State) where
     ap (λ r. result_unwrap_or (each_ok (insert state name) r) state) given,
   )
 
-  pub set_fails : (failed : Failed) → Fails (placed w (value_of w.expression state)) failed → Fails (pieces (assign name w) state) failed
+  pub set_fails : (failed : code.Failure) → Fails (placed w (value_of w.expression state)) failed → Fails (pieces (assign name w) state) failed
   set_fails failed is = fails_on (placed w (value_of w.expression state)) (λ x. Ok []) failed is
 
 -- a value that is shown
@@ -35,11 +35,11 @@ module _ (w : Written) (how : Showing) (state : State) where
       ap (λ r. on (placed w (and_then r (there w.text))) (λ x. Ok (value how x ∷ []))) given
       ∙ ap (λ r. on (placed w r) (λ x. Ok (value how x ∷ []))) is
 
-  pub value_fails : (failed : Failed) → Fails (placed w (value_of w.expression state)) failed → Fails (pieces (show w how) state) failed
+  pub value_fails : (failed : code.Failure) → Fails (placed w (value_of w.expression state)) failed → Fails (pieces (show w how) state) failed
   value_fails failed is =
       fails_on (shown_value w state) (λ x. Ok (value how x ∷ [])) failed (placed_on w (value_of w.expression state) (there w.text) failed is)
 
-  pub nothing_fails : (v : Form) (failed : Failed) → value_of w.expression state ≡ Ok v → Fails (placed w (there w.text v)) failed
+  pub nothing_fails : (v : Form) (failed : code.Failure) → value_of w.expression state ≡ Ok v → Fails (placed w (there w.text v)) failed
       → Fails (pieces (show w how) state) failed
   nothing_fails v failed given is =
       fails_on (shown_value w state) (λ x. Ok (value how x ∷ [])) failed
@@ -59,7 +59,7 @@ module _ (test : Written) (chosen otherwise : Parts) (state : State) where
       ap (λ r. result_unwrap_or (each_ok (λ w. cond (is_true w) (all_after chosen state) (all_after otherwise state)) r) state) given
       ∙ ap (λ t. cond t (all_after chosen state) (all_after otherwise state)) same
 
-  pub choice_fails : (failed : Failed) → Fails (placed test (value_of test.expression state)) failed
+  pub choice_fails : (failed : code.Failure) → Fails (placed test (value_of test.expression state)) failed
       → Fails (pieces (choice test chosen otherwise) state) failed
   choice_fails failed is =
       fails_on (placed test (value_of test.expression state)) (λ w. cond (is_true w) (all_pieces chosen state) (all_pieces otherwise state))
@@ -78,13 +78,13 @@ module _ (over : Written) (state : State) (v : Form) (given : value_of over.expr
       ap (λ r. placed over (and_then r (owns (pair k name) over.text))) given
       ∙ ap (λ r. placed over (and_then r (λ qs. Ok (named_pairs k name qs)))) got
 
-  pub items_fail : (name : List ℕ) (failed : Failed) → Fails (placed over (items_of over.text v)) failed
+  pub items_fail : (name : List ℕ) (failed : code.Failure) → Fails (placed over (items_of over.text v)) failed
       → Fails (loop_names (item name) over state) failed
   items_fail name failed is =
       subst (λ r. Fails (placed over (and_then r (owns (item name) over.text))) failed) (sym given)
       (placed_on over (items_of over.text v) (λ ys. Ok (named_items name ys)) failed is)
 
-  pub pairs_fail : (k name : List ℕ) (failed : Failed) → Fails (placed over (pairs_of over.text v)) failed
+  pub pairs_fail : (k name : List ℕ) (failed : code.Failure) → Fails (placed over (pairs_of over.text v)) failed
       → Fails (loop_names (pair k name) over state) failed
   pairs_fail k name failed is =
       subst (λ r. Fails (placed over (and_then r (owns (pair k name) over.text))) failed) (sym given)
@@ -92,11 +92,11 @@ module _ (over : Written) (state : State) (v : Form) (given : value_of over.expr
 
 -- a loop
 module _ (bound : Bound) (over : Written) (body otherwise : Parts) (state : State) where
-  pub value_fails_loop : (failed : Failed) → Fails (placed over (value_of over.expression state)) failed
+  pub value_fails_loop : (failed : code.Failure) → Fails (placed over (value_of over.expression state)) failed
       → Fails (loop_names bound over state) failed
   value_fails_loop failed is = placed_on over (value_of over.expression state) (owns bound over.text) failed is
 
-  pub loop_fails : (failed : Failed) → Fails (loop_names bound over state) failed → Fails (pieces (loop bound over body otherwise) state) failed
+  pub loop_fails : (failed : code.Failure) → Fails (loop_names bound over state) failed → Fails (pieces (loop bound over body otherwise) state) failed
   loop_fails failed is = fails_on (loop_names bound over state) (repeated (all_pieces body) (all_pieces otherwise) state) failed is
 
   -- what is shown in its turns, where it has some, and else what is taken otherwise
@@ -113,7 +113,7 @@ module _ (bound : Bound) (over : Written) (body otherwise : Parts) (state : Stat
     shows_otherwise old mid none grows =
         let (same, still) = no_turns (all_pieces body) (all_pieces otherwise) state all old mid none grows in (shows_all ∙ same, still)
 
-    pub turns_fail : (failed : Failed) → Fails (each (all_pieces body) (turns state all)) failed
+    pub turns_fail : (failed : code.Failure) → Fails (each (all_pieces body) (turns state all)) failed
         → Fails (pieces (loop bound over body otherwise) state) failed
     turns_fail failed is =
         subst (λ p. Fails p failed) (sym shows_all) (repeated_fails (all_pieces body) (all_pieces otherwise) state all failed is)

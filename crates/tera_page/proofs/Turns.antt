@@ -11,7 +11,7 @@ use Rattle.tera_page.specs.Failures.{Fails}
 use Rattle.tera_page.specs.Rendering.{Grows, IsPageOf, Names, Piece, Pieces, ShowsPiece, after, all_after, all_pieces, each, joined, on, pieces}
 use Rattle.tera_page.specs.Rendering.{turn_names, turns, turns_from, under}
 use Rattle.tera_page.specs.View.{part_of, parts_of}
-use Rattle.tera_page.specs.declared.failed.Failed.{Failed}
+use Rattle.tera_page.specs.declared.failure.Failure as code
 use Rattle.tera_page.specs.declared.tree.Node.{Node}
 
 -- behind some pieces, others
@@ -114,7 +114,7 @@ module _ (whole : Pieces) where
         all ∙ ap (λ p. behind ps (joined p left)) gives ∙ regrouped left ps qs,
       )
 
-  pub put_wrong : (first left : Pieces) (old new : List ℕ) (failed : Failed) → Fails first failed → Put (joined first left) old new → Fails whole failed
+  pub put_wrong : (first left : Pieces) (old new : List ℕ) (failed : code.Failure) → Fails first failed → Put (joined first left) old new → Fails whole failed
   put_wrong first left old new failed is (ps, shown, turn, so_far, all) =
       subst (λ p. Fails p failed) (sym all)
       (fails_on (joined first left) (λ ys. Ok (ps ++ ys)) failed (fails_on first (λ ys. on left (λ zs. Ok (ys ++ zs))) failed is))
@@ -137,7 +137,7 @@ module _ {X : Type 0} (f : X → Pieces) (xs : List X) where
       put_on (each f xs) (f x) (each f (drop (i + 1) xs)) old new newer more page grows
       (subst (λ l. Put (each f xs) (each f l) old new) next so_far)
 
-  pub goes_wrong : (i : ℕ) (x : X) (old new : List ℕ) (failed : Failed) → drop i xs ≡ x ∷ drop (i + 1) xs → Fails (f x) failed → Goes i old new
+  pub goes_wrong : (i : ℕ) (x : X) (old new : List ℕ) (failed : code.Failure) → drop i xs ≡ x ∷ drop (i + 1) xs → Fails (f x) failed → Goes i old new
       → Fails (each f xs) failed
   goes_wrong i x old new failed next is so_far =
       put_wrong (each f xs) (f x) (each f (drop (i + 1) xs)) old new failed is (subst (λ l. Put (each f xs) (each f l) old new) next so_far)
@@ -165,7 +165,7 @@ module _ (nodes : List Node) (from : State) where
         led ∙ ap (λ l. all_after (parts_of l) state) next ∙ ap (all_after rest) (sym leads),
       )
 
-  pub steps_wrong : (i : ℕ) (n : Node) (state : State) (old new : List ℕ) (failed : Failed) → drop i nodes ≡ n ∷ drop (i + 1) nodes
+  pub steps_wrong : (i : ℕ) (n : Node) (state : State) (old new : List ℕ) (failed : code.Failure) → drop i nodes ≡ n ∷ drop (i + 1) nodes
       → Fails (pieces (part_of n) state) failed → Steps i state old new → Fails (all_pieces (parts_of nodes) from) failed
   steps_wrong i n state old new failed next is (so_far, led) =
       put_wrong (all_pieces (parts_of nodes) from) (pieces (part_of n) state)

@@ -6,10 +6,10 @@ use Rattle.tera.specs.Report.{Report}
 use Rattle.tera.specs.types.Error.{Error}
 use Rattle.tera_page.specs.Places.{IsReportAt}
 use Rattle.tera_page.specs.Rendering.{Failure, Pieces}
-use Rattle.tera_page.specs.declared.failed.Failed.{Failed}
+use Rattle.tera_page.specs.declared.failure.Failure as code
 
 -- why a call does not give what it is to give: what is refused, and where; or want of memory
-abbrev pub Fails : {X : Type 0} → Result X Failure → Failed → Type 0
+abbrev pub Fails : {X : Type 0} → Result X Failure → code.Failure → Type 0
 Fails (Ok x) failed = IsOutOfMemory failed.error
 Fails (Err failure) failed =
     IsOutOfMemory failed.error

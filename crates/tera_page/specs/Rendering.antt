@@ -3,7 +3,7 @@ use Rattle.std.specs.Prelude.{◌≡◌, ◌+◌, ◌==◌, ◌++◌, ℕ, suc, 
 use Rattle.std.specs.Prelude.{Option, None, Some, Result, Ok, Err, if◌then◌else◌}
 use Rattle.std.specs.FinMap.{insert}
 use Rattle.std.specs.Option.{ok_or}
-use Rattle.std.specs.Result.{result_unwrap_or}
+use Rattle.std.specs.Result.{result_map_both, result_unwrap_or}
 use Rattle.std.specs.Str.{bytes_eq, trim}
 use Rattle.tera.specs.Arithmetic.{and_then, each_ok}
 use Rattle.tera.specs.Form.{Form}
@@ -43,8 +43,7 @@ pub record Failure : Type 0 where
 
 -- what an expression is for, or why it is refused, which is told at its tag
 abbrev pub placed : {X : Type 0} → Written → Result X Refusal → Result X Failure
-placed w (Ok x) = Ok x
-placed w (Err refusal) = Err (record { from = w.from; why = refusal })
+placed w r = result_map_both (λ x. x) (λ refusal. record { from = w.from; why = refusal }) r
 
 -- what comes of the first, or why that is refused
 abbrev pub on : {X Y : Type 0} → Result X Failure → (X → Result Y Failure) → Result Y Failure
@@ -53,8 +52,7 @@ on (Err failure) next = Err failure
 
 -- what is refused, wherever it stands
 abbrev pub unplaced : {X : Type 0} → Result X Failure → Result X Refusal
-unplaced (Ok x) = Ok x
-unplaced (Err failure) = Err failure.why
+unplaced r = result_map_both (λ x. x) (λ failure. failure.why) r
 
 -- one piece of a page: a text of the template, or a value
 pub data Piece : Type 0 where

@@ -6,7 +6,7 @@
 
 mod argument;
 mod expression;
-mod failed;
+mod failure;
 mod fault;
 pub mod laws;
 mod level;

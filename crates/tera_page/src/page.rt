@@ -14,7 +14,7 @@ ghost use Rattle.tera_page.specs.Template.{Parts, loop, show};
 ghost use Rattle.tera_page.specs.View.{bound_of, part_of, parts_of, showing_of, state_of};
 ghost use Rattle.tera_page.specs.View.{state_with, tree_of, written_of};
 
-use crate::failed::Failed;
+use crate::failure::Failure;
 use crate::laws::values_bring_no_tag;
 use crate::refused::nothing_at;
 use crate::scope::{Scope, Turn};
@@ -87,7 +87,7 @@ fn page_of<'a, 't>(
     alloc: Global,
     template: &'a Template<'t>,
     context: &'a Context,
-) -> Result<String, Failed<'t>>
+) -> Result<String, Failure<'t>>
     ensures ok { IfOk result (λ page.
         IsPageOf (all_pieces (tree_of template.now) context.now) (string_bytes page)) }
     ensures headline { IfOk result (λ page.
@@ -107,7 +107,7 @@ fn put_body<'a, 't>(
     nodes: &'a [Node<'t>],
     scope: &'a Scope<'a>,
     page: &mut Growing,
-) -> Result<(), Failed<'t>>
+) -> Result<(), Failure<'t>>
     ensures ok { OnOk result (Grows (all_pieces (parts_of nodes.now) (state_of scope.now))
         (grown_bytes page.old) (grown_bytes page.new)) }
     ensures err { IfErr result (Fails (all_pieces (parts_of nodes.now) (state_of scope.now))) }
@@ -124,7 +124,7 @@ fn put_nodes<'a, 't>(
     scope: &'a Scope<'a>,
     names: &mut Option<Context>,
     page: &mut Growing,
-) -> Result<(), Failed<'t>>
+) -> Result<(), Failure<'t>>
     ensures ok { OnOk result
         (Grows (all_pieces (parts_of nodes.now) (state_with scope.now names.old))
         (grown_bytes page.old) (grown_bytes page.new)) }
@@ -148,7 +148,7 @@ fn put_node<'a, 't>(
     scope: &'a Scope<'a>,
     names: &mut Option<Context>,
     page: &mut Growing,
-) -> Result<(), Failed<'t>>
+) -> Result<(), Failure<'t>>
     ensures ok { OnOk result (Grows (pieces (part_of node.now) (state_with scope.now names.old))
         (grown_bytes page.old) (grown_bytes page.new)) }
     ensures after { OnOk result (state_with scope.now names.new
@@ -203,7 +203,7 @@ fn put_turns<'a, 't>(
     body: &'a [Node<'t>],
     scope: &'a Scope<'a>,
     page: &mut Growing,
-) -> Result<bool, Failed<'t>>
+) -> Result<bool, Failure<'t>>
     ensures ok { IfOk result (λ turned. (all : List Names)
         × (loop_names (bound_of bound.entry) (written_of over.now) (state_of scope.now) ≡ Ok all)
         × Grows (each (all_pieces (parts_of body.now)) (turns (state_of scope.now) all))
@@ -236,7 +236,7 @@ fn put_each<'a, 't>(
     items: &'a [Value],
     scope: &'a Scope<'a>,
     page: &mut Growing,
-) -> Result<(), Failed<'t>>
+) -> Result<(), Failure<'t>>
     ensures ok { OnOk result (Grows (each (all_pieces (parts_of body.now))
         (turns (state_of scope.now) (named_items name.now items.now)))
         (grown_bytes page.old) (grown_bytes page.new)) }
@@ -270,7 +270,7 @@ fn put_pairs<'a, 't>(
     pairs: &'a Map,
     scope: &'a Scope<'a>,
     page: &mut Growing,
-) -> Result<(), Failed<'t>>
+) -> Result<(), Failure<'t>>
     ensures ok { OnOk result (Grows (each (all_pieces (parts_of body.now))
         (turns (state_of scope.now) (named_pairs key_name.now name.now pairs.now)))
         (grown_bytes page.old) (grown_bytes page.new)) }
@@ -309,7 +309,7 @@ fn put_written<'a, 't>(
     how: Showing,
     scope: &'a Scope<'a>,
     page: &mut Growing,
-) -> Result<(), Failed<'t>>
+) -> Result<(), Failure<'t>>
     ensures ok { OnOk result (Grows
         (pieces (show (written_of written.now) (showing_of how)) (state_of scope.now))
         (grown_bytes page.old) (grown_bytes page.new)) }

@@ -7,7 +7,7 @@ ghost use Rattle.tera_page.specs.Rendering.{after, pieces};
 ghost use Rattle.tera_page.specs.Template.{assign};
 ghost use Rattle.tera_page.specs.View.{state_of, state_with, written_of};
 
-use crate::failed::Failed;
+use crate::failure::Failure;
 use crate::scope::Scope;
 use crate::tree::Written;
 use crate::written::value_at;
@@ -37,7 +37,7 @@ pub(crate) fn put_set<'a, 't>(
     written: &'a Written<'t>,
     scope: &'a Scope<'a>,
     names: &mut Option<Context>,
-) -> Result<(), Failed<'t>>
+) -> Result<(), Failure<'t>>
     ensures ok { OnOk result
         (pieces (assign name.now (written_of written.now)) (state_with scope.now names.old)
         ≡ Ok []) }

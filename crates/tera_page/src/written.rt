@@ -6,7 +6,7 @@ ghost use Rattle.tera_page.specs.Rendering.{items_of, pairs_of, placed};
 ghost use Rattle.tera_page.specs.Values.{is_true, value_of};
 ghost use Rattle.tera_page.specs.View.{expression_of, form_of, state_of, written_of};
 
-use crate::failed::Failed;
+use crate::failure::Failure;
 use crate::refused::{no_array_at, no_map_at, nothing_at};
 use crate::scope::Scope;
 use crate::tree::Written;
@@ -20,7 +20,7 @@ pub(crate) fn value_at<'a, 't>(
     alloc: Global,
     written: &'a Written<'t>,
     scope: &'a Scope<'a>,
-) -> Result<Held<'a>, Failed<'t>>
+) -> Result<Held<'a>, Failure<'t>>
     ensures ok { IfOk result (λ held.
         value_of (expression_of written.now.expression) (state_of scope.now) ≡ Ok (form_of held)) }
     ensures err { IfErr result (Fails (placed (written_of written.now)
@@ -33,11 +33,11 @@ pub(crate) fn value_at<'a, 't>(
 }
 
 /// That what an expression is for is refused by that error.
-pub(crate) fn failed_at<'t>(written: &Written<'t>, error: Error) -> Failed<'t>
+pub(crate) fn failed_at<'t>(written: &Written<'t>, error: Error) -> Failure<'t>
     ensures error { result.error ≡ error }
     ensures from { result.from.now ≡ written.now.from.now }
 {
-    Failed {
+    Failure {
         error,
         from: written.from,
     }
@@ -48,7 +48,7 @@ pub(crate) fn is_true<'a, 't>(
     alloc: Global,
     test: &'a Written<'t>,
     scope: &'a Scope<'a>,
-) -> Result<bool, Failed<'t>>
+) -> Result<bool, Failure<'t>>
     ensures ok { IfOk result (λ answer. (v : Form)
         × (value_of (expression_of test.now.expression) (state_of scope.now) ≡ Ok v)
         × (answer ≡ is_true v)) }
@@ -64,7 +64,7 @@ pub(crate) fn items_of<'a, 't>(
     alloc: Global,
     over: &Written<'t>,
     value: &'a Value,
-) -> Result<&'a [Value], Failed<'t>>
+) -> Result<&'a [Value], Failure<'t>>
     ensures ok { IfOk result (λ items. items_of over.now.text.now value.now ≡ Ok items.now) }
     ensures err { IfErr result
         (Fails (placed (written_of over.now) (items_of over.now.text.now value.now))) }
@@ -84,7 +84,7 @@ pub(crate) fn pairs_of<'a, 't>(
     alloc: Global,
     over: &Written<'t>,
     value: &'a Value,
-) -> Result<&'a Map, Failed<'t>>
+) -> Result<&'a Map, Failure<'t>>
     ensures ok { IfOk result (λ pairs. pairs_of over.now.text.now value.now ≡ Ok pairs.now) }
     ensures err { IfErr result
         (Fails (placed (written_of over.now) (pairs_of over.now.text.now value.now))) }

@@ -12,42 +12,42 @@ use tera::{Error, ErrorKind, TeraResult};
 /// Why there is no page: the error, and the template from the tag on for which it is due. Want of
 /// memory is due for none.
 #[derive(Drop)]
-pub(crate) struct Failed<'a> {
+pub(crate) struct Failure<'a> {
     pub(crate) error: Error,
     pub(crate) from: &'a str,
 }
 
-impl From<Error> for Failed<'_> {
+impl From<Error> for Failure<'_> {
     ghost use Rattle.std.specs.Prelude.{◌≡◌};
 
     ghost from_gives = { λ e s. s.error ≡ e };
 
     fn from(error: Error) -> Self {
-        Failed { error, from: "" }
+        Failure { error, from: "" }
     }
 }
 
-impl From<AllocError> for Failed<'_> {
+impl From<AllocError> for Failure<'_> {
     ghost use Rattle.tera.specs.Errors.{IsOutOfMemory};
 
     ghost from_gives = { λ _ s. IsOutOfMemory s.error };
 
     fn from(refused: AllocError) -> Self {
-        Failed::from(Error::from(refused))
+        Failure::from(Error::from(refused))
     }
 }
 
-impl<T: Drop> From<AllocFailed<T>> for Failed<'_> {
+impl<T: Drop> From<AllocFailed<T>> for Failure<'_> {
     ghost use Rattle.tera.specs.Errors.{IsOutOfMemory};
 
     ghost from_gives = { λ _ s. IsOutOfMemory s.error };
 
     fn from(_refused: AllocFailed<T>) -> Self {
-        Failed::from(Error::from(AllocError))
+        Failure::from(Error::from(AllocError))
     }
 }
 
-impl Failed<'_> {
+impl Failure<'_> {
     /// The error as a report that shows the place in the source of that file. Want of memory stays
     /// what it is.
     pub(crate) fn into_report(self, alloc: Global, file: &str, source: &str) -> Error

@@ -4,7 +4,7 @@ use Rattle.std.specs.String.{string_bytes}
 use Rattle.std.proofs.Common.{ap, subst, ◌∙◌}
 use Rattle.tera.specs.Errors.{kind_of, refusal_of, report_of, source_of}
 use Rattle.tera.specs.Refusal.{rendering_error}
-use Rattle.tera_page.proofs.failed.report.Goals as goal
+use Rattle.tera_page.proofs.failure.report.Goals as goal
 use Rattle.tera_page.specs.Places.{IsReportAt}
 
 pub returns-clause-ok : goal.returns-clause-ok

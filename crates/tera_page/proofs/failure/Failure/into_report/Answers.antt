@@ -1,6 +1,6 @@
 -- A report, or want of memory.
 use Rattle.tera_page.proofs.Failing.{reports_failed, reports_want}
-use Rattle.tera_page.proofs.failed.Failed.into_report.Goals as goal
+use Rattle.tera_page.proofs.failure.Failure.into_report.Goals as goal
 
 pub returns-then-is_want : goal.returns-then-is_want
 returns-then-is_want c pieces fails = reports_want c.args.file.now c.args.source.now pieces c.from.result c.from.ensures
