@@ -45,8 +45,7 @@ impl Held<'_> {
     }
 }
 
-/// What an expression stands for. What is found is lent. The second of two is looked at only where
-/// the first settles nothing.
+/// What an expression stands for. What is found is lent.
 pub(crate) fn value_of<'a, 't>(
     alloc: Global,
     expression: &'a Expression<'t>,
@@ -59,21 +58,40 @@ pub(crate) fn value_of<'a, 't>(
 {
     match expression {
         Expression::Operand(operand) => Ok(standing(operand, scope)),
+        _ => computed(alloc, expression, scope),
+    }
+}
+
+// The same for any expression. Each call here has a place for what may be refused, which is cleared
+// first, so what stands alone does not come here. The second of two is looked at only where the
+// first settles nothing.
+fn computed<'a, 't>(
+    alloc: Global,
+    expression: &'a Expression<'t>,
+    scope: &'a Scope<'a>,
+) -> TeraResult<Held<'a>>
+    ensures ok { IfOk result (λ held. value_of (expression_of expression.now) (state_of scope.now)
+        ≡ Ok (form_of held)) }
+    ensures err { IfErr result
+        (Refuses (value_of (expression_of expression.now) (state_of scope.now))) }
+{
+    match expression {
+        Expression::Operand(operand) => Ok(standing(operand, scope)),
         Expression::One(operator, inner) => {
-            let held = value_of(alloc, inner, scope)?;
+            let held = computed(alloc, inner, scope)?;
             Ok(Held::Made(made_of_one(alloc, *operator, held.value())?))
         }
         Expression::Two(operator, left, right) => {
-            let first = value_of(alloc, left, scope)?;
+            let first = computed(alloc, left, scope)?;
             if let Some(known) = settled(*operator, first.value()) {
                 return Ok(Held::Made(Value::from(known)));
             }
-            let second = value_of(alloc, right, scope)?;
+            let second = computed(alloc, right, scope)?;
             let made = made_of_two(alloc, *operator, first.value(), second.value())?;
             Ok(Held::Made(made))
         }
         Expression::Piped(filter, inner, given) => {
-            let held = value_of(alloc, inner, scope)?;
+            let held = computed(alloc, inner, scope)?;
             let arguments = arguments(alloc, given.as_slice(), scope)?;
             Ok(Held::Made(filter.apply(alloc, held.value(), &arguments)?))
         }
