@@ -24,6 +24,7 @@ CRATES = "# a note\ntera_low: core\ntera_left: tera_low\ntera_right: tera_low\nt
 SOURCE = """pub fn shown(alloc: Global) -> u8
     requires { fits alloc }
     ensures told { result = low 1 }
+    ensures whole { Whole 1 }
 { 1 }
 fn hidden() -> u8 { 2 }
 impl Told for Low {
@@ -43,6 +44,10 @@ deeper n = n
 
 uncited : Nat
 uncited = 0
+
+pub record Whole (n : Nat) : Type 0 where
+  pub first : low n
+  pub second : n
 """
 # in the place of the kit's command: notes the crate, and makes what `rt` makes
 STUB = """#!/bin/sh
@@ -71,7 +76,7 @@ def read(path):
 class Clauses(WithFolder):
     def repository(self, name="one", source=SOURCE, spec=SPEC, path="src/lib.rt"):
         top = f"{self.folder}/{name}"
-        imports = "use Rattle.tera_low.specs.Low.{low}\n"
+        imports = "use Rattle.tera_low.specs.Low.{low, Whole}\n"
         written(top, {"crates.txt": CRATES, f"crates/tera_low/{path}": imports + source, "crates/tera_low/specs/Low.antt": spec,
                       "crates/helper/src/lib.rt": "pub fn not_of_a_library() {}\n"})
         return clauses.Repository(top)
@@ -86,7 +91,7 @@ class Clauses(WithFolder):
             "impl Low · pub fn own(&self) -> u8", "impl Told for Low · fn told(&self) -> u8", "pub fn shown(alloc: Global) -> u8"])
         self.assertIn("    ensures told { result = low 1 }", lines)
         self.assertIn("    ensures* { other }", lines)
-        self.assertEqual(lines[-4:], ["definition deeper", "    is { deeper : Nat -> Nat deeper n = n }",
+        self.assertEqual(lines[-6:], ["definition Whole", "    is { pub record Whole (n : Nat) : Type 0 where pub first : low n pub second : n }", "definition deeper", "    is { deeper : Nat -> Nat deeper n = n }",
                                       "definition low", "    is { abbrev low : Nat -> Nat low n = deeper n }"])
 
     def test_what_only_moves_is_no_change(self):
@@ -99,6 +104,7 @@ class Clauses(WithFolder):
         self.assertEqual(self.changes(spec=SPEC.replace("deeper n = n", "deeper n = 1")),
                          ["definition deeper\n  - is { deeper : Nat -> Nat deeper n = n }\n  + is { deeper : Nat -> Nat deeper n = 1 }"])
         self.assertEqual(self.changes(spec=SPEC.replace("uncited = 0", "uncited = 1")), [])
+        self.assertEqual(self.changes(spec=SPEC.replace("second : n", "second : 1"))[0].splitlines()[0], "definition Whole")
 
 
 class Ending(WithFolder):

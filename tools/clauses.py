@@ -34,7 +34,11 @@ Told = dict[str, dict[str, str]]  # of functions and definitions what each claus
 def definitions_in(text: str) -> Iterator[tuple[str, str]]:
     """Each definition of a file of specs: its name, and its text on one line."""
     bare = re.sub(r"(?m)^\s*--.*$|\s--\s.*$", "", text)
-    heads = list(DEFINITION.finditer(bare))
+    heads = list[re.Match[str]]()
+    for head in DEFINITION.finditer(bare):
+        # the fields of a record, and the constructors of a type, are its own text
+        if not (heads and heads[-1][2] in ("record ", "data ") and len(head[1]) > len(heads[-1][1])):
+            heads.append(head)
     for head, end in zip(heads, [head.start() for head in heads[1:]] + [len(bare)]):
         yield head[3], flat(bare[head.start() : end].removesuffix("abbrev mutual"))
 
